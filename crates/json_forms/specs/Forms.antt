@@ -5,7 +5,7 @@
 use Rattle.std.specs.Prelude.{ℕ, ◌+◌, Bool, List, [], ◌∷◌, ◌++◌, Option, None, Some, Result, Ok, Err}
 use Rattle.std.specs.Fmt.{decimal}
 use Rattle.serde_json.specs.Data.{Data, Items, no_items, item}
-use Rattle.serde_json.specs.Find.{get, as_str, as_bool, as_array}
+use Rattle.serde_json.specs.Find.{get, as_str, as_bool, as_array, as_object}
 use Rattle.dh_base.specs.Uid.{uid_of}
 
 -- a value, or the path of a fault
@@ -72,3 +72,7 @@ listed_of key form json = found_of key (list_of form) (Ok []) (get key json)
 -- a field that has a default
 abbrev pub field_or_of : {A : Type 0} → List ℕ → (Data → Formed A) → A → Data → Formed A
 field_or_of key form default json = found_of key form (Ok default) (get key json)
+
+-- the data is an object
+abbrev pub object_of : {A : Type 0} → (Data → Formed A) → Data → Formed A
+object_of form json = and_then (or_fault (as_object json)) (λ members. form json)

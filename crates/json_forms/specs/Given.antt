@@ -1,5 +1,7 @@
 -- What a reader of a form answers.
-use Rattle.std.specs.Prelude.{◌≡◌, ℕ, List, Result, Ok, Err, ⊤}
+use Rattle.std.specs.Prelude.{◌≡◌, ℕ, List, [], Option, None, is_some, true, Result, Ok, Err, ⊤}
+use Rattle.serde_json.specs.Data.{Data}
+use Rattle.serde_json.specs.Find.{as_object}
 use Rattle.json_forms.specs.Forms.{behind}
 use Rattle.json_forms.specs.declared.fault.FormFault.{FormFault}
 use Rattle.json_forms.specs.declared.fault.FormFault.TheVariants as fault
@@ -20,3 +22,9 @@ IsSeenFrom step fault.Memory seen = seen ≡ fault.Memory
 abbrev pub IsAt : List ℕ → FormFault → Type 0
 IsAt path (fault.At found) = found ≡ path
 IsAt path fault.Memory = ⊤
+
+-- the data is an object, or the fault is at the data itself
+abbrev pub IsObject : {A : Type 0} → Data → Result A FormFault → Type 0
+IsObject json (Ok _) = is_some (as_object json) ≡ true
+IsObject json (Err (fault.At path)) = (as_object json ≡ None) × (path ≡ [])
+IsObject json (Err fault.Memory) = ⊤

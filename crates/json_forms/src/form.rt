@@ -4,7 +4,7 @@ ghost use Rattle.serde_json.specs.Data.{Data};
 ghost use Rattle.serde_json.specs.View.{view, items_view};
 ghost use Rattle.serde_json.specs.Find.{get};
 ghost use Rattle.json_forms.specs.Forms.{behind, at_step, text_of, truth_of, identifier_of, each_of, list_of, field_of, optional_of, listed_of, field_or_of};
-ghost use Rattle.json_forms.specs.Given.{Gives, IsSeenFrom, IsAt};
+ghost use Rattle.json_forms.specs.Given.{Gives, IsSeenFrom, IsAt, IsObject};
 
 use crate::fault::FormFault;
 use dh_base::items::Items;
@@ -201,5 +201,15 @@ pub fn listed<T: ReadJson>(alloc: Global, value: &Value, key: &str) -> Result<It
             Err(fault) => Err(seen_from(alloc, key.as_bytes(), fault)),
         },
         None => Ok(Items::new(alloc)),
+    }
+}
+
+/// Refuses data that is no object.
+pub fn require_object(alloc: Global, value: &Value) -> Result<(), FormFault>
+    ensures { IsObject (view value.now) result }
+{
+    match value.as_object() {
+        Some(_) => Ok(()),
+        None => Err(here(alloc)),
     }
 }
