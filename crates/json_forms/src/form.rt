@@ -213,3 +213,16 @@ pub fn require_object(alloc: Global, value: &Value) -> Result<(), FormFault>
         None => Err(here(alloc)),
     }
 }
+
+/// A list under a key that has to be there.
+pub fn required_list<T: ReadJson>(alloc: Global, value: &Value, key: &str) -> Result<Items<T>, FormFault>
+    ensures { Gives (field_of key.now (list_of T.form) (view value.now)) result }
+{
+    match value.get(key) {
+        Some(found) => match read_list(alloc, found) {
+            Ok(read) => Ok(read),
+            Err(fault) => Err(seen_from(alloc, key.as_bytes(), fault)),
+        },
+        None => Err(absent(alloc, key)),
+    }
+}

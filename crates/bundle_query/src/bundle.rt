@@ -1,0 +1,187 @@
+ghost use Rattle.std.specs.Prelude.{◌≡◌, [], codes};
+ghost use Rattle.serde_json.specs.View.{view};
+ghost use Rattle.json_forms.specs.Given.{Gives};
+ghost use Rattle.bundle_query.specs.Words.{says, is_text, lacks};
+ghost use Rattle.bundle_query.specs.Bundle.{is_plain_element, is_plain_set};
+
+use dh_base::items::Items;
+use dh_base::uid::Uid;
+use json_forms::fault::FormFault;
+use json_forms::form::{ReadJson, field, listed, optional, require_object, required_list};
+use json_forms::reference::Reference;
+use serde_json::Value;
+use std::alloc::Global;
+
+/// An organisation unit of a bundle.
+#[derive(Drop)]
+pub struct UnitEntry {
+    pub id: Uid,
+    pub parent: Option<Reference>,
+}
+
+/// A data element of a bundle, whose values are summed.
+#[derive(Drop)]
+pub struct ElementEntry {
+    pub id: Uid,
+}
+
+/// An element of a data set.
+#[derive(Drop)]
+pub struct SetElement {
+    pub element: Reference,
+}
+
+/// A monthly data set of a bundle.
+#[derive(Drop)]
+pub struct SetEntry {
+    pub id: Uid,
+    pub elements: Items<SetElement>,
+    pub units: Items<Reference>,
+}
+
+/// The user who asks.
+#[derive(Drop)]
+pub struct UserEntry {
+    pub units: Items<Reference>,
+    pub roles: Items<Reference>,
+}
+
+
+// Whether a key holds this text.
+fn says(value: &Value, key: &str, text: &str) -> bool
+    ensures { result ≡ says key.now text.now (view value.now) }
+{
+    match value.get(key) {
+        Some(found) => is_text(found, text),
+        None => false,
+    }
+}
+
+fn is_text(value: &Value, text: &str) -> bool
+    ensures { result ≡ is_text text.now (view value.now) }
+{
+    match value.as_str() {
+        Some(found) => found == text,
+        None => false,
+    }
+}
+
+fn lacks(value: &Value, key: &str) -> bool
+    ensures { result ≡ lacks key.now (view value.now) }
+{
+    value.get(key).is_none()
+}
+
+// The fault of data that as a whole isn't in this form.
+fn not_in_form(alloc: Global) -> FormFault
+    ensures { result ≡ FormFault.At [] }
+{
+    FormFault::At(Items::new(alloc))
+}
+
+impl ReadJson for UnitEntry {
+    ghost use Rattle.bundle_query.specs.Bundle.{unit_entry_of};
+
+    ghost form = { unit_entry_of };
+
+    #[tactic(auto, unfolding(crate::specs::Bundle::unit_entry_of))]
+    fn read(alloc: Global, value: &Value) -> Result<UnitEntry, FormFault> {
+        require_object(alloc, value)?;
+        let id = field(alloc, value, "id")?;
+        let parent = optional(alloc, value, "parent")?;
+        Ok(UnitEntry { id, parent })
+    }
+}
+
+#[tactic(auto, unfolding(crate::specs::Bundle::is_plain_element))]
+fn is_plain_element(value: &Value) -> bool
+    ensures { result ≡ is_plain_element (view value.now) }
+{
+    says(value, "valueType", "NUMBER")
+        && (lacks(value, "aggregationType") || says(value, "aggregationType", "SUM"))
+        && lacks(value, "zeroIsSignificant")
+        && lacks(value, "categoryCombo")
+}
+
+impl ReadJson for ElementEntry {
+    ghost use Rattle.bundle_query.specs.Bundle.{element_entry_of};
+
+    ghost form = { element_entry_of };
+
+    #[tactic(auto, unfolding(crate::specs::Bundle::element_entry_of))]
+    fn read(alloc: Global, value: &Value) -> Result<ElementEntry, FormFault> {
+        require_object(alloc, value)?;
+        if !is_plain_element(value) {
+            return Err(not_in_form(alloc));
+        }
+        let id = field(alloc, value, "id")?;
+        Ok(ElementEntry { id })
+    }
+}
+
+impl ReadJson for SetElement {
+    ghost use Rattle.bundle_query.specs.Bundle.{set_element_of};
+
+    ghost form = { set_element_of };
+
+    #[tactic(auto, unfolding(crate::specs::Bundle::set_element_of))]
+    fn read(alloc: Global, value: &Value) -> Result<SetElement, FormFault> {
+        require_object(alloc, value)?;
+        if !lacks(value, "categoryCombo") {
+            return Err(not_in_form(alloc));
+        }
+        let element = field(alloc, value, "dataElement")?;
+        Ok(SetElement { element })
+    }
+}
+
+#[tactic(auto, unfolding(crate::specs::Bundle::is_plain_set))]
+fn is_plain_set(value: &Value) -> bool
+    ensures { result ≡ is_plain_set (view value.now) }
+{
+    says(value, "periodType", "Monthly")
+        && lacks(value, "categoryCombo")
+        && lacks(value, "workflow")
+        && lacks(value, "openFuturePeriods")
+        && lacks(value, "expiryDays")
+        && lacks(value, "timelyDays")
+}
+
+impl ReadJson for SetEntry {
+    ghost use Rattle.bundle_query.specs.Bundle.{set_entry_of};
+
+    ghost form = { set_entry_of };
+
+    #[tactic(auto, unfolding(crate::specs::Bundle::set_entry_of))]
+    fn read(alloc: Global, value: &Value) -> Result<SetEntry, FormFault> {
+        require_object(alloc, value)?;
+        if !is_plain_set(value) {
+            return Err(not_in_form(alloc));
+        }
+        let id = field(alloc, value, "id")?;
+        let elements = listed(alloc, value, "dataSetElements")?;
+        let units = listed(alloc, value, "organisationUnits")?;
+        Ok(SetEntry {
+            id,
+            elements,
+            units,
+        })
+    }
+}
+
+impl ReadJson for UserEntry {
+    ghost use Rattle.bundle_query.specs.Bundle.{user_entry_of};
+
+    ghost form = { user_entry_of };
+
+    #[tactic(auto, unfolding(crate::specs::Bundle::user_entry_of))]
+    fn read(alloc: Global, value: &Value) -> Result<UserEntry, FormFault> {
+        require_object(alloc, value)?;
+        if !lacks(value, "dataViewOrganisationUnits") {
+            return Err(not_in_form(alloc));
+        }
+        let units = required_list(alloc, value, "organisationUnits")?;
+        let roles = listed(alloc, value, "userRoles")?;
+        Ok(UserEntry { units, roles })
+    }
+}

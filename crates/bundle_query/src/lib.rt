@@ -1,0 +1,6 @@
+//! The answer to one query over a bundle of metadata and monthly values, where the bundle and the
+//! query are in their plain form: numbers that are summed, monthly data sets, one element, one period
+//! and one unit. What is in another form is told apart from want of memory.
+#![tactic(auto)]
+
+pub mod bundle;
