@@ -1,2 +1,3 @@
 pub mod Words
 pub mod Bundle
+pub mod Total

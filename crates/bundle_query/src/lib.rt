@@ -4,3 +4,4 @@
 #![tactic(auto)]
 
 pub mod bundle;
+pub mod total;
