@@ -1,0 +1,4 @@
+pub mod Calendar
+pub mod Types
+pub mod Days
+pub mod Spans

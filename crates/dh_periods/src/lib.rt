@@ -1,0 +1,9 @@
+//! Periods of a health reporting system: days, weeks, months and longer, each written as a short text.
+#![tactic(auto)]
+
+mod days;
+mod kind;
+mod name;
+
+pub use kind::PeriodType;
+pub use name::PeriodName;
