@@ -2,6 +2,7 @@
 use Rattle.std.proofs.Common.{◌≡◌, ℕ, zero, suc, ◌+◌, ◌-◌, ◌*◌, ◌/◌, ◌%◌, ◌<◌, ◌≤◌, ◌⊎◌, inl, inr, refl, sym, ap, ◌∙◌, arith, add-one, ℤ, pos, neg_ℤ, ◌+ℤ◌, ◌-ℤ◌, ◌<ℤ◌, ◌≤ℤ◌}
 use Rattle.std.proofs.lemmas.Bool.{cases_eq, cases_lt}
 use Rattle.jiff_core.specs.declared.civil.weekday.Weekday.{Weekday}
+use Rattle.jiff_core.specs.declared.civil.weekday.Weekday.TheVariants.{Monday}
 use Rattle.jiff_core.specs.Weekday.{monday_zero}
 use Rattle.jiff_core.specs.declared.civil.date.Date.{Date}
 use Rattle.jiff_core.specs.Date.{epoch_day}
@@ -79,3 +80,16 @@ epoch_day-is date y m d year ye me de =
     let month = date.month_in in
     let day = date.day_in in
     rw (ye, me, de) (days_from_civil-is y m d year (omega arith) (omega arith) (omega arith))
+
+-- a year of weeks has 52 or 53
+pub weeks_in_year_bounds : (y : ℕ) → 1900 ≤ y → y ≤ 9998 → (52 ≤ weeks_in_year y) × (weeks_in_year y ≤ 53)
+weeks_in_year_bounds y year top =
+    let next = weeks_in_year-next (pos y) (pos (y + 1)) (omega (arith, signed_arith), omega (arith, signed_arith)) refl in
+    let same = weeks_in_year-is y year top in
+    (omega arith, omega arith)
+
+-- the Monday of a week
+pub days_from_iso-monday : (y week : ℕ) → 1900 ≤ y → days_from_iso (pos y) week Monday ≡ unix_day (7 * (first_week y + (week - 1)))
+days_from_iso-monday y week year =
+    let none : 7 * (first_week y + (week - 1)) + 0 ≡ 7 * (first_week y + (week - 1)) = omega arith in
+    days_from_iso-is y week Monday year ∙ ap unix_day none
