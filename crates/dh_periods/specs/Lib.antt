@@ -2,3 +2,5 @@ pub mod Calendar
 pub mod Types
 pub mod Days
 pub mod Spans
+pub mod Texts
+pub mod Held

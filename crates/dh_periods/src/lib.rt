@@ -4,6 +4,7 @@
 mod days;
 mod kind;
 mod name;
+mod read;
 
 pub use kind::PeriodType;
 pub use name::PeriodName;
