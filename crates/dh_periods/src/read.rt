@@ -105,23 +105,23 @@ fn read_ending(year: u16, rest: &[u8]) -> Option<PeriodName>
     if rest.len() == 2 {
         return read_two(year, rest[0], rest[1]);
     }
-    if rest == b"Oct" {
+    if rest == b"Oct".as_slice() {
         return whole(PeriodType::FinancialOct, year);
     }
     if rest.len() == 3 {
         return read_three(year, rest[0], rest[1], rest[2]);
     }
-    if rest == b"July" {
+    if rest == b"July".as_slice() {
         return whole(PeriodType::FinancialJuly, year);
     }
     if rest.len() == 4 {
         let month = number_of_two(rest[0], rest[1]);
         return dated(year, month, number_of_two(rest[2], rest[3]));
     }
-    if rest == b"April" {
+    if rest == b"April".as_slice() {
         return whole(PeriodType::FinancialApril, year);
     }
-    if rest.len() == 7 && &rest[..6] == b"AprilS" {
+    if rest.len() == 7 && &rest[..6] == b"AprilS".as_slice() {
         return numbered(
             PeriodType::SixMonthlyApril,
             year,

@@ -1,0 +1,13 @@
+-- Identifiers as DHIS2 makes them.
+use Rattle.std.specs.Prelude.{ℕ, Bool, List, ◌&&◌, Option, Some, None, nat_eq, length, slice_index, if◌then◌else◌}
+use Rattle.std.specs.List.{list_all}
+use Rattle.std.specs.Char.{is_ascii_alphabetic, is_ascii_alphanumeric}
+
+-- the text has 11 ASCII letters and digits, the first of them a letter
+abbrev pub is_uid : List ℕ → Bool
+is_uid text =
+    nat_eq (length text) 11 && is_ascii_alphabetic (slice_index text 0) && list_all is_ascii_alphanumeric text
+
+-- the identifier that a text is
+abbrev pub uid_of : List ℕ → Option (List ℕ)
+uid_of text = if is_uid text then Some text else None

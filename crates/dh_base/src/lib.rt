@@ -1,0 +1,9 @@
+// What every layer stands on: lists, identifiers, numbers, codes and the plain types that several
+// crates name.
+#![tactic(auto)]
+
+pub mod codes;
+pub mod items;
+pub mod memory;
+pub mod plain;
+pub mod uid;

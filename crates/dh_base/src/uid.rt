@@ -1,0 +1,62 @@
+ghost use Rattle.std.specs.Prelude.{◌≡◌, IsTrue};
+ghost use Rattle.std.specs.List.{list_all};
+ghost use Rattle.std.specs.Char.{is_ascii_alphanumeric};
+ghost use Rattle.dh_base.specs.Uid.{uid_of, is_uid};
+
+use std::marker::Model;
+
+/// An identifier as DHIS2 makes them: 11 ASCII letters and digits, a letter first.
+///
+/// Identifiers are ordered by their bytes.
+#[derive(Clone, Copy, Debug, PartialEq, Eq, PartialOrd, Ord, Hash)]
+pub struct Uid {
+    text: [u8; 11],
+}
+
+impl Model for Uid {
+    ghost use Rattle.std.specs.Prelude.{◌≡◌, List, ℕ, true};
+    ghost use Rattle.dh_base.specs.Uid.{is_uid};
+
+    ghost Value = { List ℕ };
+
+    ghost view = { λ uid. uid.text };
+
+    ghost invariant = { λ uid. is_uid uid.text ≡ true };
+
+    ghost inverse = { λ bytes. record { text = bytes } };
+}
+
+impl Uid {
+    /// The identifier that this text is, or `None` where it is none. A text of another length is
+    /// refused by its length alone.
+    pub fn parse(text: &[u8]) -> Option<Uid>
+        ensures { result ≡ uid_of text.now }
+    {
+        let text: [u8; 11] = text.try_into().ok()?;
+        if is_valid(&text) {
+            Some(Uid { text })
+        } else {
+            None
+        }
+    }
+
+    /// The text of the identifier.
+    pub fn bytes(self) -> [u8; 11]
+        ensures text { result ≡ self }
+        ensures valid { IsTrue (is_uid self) }
+    {
+        self.text
+    }
+}
+
+fn is_valid(text: &[u8]) -> bool
+    ensures { result ≡ is_uid text.now }
+{
+    text.len() == 11 && text[0].is_ascii_alphabetic() && all_alphanumeric(text)
+}
+
+fn all_alphanumeric(text: &[u8]) -> bool
+    ensures { result ≡ list_all is_ascii_alphanumeric text.now }
+{
+    text.iter().all(|byte| byte.is_ascii_alphanumeric())
+}
