@@ -12,14 +12,14 @@ use Rattle.dh_periods.specs.declared.name.PeriodName.{PeriodName}
 use Rattle.dh_periods.specs.declared.days.Span.{Span}
 use Rattle.dh_periods.specs.Calendar.{month_length, days_before_month, month_place, day_place, unix_day, first_week, weeks_in_year}
 use Rattle.dh_periods.specs.Types.{shape_of}
-use Rattle.dh_periods.specs.Days.{is_in_year_as, is_listed, first_place, end_place}
+use Rattle.dh_periods.specs.Days.{is_in_year_as, is_listed, first_place, end_place, first_day, last_day}
 use Rattle.dh_periods.specs.Spans.{span_as, span_of}
 use Rattle.dh_periods.proofs.CalendarLemmas.{days_before_month-zero, days_before_month-later}
 use Rattle.dh_periods.proofs.JiffLemmas.{weeks_in_year-is, weeks_in_year_bounds, days_from_iso-is}
 
 -- what one shape says is what the whole definition says
 pub span_of-as : (s : Shape) (p : PeriodName) (r : Option Span) → s ≡ shape_of p.kind → 1900 ≤ p.year → p.year ≤ 2100 → r ≡ (if is_in_year_as s p then Some (span_as s p) else None) → r ≡ (if is_listed p then Some (span_of p) else None)
-unfolding is_listed first_place end_place
+unfolding is_listed first_place end_place first_day last_day
 span_of-as s p r same low high e =
     let a : nat_le 1900 p.year ≡ true = le-leb _ _ low in
     let b : nat_le p.year 2100 ≡ true = le-leb _ _ high in

@@ -29,10 +29,10 @@ unfoldable pub end_place : PeriodName → ℕ
 end_place p = end_place_as (shape_of p.kind) p
 
 -- its first and last day, as days since 1 January 1970
-abbrev pub first_day : PeriodName → ℤ
+unfoldable pub first_day : PeriodName → ℤ
 first_day p = unix_day (first_place p)
 
-abbrev pub last_day : PeriodName → ℤ
+unfoldable pub last_day : PeriodName → ℤ
 last_day p = unix_day (end_place p) -ℤ pos 1
 
 -- the year has such a period

@@ -1,6 +1,5 @@
 -- What a period holds: its days beside its name.
-use Rattle.std.specs.Prelude.{◌≡◌, IsTrue}
-use Rattle.std.proofs.Common.{sym}
+use Rattle.std.specs.Prelude.{◌≡◌, IsTrue, refl}
 use Rattle.dh_periods.specs.declared.name.PeriodName.{PeriodName}
 use Rattle.dh_periods.specs.declared.period.Period.TheInside.{Inside}
 use Rattle.dh_periods.specs.Days.{is_listed, first_day, last_day}

@@ -7,13 +7,13 @@ use Rattle.dh_periods.specs.Days.{listed, is_listed}
 
 -- a number below ten, and numbers below a hundred and below ten thousand with all their digits
 abbrev pub one_digit : ℕ → List ℕ
-one_digit n = 48 + n ∷ []
+one_digit n = (48 + n) ∷ []
 
 abbrev pub two_digits : ℕ → List ℕ
-two_digits n = 48 + n / 10 ∷ 48 + n % 10 ∷ []
+two_digits n = (48 + n / 10) ∷ (48 + n % 10) ∷ []
 
 abbrev pub four_digits : ℕ → List ℕ
-four_digits n = 48 + n / 1000 ∷ 48 + n / 100 % 10 ∷ 48 + n / 10 % 10 ∷ 48 + n % 10 ∷ []
+four_digits n = (48 + n / 1000) ∷ (48 + n / 100 % 10) ∷ (48 + n / 10 % 10) ∷ (48 + n % 10) ∷ []
 
 -- a number below a hundred with no leading zero
 abbrev pub short_digits : ℕ → List ℕ

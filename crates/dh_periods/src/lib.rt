@@ -4,7 +4,9 @@
 mod days;
 mod kind;
 mod name;
+mod period;
 mod read;
 
 pub use kind::PeriodType;
 pub use name::PeriodName;
+pub use period::Period;
