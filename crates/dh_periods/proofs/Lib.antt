@@ -1,3 +1,5 @@
 pub mod CalendarLemmas
 pub mod JiffLemmas
 pub mod SpanLemmas
+pub mod TextLemmas
+pub mod ListedLemmas

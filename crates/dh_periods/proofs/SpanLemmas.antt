@@ -2,6 +2,7 @@
 use Rattle.std.proofs.Common.{◌≡◌, ℕ, zero, suc, ◌+◌, ◌-◌, ◌*◌, ◌/◌, ◌%◌, ◌<◌, ◌≤◌, ◌⊎◌, inl, inr, Bool, true, false, ◌&&◌, nat_le, if◌then◌else◌, Option, Some, None, refl, sym, ap, ◌∙◌, arith, ℤ, pos, neg_ℤ, ◌+ℤ◌, ◌-ℤ◌, ◌<ℤ◌, ◌≤ℤ◌}
 use Rattle.std.proofs.lemmas.Bool.{cases_Bool, and_parts, and_from, le-leb, lt-leb, leb-true, and_right, eq-eqb, eqb-true, false_from_ne_true, cond-true, cond-false}
 use Rattle.std.proofs.lemmas.Bool.Decides.{nat_tests}
+use Rattle.std.specs.Prelude.{◌==◌}
 use Rattle.jiff_core.specs.declared.civil.weekday.Weekday.TheVariants.{Monday}
 use Rattle.jiff_core.specs.Calendar.{IsDate}
 use Rattle.jiff_core.specs.IsoWeek.{IsIsoWeekDate, days_from_iso, weeks_in_year as iso_weeks}
@@ -48,11 +49,11 @@ week_listed p low high one h =
 
 pub week_unlisted : (p : PeriodName) → 1900 ≤ p.year → p.year ≤ 2100 → (IsIsoWeekDate (pos p.year) (pos p.number) Monday → ⊥) → is_in_year_as Week p ≡ false
 week_unlisted p low high none =
-    false_from_ne_true _ (λ yes.
+    false_from_ne_true _ (λ (held : is_in_year_as Week p ≡ true).
         let weeks : iso_weeks (pos p.year) ≡ weeks_in_year p.year = weeks_in_year-is p.year low (omega arith) in
-        let parts = and_parts _ _ yes in
+        let parts = and_parts (nat_le 1 p.number) (nat_le p.number (weeks_in_year p.year) && p.day == 1) held in
         let least = leb-true 1 p.number parts.0 in
-        let top = leb-true p.number (weeks_in_year p.year) (and_parts _ _ parts.1).0 in
+        let top = leb-true p.number (weeks_in_year p.year) (and_parts (nat_le p.number (weeks_in_year p.year)) (p.day == 1) parts.1).0 in
         let first = week-bounds p.year (omega arith) in
         let next = week-bounds (p.year + 1) (omega arith) in
         let day = days_from_iso-is p.year p.number Monday low in
@@ -82,14 +83,14 @@ no_span b s no_such = rw no_such refl
 
 pub week_far : (p : PeriodName) → 1900 ≤ p.year → p.year ≤ 2100 → 53 < p.number → None ≡ (if is_in_year_as Week p then Some (span_as Week p) else None)
 week_far p low high far =
-    no_span _ _ (false_from_ne_true _ (λ yes.
-        let parts = and_parts _ _ yes in
-        let top = leb-true p.number (weeks_in_year p.year) (and_parts _ _ parts.1).0 in
+    no_span _ _ (false_from_ne_true _ (λ (held : is_in_year_as Week p ≡ true).
+        let parts = and_parts (nat_le 1 p.number) (nat_le p.number (weeks_in_year p.year) && p.day == 1) held in
+        let top = leb-true p.number (weeks_in_year p.year) (and_parts (nat_le p.number (weeks_in_year p.year)) (p.day == 1) parts.1).0 in
         let bounds = weeks_in_year_bounds p.year low (omega arith) in
         absurd (omega arith)))
 
 pub week_other : (p : PeriodName) → (p.day ≡ 1 → ⊥) → None ≡ (if is_in_year_as Week p then Some (span_as Week p) else None)
 week_other p other =
-    no_span _ _ (false_from_ne_true _ (λ yes.
-        let parts = and_parts _ _ yes in
-        other (eqb-true _ _ (and_parts _ _ parts.1).1)))
+    no_span _ _ (false_from_ne_true _ (λ (held : is_in_year_as Week p ≡ true).
+        let parts = and_parts (nat_le 1 p.number) (nat_le p.number (weeks_in_year p.year) && p.day == 1) held in
+        other (eqb-true _ _ (and_parts (nat_le p.number (weeks_in_year p.year)) (p.day == 1) parts.1).1)))

@@ -1,10 +1,13 @@
 //! Periods and their days.
-ghost use Rattle.std.specs.Prelude.{◌≡◌, IsTrue, Some, None, if◌then◌else◌, pos, ◌-ℤ◌, ◌+ℤ◌};
+ghost use Rattle.std.specs.Prelude.{◌≡◌, IsTrue, IfSome, IfNone, Some, None, if◌then◌else◌, pos, ◌-ℤ◌, ◌+ℤ◌};
+ghost use Rattle.dh_periods.specs.declared.name.PeriodName.{PeriodName};
+ghost use Rattle.dh_periods.specs.Texts.{period_of, IsTextOf};
 ghost use Rattle.dh_periods.specs.Days.{first_day, last_day, listed, is_listed};
 
 use crate::days::span_of;
 use crate::kind::PeriodType;
 use crate::name::PeriodName;
+use crate::read::read_name;
 use std::marker::Model;
 
 /// A period: a day, a week, or some months.
@@ -33,6 +36,13 @@ impl Model for Period {
     ghost inverse_ok = { fields-view };
 }
 
+#[tactic(auto, unfolding(crate::specs::Texts::period_of))]
+fn period_in(text: &[u8]) -> Option<Period>
+    ensures { result ≡ period_of text.now }
+{
+    Period::named(read_name(text)?)
+}
+
 impl Period {
     /// The period of that name, or `None` where there is none.
     pub fn named(name: PeriodName) -> Option<Period>
@@ -44,6 +54,17 @@ impl Period {
             first: span.first,
             name,
         })
+    }
+
+    /// The period of a text, or `None` where no type writes that text. A week's number may have a
+    /// leading zero. A text of another length than a period's is refused by its length alone.
+    pub fn parse(text: &[u8]) -> Option<Period>
+        ensures value { result ≡ period_of text.now }
+        ensures found { IfSome result (λ p. IsTextOf text.now p × IsTrue (is_listed p)) }
+        ensures none { IfNone result
+            ((p : PeriodName) → IsTrue (is_listed p) → ¬ IsTextOf text.now p) }
+    {
+        period_in(text)
     }
 
     /// Its type.
