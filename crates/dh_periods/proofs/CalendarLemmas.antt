@@ -1,8 +1,7 @@
 -- Months and days in order: which month has a day, and where years and weeks begin.
-use Rattle.std.proofs.Common.{◌≡◌, ℕ, zero, suc, ◌+◌, ◌-◌, ◌*◌, ◌/◌, ◌%◌, ◌<◌, ◌≤◌, ◌⊎◌, inl, inr, Bool, true, false, cond, nat_le, refl, sym, ap, ◌∙◌, arith, add-one}
+use Rattle.std.proofs.Common.{◌≡◌, ℕ, zero, suc, ◌+◌, ◌-◌, ◌*◌, ◌/◌, ◌%◌, ◌<◌, ◌≤◌, inl, inr, nat_le, refl, sym, ◌∙◌, arith, add-one}
 use Rattle.std.proofs.lemmas.Bool.{cases_eq, cases_lt, cond-true, cond-false, le-leb, lt-leb}
-use Rattle.std.proofs.lemmas.Bool.Decides.{nat_tests}
-use Rattle.dh_periods.specs.Calendar.{month_length, days_before_month, month_place, day_place, last_month_by, month_with, year_with, first_week, weeks_in_year}
+use Rattle.dh_periods.specs.Calendar.{month_length, days_before_month, month_place, day_place, last_month_by, month_with, first_week}
 
 pub month_length_bounds : (y m : ℕ) → (28 ≤ month_length y m) × (month_length y m ≤ 31)
 month_length_bounds y m = grind arith
@@ -36,27 +35,29 @@ unfolding last_month_by
 last_month_by-is zero k n h low high = omega arith
 last_month_by-is (suc f) k n h low high =
     elim (cases_eq k (suc f)) [
-      inl same ↦
-        let begun : days_before_month (suc f) ≤ n = rw same at low in
-        cond-true (nat_le (days_before_month (suc f)) n) (suc f) (last_month_by f n) (le-leb _ _ begun) ∙ sym same |
-      inr other ↦
-        let below : k ≤ f = omega (arith, other) in
-        let later = days_before_month-later (k + 1) (suc f) (omega arith) in
-        let ahead : n < days_before_month (suc f) = omega arith in
-        cond-false (nat_le (days_before_month (suc f)) n) (suc f) (last_month_by f n) (lt-leb _ _ ahead) ∙ last_month_by-is f k n below low high ]
+      | inl same ↦
+          let begun : days_before_month (suc f) ≤ n = rw same at low in
+          cond-true (nat_le (days_before_month (suc f)) n) (suc f) (last_month_by f n) (le-leb _ _ begun) ∙ sym same
+      | inr other ↦
+          let below : k ≤ f = omega (arith, other) in
+          let later = days_before_month-later (k + 1) (suc f) (omega arith) in
+          let ahead : n < days_before_month (suc f) = omega arith in
+          cond-false (nat_le (days_before_month (suc f)) n) (suc f) (last_month_by f n) (lt-leb _ _ ahead) ∙ last_month_by-is f k n below low high
+    ]
 
 last_month_by-bounds : (f n : ℕ) → n < days_before_month (f + 1) → (days_before_month (last_month_by f n) ≤ n) × (n < days_before_month (last_month_by f n + 1))
 unfolding last_month_by
 last_month_by-bounds zero n high = (rw days_before_month-zero (omega arith), high)
 last_month_by-bounds (suc f) n high =
     elim (cases_lt n (days_before_month (suc f))) [
-      inl ahead ↦
-        let e = cond-false (nat_le (days_before_month (suc f)) n) (suc f) (last_month_by f n) (lt-leb _ _ ahead) in
-        let back : n < days_before_month (f + 1) = rw add-one ahead in
-        rw e (last_month_by-bounds f n back) |
-      inr begun ↦
-        let e = cond-true (nat_le (days_before_month (suc f)) n) (suc f) (last_month_by f n) (le-leb _ _ begun) in
-        rw e (begun, high) ]
+      | inl ahead ↦
+          let e = cond-false (nat_le (days_before_month (suc f)) n) (suc f) (last_month_by f n) (lt-leb _ _ ahead) in
+          let back : n < days_before_month (f + 1) = rw add-one ahead in
+          rw e (last_month_by-bounds f n back)
+      | inr begun ↦
+          let e = cond-true (nat_le (days_before_month (suc f)) n) (suc f) (last_month_by f n) (le-leb _ _ begun) in
+          rw e (begun, high)
+    ]
 
 -- the month in which a day lies is the month with that day
 pub month_with-is : (k n : ℕ) → days_before_month k ≤ n → n < days_before_month (k + 1) → month_with n ≡ k
@@ -77,15 +78,17 @@ pub month_with-from : (k n : ℕ) → days_before_month k ≤ n → k ≤ month_
 month_with-from k n low =
     let b = month_with-bounds n in
     elim (cases_lt (month_with n) k) [
-      inl less ↦ let later = days_before_month-later (month_with n + 1) k (omega arith) in absurd (omega arith) |
-      inr more ↦ more ]
+      | inl less ↦ let later = days_before_month-later (month_with n + 1) k (omega arith) in absurd (omega arith)
+      | inr more ↦ more
+    ]
 
 pub month_with-before : (k n : ℕ) → n < days_before_month k → month_with n < k
 month_with-before k n high =
     let b = month_with-bounds n in
     elim (cases_lt (month_with n) k) [
-      inl less ↦ less |
-      inr more ↦ let later = days_before_month-later k (month_with n) more in absurd (omega arith) ]
+      | inl less ↦ less
+      | inr more ↦ let later = days_before_month-later k (month_with n) more in absurd (omega arith)
+    ]
 
 -- the year's first Thursday lies in its week 1, a week being the days 7w to 7w + 6
 pub first_week-thursday : (y : ℕ) → (day_place y 1 1 ≤ 7 * first_week y + 3) × (7 * first_week y + 3 < day_place y 1 1 + 7)

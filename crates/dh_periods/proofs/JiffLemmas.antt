@@ -1,6 +1,6 @@
 -- The library's dates and weeks are those of this crate's calendar.
-use Rattle.std.proofs.Common.{◌≡◌, ℕ, zero, suc, ◌+◌, ◌-◌, ◌*◌, ◌/◌, ◌%◌, ◌<◌, ◌≤◌, ◌⊎◌, inl, inr, refl, sym, ap, ◌∙◌, arith, add-one, ℤ, pos, neg_ℤ, ◌+ℤ◌, ◌-ℤ◌, ◌<ℤ◌, ◌≤ℤ◌}
-use Rattle.std.proofs.lemmas.Bool.{cases_eq, cases_lt}
+use Rattle.std.proofs.Common.{◌≡◌, ℕ, zero, suc, ◌+◌, ◌-◌, ◌*◌, ◌/◌, ◌%◌, ◌≤◌, ◌⊎◌, inl, inr, refl, ap, ◌∙◌, arith, ℤ, pos, ◌+ℤ◌}
+use Rattle.std.proofs.lemmas.Bool.{cases_lt}
 use Rattle.jiff_core.specs.declared.civil.weekday.Weekday.{Weekday}
 use Rattle.jiff_core.specs.declared.civil.weekday.Weekday.TheVariants.{Monday}
 use Rattle.jiff_core.specs.Weekday.{monday_zero}
@@ -8,7 +8,7 @@ use Rattle.jiff_core.specs.declared.civil.date.Date.{Date}
 use Rattle.jiff_core.specs.Date.{epoch_day}
 use Rattle.jiff_core.specs.IsoWeek.{days_from_iso, weeks_in_year as iso_weeks}
 use Rattle.jiff_core.proofs.IsoWeekLemmas.{weeks_in_year-next}
-use Rattle.jiff_core.specs.Calendar.{days_in_month, day_count, days_from_civil, iso_year_start}
+use Rattle.jiff_core.specs.Calendar.{day_count, days_from_civil, iso_year_start}
 use Rattle.jiff_core.proofs.CalendarLemmas.{day_count-next_month, day_count-next_year, day_count-last_of_year, day_count-day, days_from_civil-day_count, weekday_number-parts}
 use Rattle.jiff_core.proofs.MarchLemmas.{day_count-early}
 use Rattle.jiff_core.proofs.SignedLemmas.{signed_arith}
@@ -35,9 +35,10 @@ day_count-month (suc k) =
     let before = day_count-month k in
     let next = days_before_month-next k in
     let along : ((1900 + suc k / 12 ≡ 1900 + k / 12) × (suc k % 12 + 1 ≡ k % 12 + 1 + 1)) ⊎ ((k % 12 + 1 ≡ 12) × (1900 + suc k / 12 ≡ 1900 + k / 12 + 1) × (suc k % 12 + 1 ≡ 1)) =
-        elim (cases_lt (k % 12) 11) [
-          inl less ↦ inl (omega arith, omega arith) |
-          inr last ↦ inr (omega arith, omega arith, omega arith) ] in
+    elim (cases_lt (k % 12) 11) [
+      | inl less ↦ inl (omega arith, omega arith)
+      | inr last ↦ inr (omega arith, omega arith, omega arith)
+    ] in
     let step = day_count-step (1900 + k / 12) (k % 12 + 1) (1900 + suc k / 12) (suc k % 12 + 1) (omega arith) along in
     let back : suc k ≡ k + 1 = omega arith in
     let grown : days_before_month (suc k) ≡ days_before_month k + month_length (1900 + k / 12) (k % 12 + 1) = rw back next in

@@ -3,3 +3,5 @@ pub mod JiffLemmas
 pub mod SpanLemmas
 pub mod TextLemmas
 pub mod ListedLemmas
+pub mod BoundLemmas
+pub mod HeldLemmas

@@ -1,17 +1,16 @@
 -- What the library's answers say of the days of a period.
-use Rattle.std.proofs.Common.{◌≡◌, ℕ, zero, suc, ◌+◌, ◌-◌, ◌*◌, ◌/◌, ◌%◌, ◌<◌, ◌≤◌, ◌⊎◌, inl, inr, Bool, true, false, ◌&&◌, nat_le, if◌then◌else◌, Option, Some, None, refl, sym, ap, ◌∙◌, arith, ℤ, pos, neg_ℤ, ◌+ℤ◌, ◌-ℤ◌, ◌<ℤ◌, ◌≤ℤ◌}
-use Rattle.std.proofs.lemmas.Bool.{cases_Bool, and_parts, and_from, le-leb, lt-leb, leb-true, and_right, eq-eqb, eqb-true, false_from_ne_true, cond-true, cond-false}
-use Rattle.std.proofs.lemmas.Bool.Decides.{nat_tests}
+use Rattle.std.proofs.Common.{◌≡◌, ℕ, ◌+◌, ◌<◌, ◌≤◌, ◌⊎◌, inl, inr, Bool, true, false, ◌&&◌, nat_le, if◌then◌else◌, Option, Some, None, refl, arith, ℤ, pos, ◌+ℤ◌, ◌-ℤ◌}
+use Rattle.std.proofs.lemmas.Bool.{and_parts, and_from, le-leb, lt-leb, leb-true, and_right, eq-eqb, eqb-true, false_from_ne_true}
 use Rattle.std.specs.Prelude.{◌==◌}
 use Rattle.jiff_core.specs.declared.civil.weekday.Weekday.TheVariants.{Monday}
 use Rattle.jiff_core.specs.Calendar.{IsDate}
-use Rattle.jiff_core.specs.IsoWeek.{IsIsoWeekDate, days_from_iso, weeks_in_year as iso_weeks}
+use Rattle.jiff_core.specs.IsoWeek.{IsIsoWeekDate, weeks_in_year as iso_weeks}
 use Rattle.jiff_core.proofs.SignedLemmas.{signed_arith}
 use Rattle.dh_periods.specs.declared.kind.Shape.{Shape}
-use Rattle.dh_periods.specs.declared.kind.Shape.TheVariants.{Day, Week, Months}
+use Rattle.dh_periods.specs.declared.kind.Shape.TheVariants.{Day, Week}
 use Rattle.dh_periods.specs.declared.name.PeriodName.{PeriodName}
 use Rattle.dh_periods.specs.declared.days.Span.{Span}
-use Rattle.dh_periods.specs.Calendar.{month_length, days_before_month, month_place, day_place, unix_day, first_week, weeks_in_year}
+use Rattle.dh_periods.specs.Calendar.{month_length, month_place, unix_day, first_week, weeks_in_year}
 use Rattle.dh_periods.specs.Types.{shape_of}
 use Rattle.dh_periods.specs.Days.{is_in_year_as, is_listed, first_place, end_place, first_day, last_day}
 use Rattle.dh_periods.specs.Spans.{span_as, span_of}
@@ -50,14 +49,14 @@ week_listed p low high one h =
 pub week_unlisted : (p : PeriodName) → 1900 ≤ p.year → p.year ≤ 2100 → (IsIsoWeekDate (pos p.year) (pos p.number) Monday → ⊥) → is_in_year_as Week p ≡ false
 week_unlisted p low high none =
     false_from_ne_true _ (λ (held : is_in_year_as Week p ≡ true).
-        let weeks : iso_weeks (pos p.year) ≡ weeks_in_year p.year = weeks_in_year-is p.year low (omega arith) in
-        let parts = and_parts (nat_le 1 p.number) (nat_le p.number (weeks_in_year p.year) && p.day == 1) held in
-        let least = leb-true 1 p.number parts.0 in
-        let top = leb-true p.number (weeks_in_year p.year) (and_parts (nat_le p.number (weeks_in_year p.year)) (p.day == 1) parts.1).0 in
-        let first = week-bounds p.year (omega arith) in
-        let next = week-bounds (p.year + 1) (omega arith) in
-        let day = days_from_iso-is p.year p.number Monday low in
-        none ((omega (arith, signed_arith), omega (arith, signed_arith)), (omega (arith, signed_arith), rw weeks (omega (arith, signed_arith))), rw day (omega (arith, signed_arith), omega (arith, signed_arith))))
+    let weeks : iso_weeks (pos p.year) ≡ weeks_in_year p.year = weeks_in_year-is p.year low (omega arith) in
+    let parts = and_parts (nat_le 1 p.number) (nat_le p.number (weeks_in_year p.year) && p.day == 1) held in
+    let least = leb-true 1 p.number parts.0 in
+    let top = leb-true p.number (weeks_in_year p.year) (and_parts (nat_le p.number (weeks_in_year p.year)) (p.day == 1) parts.1).0 in
+    let first = week-bounds p.year (omega arith) in
+    let next = week-bounds (p.year + 1) (omega arith) in
+    let day = days_from_iso-is p.year p.number Monday low in
+    none ((omega (arith, signed_arith), omega (arith, signed_arith)), (omega (arith, signed_arith), rw weeks (omega (arith, signed_arith))), rw day (omega (arith, signed_arith), omega (arith, signed_arith))))
 
 pub date_listed : (p : PeriodName) → 1900 ≤ p.year → p.year ≤ 2100 → IsDate (pos p.year) (pos p.number) (pos p.day) → is_in_year_as Day p ≡ true
 date_listed p low high h =
@@ -84,13 +83,13 @@ no_span b s no_such = rw no_such refl
 pub week_far : (p : PeriodName) → 1900 ≤ p.year → p.year ≤ 2100 → 53 < p.number → None ≡ (if is_in_year_as Week p then Some (span_as Week p) else None)
 week_far p low high far =
     no_span _ _ (false_from_ne_true _ (λ (held : is_in_year_as Week p ≡ true).
-        let parts = and_parts (nat_le 1 p.number) (nat_le p.number (weeks_in_year p.year) && p.day == 1) held in
-        let top = leb-true p.number (weeks_in_year p.year) (and_parts (nat_le p.number (weeks_in_year p.year)) (p.day == 1) parts.1).0 in
-        let bounds = weeks_in_year_bounds p.year low (omega arith) in
-        absurd (omega arith)))
+    let parts = and_parts (nat_le 1 p.number) (nat_le p.number (weeks_in_year p.year) && p.day == 1) held in
+    let top = leb-true p.number (weeks_in_year p.year) (and_parts (nat_le p.number (weeks_in_year p.year)) (p.day == 1) parts.1).0 in
+    let bounds = weeks_in_year_bounds p.year low (omega arith) in
+    absurd (omega arith)))
 
 pub week_other : (p : PeriodName) → (p.day ≡ 1 → ⊥) → None ≡ (if is_in_year_as Week p then Some (span_as Week p) else None)
 week_other p other =
     no_span _ _ (false_from_ne_true _ (λ (held : is_in_year_as Week p ≡ true).
-        let parts = and_parts (nat_le 1 p.number) (nat_le p.number (weeks_in_year p.year) && p.day == 1) held in
-        other (eqb-true _ _ (and_parts (nat_le p.number (weeks_in_year p.year)) (p.day == 1) parts.1).1)))
+    let parts = and_parts (nat_le 1 p.number) (nat_le p.number (weeks_in_year p.year) && p.day == 1) held in
+    other (eqb-true _ _ (and_parts (nat_le p.number (weeks_in_year p.year)) (p.day == 1) parts.1).1)))

@@ -1,7 +1,7 @@
 -- What is read is written so, and what is written is read.
-use Rattle.std.proofs.Common.{◌≡◌, ℕ, zero, suc, ◌+◌, ◌-◌, ◌*◌, ◌/◌, ◌%◌, ◌<◌, ◌≤◌, ◌⊎◌, inl, inr, Bool, true, false, ◌&&◌, nat_le, nat_lt, nat_eq, if◌then◌else◌, Option, Some, None, List, [], ◌∷◌, ◌++◌, length, take, drop, slice_index, refl, sym, ap, subst, ◌∙◌, arith}
+use Rattle.std.proofs.Common.{◌≡◌, ℕ, ◌+◌, ◌-◌, ◌*◌, ◌/◌, ◌%◌, ◌<◌, ◌≤◌, ◌⊎◌, inl, inr, Bool, true, false, ◌&&◌, nat_le, nat_lt, nat_eq, if◌then◌else◌, Option, Some, None, List, [], ◌∷◌, ◌++◌, length, take, drop, slice_index, refl, sym, ap, subst, ◌∙◌, arith}
 use Rattle.std.specs.Prelude.{codes, bytes_eq, option_map, option_and_then, ◌==◌, IfSome, IfNone, IsTrue}
-use Rattle.std.proofs.lemmas.Bool.{cases_lt, cond_both, and_parts, and_from, le-leb, lt-leb, leb-true, lt-ltb, le-ltb, eqb-true, ne_eqb, false_from_ne_true}
+use Rattle.std.proofs.lemmas.Bool.{cases_lt, cond_both, and_parts, and_from, le-leb, leb-true, lt-ltb, le-ltb, eqb-true, ne_eqb}
 use Rattle.std.proofs.lemmas.Slice.Eq.{bytes_eq-Decides}
 use Rattle.dh_periods.specs.declared.kind.PeriodType.{PeriodType}
 use Rattle.dh_periods.specs.declared.kind.PeriodType.TheVariants.{Daily, Weekly, Monthly, BiMonthly, Quarterly, SixMonthly, SixMonthlyApril, Yearly, FinancialApril, FinancialJuly, FinancialOct}
@@ -161,23 +161,28 @@ one-letter letter a b n e o = rw (eqb-true a letter e, (one-read b n o).1) refl
 read_two-is : (y a b : ℕ) (p : PeriodName) → read_two y a b ≡ Some p → IsReadAs y (a ∷ b ∷ []) p
 read_two-is y a b p e =
     elim (choice (a == 87) _ _ _ e) [
-      inl week ↦ numbered-read Weekly y _ (number_of_one b) p (λ n o. one-letter 87 a b n week.0 o ∙ rw (lt-ltb n 10 (one-read b n o).0) refl) week.1 |
-      inr more ↦
-        elim (choice (a == 81) _ _ _ more.1) [
-          inl quarter ↦ numbered-read Quarterly y _ (number_of_one b) p (λ n o. one-letter 81 a b n quarter.0 o) quarter.1 |
-          inr rest ↦
-            elim (choice (a == 83) _ _ _ rest.1) [
-              inl half ↦ numbered-read SixMonthly y _ (number_of_one b) p (λ n o. one-letter 83 a b n half.0 o) half.1 |
-              inr month ↦ numbered-read Monthly y _ (number_of_two a b) p (λ n o. rw ((two-read a b n o).1, (two-read a b n o).2) refl) month.1 ] ] ]
+      | inl week ↦ numbered-read Weekly y _ (number_of_one b) p (λ n o. one-letter 87 a b n week.0 o ∙ rw (lt-ltb n 10 (one-read b n o).0) refl) week.1
+      | inr more ↦
+          elim (choice (a == 81) _ _ _ more.1) [
+            | inl quarter ↦ numbered-read Quarterly y _ (number_of_one b) p (λ n o. one-letter 81 a b n quarter.0 o) quarter.1
+            | inr rest ↦
+                elim (choice (a == 83) _ _ _ rest.1) [
+                  | inl half ↦ numbered-read SixMonthly y _ (number_of_one b) p (λ n o. one-letter 83 a b n half.0 o) half.1
+                  | inr month ↦ numbered-read Monthly y _ (number_of_two a b) p (λ n o. rw ((two-read a b n o).1, (two-read a b n o).2) refl) month.1
+                ]
+          ]
+    ]
 
 read_three-is : (y a b c : ℕ) (p : PeriodName) → read_three y a b c ≡ Some p → IsReadAs y (a ∷ b ∷ c ∷ []) p
 read_three-is y a b c p e =
     elim (choice (a == 87) _ _ _ e) [
-      inl week ↦ padded-read y _ (number_of_two b c) p (λ n o. rw (eqb-true a 87 week.0, (two-read b c n o).1, (two-read b c n o).2) refl) week.1 |
-      inr more ↦
-        elim (choice (c == 66) _ _ _ more.1) [
-          inl pair ↦ numbered-read BiMonthly y _ (number_of_two a b) p (λ n o. rw (eqb-true c 66 pair.0, (two-read a b n o).1, (two-read a b n o).2) refl) pair.1 |
-          inr none ↦ absurd (cc none.1) ] ]
+      | inl week ↦ padded-read y _ (number_of_two b c) p (λ n o. rw (eqb-true a 87 week.0, (two-read b c n o).1, (two-read b c n o).2) refl) week.1
+      | inr more ↦
+          elim (choice (c == 66) _ _ _ more.1) [
+            | inl pair ↦ numbered-read BiMonthly y _ (number_of_two a b) p (λ n o. rw (eqb-true c 66 pair.0, (two-read a b n o).1, (two-read a b n o).2) refl) pair.1
+            | inr none ↦ absurd (cc none.1)
+          ]
+    ]
 
 read_four-is : (y a b c d : ℕ) (p : PeriodName) → dated y (number_of_two a b) (number_of_two c d) ≡ Some p → IsReadAs y (a ∷ b ∷ c ∷ d ∷ []) p
 read_four-is y a b c d p e =
@@ -194,34 +199,42 @@ read_seven-is y r p long e made =
 read_long-is : (y : ℕ) (r : List ℕ) (p : PeriodName) → (if length r == 7 && bytes_eq (take 6 r) (codes "AprilS") then numbered SixMonthlyApril y (number_of_one (slice_index r 6)) else None) ≡ Some p → IsReadAs y r p
 read_long-is y r p e =
     elim (choice (length r == 7 && bytes_eq (take 6 r) (codes "AprilS")) _ _ _ e) [
-      inl seven ↦ let both = and_parts _ _ seven.0 in read_seven-is y r p (eqb-true _ _ both.0) both.1 seven.1 |
-      inr none ↦ absurd (cc none.1) ]
+      | inl seven ↦ let both = and_parts _ _ seven.0 in read_seven-is y r p (eqb-true _ _ both.0) both.1 seven.1
+      | inr none ↦ absurd (cc none.1)
+    ]
 
 read_ending-is : (y : ℕ) (r : List ℕ) (p : PeriodName) → read_ending y r ≡ Some p → IsReadAs y r p
 unfolding read_ending
 read_ending-is y r p e =
     let P : List ℕ → Type 0 = λ s. IsReadAs y s p in
     elim (choice (length r == 0) _ _ _ e) [
-      inl none ↦ whole-read Yearly y r p (list_of_none r (eqb-true _ _ none.0)) none.1 |
-      inr e₁ ↦
-        elim (choice (length r == 2) _ _ _ e₁.1) [
-          inl two ↦ subst P (sym (list_of_two r (eqb-true _ _ two.0))) (read_two-is y _ _ p two.1) |
-          inr e₂ ↦
-            elim (choice (bytes_eq r (codes "Oct")) _ _ _ e₂.1) [
-              inl oct ↦ whole-read FinancialOct y r p (same_text _ _ oct.0) oct.1 |
-              inr e₃ ↦
-                elim (choice (length r == 3) _ _ _ e₃.1) [
-                  inl three ↦ subst P (sym (list_of_three r (eqb-true _ _ three.0))) (read_three-is y _ _ _ p three.1) |
-                  inr e₄ ↦
-                    elim (choice (bytes_eq r (codes "July")) _ _ _ e₄.1) [
-                      inl july ↦ whole-read FinancialJuly y r p (same_text _ _ july.0) july.1 |
-                      inr e₅ ↦
-                        elim (choice (length r == 4) _ _ _ e₅.1) [
-                          inl four ↦ subst P (sym (list_of_four r (eqb-true _ _ four.0))) (read_four-is y _ _ _ _ p four.1) |
-                          inr e₆ ↦
-                            elim (choice (bytes_eq r (codes "April")) _ _ _ e₆.1) [
-                              inl april ↦ whole-read FinancialApril y r p (same_text _ _ april.0) april.1 |
-                              inr e₇ ↦ read_long-is y r p e₇.1 ] ] ] ] ] ] ]
+      | inl none ↦ whole-read Yearly y r p (list_of_none r (eqb-true _ _ none.0)) none.1
+      | inr e₁ ↦
+          elim (choice (length r == 2) _ _ _ e₁.1) [
+            | inl two ↦ subst P (sym (list_of_two r (eqb-true _ _ two.0))) (read_two-is y _ _ p two.1)
+            | inr e₂ ↦
+                elim (choice (bytes_eq r (codes "Oct")) _ _ _ e₂.1) [
+                  | inl oct ↦ whole-read FinancialOct y r p (same_text _ _ oct.0) oct.1
+                  | inr e₃ ↦
+                      elim (choice (length r == 3) _ _ _ e₃.1) [
+                        | inl three ↦ subst P (sym (list_of_three r (eqb-true _ _ three.0))) (read_three-is y _ _ _ p three.1)
+                        | inr e₄ ↦
+                            elim (choice (bytes_eq r (codes "July")) _ _ _ e₄.1) [
+                              | inl july ↦ whole-read FinancialJuly y r p (same_text _ _ july.0) july.1
+                              | inr e₅ ↦
+                                  elim (choice (length r == 4) _ _ _ e₅.1) [
+                                    | inl four ↦ subst P (sym (list_of_four r (eqb-true _ _ four.0))) (read_four-is y _ _ _ _ p four.1)
+                                    | inr e₆ ↦
+                                        elim (choice (bytes_eq r (codes "April")) _ _ _ e₆.1) [
+                                          | inl april ↦ whole-read FinancialApril y r p (same_text _ _ april.0) april.1
+                                          | inr e₇ ↦ read_long-is y r p e₇.1
+                                        ]
+                                  ]
+                            ]
+                      ]
+                ]
+          ]
+    ]
 
 four-front : (a b c d y : ℕ) (r : List ℕ) → number_of_four a b c d ≡ Some y → a ∷ b ∷ c ∷ d ∷ r ≡ four_digits y ++ r
 four-front a b c d y r e =
@@ -233,7 +246,7 @@ pub read_name-is : (text : List ℕ) (p : PeriodName) → read_name text ≡ Som
 unfolding read_name period_text padded_text IsEnding
 read_name-is text p e =
     let taken : ((nat_le 4 (length text) && nat_le (length text) 11) ≡ true) × (option_and_then (λ y. read_ending y (drop 4 text)) (number_of_four (slice_index text 0) (slice_index text 1) (slice_index text 2) (slice_index text 3)) ≡ Some p) =
-        elim (choice (nat_le 4 (length text) && nat_le (length text) 11) _ _ _ e) [ inl t ↦ t | inr none ↦ absurd (cc none.1) ] in
+    elim (choice (nat_le 4 (length text) && nat_le (length text) 11) _ _ _ e) [ inl t ↦ t | inr none ↦ absurd (cc none.1) ] in
     let long = leb-true _ _ (and_parts _ _ taken.0).0 in
     let a = slice_index text 0 in
     let b = slice_index text 1 in
@@ -244,8 +257,9 @@ read_name-is text p e =
     let front : text ≡ four_digits year.0 ++ drop 4 text = list_after_four text long ∙ four-front a b c d year.0 (drop 4 text) year.1 in
     let written : text ≡ four_digits p.year ++ drop 4 text = rw rest.0 front in
     elim rest.1 [
-      inl canonical ↦ inl (rw (← canonical) written) |
-      inr padded ↦ inr (padded.0, rw (← padded.1) written) ]
+      | inl canonical ↦ inl (rw (← canonical) written)
+      | inr padded ↦ inr (padded.0, rw (← padded.1) written)
+    ]
 
 range : (n d top : ℕ) → (nat_le 1 n && (nat_le n top && d == 1)) ≡ true → (1 ≤ n) × (n ≤ top) × (d ≡ 1)
 range n d top h =
@@ -275,8 +289,9 @@ week-reads : (y n : ℕ) → n < 100 → read_ending y (codes "W" ++ short_digit
 unfolding read_ending
 week-reads y n h =
     elim (cases_lt n 10) [
-      inl short ↦ rw (lt-ltb n 10 short) (ap (numbered Weekly y) (one-written n short)) |
-      inr long ↦ rw (le-ltb n 10 long) (ap (numbered Weekly y) (two-written n h)) ]
+      | inl short ↦ rw (lt-ltb n 10 short) (ap (numbered Weekly y) (one-written n short))
+      | inr long ↦ rw (le-ltb n 10 long) (ap (numbered Weekly y) (two-written n h))
+    ]
 
 padded-reads : (y n : ℕ) → n < 100 → read_ending y (codes "W" ++ two_digits n) ≡ numbered Weekly y (Some n)
 unfolding read_ending

@@ -1,5 +1,5 @@
 -- The days of a period, by its type and what its text says.
-use Rattle.std.specs.Prelude.{ℕ, ◌+◌, ◌-◌, ◌*◌, ◌/◌, ◌%◌, Bool, ◌&&◌, ◌==◌, nat_le, if◌then◌else◌, Option, Some, None, ℤ, pos, ◌-ℤ◌}
+use Rattle.std.specs.Prelude.{ℕ, ◌+◌, ◌-◌, ◌*◌, ◌/◌, Bool, ◌&&◌, ◌==◌, nat_le, if◌then◌else◌, Option, Some, None, ℤ, pos, ◌-ℤ◌, int_le}
 use Rattle.dh_periods.specs.declared.kind.Shape.{Shape}
 use Rattle.dh_periods.specs.declared.kind.Shape.TheVariants.{Day, Week, Months}
 use Rattle.dh_periods.specs.declared.name.PeriodName.{PeriodName}
@@ -48,3 +48,11 @@ is_listed p = nat_le 1900 p.year && (nat_le p.year 2100 && is_in_year_as (shape_
 -- the period of that name
 abbrev pub listed : PeriodName → Option PeriodName
 listed p = if is_listed p then Some p else None
+
+-- a day lies in a period
+abbrev pub is_day_in : ℤ → PeriodName → Bool
+is_day_in day p = int_le (first_day p) day && int_le day (last_day p)
+
+-- the first and the last day of a period lie in another
+unfoldable pub is_inside : PeriodName → PeriodName → Bool
+is_inside p q = is_day_in (first_day p) q && is_day_in (last_day p) q

@@ -1,5 +1,5 @@
 -- The first and last day of a period, as the code holds them.
-use Rattle.std.specs.Prelude.{ℕ, ℤ, pos, ◌-ℤ◌}
+use Rattle.std.specs.Prelude.{pos, ◌-ℤ◌}
 use Rattle.dh_periods.specs.declared.days.Span.{Span}
 use Rattle.dh_periods.specs.declared.kind.Shape.{Shape}
 use Rattle.dh_periods.specs.declared.name.PeriodName.{PeriodName}

@@ -3,7 +3,7 @@ use Rattle.std.specs.Prelude.{◌≡◌, ℕ, ◌+◌, ◌-◌, ◌*◌, ◌/◌
 use Rattle.dh_periods.specs.declared.kind.PeriodType.{PeriodType}
 use Rattle.dh_periods.specs.declared.kind.PeriodType.TheVariants.{Daily, Weekly, Monthly, BiMonthly, Quarterly, SixMonthly, SixMonthlyApril, Yearly, FinancialApril, FinancialJuly, FinancialOct}
 use Rattle.dh_periods.specs.declared.name.PeriodName.{PeriodName}
-use Rattle.dh_periods.specs.Days.{listed, is_listed}
+use Rattle.dh_periods.specs.Days.{listed}
 
 -- a number below ten, and numbers below a hundred and below ten thousand with all their digits
 abbrev pub one_digit : ℕ → List ℕ

@@ -1,5 +1,5 @@
 -- The types of periods: what each is called, and how its periods lie in a year.
-use Rattle.std.specs.Prelude.{ℕ, ◌+◌, ◌-◌, ◌*◌, ◌/◌, ◌≤◌, List}
+use Rattle.std.specs.Prelude.{ℕ, ◌≤◌, List}
 use lib.Chars.{codes}
 use Rattle.dh_periods.specs.declared.kind.PeriodType.{PeriodType}
 use Rattle.dh_periods.specs.declared.kind.PeriodType.TheVariants.{Daily, Weekly, Monthly, BiMonthly, Quarterly, SixMonthly, SixMonthlyApril, Yearly, FinancialApril, FinancialJuly, FinancialOct}

@@ -37,14 +37,41 @@ pub(crate) fn shape_of(kind: PeriodType) -> Shape
     match kind {
         PeriodType::Daily => Shape::Day,
         PeriodType::Weekly => Shape::Week,
-        PeriodType::Monthly => Shape::Months { count: 1, opening: 0 },
-        PeriodType::BiMonthly => Shape::Months { count: 2, opening: 0 },
-        PeriodType::Quarterly => Shape::Months { count: 3, opening: 0 },
-        PeriodType::SixMonthly => Shape::Months { count: 6, opening: 0 },
-        PeriodType::SixMonthlyApril => Shape::Months { count: 6, opening: 3 },
-        PeriodType::Yearly => Shape::Months { count: 12, opening: 0 },
-        PeriodType::FinancialApril => Shape::Months { count: 12, opening: 3 },
-        PeriodType::FinancialJuly => Shape::Months { count: 12, opening: 6 },
-        PeriodType::FinancialOct => Shape::Months { count: 12, opening: 9 },
+        PeriodType::Monthly => Shape::Months {
+            count: 1,
+            opening: 0,
+        },
+        PeriodType::BiMonthly => Shape::Months {
+            count: 2,
+            opening: 0,
+        },
+        PeriodType::Quarterly => Shape::Months {
+            count: 3,
+            opening: 0,
+        },
+        PeriodType::SixMonthly => Shape::Months {
+            count: 6,
+            opening: 0,
+        },
+        PeriodType::SixMonthlyApril => Shape::Months {
+            count: 6,
+            opening: 3,
+        },
+        PeriodType::Yearly => Shape::Months {
+            count: 12,
+            opening: 0,
+        },
+        PeriodType::FinancialApril => Shape::Months {
+            count: 12,
+            opening: 3,
+        },
+        PeriodType::FinancialJuly => Shape::Months {
+            count: 12,
+            opening: 6,
+        },
+        PeriodType::FinancialOct => Shape::Months {
+            count: 12,
+            opening: 9,
+        },
     }
 }

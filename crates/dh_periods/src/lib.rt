@@ -5,6 +5,7 @@ mod days;
 mod kind;
 mod name;
 mod period;
+mod print;
 mod read;
 
 pub use kind::PeriodType;

@@ -1,13 +1,16 @@
 //! Periods and their days.
-ghost use Rattle.std.specs.Prelude.{◌≡◌, IsTrue, IfSome, IfNone, Some, None, if◌then◌else◌, pos, ◌-ℤ◌, ◌+ℤ◌};
+ghost use Rattle.std.specs.Prelude.{◌≡◌, IsTrue, IfSome, IfNone, IfOk, Some, None, if◌then◌else◌, pos, neg_ℤ, ◌-ℤ◌, ◌+ℤ◌, ◌≤ℤ◌};
 ghost use Rattle.dh_periods.specs.declared.name.PeriodName.{PeriodName};
-ghost use Rattle.dh_periods.specs.Texts.{period_of, IsTextOf};
-ghost use Rattle.dh_periods.specs.Days.{first_day, last_day, listed, is_listed};
+ghost use Rattle.dh_periods.specs.Texts.{period_of, period_text, IsTextOf};
+ghost use Rattle.dh_periods.specs.Days.{first_day, last_day, listed, is_listed, is_inside};
 
 use crate::days::span_of;
 use crate::kind::PeriodType;
 use crate::name::PeriodName;
+use crate::print::print_name;
 use crate::read::read_name;
+use dh_base::memory::Memory;
+use std::alloc::Global;
 use std::marker::Model;
 
 /// A period: a day, a week, or some months.
@@ -34,6 +37,15 @@ impl Model for Period {
     ghost inverse = { fields };
 
     ghost inverse_ok = { fields-view };
+}
+
+fn days_between(first: i32, last: i32) -> u32
+    requires from { neg_ℤ (pos 25567) ≤ℤ first }
+    requires order { first ≤ℤ last }
+    requires to { last ≤ℤ pos 50000 }
+    ensures { pos result ≡ (last -ℤ first) +ℤ pos 1 }
+{
+    (last - first + 1) as u32
 }
 
 #[tactic(auto, unfolding(crate::specs::Texts::period_of))]
@@ -88,5 +100,27 @@ impl Period {
         ensures listed { IsTrue (is_listed self) }
     {
         self.last
+    }
+
+    /// The number of its days.
+    pub fn days(self) -> u32
+        ensures { pos result ≡ (last_day self -ℤ first_day self) +ℤ pos 1 }
+    {
+        days_between(self.first, self.last)
+    }
+
+    /// Whether its first and its last day lie in the other period.
+    pub fn inside(self, other: Period) -> bool
+        ensures { result ≡ is_inside self other }
+    {
+        other.first <= self.first && self.last <= other.last
+    }
+
+    /// Its text. What it gives is read again as the same period.
+    pub fn print(self, alloc: Global) -> Result<Vec<u8>, Memory>
+        ensures text { IfOk result (λ text. text.items ≡ period_text self) }
+        ensures again { IfOk result (λ text. period_of text.items ≡ Some self) }
+    {
+        print_name(alloc, self.name)
     }
 }

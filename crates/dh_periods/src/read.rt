@@ -122,11 +122,7 @@ fn read_ending(year: u16, rest: &[u8]) -> Option<PeriodName>
         return whole(PeriodType::FinancialApril, year);
     }
     if rest.len() == 7 && &rest[..6] == b"AprilS".as_slice() {
-        return numbered(
-            PeriodType::SixMonthlyApril,
-            year,
-            number_of_one(rest[6]),
-        );
+        return numbered(PeriodType::SixMonthlyApril, year, number_of_one(rest[6]));
     }
     None
 }

@@ -1,4 +1,4 @@
-use Rattle.std.proofs.Common.{◌≡◌, ◌+◌, ◌-◌, ◌*◌, ◌/◌, ◌%◌, ◌≤◌, ◌∙◌, arith, w32, ℤ, pos, ap, to_z-of_z, FitsSigned, rules}
+use Rattle.std.proofs.Common.{◌≡◌, ◌+◌, ◌-◌, ◌*◌, ◌/◌, ◌%◌, ◌∙◌, arith, w32, pos, ap, to_z-of_z, FitsSigned, rules}
 use Rattle.jiff_core.proofs.SignedLemmas.{signed_casts}
 use Rattle.jiff_core.specs.Date.{epoch_day}
 use Rattle.dh_periods.specs.Calendar.{unix_day, days_before_month}

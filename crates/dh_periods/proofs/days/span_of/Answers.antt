@@ -1,4 +1,4 @@
-use Rattle.std.proofs.Common.{◌≡◌, ◌<◌, ◌≤◌, ◌⊎◌, inl, inr, arith, sym}
+use Rattle.std.proofs.Common.{inl, inr}
 use Rattle.dh_periods.specs.declared.kind.Shape.TheVariants.{Day, Week, Months}
 use Rattle.dh_periods.proofs.SpanLemmas.{span_of-as, span_of-outside}
 use Rattle.dh_periods.proofs.days.span_of.Goals.{then-name-lt-FIRST_YEAR-via-then-name-lt-FIRST_YEAR, then-name-lt-FIRST_YEAR-via-else-name-lt-FIRST_YEAR+then-name-gt-LAST_YEAR}
@@ -7,8 +7,9 @@ use Rattle.dh_periods.proofs.days.span_of.Goals as goal
 pub returns-then-name-lt-FIRST_YEAR : goal.returns-then-name-lt-FIRST_YEAR
 returns-then-name-lt-FIRST_YEAR c =
     elim c.then-name-lt-FIRST_YEAR.branch [
-      then-name-lt-FIRST_YEAR-via-then-name-lt-FIRST_YEAR w ↦ span_of-outside c.args.name (inl w.if-name-lt-FIRST_YEAR.true) |
-      then-name-lt-FIRST_YEAR-via-else-name-lt-FIRST_YEAR+then-name-gt-LAST_YEAR w ↦ span_of-outside c.args.name (inr w.if-name-gt-LAST_YEAR.true) ]
+      | then-name-lt-FIRST_YEAR-via-then-name-lt-FIRST_YEAR w ↦ span_of-outside c.args.name (inl w.if-name-lt-FIRST_YEAR.true)
+      | then-name-lt-FIRST_YEAR-via-else-name-lt-FIRST_YEAR+then-name-gt-LAST_YEAR w ↦ span_of-outside c.args.name (inr w.if-name-gt-LAST_YEAR.true)
+    ]
 
 pub returns-in-Day : goal.returns-in-Day
 returns-in-Day c =

@@ -1,10 +1,9 @@
-use Rattle.std.proofs.Common.{◌≡◌, ◌<◌, ◌+◌, ◌-◌, ◌*◌, ◌/◌, ◌%◌, ◌≤◌, ◌∙◌, arith, w8, w16, w32, ℤ, pos, ap, to_z, of_z, to_z-of_z, refl, sym, ◌+ℤ◌, FitsSigned, rules}
+use Rattle.std.proofs.Common.{◌≡◌, ◌+◌, ◌-◌, ◌*◌, ◌∙◌, arith, w8, w16, w32, pos, ap, to_z, of_z, to_z-of_z, refl, ◌+ℤ◌, FitsSigned, rules}
 use Rattle.std.proofs.lemmas.Int.{to_z_pos}
 use Rattle.jiff_core.specs.Date.{epoch_day}
 use Rattle.jiff_core.proofs.SignedLemmas.{signed_arith}
 use Rattle.dh_periods.specs.Calendar.{unix_day, first_week}
 use Rattle.dh_periods.proofs.SpanLemmas.{week_listed, week_unlisted, week_far, week_other, some_span, no_span, unix_day-week}
-use Rattle.jiff_core.specs.declared.civil.weekday.Weekday.TheVariants.{Monday}
 use Rattle.dh_periods.specs.declared.kind.Shape.TheVariants.{Week}
 use Rattle.dh_periods.specs.Spans.{span_as}
 use Rattle.dh_periods.proofs.JiffLemmas.{days_from_iso-monday}
@@ -21,10 +20,10 @@ returns-in-Ok c =
     let week_is : c.in-Ok.week.inner.week ≡ p.number = cc (parts.1) in
     let place = 7 * (first_week p.year + (p.number - 1)) in
     let counted : epoch_day c.date.result ≡ unix_day place =
-        c.date.ensures ∙ rw (parts.0, week_is, parts.2) (days_from_iso-monday p.year p.number c.requires.year_from) in
+    c.date.ensures ∙ rw (parts.0, week_is, parts.2) (days_from_iso-monday p.year p.number c.requires.year_from) in
     let fits : FitsSigned w32 c.to_unix_epoch_day-first.result = search rules in
     let first : to_z w32 (of_z w32 c.to_unix_epoch_day-first.result) ≡ unix_day place =
-        to_z-of_z fits ∙ c.to_unix_epoch_day-first.ensures.value ∙ ap epoch_day c.to_plain.ensures ∙ counted in
+    to_z-of_z fits ∙ c.to_unix_epoch_day-first.ensures.value ∙ ap epoch_day c.to_plain.ensures ∙ counted in
     let back : to_z w32 (of_z w32 c.to_unix_epoch_day-first.result) ≡ c.to_unix_epoch_day-first.result = to_z-of_z fits in
     let room : FitsSigned w32 (to_z w32 (of_z w32 c.to_unix_epoch_day-first.result) +ℤ pos 6) = rw back (omega (arith, signed_arith)) in
     some_span _ _ _ (span_as Week p) (week_listed p c.requires.year_from c.requires.year_to c.if-name-ne1.false (has.0 refl)) first (to_z-of_z room ∙ ap (λ z. z +ℤ pos 6) first ∙ unix_day-week place)
@@ -41,5 +40,6 @@ returns-in-Err c =
 pub returns-then-name-gt53 : goal.returns-then-name-gt53
 returns-then-name-gt53 c =
     elim c.then-name-gt53.branch [
-      then-name-gt53-via-then-name-gt53 w ↦ week_far c.args.name c.requires.year_from c.requires.year_to w.if-name-gt53.true |
-      then-name-gt53-via-else-name-gt53+then-name-ne1 w ↦ week_other c.args.name w.if-name-ne1.true ]
+      | then-name-gt53-via-then-name-gt53 w ↦ week_far c.args.name c.requires.year_from c.requires.year_to w.if-name-gt53.true
+      | then-name-gt53-via-else-name-gt53+then-name-ne1 w ↦ week_other c.args.name w.if-name-ne1.true
+    ]
