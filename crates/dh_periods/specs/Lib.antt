@@ -1,0 +1,6 @@
+pub mod Calendar
+pub mod Types
+pub mod Days
+pub mod Spans
+pub mod Texts
+pub mod Held

@@ -1,0 +1,13 @@
+//! Periods of a health reporting system: days, weeks, months and longer, each written as a short text.
+#![tactic(auto)]
+
+mod days;
+mod kind;
+mod name;
+mod period;
+mod print;
+mod read;
+
+pub use kind::PeriodType;
+pub use name::PeriodName;
+pub use period::Period;
