@@ -29,8 +29,8 @@ unfolding total_of
 total_of-some value [] = refl
 total_of-some value (next ∷ later) =
     elim (list_any (λ other. same_key value.key other.key) (next ∷ later)) as
-        (λ b. sum_if_any (cond b (last_writes (next ∷ later)) (value ∷ last_writes (next ∷ later)))
-            ≡ Some (sum_of (cond b (last_writes (next ∷ later)) (value ∷ last_writes (next ∷ later)))))
+    (λ b. sum_if_any (cond b (last_writes (next ∷ later)) (value ∷ last_writes (next ∷ later)))
+    ≡ Some (sum_of (cond b (last_writes (next ∷ later)) (value ∷ last_writes (next ∷ later)))))
     [ true ↦ total_of-some next later | false ↦ refl ]
 
 pub total_of-none : total_of [] ≡ None

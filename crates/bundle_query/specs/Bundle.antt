@@ -21,44 +21,43 @@ only_if holds form = cond holds form (Err [])
 -- an organisation unit: its identifier, and its parent's where it has one
 unfoldable pub unit_entry_of : Data → Formed UnitEntry
 unit_entry_of = object_of (λ json.
-  and_then (field_of (codes "id") identifier_of json) (λ id.
-  and_then (optional_of (codes "parent") reference_of json) (λ parent.
-  Ok (record { id = id; parent = parent }))))
+    and_then (field_of (codes "id") identifier_of json) (λ id.
+    and_then (optional_of (codes "parent") reference_of json) (λ parent.
+    Ok (record { id = id; parent = parent }))))
 
 -- the element's values are numbers that are summed, and a zero means nothing
 unfoldable pub is_plain_element : Data → Bool
 is_plain_element json =
-  says (codes "valueType") (codes "NUMBER") json
-  && (lacks (codes "aggregationType") json || says (codes "aggregationType") (codes "SUM") json)
-  && lacks (codes "zeroIsSignificant") json && lacks (codes "categoryCombo") json
+    says (codes "valueType") (codes "NUMBER") json
+    && (lacks (codes "aggregationType") json || says (codes "aggregationType") (codes "SUM") json)
+    && lacks (codes "zeroIsSignificant") json && lacks (codes "categoryCombo") json
 
 unfoldable pub element_entry_of : Data → Formed ElementEntry
 element_entry_of = object_of (λ json. only_if (is_plain_element json)
-  (and_then (field_of (codes "id") identifier_of json) (λ id. Ok (record { id = id }))))
+    (and_then (field_of (codes "id") identifier_of json) (λ id. Ok (record { id = id }))))
 
 -- an element of a data set, with no category combination of its own there
 unfoldable pub set_element_of : Data → Formed SetElement
 set_element_of = object_of (λ json. only_if (lacks (codes "categoryCombo") json)
-  (and_then (field_of (codes "dataElement") reference_of json) (λ element. Ok (record { element = element }))))
+    (and_then (field_of (codes "dataElement") reference_of json) (λ element. Ok (record { element = element }))))
 
 -- the data set is monthly, and asks for nothing that this form doesn't have
 unfoldable pub is_plain_set : Data → Bool
 is_plain_set json =
-  says (codes "periodType") (codes "Monthly") json
-  && lacks (codes "categoryCombo") json && lacks (codes "workflow") json && lacks (codes "openFuturePeriods") json
-  && lacks (codes "expiryDays") json && lacks (codes "timelyDays") json
+    says (codes "periodType") (codes "Monthly") json
+    && lacks (codes "categoryCombo") json && lacks (codes "workflow") json && lacks (codes "openFuturePeriods") json
+    && lacks (codes "expiryDays") json && lacks (codes "timelyDays") json
 
 unfoldable pub set_entry_of : Data → Formed SetEntry
 set_entry_of = object_of (λ json. only_if (is_plain_set json)
-  (and_then (field_of (codes "id") identifier_of json) (λ id.
-  and_then (listed_of (codes "dataSetElements") set_element_of json) (λ elements.
-  and_then (listed_of (codes "organisationUnits") reference_of json) (λ units.
-  Ok (record { id = id; elements = elements; units = units }))))))
+    (and_then (field_of (codes "id") identifier_of json) (λ id.
+    and_then (listed_of (codes "dataSetElements") set_element_of json) (λ elements.
+    and_then (listed_of (codes "organisationUnits") reference_of json) (λ units.
+    Ok (record { id = id; elements = elements; units = units }))))))
 
 -- the user who asks: the units that are the user's, and the user's roles
 unfoldable pub user_entry_of : Data → Formed UserEntry
 user_entry_of = object_of (λ json. only_if (lacks (codes "dataViewOrganisationUnits") json)
-  (and_then (field_of (codes "organisationUnits") (list_of reference_of) json) (λ units.
-  and_then (listed_of (codes "userRoles") reference_of json) (λ roles.
-  Ok (record { units = units; roles = roles })))))
-
+    (and_then (field_of (codes "organisationUnits") (list_of reference_of) json) (λ units.
+    and_then (listed_of (codes "userRoles") reference_of json) (λ roles.
+    Ok (record { units = units; roles = roles })))))

@@ -1,3 +1,4 @@
 pub mod Words
 pub mod Bundle
 pub mod Total
+pub mod Body

@@ -46,7 +46,6 @@ pub struct UserEntry {
     pub roles: Items<Reference>,
 }
 
-
 // Whether a key holds this text.
 fn says(value: &Value, key: &str, text: &str) -> bool
     ensures { result ≡ says key.now text.now (view value.now) }

@@ -3,5 +3,6 @@
 //! and one unit. What is in another form is told apart from want of memory.
 #![tactic(auto)]
 
+pub mod body;
 pub mod bundle;
 pub mod total;
