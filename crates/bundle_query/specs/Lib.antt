@@ -2,3 +2,4 @@ pub mod Words
 pub mod Bundle
 pub mod Total
 pub mod Body
+pub mod Asked
