@@ -1,5 +1,5 @@
 -- Going up from a unit: parents that end do so within as many steps as there are units.
-use Rattle.std.proofs.Common.{◌≡◌, ◌⊎◌, ℕ, zero, suc, ◌+◌, ◌<◌, ◌≤◌, Bool, true, false, cond, List, length, Option, Some, None, refl, sym, ap, ◌∙◌, subst, inl, inr, arith}
+use Rattle.std.proofs.Common.{add-one, zero-add, ◌≡◌, ◌⊎◌, ℕ, zero, suc, ◌+◌, ◌<◌, ◌≤◌, Bool, true, false, cond, List, length, Option, Some, None, refl, sym, ap, ◌∙◌, subst, inl, inr, arith}
 use Rattle.std.specs.Prelude.{option_and_then, is_none, is_some}
 use Rattle.std.proofs.lemmas.Bool.{cases_eq, false≢true}
 use Rattle.org_tree.specs.Units.{UnitRow, parent_of, climb}
@@ -77,3 +77,36 @@ climb-ends us in_range (suc steps) x h ends =
         let many : suc steps ≤ count_below (none_at (suc steps) us) (length us) = ends_exactly us in_range steps x there.0 h there.1 ends in
         let few : count_below (none_at (suc steps) us) (length us) ≤ length us = count_below-le (none_at (suc steps) us) (length us) in
         climb-more (suc steps) (length us) us x (omega arith) ends ]
+
+-- one step more, from the upper end
+pub climb-upper : (steps : ℕ) (us : List UnitRow) (x : ℕ) → climb (suc steps) us x ≡ option_and_then (λ y. parent_of us y) (climb steps us x)
+climb-upper zero us x =
+    elim (some_or_none (parent_of us x)) [
+      inl up ↦ climb-child 0 us x up.0 up.1 ∙ climb-zero us up.0 ∙ sym (ap (option_and_then (λ y. parent_of us y)) (climb-zero us x) ∙ up.1)
+    | inr top ↦ climb-root 0 us x top ∙ sym (ap (option_and_then (λ y. parent_of us y)) (climb-zero us x) ∙ top) ]
+climb-upper (suc steps) us x =
+    elim (some_or_none (parent_of us x)) [
+      inl up ↦
+        climb-child (suc steps) us x up.0 up.1 ∙ climb-upper steps us up.0
+        ∙ sym (ap (option_and_then (λ y. parent_of us y)) (climb-child steps us x up.0 up.1))
+    | inr top ↦
+        climb-root (suc steps) us x top ∙ sym (ap (option_and_then (λ y. parent_of us y)) (climb-root steps us x top)) ]
+
+pub climb-next : (us : List UnitRow) (steps x y p : ℕ) → climb steps us x ≡ Some y → parent_of us y ≡ Some p → climb (steps + 1) us x ≡ Some p
+climb-next us steps x y p here up =
+    ap (λ (v : ℕ). climb v us x) (add-one steps) ∙ climb-upper steps us x ∙ ap (option_and_then (λ v. parent_of us v)) here ∙ up
+
+-- two climbs, one after the other
+pub climb-add : (steps more : ℕ) (us : List UnitRow) (x : ℕ) → climb (steps + more) us x ≡ option_and_then (λ y. climb more us y) (climb steps us x)
+climb-add zero more us x = ap (λ (v : ℕ). climb v us x) (zero-add more) ∙ sym (ap (option_and_then (λ y. climb more us y)) (climb-zero us x))
+climb-add (suc steps) more us x =
+    let split : suc steps + more ≡ suc (steps + more) = omega arith in
+    ap (λ (v : ℕ). climb v us x) split
+    ∙ elim (some_or_none (parent_of us x)) as (λ _. climb (suc (steps + more)) us x ≡ option_and_then (λ y. climb more us y) (climb (suc steps) us x)) [
+        inl up ↦
+          climb-child (steps + more) us x up.0 up.1 ∙ climb-add steps more us up.0
+          ∙ sym (ap (option_and_then (λ y. climb more us y)) (climb-child steps us x up.0 up.1))
+      | inr top ↦
+          climb-root (steps + more) us x top ∙ sym (ap (option_and_then (λ y. climb more us y)) (climb-root steps us x top)) ]
+
+pub ruleset climbs = (climb-zero, climb-next)

@@ -1,5 +1,5 @@
 -- Counts of the numbers below a bound that pass a test, and the first that passes.
-use Rattle.std.proofs.Common.{◌≡◌, ◌⊎◌, ℕ, zero, suc, ◌+◌, ◌<◌, ◌≤◌, Bool, true, false, cond, ◌==◌, ◌||◌, Option, Some, None, refl, sym, ap, ◌∙◌, subst, inl, inr, arith}
+use Rattle.std.proofs.Common.{add-one, ◌≡◌, ◌⊎◌, ℕ, zero, suc, ◌+◌, ◌<◌, ◌≤◌, Bool, true, false, cond, ◌==◌, ◌||◌, Option, Some, None, refl, sym, ap, ◌∙◌, subst, inl, inr, arith}
 use Rattle.std.proofs.lemmas.Bool.{cases_Bool, cases_eq, eq-eqb, ne_eqb, false≢true}
 use Rattle.std.proofs.lemmas.Bool.Decides.{nat_tests}
 use Rattle.org_tree.specs.Count.{count_below, or_else, first_below}
@@ -102,3 +102,35 @@ first_below_tells p (suc n) =
         elim (cases_Bool (p n)) [
           inl on ↦ inl (n, rw (none.0, on) refl, record { below = omega arith; passes = on; none_before = none.1 })
         | inr off ↦ inr (rw (none.0, off) refl, λ j h. elim (cases_eq j n) [ inl here ↦ subst (λ (v : ℕ). p v ≡ false) (sym here) off | inr other ↦ none.1 j (omega arith) ]) ] ]
+
+-- the steps of a search for the first that passes
+pub first_below-more : (p : ℕ → Bool) (i : ℕ) → first_below p i ≡ None → p i ≡ false → first_below p (i + 1) ≡ None
+first_below-more p i none off = rw add-one (rw (none, off) refl)
+
+pub first_below-found : (p : ℕ → Bool) (n i : ℕ) → first_below p i ≡ None → p i ≡ true → i < n → first_below p n ≡ Some i
+first_below-found p zero i none on h = absurd (omega arith)
+first_below-found p (suc n) i none on h =
+    elim (cases_eq n i) [
+      inl here ↦
+        let none_here : first_below p n ≡ None = subst (λ (v : ℕ). first_below p v ≡ None) (sym here) none in
+        let on_here : p n ≡ true = subst (λ (v : ℕ). p v ≡ true) (sym here) on in
+        rw (none_here, on_here) (ap Some here)
+    | inr other ↦
+        let before : first_below p n ≡ Some i = first_below-found p n i none on (omega arith) in
+        rw before refl ]
+
+-- the steps of a count
+pub count_below-more_yes : (p : ℕ → Bool) (i : ℕ) → p i ≡ true → count_below p (i + 1) ≡ count_below p i + 1
+count_below-more_yes p i on = rw add-one (rw on refl)
+
+pub count_below-more_no : (p : ℕ → Bool) (i : ℕ) → p i ≡ false → count_below p (i + 1) ≡ count_below p i
+count_below-more_no p i off = rw add-one (rw off (omega arith))
+
+pub ruleset searches = (first_below-more, first_below-found)
+
+pub first_below-agree : (p q : ℕ → Bool) (n : ℕ) → ((k : ℕ) → k < n → p k ≡ q k) → first_below p n ≡ first_below q n
+first_below-agree p q zero same = refl
+first_below-agree p q (suc n) same =
+    let before : first_below p n ≡ first_below q n = first_below-agree p q n (λ k h. same k (omega arith)) in
+    let here : p n ≡ q n = same n (omega arith) in
+    cc

@@ -1,5 +1,7 @@
-pub mod CountLemmas
-pub mod ClimbLemmas
-pub mod WayLemmas
 pub mod BeforeLemmas
+pub mod ClimbLemmas
+pub mod CountLemmas
+pub mod LevelLemmas
 pub mod OrderLemmas
+pub mod RowLemmas
+pub mod WayLemmas

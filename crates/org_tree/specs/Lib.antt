@@ -1,2 +1,4 @@
 pub mod Count
+pub mod Faults
+pub mod Levels
 pub mod Units

@@ -66,6 +66,14 @@ order_of us x = count_below (λ z. is_before us z x) (length us)
 unfoldable pub size_of : List UnitRow → ℕ → ℕ
 size_of us x = count_below (λ z. is_under us z x) (length us)
 
+-- each parent is a unit of the list
+pub record HasParents (us : List UnitRow) : Type 0 where
+  pub in_range : (x p : ℕ) → parent_of us x ≡ Some p → p < length us
+
+-- no two units have one UID
+pub record HasOwnIds (us : List UnitRow) : Type 0 where
+  pub differ : (x y : ℕ) → x < length us → y < length us → id_at us x ≡ id_at us y → x ≡ y
+
 -- what makes a list of units a tree of at most twelve levels
 pub record IsTree (us : List UnitRow) : Type 0 where
   pub few : length us < 2 ^ 32

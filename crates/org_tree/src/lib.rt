@@ -1,4 +1,8 @@
-//! The tree of organisation units: who is under whom, levels, and the walk that orders the units.
+//! The tree of organisation units: who is under whom, the levels, and the walk that numbers the
+//! units so that a unit and all under it stand in one interval.
 #![tactic(auto)]
 
-pub fn nothing() {}
+pub mod checks;
+pub mod fault;
+pub mod levels;
+pub mod rows;
