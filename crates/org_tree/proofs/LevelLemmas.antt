@@ -6,11 +6,11 @@ use Rattle.std.proofs.lemmas.List.{get_or_append_left, get_or_push, length_push}
 use Rattle.std.proofs.lemmas.Option.{slice_get_past}
 use Rattle.org_tree.specs.Count.{first_below}
 use Rattle.org_tree.specs.Units.{UnitRow, parent_of, climb, HasParents}
-use Rattle.org_tree.specs.Faults.{never_ends}
-use Rattle.org_tree.specs.Levels.{jump, leads_on, StaysInside, Climbs, IsTwice}
+use Rattle.org_tree.specs.Faults.{never_ends, is_too_deep}
+use Rattle.org_tree.specs.Levels.{HasLevel, jump, leads_on, StaysInside, Climbs, IsTwice}
 use Rattle.org_tree.proofs.CountLemmas.{first_below-agree}
 use Rattle.org_tree.proofs.RowLemmas.{jump-read}
-use Rattle.org_tree.proofs.ClimbLemmas.{some_or_none, climb-zero, climb-child, climb-root, climb-add, climb-ends, climb-more}
+use Rattle.org_tree.proofs.ClimbLemmas.{some_or_none, climb-zero, climb-child, climb-root, climb-add, climb-upper, climb-ends, climb-more}
 
 -- a list of jumps that grows: each place so far has its value
 pub jump-push : (jumps : List (Option ℕ)) (v : Option ℕ) (i : ℕ) (f : ℕ → Option ℕ) → length jumps ≡ i → ((x : ℕ) → x < i → jump jumps x ≡ f x) → v ≡ f i → (x : ℕ) → x < i + 1 → jump (jumps ++ v ∷ []) x ≡ f x
@@ -82,3 +82,24 @@ endless-from_Climbs us ps steps jumps climbs far =
               elim (some_or_none (climb (length us) us x)) [
                 inl goes_on ↦ ap (is_some {T = ℕ}) there.1 ∙ sym (ap (is_some {T = ℕ}) goes_on.1)
               | inr gone ↦ absurd (let c = climb-more (length us) steps us x far gone in let d = there.1 in cc) ] ]
+
+-- a list of numbers that grows: what holds of each so far
+pub each_push : (P : ℕ → ℕ → Type 0) (xs : List ℕ) (v i : ℕ) → length xs ≡ i → ((x : ℕ) → x < i → P x (get_or xs x 0)) → P i v → (x : ℕ) → x < i + 1 → P x (get_or (xs ++ v ∷ []) x 0)
+each_push P xs v i len each here x h =
+    elim (cases_eq x i) [
+      inl last ↦
+        let e : get_or (xs ++ v ∷ []) x 0 ≡ v = ap (λ (k : ℕ). get_or (xs ++ v ∷ []) k 0) last ∙ get_or_push xs v 0 i len in
+        subst (λ (w : ℕ). P x w) (sym e) (subst (λ (k : ℕ). P k v) (sym last) here)
+    | inr other ↦
+        let below : x < length xs = omega arith in
+        subst (λ (w : ℕ). P x w) (sym (get_or_append_left xs (v ∷ []) 0 x below)) (each x (omega arith)) ]
+
+-- the root stands so many steps above, and one step more leads nowhere
+pub ends-from_HasLevel : (us : List UnitRow) (x level : ℕ) → HasLevel us x level → climb level us x ≡ None
+ends-from_HasLevel us x level has =
+    ap (λ (v : ℕ). climb v us x) (has.is ∙ add-one has.above) ∙ climb-upper has.above us x
+    ∙ ap (option_and_then (λ y. parent_of us y)) has.reached ∙ has.top
+
+pub shallow-from_HasLevel : (us : List UnitRow) (x level : ℕ) → HasLevel us x level → is_too_deep us x ≡ false
+shallow-from_HasLevel us x level has =
+    ap (is_some {T = ℕ}) (climb-more level 12 us x has.shallow (ends-from_HasLevel us x level has))
