@@ -4,5 +4,8 @@
 
 pub mod checks;
 pub mod fault;
+pub mod families;
+pub mod kin;
 pub mod levels;
 pub mod rows;
+pub mod walk;
