@@ -5,4 +5,5 @@ pub mod KinLemmas
 pub mod LevelLemmas
 pub mod OrderLemmas
 pub mod RowLemmas
+pub mod WalkLemmas
 pub mod WayLemmas

@@ -16,6 +16,10 @@ id_at us x = option_map_or (λ u. u.0) (slice_get us x) []
 abbrev pub parent_of : List UnitRow → ℕ → Option ℕ
 parent_of us x = option_and_then (λ u. u.1) (slice_get us x)
 
+-- whether p is x's parent
+abbrev pub is_child : List UnitRow → ℕ → ℕ → Bool
+is_child us x p = option_map_or (λ q. q == p) (parent_of us x) false
+
 -- the unit that many steps above x, None where the parents end before
 unfoldable pub climb : ℕ → List UnitRow → ℕ → Option ℕ
 climb zero us x = Some x

@@ -1,5 +1,5 @@
 ghost use Rattle.std.specs.Prelude.{◌≡◌, ◌<◌, length};
-ghost use Rattle.org_tree.specs.Units.{parent_of, id_at};
+ghost use Rattle.org_tree.specs.Units.{parent_of, id_at, is_child};
 
 use dh_base::uid::Uid;
 
@@ -21,4 +21,15 @@ pub fn id(units: &[(Uid, Option<u32>)], unit: u32) -> Uid
     ensures { result ≡ id_at units.now unit }
 {
     units[unit as usize].0
+}
+
+/// Whether the unit's parent is the other one.
+pub fn is_child_of(units: &[(Uid, Option<u32>)], unit: u32, above: u32) -> bool
+    requires { unit < length units.now }
+    ensures { result ≡ is_child units.now unit above }
+{
+    match parent(units, unit) {
+        None => false,
+        Some(place) => place == above,
+    }
 }

@@ -1,9 +1,9 @@
-ghost use Rattle.std.specs.Prelude.{◌≡◌, ◌+◌, ◌<◌, length, slice_index, IfOk};
+ghost use Rattle.std.specs.Prelude.{◌≡◌, ◌+◌, ◌-◌, ◌<◌, true, false, length, slice_index, Some, IfOk, IfSome, IfNone};
 ghost use Rattle.org_tree.specs.Families.{InFamilies};
-ghost use Rattle.org_tree.specs.Units.{IsTree, order_of};
+ghost use Rattle.org_tree.specs.Units.{IsTree, is_child, order_of, parent_of};
 ghost use Rattle.org_tree.specs.Walk.{CountsUnder, AreSizes, OrdersSoFar, AreOrders, IsWalk};
 
-use crate::rows::parent;
+use crate::rows::{is_child_of, parent};
 use dh_base::uid::Uid;
 use std::alloc::{AllocError, Global};
 
@@ -49,7 +49,7 @@ pub fn orders(alloc: Global, units: &[(Uid, Option<u32>)], kin: &[u32], sizes: &
     Ok(orders)
 }
 
-/// The place of one unit: behind the subtree of the sibling before it, else behind its parent.
+/// The place of one unit: 0 at the root.
 fn order_at(units: &[(Uid, Option<u32>)], kin: &[u32], sizes: &[u32], orders: &[u32], i: usize) -> u32
     requires tree { IsTree units.now }
     requires kin { InFamilies units.now kin.now }
@@ -58,17 +58,40 @@ fn order_at(units: &[(Uid, Option<u32>)], kin: &[u32], sizes: &[u32], orders: &[
     requires in_range { i < length units.now }
     ensures { result ≡ order_of units.now (slice_index kin.now i) }
 {
-    let unit = kin[i];
-    let Some(above) = parent(units, unit) else {
-        return 0;
-    };
-    if i > 0 {
-        let before = kin[i - 1];
-        if parent(units, before) == Some(above) {
-            return orders[before as usize] + sizes[before as usize];
-        }
+    match parent(units, kin[i]) {
+        None => 0,
+        Some(above) => order_of_child(units, kin, sizes, orders, i, above),
     }
-    orders[above as usize] + 1
+}
+
+/// The place of a child: behind the subtree of the sibling before it, else behind its parent.
+fn order_of_child(units: &[(Uid, Option<u32>)], kin: &[u32], sizes: &[u32], orders: &[u32], i: usize, above: u32) -> u32
+    requires tree { IsTree units.now }
+    requires kin { InFamilies units.now kin.now }
+    requires sizes { AreSizes units.now sizes.now }
+    requires orders { OrdersSoFar units.now kin.now i orders.now }
+    requires in_range { i < length units.now }
+    requires above { parent_of units.now (slice_index kin.now i) ≡ Some above }
+    ensures { result ≡ order_of units.now (slice_index kin.now i) }
+{
+    match sibling_before(units, kin, i, above) {
+        Some(sibling) => orders[sibling as usize] + sizes[sibling as usize],
+        None => orders[above as usize] + 1,
+    }
+}
+
+/// The unit right before in the list, where it is a child of the same parent.
+fn sibling_before(units: &[(Uid, Option<u32>)], kin: &[u32], i: usize, above: u32) -> Option<u32>
+    requires kin { InFamilies units.now kin.now }
+    requires in_range { i < length units.now }
+    ensures found { IfSome result (λ sibling. (0 < i) × (sibling ≡ slice_index kin.now (i - 1)) × (is_child units.now sibling above ≡ true)) }
+    ensures none { IfNone result (0 < i → is_child units.now (slice_index kin.now (i - 1)) above ≡ false) }
+{
+    if i == 0 {
+        return None;
+    }
+    let before = kin[i - 1];
+    if is_child_of(units, before, above) { Some(before) } else { None }
 }
 
 /// The units in the order of the walk.
