@@ -1,0 +1,7 @@
+pub mod Count
+pub mod Families
+pub mod Faults
+pub mod KinRows
+pub mod Levels
+pub mod Units
+pub mod Walk

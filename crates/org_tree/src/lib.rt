@@ -1,0 +1,11 @@
+//! The tree of organisation units: who is under whom, the levels, and the walk that numbers the
+//! units so that a unit and all under it stand in one interval.
+#![tactic(auto)]
+
+pub mod checks;
+pub mod fault;
+pub mod families;
+pub mod kin;
+pub mod levels;
+pub mod rows;
+pub mod walk;
