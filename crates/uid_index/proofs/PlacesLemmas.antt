@@ -2,7 +2,7 @@
 use Rattle.std.proofs.Common.{◌≡◌, ℕ, ◌+◌, ◌∙◌, Bool, true, false, cond, List, [], ◌∷◌, ◌++◌, ◌||◌, length, Option, Some, None, is_some, refl, sym, ap, arith}
 use Rattle.std.specs.List.{list_any, position_from}
 use Rattle.std.specs.Cmp.Lexicographic.{same_text, nat_list_eq_equiv}
-use Rattle.uid_index.specs.Places.{same_id, place_of, repeat_behind}
+use Rattle.uid_index.specs.Places.{same_id, place_of, repeat_behind, is_one_of}
 
 -- what stands in the list keeps its place
 pub position_from-kept : {K : Type 0} (t : K → Bool) (first : ℕ) (xs : List K) (x : K) (place : ℕ) → position_from t first xs ≡ Some place
@@ -75,3 +75,19 @@ repeat_behind-placed before x rest None at some = cc
 pub none-from : (old : Option ℕ) → is_some old ≡ false → old ≡ None
 none-from (Some place) some = cc
 none-from None some = refl
+
+list_any-end : {K : Type 0} (t : K → Bool) (xs : List K) (x : K) → list_any t (xs ++ x ∷ []) ≡ (list_any t xs || t x)
+list_any-end t [] x = elim (t x) as (λ b. (b || false) ≡ (false || b)) [ true ↦ refl | false ↦ refl ]
+list_any-end t (y ∷ xs) x =
+    elim (t y) as (λ b. (b || list_any t (xs ++ x ∷ [])) ≡ ((b || list_any t xs) || t x)) [ true ↦ refl | false ↦ list_any-end t xs x ]
+
+-- an identifier more: a set that has it, and what it had, holds those and no others
+pub is_one_of-more : (before : List (List ℕ)) (x id : List ℕ) (old new : Bool) → old ≡ is_one_of before id → new ≡ cond (same_id x id) true old
+    → new ≡ is_one_of (before ++ x ∷ []) id
+is_one_of-more before x id old new known is =
+    is ∙ ap (λ t. cond t true old) (nat_list_eq_equiv.symm x id) ∙ ap (cond (same_id id x) true) known
+    ∙ elim (same_id id x) as (λ t. cond t true (is_one_of before id) ≡ (is_one_of before id || t)) [
+      | true ↦ elim (is_one_of before id) as (λ b. true ≡ (b || true)) [ true ↦ refl | false ↦ refl ]
+      | false ↦ elim (is_one_of before id) as (λ b. b ≡ (b || false)) [ true ↦ refl | false ↦ refl ]
+    ]
+    ∙ sym (list_any-end (λ other. same_id id other) before x)

@@ -20,3 +20,7 @@ repeat_behind before (id ∷ ids) =
 -- the place of the first identifier that stands earlier in the list too
 abbrev pub repeat_of : List (List ℕ) → Option ℕ
 repeat_of ids = repeat_behind [] ids
+
+-- the identifier is one of these
+abbrev pub is_one_of : List (List ℕ) → List ℕ → Bool
+is_one_of ids id = list_any (λ other. same_id id other) ids

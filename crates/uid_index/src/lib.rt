@@ -1,11 +1,14 @@
 //! Identifiers by place and places by identifier: a hash index over a list of identifiers that differ.
 #![tactic(auto)]
 
+mod id_set;
+
 ghost use Rattle.std.specs.Prelude.{◌≡◌, ◌+◌, ◌<◌, ◌^◌, ℕ, List, length, Some, vec_len, slice_get};
 ghost use Rattle.uid_index.specs.declared.IndexFault.TheVariants.{Memory as OutOfMemory};
 ghost use Rattle.uid_index.specs.Places.{same_id, place_of};
 
 use dh_base::uid::Uid;
+pub use id_set::UidSet;
 use std::alloc::{AllocError, AllocFailed, Global};
 use std::collections::HashMap;
 use std::marker::Model;
