@@ -32,18 +32,18 @@ asked_period_of text = option_and_then (λ period. cond (is_asked_kind period.ki
 -- an element, a period and a unit by their texts
 unfoldable pub asked_by : List ℕ → List ℕ → List ℕ → Option Asked
 asked_by element period unit =
-  option_and_then (λ e. option_and_then (λ p. option_map (λ u. record { element = e; period = p; unit = u }) (uid_of unit)) (asked_period_of period)) (uid_of element)
+    option_and_then (λ e. option_and_then (λ p. option_map (λ u. record { element = e; period = p; unit = u }) (uid_of unit)) (asked_period_of period)) (uid_of element)
 
 -- the words of the query stand around an element's identifier, a period's text of so many bytes and a unit's identifier
 unfoldable pub is_spelled : ℕ → List ℕ → Bool
 is_spelled size text =
-  stands_at 0 (codes "dimension=dx:") text && stands_at 24 (codes "&dimension=pe:") text
-  && stands_at (38 + size) (codes "&dimension=ou:") text && stands_at (63 + size) (codes "&skipMeta=true") text
+    stands_at 0 (codes "dimension=dx:") text && stands_at 24 (codes "&dimension=pe:") text
+    && stands_at (38 + size) (codes "&dimension=ou:") text && stands_at (63 + size) (codes "&skipMeta=true") text
 
 -- dimension=dx:ELEMENT&dimension=pe:PERIOD&dimension=ou:UNIT&skipMeta=true
 unfoldable pub asked_of : List ℕ → Option Asked
 asked_of text = let size = length text - 77 in
-  cond (nat_lt (length text) 77) None
-  (cond (is_spelled size text)
+    cond (nat_lt (length text) 77) None
+    (cond (is_spelled size text)
     (asked_by (take 11 (drop 13 text)) (take size (drop 38 text)) (take 11 (drop (52 + size) text)))
     None)

@@ -4,6 +4,10 @@ use Rattle.std.specs.Option.{option_map_or}
 use Rattle.std.specs.List.{list_all}
 use Rattle.serde_json.specs.Data.{Data, Items, Members}
 use Rattle.serde_json.specs.Find.{get, as_array, as_object, as_str}
+use Rattle.std.specs.Ordering.{int_eq}
+use Rattle.dh_periods.specs.declared.kind.PeriodType.{PeriodType}
+use Rattle.dh_periods.specs.declared.kind.PeriodType.TheVariants as kind
+use Rattle.dh_periods.specs.Texts.{period_of}
 use Rattle.json_forms.specs.Forms.{Formed, and_then, or_fault, object_of, field_of, optional_of, listed_of, list_of, identifier_of, text_of}
 use Rattle.json_forms.specs.Reference.{reference_of}
 use Rattle.json_forms.specs.declared.reference.Reference.{Reference}
@@ -13,6 +17,7 @@ use Rattle.bundle_query.specs.declared.bundle.ElementEntry.{ElementEntry}
 use Rattle.bundle_query.specs.declared.bundle.SetElement.{SetElement}
 use Rattle.bundle_query.specs.declared.bundle.SetEntry.{SetEntry}
 use Rattle.bundle_query.specs.declared.bundle.UserEntry.{UserEntry}
+use Rattle.bundle_query.specs.declared.bundle.Month.{Month}
 
 -- a fault of this form has no path of its own: the data as a whole isn't in it
 abbrev pub only_if : {A : Type 0} → Bool → Formed A → Formed A
@@ -61,3 +66,27 @@ user_entry_of = object_of (λ json. only_if (lacks (codes "dataViewOrganisationU
     (and_then (field_of (codes "organisationUnits") (list_of reference_of) json) (λ units.
     and_then (listed_of (codes "userRoles") reference_of json) (λ roles.
     Ok (record { units = units; roles = roles })))))
+
+abbrev pub is_monthly : PeriodType → Bool
+is_monthly kind.Daily = false
+is_monthly kind.Weekly = false
+is_monthly kind.Monthly = true
+is_monthly kind.BiMonthly = false
+is_monthly kind.Quarterly = false
+is_monthly kind.SixMonthly = false
+is_monthly kind.SixMonthlyApril = false
+is_monthly kind.Yearly = false
+is_monthly kind.FinancialApril = false
+is_monthly kind.FinancialJuly = false
+is_monthly kind.FinancialOct = false
+
+-- a text that is a month
+unfoldable pub month_named : List ℕ → Option Month
+month_named text = option_and_then (λ period. cond (is_monthly period.kind) (Some (record { period = period })) None) (period_of text)
+
+abbrev pub month_of : Data → Formed Month
+month_of json = and_then (text_of json) (λ text. or_fault (month_named text))
+
+-- the object has so many keys
+abbrev pub has_keys : ℕ → Data → Bool
+has_keys count json = option_map_or (λ members. nat_eq (length (keys_of members)) count) (as_object json) false

@@ -3,3 +3,5 @@ pub mod Bundle
 pub mod Total
 pub mod Body
 pub mod Asked
+pub mod File
+pub mod Read

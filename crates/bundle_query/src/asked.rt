@@ -77,5 +77,9 @@ pub fn read_query(text: &[u8]) -> Option<Asked>
     if !is_spelled(size, text) {
         return None;
     }
-    asked_by(&text[13..24], &text[38..38 + size], &text[52 + size..63 + size])
+    asked_by(
+        &text[13..24],
+        &text[38..38 + size],
+        &text[52 + size..63 + size],
+    )
 }

@@ -2,10 +2,11 @@ ghost use Rattle.std.specs.Prelude.{◌≡◌, [], codes};
 ghost use Rattle.serde_json.specs.View.{view};
 ghost use Rattle.json_forms.specs.Given.{Gives};
 ghost use Rattle.bundle_query.specs.Words.{says, is_text, lacks};
-ghost use Rattle.bundle_query.specs.Bundle.{is_plain_element, is_plain_set};
+ghost use Rattle.bundle_query.specs.Bundle.{is_plain_element, is_plain_set, month_named, has_keys};
 
 use dh_base::items::Items;
 use dh_base::uid::Uid;
+use dh_periods::{Period, PeriodType};
 use json_forms::fault::FormFault;
 use json_forms::form::{ReadJson, field, listed, optional, require_object, required_list};
 use json_forms::reference::Reference;
@@ -46,8 +47,14 @@ pub struct UserEntry {
     pub roles: Items<Reference>,
 }
 
+/// A month's text as the period that it is.
+#[derive(Clone, Copy, Drop)]
+pub struct Month {
+    pub period: Period,
+}
+
 // Whether a key holds this text.
-fn says(value: &Value, key: &str, text: &str) -> bool
+pub(crate) fn says(value: &Value, key: &str, text: &str) -> bool
     ensures { result ≡ says key.now text.now (view value.now) }
 {
     match value.get(key) {
@@ -56,7 +63,7 @@ fn says(value: &Value, key: &str, text: &str) -> bool
     }
 }
 
-fn is_text(value: &Value, text: &str) -> bool
+pub(crate) fn is_text(value: &Value, text: &str) -> bool
     ensures { result ≡ is_text text.now (view value.now) }
 {
     match value.as_str() {
@@ -182,5 +189,40 @@ impl ReadJson for UserEntry {
         let units = required_list(alloc, value, "organisationUnits")?;
         let roles = listed(alloc, value, "userRoles")?;
         Ok(UserEntry { units, roles })
+    }
+}
+
+#[tactic(auto, unfolding(crate::specs::Bundle::month_named))]
+fn month_named(text: &[u8]) -> Option<Month>
+    ensures { result ≡ month_named text.now }
+{
+    let period = Period::parse(text)?;
+    match period.kind() {
+        PeriodType::Monthly => Some(Month { period }),
+        _ => None,
+    }
+}
+
+impl ReadJson for Month {
+    ghost use Rattle.bundle_query.specs.Bundle.{month_of};
+
+    ghost form = { month_of };
+
+    fn read(alloc: Global, value: &Value) -> Result<Month, FormFault> {
+        let found = match value.as_str() {
+            Some(text) => month_named(text.as_bytes()),
+            None => None,
+        };
+        found.ok_or(not_in_form(alloc))
+    }
+}
+
+#[tactic(auto, using(crate::proofs::WordLemmas::keys_counted))]
+fn has_four_keys(value: &Value) -> bool
+    ensures { result ≡ has_keys 4 (view value.now) }
+{
+    match value.as_object() {
+        Some(members) => members.len() == 4,
+        None => false,
     }
 }

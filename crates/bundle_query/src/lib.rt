@@ -6,4 +6,5 @@
 pub mod asked;
 pub mod body;
 pub mod bundle;
+pub mod file;
 pub mod total;
