@@ -19,9 +19,9 @@ formed (Err path) = None
 
 unfoldable pub is_known : List ℕ → Bool
 is_known key =
-  pointwise nat_eq key (codes "apiTokens") || pointwise nat_eq key (codes "dataElements") || pointwise nat_eq key (codes "dataSets")
-  || pointwise nat_eq key (codes "dataValues") || pointwise nat_eq key (codes "organisationUnits") || pointwise nat_eq key (codes "userRoles")
-  || pointwise nat_eq key (codes "users")
+    pointwise nat_eq key (codes "apiTokens") || pointwise nat_eq key (codes "dataElements") || pointwise nat_eq key (codes "dataSets")
+    || pointwise nat_eq key (codes "dataValues") || pointwise nat_eq key (codes "organisationUnits") || pointwise nat_eq key (codes "userRoles")
+    || pointwise nat_eq key (codes "users")
 
 -- the data is an object without other keys
 abbrev pub has_known_keys : Data → Bool

@@ -5,3 +5,4 @@ pub mod Body
 pub mod Asked
 pub mod File
 pub mod Read
+pub mod Links

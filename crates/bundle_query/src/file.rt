@@ -116,7 +116,9 @@ fn allows_all(role: &Value) -> bool
 fn is_named(roles: &[Reference], id: &str) -> bool
     ensures { result ≡ list_any (λ named. pointwise nat_eq named.id id.now) roles.now }
 {
-    roles.iter().any(|named| named.id.bytes().as_slice() == id.as_bytes())
+    roles
+        .iter()
+        .any(|named| named.id.bytes().as_slice() == id.as_bytes())
 }
 
 fn is_role_of(roles: &[Reference], role: &Value) -> bool

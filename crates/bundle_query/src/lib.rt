@@ -7,4 +7,5 @@ pub mod asked;
 pub mod body;
 pub mod bundle;
 pub mod file;
+pub mod links;
 pub mod total;
