@@ -1,8 +1,8 @@
-ghost use Rattle.std.specs.Prelude.{◌≡◌, ◌<◌, ◌≤◌, ◌*◌, ◌^◌, ◌-◌, pos, unsigned_abs, neg_ℤ, length, IfSome, true};
+ghost use Rattle.std.specs.Prelude.{◌≡◌, ◌<◌, ◌≤◌, ◌*◌, ◌^◌, ◌-◌, pos, unsigned_abs, neg_ℤ, length, IfSome, option_map, position, true};
 ghost use Rattle.std.specs.List.{list_all};
 ghost use Rattle.std.specs.Char.{is_ascii_digit};
 ghost use Rattle.std.specs.Str.Parse.{digits_value};
-ghost use Rattle.dh_base.specs.Decimals.{decimal_of, size_of, digits_of, decimals_of};
+ghost use Rattle.dh_base.specs.Decimals.{decimal_of, size_of, digits_of, decimals_of, both, is_point};
 
 use std::marker::Model;
 
@@ -74,17 +74,34 @@ fn read_size(text: &[u8]) -> Option<u64>
     ensures value { result ≡ size_of text.now }
     ensures bound { IfSome result (λ n. n < 10 ^ 18) }
 {
-    match text.iter().position(|byte| *byte == b'.') {
-        None => {
-            let whole = read_digits(text, 12)?;
-            Some(whole * 1_000_000)
-        }
-        Some(place) => {
-            let whole = read_digits(&text[..place], 12)?;
-            let millionths = read_decimals(&text[place + 1..])?;
-            Some(whole * 1_000_000 + millionths)
-        }
+    match point_of(text) {
+        None => read_whole(text),
+        Some(place) => read_parts(&text[..place], &text[place + 1..]),
     }
+}
+
+fn point_of(text: &[u8]) -> Option<usize>
+    ensures place { result ≡ position is_point text.now }
+    ensures within { IfSome result (λ place. place < length text.now) }
+{
+    text.iter().position(|byte| *byte == b'.')
+}
+
+fn read_whole(text: &[u8]) -> Option<u64>
+    ensures value { result ≡ option_map (λ whole. whole * 1000000) (digits_of 12 text.now) }
+    ensures bound { IfSome result (λ n. n < 10 ^ 18) }
+{
+    let whole = read_digits(text, 12)?;
+    Some(whole * 1_000_000)
+}
+
+fn read_parts(whole: &[u8], decimals: &[u8]) -> Option<u64>
+    ensures value { result ≡ both (digits_of 12 whole.now) (decimals_of decimals.now) }
+    ensures bound { IfSome result (λ n. n < 10 ^ 18) }
+{
+    let whole = read_digits(whole, 12)?;
+    let millionths = read_decimals(decimals)?;
+    Some(whole * 1_000_000 + millionths)
 }
 
 fn read_decimals(text: &[u8]) -> Option<u64>
@@ -116,6 +133,7 @@ fn read_digits(text: &[u8], most: usize) -> Option<u64>
     requires { most ≤ 12 }
     ensures value { result ≡ digits_of most text.now }
     ensures bound { IfSome result (λ n. n < 10 ^ length text.now) }
+    ensures small { IfSome result (λ n. n < 10 ^ most) }
     ensures length { IfSome result (λ _. length text.now ≤ most) }
 {
     if text.is_empty() || text.len() > most || !all_digits(text) {

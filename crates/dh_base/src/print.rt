@@ -152,10 +152,10 @@ fn push_digits(text: &mut Vec<u8>, rest: u64, places: u8) -> Result<(), Memory>
     ensures { OnOk result (text.new.items ≡ text.old.items ++ decimals places rest) }
 {
     let mut left = rest;
-    let mut places = places;
+    let mut behind = places;
     while left != 0 {
-        places -= 1;
-        let weight = power_of_ten(places);
+        behind -= 1;
+        let weight = power_of_ten(behind);
         text.push(b'0' + (left / weight) as u8)?;
         left %= weight;
     }
