@@ -1,9 +1,9 @@
 -- Digits and the numbers that they write.
-use Rattle.std.proofs.Common.{◌≡◌, ◌∙◌, ℕ, zero, suc, ◌+◌, ◌*◌, ◌/◌, ◌%◌, ◌-◌, ◌<◌, ◌≤◌, ◌^◌, Bool, true, false, List, [], ◌∷◌, ◌++◌, length, take, drop, get_or, add-one, refl, sym, ap, subst, arith}
-use Rattle.std.specs.Prelude.{Option, Some, None, option_map, position, if◌then◌else◌, neg_ℤ, pos, ℤ}
+use Rattle.std.proofs.Common.{◌≡◌, ◌∙◌, ℕ, zero, suc, ◌+◌, ◌*◌, ◌/◌, ◌%◌, ◌-◌, ◌<◌, ◌≤◌, ◌^◌, Bool, true, false, List, [], ◌∷◌, length, take, drop, get_or, add-one, refl, sym, ap, subst, arith}
+use Rattle.std.specs.Prelude.{Option, Some, None, option_map, position, if◌then◌else◌, neg_ℤ, pos}
 use Rattle.std.proofs.Common.{length-drop, length-take, nat_lt, nat_eq}
 use Rattle.std.proofs.lemmas.Bool.{ltb-true, ltb-false}
-use Rattle.dh_base.specs.Decimals.{digits_of, decimals_of, size_of, split_at, is_point, both, decimal_of, has_minus, decimals}
+use Rattle.dh_base.specs.Decimals.{digits_of, decimals_of, size_of, split_at, is_point, both, decimal_of, has_minus, decimals, with_point}
 use Rattle.std.specs.List.{list_all}
 use Rattle.std.specs.Char.{is_ascii_digit, digit_value}
 use Rattle.std.specs.Str.Parse.{digits_value, AllDigits}
@@ -12,7 +12,7 @@ use Rattle.std.proofs.lemmas.Nat.{pow-add}
 use Rattle.std.proofs.lemmas.Bool.Decides.{nat_tests}
 use Rattle.std.proofs.lemmas.Bool.{and_parts}
 use Rattle.std.proofs.lemmas.List.Folds.{list_all_at}
-use Rattle.std.proofs.lemmas.Int.Digits.{digits_value_more, digits_value-lt}
+use Rattle.std.proofs.lemmas.Int.Digits.{digits_value_more}
 
 pub record IsDigit (c : ℕ) : Type 0 where
   pub low : 48 ≤ c
@@ -25,7 +25,7 @@ digit_from c h = record {
   low = grind (arith, nat_tests);
   high = grind (arith, nat_tests);
   value = grind (arith, nat_tests);
-  below = grind (arith, nat_tests)
+  below = grind (arith, nat_tests);
 }
 
 pub digit_at : (xs : List ℕ) (i : ℕ) → list_all is_ascii_digit xs ≡ true → i < length xs → IsDigit (get_or xs i 0)
@@ -58,7 +58,7 @@ weighed v n bound short =
     omega (arith, whole, some, scaled)
 
 pub value_step : (xs : List ℕ) (i v : ℕ) → list_all is_ascii_digit xs ≡ true → i < length xs → v ≡ digits_value 10 (take i xs)
-  → v * 10 + (get_or xs i 0 - 48) ≡ digits_value 10 (take (i + 1) xs)
+    → v * 10 + (get_or xs i 0 - 48) ≡ digits_value 10 (take (i + 1) xs)
 value_step xs i v all within e =
     ap (λ n. n * 10 + (get_or xs i 0 - 48)) e ∙ ap (λ d. digits_value 10 (take i xs) * 10 + d) (sym (digit_at xs i all within).value) ∙ sym (digits_value_more 10 xs i within)
 
@@ -78,9 +78,11 @@ size_of-long text long = split (position is_point text)
       where
         no_front : (rest : Option ℕ) (front : Option ℕ) → front ≡ None → both front rest ≡ None
         no_front rest front e = ap (λ o. both o rest) e
+
         no_rest : (front : Option ℕ) → both front None ≡ None
         no_rest (Some n) = refl
         no_rest None = refl
+
         by_front : (place : ℕ) (t : Bool) → nat_lt 12 (length (take place text)) ≡ t → both (digits_of 12 (take place text)) (decimals_of (drop (place + 1) text)) ≡ None
         by_front place true e = no_front _ _ (digits_of-long 12 (take place text) (ltb-true _ _ e))
         by_front place false e =
@@ -113,6 +115,11 @@ decimals_step (suc p) n some more =
     not_zero : nat_eq n 0 ≡ false
     not_zero = grind (arith, nat_tests)
 
+pub decimals_more : (p r : ℕ) → decimals (suc p) (suc r) ≡ (48 + suc r / 10 ^ p) ∷ decimals p (suc r % 10 ^ p)
+decimals_more p r =
+    let e : suc p - 1 ≡ p = omega arith in
+    decimals_step (suc p) (suc r) (omega arith) (omega arith) ∙ ap (λ k. (48 + suc r / 10 ^ k) ∷ decimals k (suc r % 10 ^ k)) e
+
 pub digit_below : (p n : ℕ) → 0 < p → n < 10 ^ p → n / 10 ^ (p - 1) < 10
 digit_below zero n some below = absurd (omega arith)
 digit_below (suc p) n some below =
@@ -135,3 +142,7 @@ pub divided_more : (digits left digit after den rest i : ℕ) → digits * den +
 divided_more digits left digit after den rest i p q =
     let e : rest * 10 ^ (i + 1) ≡ rest * 10 ^ i * 10 = ap (λ k. rest * k) (power_more i) ∙ sym (mul_assoc rest (10 ^ i) 10) in
     omega (arith, p, q, e)
+
+-- a number with decimals has a point before them
+pub pointed : (p n : ℕ) → n < 10 ^ p → 0 < n → with_point (decimals p n) ≡ 46 ∷ decimals p n
+pointed p n below some = rw (decimals_step p n (some_places p n below some) some) refl

@@ -1,5 +1,5 @@
 -- Reduced fractions: each has one form for its value, and arithmetic on forms that are not reduced comes to the same.
-use Rattle.std.proofs.Common.{◌≡◌, ◌∙◌, Bool, true, false, cond, ◌==◌, ℕ, zero, suc, ◌+◌, ◌*◌, ◌/◌, ◌%◌, ◌-◌, ◌<◌, ◌≤◌, ◌^◌, refl, sym, ap, subst, arith}
+use Rattle.std.proofs.Common.{◌≡◌, ◌∙◌, Bool, true, false, cond, ◌==◌, ℕ, zero, suc, ◌+◌, ◌*◌, ◌/◌, ◌%◌, ◌<◌, ◌≤◌, ◌^◌, refl, sym, ap, subst, arith}
 use Rattle.std.specs.Prelude.{ℤ, pos, negsuc, ◌+ℤ◌, ◌*ℤ◌, neg_ℤ, unsigned_abs, int_div, ◌<ℤ◌, Option, Some, None, Ok, Err}
 use Rattle.std.specs.Int.{◌∣◌, int_pow}
 use Rattle.std.specs.Ordering.{int_cmp, MatchOrdering}
@@ -8,7 +8,7 @@ use Rattle.std.specs.declared.cmp.Ordering.TheVariants.{Less, Equal, Greater}
 use Rattle.std.specs.Cmp.{int_cmp_is, int_ranks}
 use Rattle.std.proofs.lemmas.Int.{ints}
 use borrow.Author.Differences.{up, down, same_in, sum_is_lem, product_is}
-use Rattle.std.proofs.lemmas.Nat.Gcd.{dvd_refl, dvd_trans, dvd_antisymm}
+use Rattle.std.proofs.lemmas.Nat.Gcd.{dvd_antisymm}
 use Rattle.std.proofs.Math.Nat.{mul-div_cancel', div-mul_cancel, mul-le-mul_left, mul-pos, one-dvd, one-le-pow, dvd-mul_left, div-le_self, zero-mul, mul_assoc, mul_comm, eq_of_mul-eq-mul_right}
 use Rattle.dh_base.specs.Fractions.{gcd, Fraction, ratio, fraction_of, IsReduced, HasValue, IsFitting, whole_part, flipped, over_common, sum_of, order_of, product_of, power_of, can_compare, can_add, some_if, cmp_of, add_of, fitting, fits, fits_size}
 use Rattle.dh_base.specs.declared.plain.NumFault.TheVariants.{Wide}
@@ -57,7 +57,7 @@ fraction_of-IsReduced z d some =
     let whole : g * (d / g) ≡ d = mul-div_cancel' g (gcd-IsGcd (unsigned_abs z) d).1 in
     record {
       positive = positive_factor g (d / g) (omega (arith, whole, some));
-      coprime = ap (λ n. gcd n (d / g)) (abs_div z g) ∙ coprime-quotients (unsigned_abs z) d some
+      coprime = ap (λ n. gcd n (d / g)) (abs_div z g) ∙ coprime-quotients (unsigned_abs z) d some;
     }
   where
     positive_factor : (a b : ℕ) → 0 < a * b → 0 < b
@@ -76,7 +76,7 @@ den_divides : (f h : Fraction) → IsReduced f → f.num *ℤ pos h.den ≡ h.nu
 den_divides f h reduced same =
     let sizes : unsigned_abs f.num * h.den ≡ unsigned_abs h.num * f.den = sym (abs_times f.num h.den) ∙ ap unsigned_abs same ∙ abs_times h.num f.den in
     divides_other f.den (unsigned_abs f.num) h.den (gcd_comm f.den (unsigned_abs f.num) ∙ reduced.coprime)
-      (subst (λ n. f.den ∣ n) (sym sizes) (dvd-mul_left f.den (unsigned_abs h.num)))
+    (subst (λ n. f.den ∣ n) (sym sizes) (dvd-mul_left f.den (unsigned_abs h.num)))
 
 -- two reduced fractions of one value are the same
 pub reduced-unique : (f h : Fraction) → IsReduced f → IsReduced h → f.num *ℤ pos h.den ≡ h.num *ℤ pos f.den → f ≡ h
@@ -91,7 +91,7 @@ fraction_of-unique f z d some reduced value =
     let r = fraction_of z d in
     let own : HasValue r z d = fraction_of-HasValue z d some in
     reduced-unique f r reduced (fraction_of-IsReduced z d some)
-      (cancel_times (f.num *ℤ pos r.den) (r.num *ℤ pos f.den) d some (crossed f.num r.num z f.den r.den d value own))
+    (cancel_times (f.num *ℤ pos r.den) (r.num *ℤ pos f.den) d some (crossed f.num r.num z f.den r.den d value own))
   where
     crossed : (m n z : ℤ) (a b d : ℕ) → m *ℤ pos d ≡ z *ℤ pos a → n *ℤ pos d ≡ z *ℤ pos b → (m *ℤ pos b) *ℤ pos d ≡ (n *ℤ pos a) *ℤ pos d
     crossed m n z a b d p q =
@@ -127,7 +127,7 @@ pub fraction_of-IsFitting : (z : ℤ) (d : ℕ) → 0 < d → unsigned_abs z < 2
 fraction_of-IsFitting z d some num_fits den_fits = record {
   reduced = fraction_of-IsReduced z d some;
   num_fits = omega (arith, fraction_of-num_size z d);
-  den_fits = omega (arith, fraction_of-den_size z d)
+  den_fits = omega (arith, fraction_of-den_size z d);
 }
 
 -- fractions with the same two numbers are the same
@@ -144,19 +144,19 @@ pub whole_part-IsFitting : (f : Fraction) → IsFitting f → IsFitting (whole_p
 whole_part-IsFitting f fitting = record {
   reduced = record { positive = omega arith; coprime = coprime_with_one (unsigned_abs (int_div f.num (pos f.den))) };
   num_fits = omega (arith, abs_div f.num f.den, div-le_self (unsigned_abs f.num) f.den, fitting.num_fits);
-  den_fits = omega arith
+  den_fits = omega arith;
 }
 
 pub flipped-IsFitting : (n : ℤ) (d : ℕ) → 0 < unsigned_abs n → IsFitting (ratio n d) → IsFitting (flipped n d)
 flipped-IsFitting (pos n) d some fitting = record {
   reduced = record { positive = some; coprime = gcd_comm d n ∙ fitting.reduced.coprime };
   num_fits = fitting.den_fits;
-  den_fits = fitting.num_fits
+  den_fits = fitting.num_fits;
 }
 flipped-IsFitting (negsuc n) d some fitting = record {
   reduced = record { positive = some; coprime = ap (λ m. gcd m (suc n)) (abs_neg d) ∙ gcd_comm d (suc n) ∙ fitting.reduced.coprime };
   num_fits = omega (arith, abs_neg d, fitting.den_fits);
-  den_fits = fitting.num_fits
+  den_fits = fitting.num_fits;
 }
 
 -- ---- sums and orders over the least common denominator
@@ -179,7 +179,7 @@ shares : (b d : ℕ) → 0 < d → Shares b d (gcd b d)
 shares b d positive = record {
   some = gcd-positive b d positive;
   left = mul-div_cancel' (gcd b d) (gcd-IsGcd b d).0;
-  right = mul-div_cancel' (gcd b d) (gcd-IsGcd b d).1
+  right = mul-div_cancel' (gcd b d) (gcd-IsGcd b d).1;
 }
 
 -- a numerator over the least common denominator, times the common divisor, is that numerator times the other denominator
@@ -197,7 +197,7 @@ positive_quotient g n whole some = factor g (n / g) (omega (arith, whole, some))
     factor a (suc b) h = omega arith
 
 pub sum-common : (x y : Fraction) → 0 < x.den → 0 < y.den → (g : ℕ) → g ≡ gcd x.den y.den
-  → fraction_of (over_common x.num y.den g +ℤ over_common y.num x.den g) (x.den / g * y.den) ≡ sum_of x y
+    → fraction_of (over_common x.num y.den g +ℤ over_common y.num x.den g) (x.den / g * y.den) ≡ sum_of x y
 unfolding sum_of
 sum-common x y px py g same =
     let h : Shares x.den y.den g = subst (Shares x.den y.den) (sym same) (shares x.den y.den py) in
@@ -205,12 +205,12 @@ sum-common x y px py g same =
     let e = x.den / g * y.den in
     let dens : x.den * y.den ≡ g * e = ap (λ n. n * y.den) (sym h.left) ∙ mul_assoc g (x.den / g) y.den in
     let nums : s *ℤ pos g ≡ x.num *ℤ pos y.den +ℤ y.num *ℤ pos x.den =
-          plus_times (over_common x.num y.den g) (over_common y.num x.den g) g
-          ∙ ap (λ z. z +ℤ over_common y.num x.den g *ℤ pos g) (over_common_times x.num y.den g h.right)
-          ∙ ap (λ z. x.num *ℤ pos y.den +ℤ z) (over_common_times y.num x.den g h.left) in
+    plus_times (over_common x.num y.den g) (over_common y.num x.den g) g
+    ∙ ap (λ z. z +ℤ over_common y.num x.den g *ℤ pos g) (over_common_times x.num y.den g h.right)
+    ∙ ap (λ z. x.num *ℤ pos y.den +ℤ z) (over_common_times y.num x.den g h.left) in
     fraction_of-same s (x.num *ℤ pos y.den +ℤ y.num *ℤ pos x.den) e (x.den * y.den)
-      (positive_product (x.den / g) y.den (positive_quotient g x.den h.left px) py) (positive_product x.den y.den px py)
-      (ap (λ n. s *ℤ pos n) dens ∙ sym (times_times s g e) ∙ ap (λ z. z *ℤ pos e) nums)
+    (positive_product (x.den / g) y.den (positive_quotient g x.den h.left px) py) (positive_product x.den y.den px py)
+    (ap (λ n. s *ℤ pos n) dens ∙ sym (times_times s g e) ∙ ap (λ z. z *ℤ pos e) nums)
 
 lt_times : (x y : ℤ) (k : ℕ) → 0 < k → x <ℤ y → (x *ℤ pos k) <ℤ (y *ℤ pos k)
 lt_times x y k some below =
@@ -226,10 +226,10 @@ match_map Greater f g h p = h p
 order-times : (x y : ℤ) (k : ℕ) → 0 < k → int_cmp x y ≡ int_cmp (x *ℤ pos k) (y *ℤ pos k)
 order-times x y k some =
     int_cmp_is (x *ℤ pos k) (y *ℤ pos k) (int_cmp x y)
-      (match_map (int_cmp x y) (lt_times x y k some) (λ e. ap (λ z. z *ℤ pos k) e) (lt_times y x k some) (int_ranks x y))
+    (match_map (int_cmp x y) (lt_times x y k some) (λ e. ap (λ z. z *ℤ pos k) e) (lt_times y x k some) (int_ranks x y))
 
 pub order-common : (x y : Fraction) → 0 < y.den → (g : ℕ) → g ≡ gcd x.den y.den
-  → int_cmp (over_common x.num y.den g) (over_common y.num x.den g) ≡ order_of x y
+    → int_cmp (over_common x.num y.den g) (over_common y.num x.den g) ≡ order_of x y
 unfolding order_of
 order-common x y py g same =
     let h : Shares x.den y.den g = subst (Shares x.den y.den) (sym same) (shares x.den y.den py) in
@@ -251,7 +251,7 @@ mul_times x y j k = same_in _ _ (
 
 -- the product, each numerator divided first by what it shares with the other denominator
 pub product-crossed : (x y : Fraction) → IsReduced x → IsReduced y → (g h : ℕ) → g ≡ gcd (unsigned_abs x.num) y.den → h ≡ gcd (unsigned_abs y.num) x.den
-  → ratio (int_div x.num (pos g) *ℤ int_div y.num (pos h)) (x.den / h * (y.den / g)) ≡ product_of x y
+    → ratio (int_div x.num (pos g) *ℤ int_div y.num (pos h)) (x.den / h * (y.den / g)) ≡ product_of x y
 unfolding product_of
 product-crossed x y left right g h across back =
     let p : Shares (unsigned_abs x.num) y.den g = subst (Shares (unsigned_abs x.num) y.den) (sym across) (shares (unsigned_abs x.num) y.den right.positive) in
@@ -261,19 +261,20 @@ product-crossed x y left right g h across back =
     let own : g ∣ unsigned_abs x.num = subst (λ k. k ∣ unsigned_abs x.num) (sym across) (gcd-IsGcd (unsigned_abs x.num) y.den).0 in
     let others : h ∣ unsigned_abs y.num = subst (λ k. k ∣ unsigned_abs y.num) (sym back) (gcd-IsGcd (unsigned_abs y.num) x.den).0 in
     fraction_of-unique (ratio n m) (x.num *ℤ y.num) (x.den * y.den) (positive_product x.den y.den left.positive right.positive)
-      (record {
-        positive = positive_product (x.den / h) (y.den / g) (positive_quotient h x.den q.right left.positive) (positive_quotient g y.den p.right right.positive);
-        coprime = ap (λ k. gcd k m) (abs_mul (int_div x.num (pos g)) (int_div y.num (pos h)) ∙ ap (λ k. k * unsigned_abs (int_div y.num (pos h))) (abs_div x.num g) ∙ ap (λ k. unsigned_abs x.num / g * k) (abs_div y.num h))
-          ∙ crossed_coprime (unsigned_abs x.num) x.den (unsigned_abs y.num) y.den g h left.coprime right.coprime p q across back left.positive right.positive
-      })
-      (ap (λ k. n *ℤ pos k) (dens x.den y.den g h (x.den / h) (y.den / g) q.right p.right)
-        ∙ sym (times_times n (g * h) m)
-        ∙ ap (λ z. z *ℤ pos m) (sym (mul_times (int_div x.num (pos g)) (int_div y.num (pos h)) g h)
-          ∙ ap (λ z. z *ℤ (int_div y.num (pos h) *ℤ pos h)) (exact_div x.num g own)
-          ∙ ap (λ z. x.num *ℤ z) (exact_div y.num h others)))
+    (record {
+      positive = positive_product (x.den / h) (y.den / g) (positive_quotient h x.den q.right left.positive) (positive_quotient g y.den p.right right.positive);
+      coprime = ap (λ k. gcd k m) (abs_mul (int_div x.num (pos g)) (int_div y.num (pos h)) ∙ ap (λ k. k * unsigned_abs (int_div y.num (pos h))) (abs_div x.num g) ∙ ap (λ k. unsigned_abs x.num / g * k) (abs_div y.num h))
+          ∙ crossed_coprime (unsigned_abs x.num) x.den (unsigned_abs y.num) y.den g h left.coprime right.coprime p q across back left.positive right.positive;
+    })
+    (ap (λ k. n *ℤ pos k) (dens x.den y.den g h (x.den / h) (y.den / g) q.right p.right)
+    ∙ sym (times_times n (g * h) m)
+    ∙ ap (λ z. z *ℤ pos m) (sym (mul_times (int_div x.num (pos g)) (int_div y.num (pos h)) g h)
+    ∙ ap (λ z. z *ℤ (int_div y.num (pos h) *ℤ pos h)) (exact_div x.num g own)
+    ∙ ap (λ z. x.num *ℤ z) (exact_div y.num h others)))
   where
     dens : (b d g h u v : ℕ) → h * u ≡ b → g * v ≡ d → b * d ≡ g * h * (u * v)
     dens b d g h u v p q = ap (λ k. k * d) (sym p) ∙ ap (λ k. h * u * k) (sym q) ∙ omega arith
+
     crossed_coprime : (a b c d g h : ℕ) → gcd a b ≡ 1 → gcd c d ≡ 1 → Shares a d g → Shares c b h → g ≡ gcd a d → h ≡ gcd c b → 0 < b → 0 < d → gcd (a / g * (c / h)) (b / h * (d / g)) ≡ 1
     crossed_coprime a b c d g h left right p q across back pb pd =
         let ag : a / g ∣ a = divisor g (a / g) a p.left in
@@ -283,8 +284,8 @@ product-crossed x y left right g h across back =
         let ad : gcd (a / g) (d / g) ≡ 1 = rw across (coprime-quotients a d pd) in
         let cb : gcd (c / h) (b / h) ≡ 1 = rw back (coprime-quotients c b pb) in
         coprime-mul (a / g) (c / h) (b / h * (d / g))
-          (gcd_comm (a / g) (b / h * (d / g)) ∙ coprime-mul (b / h) (d / g) (a / g) (gcd_comm (b / h) (a / g) ∙ coprime-divisors a b (a / g) (b / h) left ag bh) (gcd_comm (d / g) (a / g) ∙ ad))
-          (gcd_comm (c / h) (b / h * (d / g)) ∙ coprime-mul (b / h) (d / g) (c / h) (gcd_comm (b / h) (c / h) ∙ cb) (gcd_comm (d / g) (c / h) ∙ coprime-divisors c d (c / h) (d / g) right ch dg))
+        (gcd_comm (a / g) (b / h * (d / g)) ∙ coprime-mul (b / h) (d / g) (a / g) (gcd_comm (b / h) (a / g) ∙ coprime-divisors a b (a / g) (b / h) left ag bh) (gcd_comm (d / g) (a / g) ∙ ad))
+        (gcd_comm (c / h) (b / h * (d / g)) ∙ coprime-mul (b / h) (d / g) (c / h) (gcd_comm (b / h) (c / h) ∙ cb) (gcd_comm (d / g) (c / h) ∙ coprime-divisors c d (c / h) (d / g) right ch dg))
 
 pub product_of-IsReduced : (x y : Fraction) → 0 < x.den → 0 < y.den → IsReduced (product_of x y)
 unfolding product_of
@@ -307,7 +308,7 @@ unfolding power_of
 power-ratio x n reduced =
     sym (fraction_of-reduced (ratio (int_pow x.num n) (x.den ^ n)) (record {
       positive = omega (arith, one-le-pow n x.den reduced.positive);
-      coprime = ap (λ m. gcd m (x.den ^ n)) (abs_pow x.num n) ∙ coprime-pow (unsigned_abs x.num) x.den n reduced.coprime
+      coprime = ap (λ m. gcd m (x.den ^ n)) (abs_pow x.num n) ∙ coprime-pow (unsigned_abs x.num) x.den n reduced.coprime;
     }))
 
 -- ---- the answers of the calls, from what their steps gave
@@ -321,20 +322,20 @@ none_from true v e = absurd (cc)
 none_from false v e = refl
 
 pub cmp_answer : (x y : Fraction) → 0 < y.den → (g : ℕ) → g ≡ gcd x.den y.den → (own others : ℤ) (r : Ordering)
-  → ◌≡◌ {A = Option (ℤ × ℤ)} (Some (own, others)) (some_if (can_compare x y) (over_common x.num y.den g, over_common y.num x.den g)) → r ≡ int_cmp own others → Ok r ≡ cmp_of x y
+    → ◌≡◌ {A = Option (ℤ × ℤ)} (Some (own, others)) (some_if (can_compare x y) (over_common x.num y.den g, over_common y.num x.den g)) → r ≡ int_cmp own others → Ok r ≡ cmp_of x y
 cmp_answer x y py g same own others r e is =
     let parts = some_from {A = ℤ × ℤ} (can_compare x y) (own, others) (over_common x.num y.den g, over_common y.num x.den g) e in
     let value : r ≡ order_of x y = is ∙ ap (λ (q : ℤ × ℤ). int_cmp q.0 q.1) parts.1 ∙ order-common x y py g same in
     rw parts.0 (ap (λ o. Ok o) value)
 
 sum_by_parts : (x y : Fraction) → 0 < x.den → 0 < y.den → (g : ℕ) → g ≡ gcd x.den y.den → (n : ℤ) (d : ℕ) (r : Fraction)
-  → ◌≡◌ {A = Option (ℤ × ℕ)} (Some (n, d)) (some_if (can_add x y) (over_common x.num y.den g +ℤ over_common y.num x.den g, x.den / g * y.den)) → r ≡ fraction_of n d → (can_add x y ≡ true) × (r ≡ sum_of x y)
+    → ◌≡◌ {A = Option (ℤ × ℕ)} (Some (n, d)) (some_if (can_add x y) (over_common x.num y.den g +ℤ over_common y.num x.den g, x.den / g * y.den)) → r ≡ fraction_of n d → (can_add x y ≡ true) × (r ≡ sum_of x y)
 sum_by_parts x y px py g same n d r e is =
     let parts = some_from {A = ℤ × ℕ} (can_add x y) (n, d) (over_common x.num y.den g +ℤ over_common y.num x.den g, x.den / g * y.den) e in
     (parts.0, is ∙ ap (λ (q : ℤ × ℕ). fraction_of q.0 q.1) parts.1 ∙ sum-common x y px py g same)
 
 pub add_answer : (x y : Fraction) → 0 < x.den → 0 < y.den → (g : ℕ) → g ≡ gcd x.den y.den → (n : ℤ) (d : ℕ) (r : Fraction)
-  → ◌≡◌ {A = Option (ℤ × ℕ)} (Some (n, d)) (some_if (can_add x y) (over_common x.num y.den g +ℤ over_common y.num x.den g, x.den / g * y.den)) → r ≡ fraction_of n d → Ok r ≡ add_of x y
+    → ◌≡◌ {A = Option (ℤ × ℕ)} (Some (n, d)) (some_if (can_add x y) (over_common x.num y.den g +ℤ over_common y.num x.den g, x.den / g * y.den)) → r ≡ fraction_of n d → Ok r ≡ add_of x y
 add_answer x y px py g same n d r e is =
     let parts = sum_by_parts x y px py g same n d r e is in
     rw parts.0 (ap (λ f. Ok f) parts.1)
@@ -345,8 +346,8 @@ unfolding sum_of
 sum_of-HasValue x y px py = fraction_of-HasValue (x.num *ℤ pos y.den +ℤ y.num *ℤ pos x.den) (x.den * y.den) (positive_product x.den y.den px py)
 
 pub add_value : (x y : Fraction) → 0 < x.den → 0 < y.den → (g : ℕ) → g ≡ gcd x.den y.den → (n : ℤ) (d : ℕ) (r : Fraction)
-  → ◌≡◌ {A = Option (ℤ × ℕ)} (Some (n, d)) (some_if (can_add x y) (over_common x.num y.den g +ℤ over_common y.num x.den g, x.den / g * y.den)) → r ≡ fraction_of n d
-  → HasValue r (x.num *ℤ pos y.den +ℤ y.num *ℤ pos x.den) (x.den * y.den)
+    → ◌≡◌ {A = Option (ℤ × ℕ)} (Some (n, d)) (some_if (can_add x y) (over_common x.num y.den g +ℤ over_common y.num x.den g, x.den / g * y.den)) → r ≡ fraction_of n d
+    → HasValue r (x.num *ℤ pos y.den +ℤ y.num *ℤ pos x.den) (x.den * y.den)
 add_value x y px py g same n d r e is =
     let parts = sum_by_parts x y px py g same n d r e is in
     subst (λ f. HasValue f (x.num *ℤ pos y.den +ℤ y.num *ℤ pos x.den) (x.den * y.den)) (sym parts.1) (sum_of-HasValue x y px py)
@@ -368,7 +369,7 @@ wide_from_den f n m e p = subst (λ h. Err Wide ≡ fitting h) e (by_num (fits n
 
 -- a fraction by its two numbers, where both fit
 pub parts_answer : (f : Fraction) (a : ℤ) (b : ℕ) → ratio a b ≡ f → IsReduced f → (n : ℤ) (m : ℕ) → Some n ≡ some_if (fits a) a → Some m ≡ some_if (fits_size b) b
-  → IsFitting (ratio n m) × (Ok (ratio n m) ≡ fitting f)
+    → IsFitting (ratio n m) × (Ok (ratio n m) ≡ fitting f)
 parts_answer f a b e reduced n m left right =
     let p = some_from (fits a) n a left in
     let q = some_from (fits_size b) m b right in

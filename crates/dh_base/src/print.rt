@@ -1,6 +1,6 @@
 ghost use Rattle.std.specs.Prelude.{◌≡◌, ◌<◌, ◌≤◌, ◌+◌, ◌*◌, ◌/◌, ◌%◌, ◌^◌, ◌++◌, ℕ, ℤ, pos, Some, IfOk, OnOk, decimal, unsigned_abs};
 ghost use Rattle.dh_base.specs.Fractions.{fraction_of};
-ghost use Rattle.dh_base.specs.Decimals.{printed, rounded, decimals, with_point, decimal_of};
+ghost use Rattle.dh_base.specs.Decimals.{printed, rounded, decimals, with_point, decimal_of, sign_of};
 
 use crate::frac::Frac;
 use crate::memory::Memory;
@@ -20,9 +20,7 @@ pub fn print_rounded(alloc: Global, value: Frac, decimals: u8) -> Result<Vec<u8>
     let num = value.num();
     let number = round(num.unsigned_abs(), value.den().unsigned_abs(), decimals);
     let mut text = Vec::new(alloc);
-    if num < 0 && (number.whole != 0 || number.rest != 0) {
-        text.push(b'-')?;
-    }
+    push_sign(&mut text, num, number)?;
     push_whole(&mut text, number.whole)?;
     push_decimals(&mut text, number.rest, decimals)?;
     Ok(text)
@@ -46,7 +44,10 @@ fn round(size: u128, den: u128, places: u8) -> Rounded
     let (digits, left) = divide_on(size % den, den, places);
     let whole = size / den;
     if left < den - left {
-        Rounded { whole, rest: digits }
+        Rounded {
+            whole,
+            rest: digits,
+        }
     } else if digits + 1 < power_of_ten(places) {
         Rounded {
             whole,
@@ -124,6 +125,19 @@ fn power_of_ten(places: u8) -> u64
         5 => 100_000,
         _ => 1_000_000,
     }
+}
+
+fn push_sign(text: &mut Vec<u8>, num: i128, number: Rounded) -> Result<(), Memory>
+    ensures { OnOk result (text.new.items ≡ text.old.items ++ sign_of num (number.whole + number.rest)) }
+{
+    if num >= 0 {
+        return Ok(());
+    }
+    if number.whole == 0 && number.rest == 0 {
+        return Ok(());
+    }
+    text.push(b'-')?;
+    Ok(())
 }
 
 fn push_whole(text: &mut Vec<u8>, whole: u128) -> Result<(), Memory>

@@ -1,4 +1,4 @@
-use Rattle.std.proofs.Common.{◌<◌, ◌≤◌, ◌^◌, length, arith}
+use Rattle.std.proofs.Common.{length, arith}
 use Rattle.dh_base.proofs.DecimalLemmas.{power_within}
 use Rattle.dh_base.proofs.decimal.read_digits.Goals as goal
 

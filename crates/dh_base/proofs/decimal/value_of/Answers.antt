@@ -1,4 +1,4 @@
-use Rattle.std.proofs.Common.{◌≡◌, ◌∙◌, ap, ◌+◌, ◌-◌, ◌*◌, ◌<◌, ◌≤◌, ◌^◌, length, get_or, arith, Fits, w64}
+use Rattle.std.proofs.Common.{◌∙◌, ap, ◌+◌, ◌*◌, ◌<◌, ◌≤◌, ◌^◌, length, get_or, arith}
 use Rattle.std.specs.Prelude.{ℕ}
 use Rattle.dh_base.proofs.DecimalLemmas.{IsDigit, digit_at, power_within, power_more, value_step}
 use Rattle.dh_base.proofs.decimal.value_of.Goals as goal
@@ -23,5 +23,5 @@ loop-byte-preserved c =
     let d = digit c in
     record {
       value = ap (λ n. c.loop-byte.value * 10 + n) c.from.ensures ∙ value_step c.args.text.now c.loop-byte.byte-index c.loop-byte.value c.requires.digits c.loop-byte-test.true c.loop-byte.invariant.value;
-      bound = omega (arith, d.low, d.high, c.from.ensures, power_more c.loop-byte.byte-index, c.loop-byte.invariant.bound)
+      bound = omega (arith, d.low, d.high, c.from.ensures, power_more c.loop-byte.byte-index, c.loop-byte.invariant.bound);
     }

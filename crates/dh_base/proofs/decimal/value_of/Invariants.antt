@@ -5,5 +5,5 @@ use Rattle.dh_base.proofs.decimal.value_of.Given as goal
 abbrev pub invariant-loop-byte : goal.invariant-loop-byte
 invariant-loop-byte l = record {
   value : l.value ≡ digits_value 10 (take l.byte-index l.text);
-  bound : l.value < 10 ^ l.byte-index
+  bound : l.value < 10 ^ l.byte-index;
 }

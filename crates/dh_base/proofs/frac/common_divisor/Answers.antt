@@ -13,5 +13,5 @@ pub returns : goal.returns
 returns c = record {
   value = value c;
   some = λ h. subst (λ g. 0 < g) (sym (value c)) (gcd-positive c.args.a c.args.b h);
-  least = λ h. subst (λ g. g ≤ c.args.b) (sym (value c)) (gcd-le c.args.a c.args.b h)
+  least = λ h. subst (λ g. g ≤ c.args.b) (sym (value c)) (gcd-le c.args.a c.args.b h);
 }

@@ -9,7 +9,7 @@ use Rattle.dh_base.proofs.frac.lowest.Goals as goal
 
 -- the two numbers that the body computes are those of the definition
 numbers : (n : ℤ) (d : ℕ) (r : ℤ) (g s : ℕ) → FitsSigned w128 n → FitsSigned w128 r → s ≡ unsigned_abs (to_z w128 (of_z w128 n)) → g ≡ gcd s d → r ≡ int_div (to_z w128 (of_z w128 n)) (pos g)
-  → (to_z w128 (of_z w128 r) ≡ (fraction_of n d).num) × (d / g ≡ (fraction_of n d).den)
+    → (to_z w128 (of_z w128 r) ≡ (fraction_of n d).num) × (d / g ≡ (fraction_of n d).den)
 unfolding fraction_of
 numbers n d r g s num_fits fits size common value =
     let own : to_z w128 (of_z w128 n) ≡ n = to_z-of_z w128 n num_fits in
@@ -24,7 +24,7 @@ computed c =
 pub invariant_of-result : goal.invariant_of-result
 invariant_of-result c =
     fits_by_numbers _ _ (fraction_of c.args.num c.args.den) (computed c).0 (computed c).1
-      (fraction_of-IsFitting c.args.num c.args.den c.requires.positive c.requires.num_fits c.requires.den_fits)
+    (fraction_of-IsFitting c.args.num c.args.den c.requires.positive c.requires.num_fits c.requires.den_fits)
 
 pub returns : goal.returns
 returns c = same_numbers _ _ (fraction_of c.args.num c.args.den) (computed c).0 (computed c).1

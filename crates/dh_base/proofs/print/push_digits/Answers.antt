@@ -1,4 +1,4 @@
-use Rattle.std.proofs.Common.{◌≡◌, ◌∙◌, ◌≢◌, ◌<◌, ◌≤◌, ◌+◌, ◌-◌, ◌/◌, ◌%◌, ◌^◌, ◌++◌, ◌∷◌, [], List, append_assoc, sym, ap, subst, arith, Fits, w8, ℕ}
+use Rattle.std.proofs.Common.{◌≡◌, ◌∙◌, ◌≢◌, ◌<◌, ◌+◌, ◌-◌, ◌/◌, ◌%◌, ◌^◌, ◌++◌, ◌∷◌, [], List, append_assoc, sym, ap, subst, arith, ℕ}
 use Rattle.std.proofs.lemmas.List.{append-nil}
 use Rattle.dh_base.specs.Decimals.{decimals}
 use Rattle.dh_base.proofs.DecimalLemmas.{decimals_none, decimals_step, digit_below, rest_below, some_places, power_positive}
@@ -29,7 +29,7 @@ pub loop-left-smaller : goal.loop-left-smaller
 loop-left-smaller c = omega (arith, some_places c.loop-left.behind c.loop-left.left c.loop-left.invariant.below (some_left _ c.loop-left-test.true))
 
 pushed : (before after whole : List ℕ) (w left behind : ℕ) → w ≡ 10 ^ (behind - 1) → left < 10 ^ behind → 0 < left → after ≡ before ++ (48 + left / w) ∷ [] → before ++ decimals behind left ≡ whole
-  → after ++ decimals (behind - 1) (left % w) ≡ whole
+    → after ++ decimals (behind - 1) (left % w) ≡ whole
 pushed before after whole w left behind e below some push written =
     ap (λ t. t ++ decimals (behind - 1) (left % w)) push ∙ append_assoc before ((48 + left / w) ∷ []) (decimals (behind - 1) (left % w))
     ∙ ap (λ k. before ++ (48 + left / k) ∷ decimals (behind - 1) (left % k)) e
@@ -40,7 +40,7 @@ loop-left-preserved c =
     record {
       written = pushed c.loop-left.text.items c.push.new.self.items _ c.power_of_ten-weight.result c.loop-left.left c.loop-left.behind c.power_of_ten-weight.ensures c.loop-left.invariant.below (some_left _ c.loop-left-test.true) c.in_ok-push.ensures.items c.loop-left.invariant.written;
       below = subst (λ k. c.loop-left.left % k < 10 ^ (c.loop-left.behind - 1)) (sym c.power_of_ten-weight.ensures) (rest_below (c.loop-left.behind - 1) c.loop-left.left);
-      few = omega (arith, c.loop-left.invariant.few)
+      few = omega (arith, c.loop-left.invariant.few);
     }
 
 pub returns : goal.returns

@@ -6,7 +6,7 @@ abbrev pub invariant-loop-left : goal.invariant-loop-left
 invariant-loop-left l = record {
   written : l.text.items ++ decimals l.behind l.left ≡ l.initial.text.items ++ decimals l.fn.places l.fn.rest;
   below : l.left < 10 ^ l.behind;
-  few : l.behind ≤ 6
+  few : l.behind ≤ 6;
 }
 
 abbrev pub decreases-loop-left : goal.decreases-loop-left

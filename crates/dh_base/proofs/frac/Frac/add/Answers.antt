@@ -1,9 +1,8 @@
-use Rattle.std.proofs.Common.{◌≡◌, ◌∙◌, refl, sym, ap, subst, rules}
+use Rattle.std.proofs.Common.{◌≡◌, ◌∙◌, sym, ap, subst, rules}
 use Rattle.std.specs.Prelude.{◌<◌}
-use Rattle.std.specs.Int.{w128, cast_signed as to_z, cast_unsigned as of_z}
+use Rattle.std.specs.Int.{w128}
 use Rattle.std.specs.Int.RustNames.{FitsSigned}
 use Rattle.std.proofs.lemmas.Int.{to_z-of_z}
-use Rattle.std.specs.Prelude.{ℕ}
 use Rattle.dh_base.specs.Fractions.{Fraction, fraction_of, gcd}
 use Rattle.dh_base.proofs.FractionLemmas.{add_answer, add_value}
 use Rattle.dh_base.proofs.frac.Frac.add.Goals as goal
@@ -25,9 +24,9 @@ reduced c =
 pub returns-in-Some-clause-answer : goal.returns-in-Some-clause-answer
 returns-in-Some-clause-answer c =
     add_answer c.args.self c.args.other (own_positive c) (other_positive c) c.common_divisor-shared.result (common c) c.in-Some.num c.in-Some.den c.lowest.result
-      (sym c.in-Some.is ∙ c.sum_over_common.ensures.value) (reduced c)
+    (sym c.in-Some.is ∙ c.sum_over_common.ensures.value) (reduced c)
 
 pub returns-in-Some-clause-sum : goal.returns-in-Some-clause-sum
 returns-in-Some-clause-sum c =
     add_value c.args.self c.args.other (own_positive c) (other_positive c) c.common_divisor-shared.result (common c) c.in-Some.num c.in-Some.den c.lowest.result
-      (sym c.in-Some.is ∙ c.sum_over_common.ensures.value) (reduced c)
+    (sym c.in-Some.is ∙ c.sum_over_common.ensures.value) (reduced c)

@@ -1,5 +1,5 @@
-use Rattle.std.proofs.Common.{◌≡◌, ◌∙◌, refl, sym, ap, subst, rules}
-use Rattle.std.specs.Int.{w128, cast_signed as to_z, cast_unsigned as of_z}
+use Rattle.std.proofs.Common.{◌∙◌, refl, ap, rules}
+use Rattle.std.specs.Int.{w128}
 use Rattle.std.specs.Int.RustNames.{FitsSigned}
 use Rattle.std.proofs.lemmas.Int.{to_z-of_z}
 use Rattle.std.specs.Prelude.{pos, int_div}
@@ -13,5 +13,5 @@ invariant_of-result c =
     let fits : FitsSigned w128 c.divided.result = record { sfits = c.divided.type_inv } in
     let own : FitsSigned w128 c.self.inside.num = search rules in
     fits_by_numbers _ 1 (whole_part x)
-      (to_z-of_z w128 c.divided.result fits ∙ c.divided.ensures ∙ ap (λ n. int_div n (pos c.self.inside.den)) (to_z-of_z w128 c.self.inside.num own))
-      refl (whole_part-IsFitting x c.self.invariant)
+    (to_z-of_z w128 c.divided.result fits ∙ c.divided.ensures ∙ ap (λ n. int_div n (pos c.self.inside.den)) (to_z-of_z w128 c.self.inside.num own))
+    refl (whole_part-IsFitting x c.self.invariant)

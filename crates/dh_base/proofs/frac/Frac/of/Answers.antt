@@ -1,11 +1,8 @@
-use Rattle.std.proofs.Common.{◌≡◌, ◌∙◌, refl, sym, ap, subst, rules}
-use Rattle.std.specs.Int.{w128, cast_signed as to_z, cast_unsigned as of_z}
-use Rattle.std.specs.Int.RustNames.{FitsSigned}
-use Rattle.std.proofs.lemmas.Int.{to_z-of_z}
-use Rattle.std.specs.Prelude.{◌<◌, pos, unsigned_abs}
+use Rattle.std.proofs.Common.{◌≡◌, ◌∙◌, sym, subst, rules}
+use Rattle.std.specs.Prelude.{◌<◌, unsigned_abs}
 use Rattle.std.proofs.Common.{arith}
 use Rattle.std.proofs.lemmas.Int.{ints}
-use Rattle.dh_base.specs.Fractions.{fraction_of, HasValue, IsReduced}
+use Rattle.dh_base.specs.Fractions.{fraction_of, HasValue}
 use Rattle.dh_base.proofs.FractionLemmas.{fraction_of-HasValue, fraction_of-unique}
 use Rattle.dh_base.proofs.frac.Frac.of.Goals as goal
 

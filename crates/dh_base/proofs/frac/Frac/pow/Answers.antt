@@ -1,5 +1,5 @@
-use Rattle.std.proofs.Common.{◌≡◌, ◌∙◌, ℕ, ◌^◌, refl, sym, ap, subst, rules}
-use Rattle.std.specs.Prelude.{ℤ, Ok, Err}
+use Rattle.std.proofs.Common.{◌≡◌, ◌∙◌, ℕ, ◌^◌, sym, ap, subst, rules}
+use Rattle.std.specs.Prelude.{Ok, Err}
 use Rattle.std.specs.Int.{w128, int_pow, cast_signed as to_z, cast_unsigned as of_z}
 use Rattle.std.specs.Int.RustNames.{FitsSigned}
 use Rattle.std.proofs.lemmas.Int.{to_z-of_z}
@@ -30,17 +30,17 @@ numbers-In-Some-size_power c =
 pub returns-in_default : goal.returns-in_default
 returns-in_default c =
     subst (λ (f : Fraction). Err Wide ≡ pow_of f c.args.n) c.self.view_is
-      (wide_num_answer _ _ _ (numbers-In_default c) (sym c.in_default.is ∙ c.power.ensures))
+    (wide_num_answer _ _ _ (numbers-In_default c) (sym c.in_default.is ∙ c.power.ensures))
 
 pub returns-in_default-size_power : goal.returns-in_default-size_power
 returns-in_default-size_power c =
     subst (λ (f : Fraction). Err Wide ≡ pow_of f c.args.n) c.self.view_is
-      (wide_den_answer _ _ _ (numbers-In_default-size_power c) (sym c.in_default-size_power.is ∙ c.size_power.ensures))
+    (wide_den_answer _ _ _ (numbers-In_default-size_power c) (sym c.in_default-size_power.is ∙ c.size_power.ensures))
 
 computed : (c : goal.In-Some-size_power) → IsFitting (ratio c.in-Some.num c.in-Some-size_power.den) × (Ok (ratio c.in-Some.num c.in-Some-size_power.den) ≡ fitting (power_of (ratio c.self.inside.num c.self.inside.den) c.args.n))
 computed c =
     parts_answer _ _ _ (numbers-In-Some-size_power c) (power_of-IsReduced _ c.args.n c.self.invariant.reduced.positive)
-      c.in-Some.num c.in-Some-size_power.den (sym c.in-Some.is ∙ c.power.ensures) (sym c.in-Some-size_power.is ∙ c.size_power.ensures)
+    c.in-Some.num c.in-Some-size_power.den (sym c.in-Some.is ∙ c.power.ensures) (sym c.in-Some-size_power.is ∙ c.size_power.ensures)
 
 plain : (c : goal.In-Some-size_power) → to_z w128 (of_z w128 c.in-Some.num) ≡ c.in-Some.num
 plain c = let fits : FitsSigned w128 c.in-Some.num = search rules in to_z-of_z w128 c.in-Some.num fits
@@ -51,4 +51,4 @@ invariant_of-result c = subst (λ n. IsFitting (ratio n c.in-Some-size_power.den
 pub returns : goal.returns
 returns c =
     subst (λ (f : Fraction). Ok (ratio (to_z w128 (of_z w128 c.in-Some.num)) c.in-Some-size_power.den) ≡ pow_of f c.args.n) c.self.view_is
-      (ap (λ n. Ok (ratio n c.in-Some-size_power.den)) (plain c) ∙ (computed c).1)
+    (ap (λ n. Ok (ratio n c.in-Some-size_power.den)) (plain c) ∙ (computed c).1)
