@@ -5,6 +5,7 @@ use Rattle.std.specs.List.{list_all}
 use Rattle.serde_json.specs.Data.{Data, Items, Members}
 use Rattle.serde_json.specs.Find.{get, as_array, as_object, as_str}
 use Rattle.std.specs.Ordering.{int_eq}
+use Rattle.dh_base.specs.Decimals.{decimal_of}
 use Rattle.dh_periods.specs.declared.kind.PeriodType.{PeriodType}
 use Rattle.dh_periods.specs.declared.kind.PeriodType.TheVariants as kind
 use Rattle.dh_periods.specs.Texts.{period_of}
@@ -18,6 +19,8 @@ use Rattle.bundle_query.specs.declared.bundle.SetElement.{SetElement}
 use Rattle.bundle_query.specs.declared.bundle.SetEntry.{SetEntry}
 use Rattle.bundle_query.specs.declared.bundle.UserEntry.{UserEntry}
 use Rattle.bundle_query.specs.declared.bundle.Month.{Month}
+use Rattle.bundle_query.specs.declared.bundle.Amount.{Amount}
+use Rattle.bundle_query.specs.declared.bundle.ValueEntry.{ValueEntry}
 
 -- a fault of this form has no path of its own: the data as a whole isn't in it
 abbrev pub only_if : {A : Type 0} → Bool → Formed A → Formed A
@@ -87,6 +90,22 @@ month_named text = option_and_then (λ period. cond (is_monthly period.kind) (So
 abbrev pub month_of : Data → Formed Month
 month_of json = and_then (text_of json) (λ text. or_fault (month_named text))
 
+-- a text that is a number, as millionths, and not zero
+unfoldable pub amount_named : List ℕ → Option Amount
+amount_named text = option_and_then (λ micros. cond (int_eq micros (pos 0)) None (Some (record { micros = micros }))) (decimal_of text)
+
+abbrev pub amount_of : Data → Formed Amount
+amount_of json = and_then (text_of json) (λ text. or_fault (amount_named text))
+
 -- the object has so many keys
 abbrev pub has_keys : ℕ → Data → Bool
 has_keys count json = option_map_or (λ members. nat_eq (length (keys_of members)) count) (as_object json) false
+
+-- a value: exactly these four texts
+unfoldable pub value_entry_of : Data → Formed ValueEntry
+value_entry_of = object_of (λ json. only_if (has_keys 4 json)
+    (and_then (field_of (codes "dataElement") identifier_of json) (λ element.
+    and_then (field_of (codes "period") month_of json) (λ month.
+    and_then (field_of (codes "orgUnit") identifier_of json) (λ unit.
+    and_then (field_of (codes "value") amount_of json) (λ amount.
+    Ok (record { element = element; month = month; unit = unit; amount = amount })))))))

@@ -2,8 +2,9 @@ ghost use Rattle.std.specs.Prelude.{◌≡◌, [], codes};
 ghost use Rattle.serde_json.specs.View.{view};
 ghost use Rattle.json_forms.specs.Given.{Gives};
 ghost use Rattle.bundle_query.specs.Words.{says, is_text, lacks};
-ghost use Rattle.bundle_query.specs.Bundle.{is_plain_element, is_plain_set, month_named, has_keys};
+ghost use Rattle.bundle_query.specs.Bundle.{is_plain_element, is_plain_set, month_named, amount_named, has_keys};
 
+use dh_base::decimal::{Micros, read_decimal};
 use dh_base::items::Items;
 use dh_base::uid::Uid;
 use dh_periods::{Period, PeriodType};
@@ -51,6 +52,21 @@ pub struct UserEntry {
 #[derive(Clone, Copy, Drop)]
 pub struct Month {
     pub period: Period,
+}
+
+/// A number's text as millionths, which aren't zero.
+#[derive(Clone, Copy, Drop)]
+pub struct Amount {
+    pub micros: Micros,
+}
+
+/// A value of a bundle: an element's number in a month at a unit.
+#[derive(Clone, Copy, Drop)]
+pub struct ValueEntry {
+    pub element: Uid,
+    pub month: Month,
+    pub unit: Uid,
+    pub amount: Amount,
 }
 
 // Whether a key holds this text.
@@ -217,6 +233,32 @@ impl ReadJson for Month {
     }
 }
 
+#[tactic(auto, unfolding(crate::specs::Bundle::amount_named))]
+fn amount_named(text: &[u8]) -> Option<Amount>
+    ensures { result ≡ amount_named text.now }
+{
+    let micros = read_decimal(text)?;
+    if micros.value() == 0 {
+        None
+    } else {
+        Some(Amount { micros })
+    }
+}
+
+impl ReadJson for Amount {
+    ghost use Rattle.bundle_query.specs.Bundle.{amount_of};
+
+    ghost form = { amount_of };
+
+    fn read(alloc: Global, value: &Value) -> Result<Amount, FormFault> {
+        let found = match value.as_str() {
+            Some(text) => amount_named(text.as_bytes()),
+            None => None,
+        };
+        found.ok_or(not_in_form(alloc))
+    }
+}
+
 #[tactic(auto, using(crate::proofs::WordLemmas::keys_counted))]
 fn has_four_keys(value: &Value) -> bool
     ensures { result ≡ has_keys 4 (view value.now) }
@@ -224,5 +266,29 @@ fn has_four_keys(value: &Value) -> bool
     match value.as_object() {
         Some(members) => members.len() == 4,
         None => false,
+    }
+}
+
+impl ReadJson for ValueEntry {
+    ghost use Rattle.bundle_query.specs.Bundle.{value_entry_of};
+
+    ghost form = { value_entry_of };
+
+    #[tactic(auto, unfolding(crate::specs::Bundle::value_entry_of))]
+    fn read(alloc: Global, value: &Value) -> Result<ValueEntry, FormFault> {
+        require_object(alloc, value)?;
+        if !has_four_keys(value) {
+            return Err(not_in_form(alloc));
+        }
+        let element = field(alloc, value, "dataElement")?;
+        let month = field(alloc, value, "period")?;
+        let unit = field(alloc, value, "orgUnit")?;
+        let amount = field(alloc, value, "value")?;
+        Ok(ValueEntry {
+            element,
+            month,
+            unit,
+            amount,
+        })
     }
 }
