@@ -5,5 +5,6 @@ pub mod KinLemmas
 pub mod LevelLemmas
 pub mod OrderLemmas
 pub mod RowLemmas
+pub mod SortLemmas
 pub mod WalkLemmas
 pub mod WayLemmas

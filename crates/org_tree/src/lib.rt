@@ -2,10 +2,12 @@
 //! units so that a unit and all under it stand in one interval.
 #![tactic(auto)]
 
+pub mod check;
 pub mod checks;
 pub mod fault;
 pub mod families;
 pub mod kin;
 pub mod levels;
 pub mod rows;
+pub mod spans;
 pub mod walk;
