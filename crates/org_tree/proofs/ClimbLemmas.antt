@@ -110,3 +110,8 @@ climb-add (suc steps) more us x =
           climb-root (steps + more) us x top ∙ sym (ap (option_and_then (λ y. climb more us y)) (climb-root steps us x top)) ]
 
 pub ruleset climbs = (climb-zero, climb-next)
+
+-- where the parents end on the way, they end
+pub climb-gone : (us : List UnitRow) (steps most x y : ℕ) → climb steps us x ≡ Some y → parent_of us y ≡ None → steps < most → climb most us x ≡ None
+climb-gone us steps most x y here top less =
+    climb-more (suc steps) most us x (omega arith) (climb-upper steps us x ∙ ap (option_and_then (λ v. parent_of us v)) here ∙ top)

@@ -1,10 +1,13 @@
 pub mod BeforeLemmas
 pub mod ClimbLemmas
 pub mod CountLemmas
+pub mod FaultLemmas
+pub mod HeldLemmas
 pub mod KinLemmas
 pub mod LevelLemmas
 pub mod OrderLemmas
 pub mod RowLemmas
 pub mod SortLemmas
+pub mod SpanLemmas
 pub mod WalkLemmas
 pub mod WayLemmas

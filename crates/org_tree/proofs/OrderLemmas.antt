@@ -297,3 +297,13 @@ order-next_child us t c s p h i up_c up_s elder nearest =
                   (λ e. elim (nearest v l up e) [ inl at_s ↦ absurd (not_s at_s) | inr sooner ↦ sooner ])
                   (λ e. elder-trans us v s c e elder) in
                 rw (test_s, test_c) (same ∙ sym (or_none (is_elder us v s))) ] ]
+
+-- a subtree ends within the walk
+pub order-end : (us : List UnitRow) → IsTree us → (x : ℕ) → x < length us → order_of us x + size_of us x ≤ length us
+unfolding order_of size_of
+order-end us t x h =
+    let sum : count_below (λ z. is_before us z x || is_under us z x) (length us) ≡ count_below (λ z. is_before us z x) (length us) + count_below (λ z. is_under us z x) (length us) =
+      count_below-or (λ z. is_before us z x) (λ z. is_under us z x) (length us)
+      (λ z l e. elim (cases_Bool (is_under us z x)) [ inl u ↦ absurd (false≢true (sym (under-not_before us t z x l u) ∙ e)) | inr u ↦ u ]) in
+    let most : count_below (λ z. is_before us z x || is_under us z x) (length us) ≤ length us = count_below-le (λ z. is_before us z x || is_under us z x) (length us) in
+    omega arith

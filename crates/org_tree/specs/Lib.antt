@@ -1,6 +1,7 @@
 pub mod Count
 pub mod Families
 pub mod Faults
+pub mod Held
 pub mod KinRows
 pub mod Levels
 pub mod Units

@@ -10,4 +10,5 @@ pub mod kin;
 pub mod levels;
 pub mod rows;
 pub mod spans;
+pub mod tree;
 pub mod walk;

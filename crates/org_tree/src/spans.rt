@@ -14,12 +14,26 @@ pub fn spans(alloc: Global, units: &[(Uid, Option<u32>)], kin: &[u32]) -> Result
 {
     let mut spans = vec![in alloc; (0u32, 0u32); units.len()]?;
     for i in 0..kin.len() as u32 {
-        if let Some(above) = parent(units, kin[i as usize]) {
-            let span = spans[above as usize];
-            spans[above as usize] = widened(span, i);
-        }
+        take_in(&mut spans, units, kin, i);
     }
     Ok(spans)
+}
+
+/// Takes the next place of the list into the span of the parent of the unit there.
+fn take_in(spans: &mut [(u32, u32)], units: &[(Uid, Option<u32>)], kin: &[u32], place: u32)
+    requires tree { IsTree units.now }
+    requires kin { InFamilies units.now kin.now }
+    requires in_range { place < length units.now }
+    requires spans { AreSpans units.now kin.now place spans.old }
+    ensures { AreSpans units.now kin.now (place + 1) spans.new }
+{
+    match parent(units, kin[place as usize]) {
+        None => {}
+        Some(above) => {
+            let span = spans[above as usize];
+            spans[above as usize] = widened(span, place);
+        }
+    }
 }
 
 /// The span with one place more; an empty one begins there.
