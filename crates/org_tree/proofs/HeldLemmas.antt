@@ -59,3 +59,6 @@ IsHeld-from tree us same t levels orders sizes walk kin spans =
       kin = subst (λ (v : List UnitRow). InFamilies v tree.kin.items) (sym same) kin;
       spans = subst (λ (v : List UnitRow). AreSpans v tree.kin.items (length v) tree.spans.items) (sym same) spans
     }
+
+pub level_read : (us : List UnitRow) (levels : List ℕ) (x v : ℕ) → length levels ≡ length us → ((x : ℕ) → x < length us → slice_index levels x ≡ level_of us x) → x < length us → v ≡ get_or levels x v → v ≡ level_of us x
+level_read us levels x v len each h read = read ∙ get_or_default levels x v 0 (omega arith) ∙ each x h

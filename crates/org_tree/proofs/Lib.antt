@@ -4,6 +4,7 @@ pub mod CountLemmas
 pub mod FaultLemmas
 pub mod HeldLemmas
 pub mod KinLemmas
+pub mod LawLemmas
 pub mod LevelLemmas
 pub mod OrderLemmas
 pub mod RowLemmas

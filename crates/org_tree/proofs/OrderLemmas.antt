@@ -84,7 +84,7 @@ behind_all us t x y h i not_under second =
       | inr u ↦ behind-subtree us t x z y h l u not_under ∙ second ]) in
     omega arith
 
-order-outside : (us : List UnitRow) → IsTree us → (x y : ℕ) → x < length us → y < length us → is_under us x y ≡ false → (order_of us x < order_of us y) ⊎ (order_of us y + size_of us y ≤ order_of us x)
+pub order-outside : (us : List UnitRow) → IsTree us → (x y : ℕ) → x < length us → y < length us → is_under us x y ≡ false → (order_of us x < order_of us y) ⊎ (order_of us y + size_of us y ≤ order_of us x)
 order-outside us t x y h i not_under =
     elim (before-total us t x y h i) [
       inl same ↦ absurd (false≢true (sym not_under ∙ subst (λ (v : ℕ). is_under us x v ≡ true) same (under-itself us x h)))
@@ -159,7 +159,7 @@ ahead-at : (us : List UnitRow) (v : ℕ) (rest : List ℕ) (c : ℕ) → ahead u
 ahead-at us v rest c = refl
 
 -- below p, before its child c: at a unit whose way goes through the child v
-before-child : (us : List UnitRow) → IsTree us → (z p v c : ℕ) (rest : List ℕ) → z < length us → c < length us → parent_of us c ≡ Some p → way_to us z ≡ way_to us p ++ v ∷ rest → is_before us z c ≡ cond (v == c) false (is_elder us v c)
+pub before-child : (us : List UnitRow) → IsTree us → (z p v c : ℕ) (rest : List ℕ) → z < length us → c < length us → parent_of us c ≡ Some p → way_to us z ≡ way_to us p ++ v ∷ rest → is_before us z c ≡ cond (v == c) false (is_elder us v c)
 before-child us t z p v c rest h i up through =
     is_before-ahead us t z c h i ∙ ap (λ w. ahead us w (way_to us c)) through
     ∙ ap (ahead us (way_to us p ++ v ∷ rest)) (way_to-child us t c p i up)
@@ -217,11 +217,11 @@ elder-trans us a b c e f = ap is_lt (nat_list_cmp_total.trans (id_at us a) (id_a
     less_from Equal e = absurd (false≢true e)
     less_from Greater e = absurd (false≢true e)
 
-elder-not_itself : (us : List UnitRow) (a : ℕ) → is_elder us a a ≡ false
+pub elder-not_itself : (us : List UnitRow) (a : ℕ) → is_elder us a a ≡ false
 elder-not_itself us a = elim (cases_Bool (is_elder us a a)) [ inl e ↦ elder-not_back us a a e | inr e ↦ e ]
 
 -- of a unit whose way goes through the child v, whether it is under the child s
-under-child : (us : List UnitRow) → IsTree us → (z p v s : ℕ) (rest : List ℕ) → z < length us → s < length us → parent_of us s ≡ Some p → way_to us z ≡ way_to us p ++ v ∷ rest → is_under us z s ≡ (v == s)
+pub under-child : (us : List UnitRow) → IsTree us → (z p v s : ℕ) (rest : List ℕ) → z < length us → s < length us → parent_of us s ≡ Some p → way_to us z ≡ way_to us p ++ v ∷ rest → is_under us z s ≡ (v == s)
 under-child us t z p v s rest h i up through =
     elim (cases_eq v s) [
       inl same ↦

@@ -3,6 +3,7 @@ pub mod Families
 pub mod Faults
 pub mod Held
 pub mod KinRows
+pub mod Laws
 pub mod Levels
 pub mod Units
 pub mod Walk

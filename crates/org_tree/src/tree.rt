@@ -1,6 +1,8 @@
-ghost use Rattle.std.specs.Prelude.{◌≡◌, ◌⊎◌, ◌↔◌, ◌+◌, ◌^◌, ◌<◌, ◌≤◌, ◌&&◌, true, nat_le, nat_lt, None, Some, length, slice_index, slice_get, IfOk, IfErr, OnOk, IfSome, IfNone};
+ghost use Rattle.std.specs.Prelude.{◌≡◌, ◌⊎◌, ◌↔◌, ◌+◌, ◌^◌, ◌<◌, ◌≤◌, ◌==◌, ◌||◌, false, None, Some, length, IfOk, IfErr, OnOk};
+ghost use Rattle.std.specs.Option.{option_map_or};
 ghost use Rattle.org_tree.specs.Faults.{tree_fault};
 ghost use Rattle.org_tree.specs.Families.{AreChildren};
+ghost use Rattle.org_tree.specs.Laws.{IsBehindParent, IsBehindElders, HasInterval};
 ghost use Rattle.org_tree.specs.Levels.{AreLevels};
 ghost use Rattle.org_tree.specs.Units.{IsTree, HasOwnIds, HasParents, parent_of, is_under, climb, level_of, ancestor_of, order_of, size_of};
 ghost use Rattle.org_tree.specs.declared.fault.TreeFault.TheVariants as fault;
@@ -69,7 +71,8 @@ impl Tree {
     /// The unit's level; the root's is 1.
     pub fn level(&self, unit: u32) -> u8
         requires { unit < length self.now }
-        ensures { result ≡ level_of self.now unit }
+        ensures level { result ≡ level_of self.now unit }
+        ensures rule { result ≡ option_map_or (λ p. level_of self.now p + 1) (parent_of self.now unit) 1 }
     {
         self.levels[unit as usize]
     }
@@ -79,6 +82,8 @@ impl Tree {
         requires { unit < length self.now }
         ensures order { result ≡ order_of self.now unit }
         ensures in_range { result < length self.now }
+        ensures behind_parent { IsBehindParent self.now unit }
+        ensures behind_elders { IsBehindElders self.now unit }
     {
         self.orders[unit as usize]
     }
@@ -97,6 +102,7 @@ impl Tree {
         requires { unit < length self.now }
         ensures first { result.0 ≡ order_of self.now unit }
         ensures end { result.1 ≡ order_of self.now unit + size_of self.now unit }
+        ensures members { HasInterval self.now unit result.0 result.1 }
     {
         let order = self.orders[unit as usize];
         (order, order + self.sizes[unit as usize])
@@ -106,7 +112,9 @@ impl Tree {
     pub fn is_under(&self, x: u32, y: u32) -> bool
         requires x_in { x < length self.now }
         requires y_in { y < length self.now }
-        ensures { result ≡ is_under self.now x y }
+        ensures under { result ≡ is_under self.now x y }
+        // x is y, or x has a parent and that parent is under y
+        ensures rule { result ≡ ((x == y) || option_map_or (λ p. is_under self.now p y) (parent_of self.now x) false) }
     {
         let order = self.orders[x as usize];
         let first = self.orders[y as usize];
@@ -114,7 +122,7 @@ impl Tree {
     }
 
     /// The unit above this one that has the level; a unit counts as its own. `None` where the level
-    /// is below the unit's, and at level 0, which no unit has.
+    /// is past the unit's, and at level 0, which no unit has.
     pub fn ancestor_at(&self, unit: u32, level: u8) -> Option<u32>
         requires { unit < length self.now }
         ensures { result ≡ ancestor_of self.now unit level }

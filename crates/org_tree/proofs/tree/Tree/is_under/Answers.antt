@@ -1,7 +1,8 @@
 use Rattle.std.proofs.Common.{◌≡◌, ◌<◌, ◌+◌, ℕ, List, length, sym, ap, ◌∙◌, subst, arith}
 use Rattle.org_tree.specs.Held.{units_of}
-use Rattle.org_tree.specs.Units.{UnitRow, is_under, order_of, size_of}
+use Rattle.org_tree.specs.Units.{UnitRow, IsTree, is_under, order_of, size_of}
 use Rattle.org_tree.proofs.HeldLemmas.{order_read, size_read, under_inside, under_left}
+use Rattle.org_tree.proofs.LawLemmas.{under_rule}
 use Rattle.org_tree.proofs.OrderLemmas.{order-end}
 use Rattle.org_tree.proofs.tree.Tree.is_under.Goals as goal
 
@@ -17,8 +18,8 @@ overflow_add-result c =
     let few = held.is_tree.few in
     omega arith
 
-pub returns-then-first-order : goal.returns-then-first-order
-returns-then-first-order c =
+pub returns-then-first-order-clause-under : goal.returns-then-first-order-clause-under
+returns-then-first-order-clause-under c =
     let us = units_of c.self.inside in
     let held = c.self.invariant in
     let x = c.args.x in
@@ -32,8 +33,13 @@ returns-then-first-order c =
     c.if-first-order.true
     ∙ ap (λ (v : List UnitRow). is_under v x y) c.self.view_is
 
-pub returns-else-first-order : goal.returns-else-first-order
-returns-else-first-order c =
+pub returns-then-first-order-clause-rule : goal.returns-then-first-order-clause-rule
+returns-then-first-order-clause-rule c =
+    returns-then-first-order-clause-under c
+    ∙ under_rule c.args.self.now (subst (λ (v : List UnitRow). IsTree v) c.self.view_is c.self.invariant.is_tree) c.args.x c.args.y c.requires.x_in
+
+pub returns-else-first-order-clause-under : goal.returns-else-first-order-clause-under
+returns-else-first-order-clause-under c =
     let us = units_of c.self.inside in
     let held = c.self.invariant in
     let x = c.args.x in
@@ -45,3 +51,8 @@ returns-else-first-order c =
     (order_read us c.self.inside.orders.items y c.index-first.result.now held.orders y_in c.index-first.ensures)
     c.if-first-order.false
     ∙ ap (λ (v : List UnitRow). is_under v x y) c.self.view_is
+
+pub returns-else-first-order-clause-rule : goal.returns-else-first-order-clause-rule
+returns-else-first-order-clause-rule c =
+    returns-else-first-order-clause-under c
+    ∙ under_rule c.args.self.now (subst (λ (v : List UnitRow). IsTree v) c.self.view_is c.self.invariant.is_tree) c.args.x c.args.y c.requires.x_in
