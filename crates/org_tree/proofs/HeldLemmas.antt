@@ -51,13 +51,13 @@ IsHeld-from tree us same t levels orders sizes walk kin spans =
       is_tree = subst (λ (v : List UnitRow). IsTree v) (sym same) t;
       levels_length = levels.same_length ∙ ap length (sym same);
       levels = λ x h.
-        (let inside : x < length us = subst (λ (v : List UnitRow). x < length v) same h in
-        sym (level_of-HasLevel us t x (slice_index tree.levels.items x) inside (levels.each x inside)) ∙ ap (λ (v : List UnitRow). level_of v x) (sym same));
+          (let inside : x < length us = subst (λ (v : List UnitRow). x < length v) same h in
+          sym (level_of-HasLevel us t x (slice_index tree.levels.items x) inside (levels.each x inside)) ∙ ap (λ (v : List UnitRow). level_of v x) (sym same));
       orders = subst (λ (v : List UnitRow). AreOrders v tree.orders.items) (sym same) orders;
       sizes = subst (λ (v : List UnitRow). AreSizes v tree.sizes.items) (sym same) sizes;
       walk = subst (λ (v : List UnitRow). IsWalk v tree.walk.items) (sym same) walk;
       kin = subst (λ (v : List UnitRow). InFamilies v tree.kin.items) (sym same) kin;
-      spans = subst (λ (v : List UnitRow). AreSpans v tree.kin.items (length v) tree.spans.items) (sym same) spans
+      spans = subst (λ (v : List UnitRow). AreSpans v tree.kin.items (length v) tree.spans.items) (sym same) spans;
     }
 
 pub level_read : (us : List UnitRow) (levels : List ℕ) (x v : ℕ) → length levels ≡ length us → ((x : ℕ) → x < length us → slice_index levels x ≡ level_of us x) → x < length us → v ≡ get_or levels x v → v ≡ level_of us x

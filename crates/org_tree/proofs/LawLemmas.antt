@@ -15,8 +15,9 @@ use Rattle.org_tree.proofs.OrderLemmas.{before-child, parent-before, order-befor
 pub under_rule : (us : List UnitRow) → IsTree us → (x y : ℕ) → x < length us → is_under us x y ≡ ((x == y) || option_map_or (λ p. is_under us p y) (parent_of us x) false)
 under_rule us t x y h =
     elim (some_or_none (parent_of us x)) [
-      inl up ↦ is_under-child us t x up.0 y h up.1 ∙ sym (ap (λ o. (x == y) || option_map_or (λ p. is_under us p y) o false) up.1)
-    | inr top ↦ is_under-root us x y h top ∙ sym (ap (λ o. (x == y) || option_map_or (λ p. is_under us p y) o false) top ∙ or_none (x == y)) ]
+      | inl up ↦ is_under-child us t x up.0 y h up.1 ∙ sym (ap (λ o. (x == y) || option_map_or (λ p. is_under us p y) o false) up.1)
+      | inr top ↦ is_under-root us x y h top ∙ sym (ap (λ o. (x == y) || option_map_or (λ p. is_under us p y) o false) top ∙ or_none (x == y))
+    ]
   where
     or_none : (b : Bool) → (b || false) ≡ b
     or_none true = refl
@@ -26,8 +27,9 @@ under_rule us t x y h =
 pub level_rule : (us : List UnitRow) → IsTree us → (x : ℕ) → x < length us → level_of us x ≡ option_map_or (λ p. level_of us p + 1) (parent_of us x) 1
 level_rule us t x h =
     elim (some_or_none (parent_of us x)) [
-      inl up ↦ level_of-child us t x up.0 h up.1 ∙ sym (ap (λ o. option_map_or (λ p. level_of us p + 1) o 1) up.1)
-    | inr top ↦ level_of-root us x h top ∙ sym (ap (λ o. option_map_or (λ p. level_of us p + 1) o 1) top) ]
+      | inl up ↦ level_of-child us t x up.0 h up.1 ∙ sym (ap (λ o. option_map_or (λ p. level_of us p + 1) o 1) up.1)
+      | inr top ↦ level_of-root us x h top ∙ sym (ap (λ o. option_map_or (λ p. level_of us p + 1) o 1) top)
+    ]
 
 pub behind_parent : (us : List UnitRow) → IsTree us → (x : ℕ) → x < length us → IsBehindParent us x
 behind_parent us t x h = record { parent_first = λ p up. order-before us t p x (t.parent_in_range x p up) (parent-before us t x p h up) }
@@ -39,18 +41,19 @@ behind_elders us t x h = record { elder_first = λ z p l up_z up_x elder. elder_
     elder_first z p l up_z up_x elder =
         let apart : ¬ (z ≡ x) = λ same. false≢true (sym (elder-not_itself us z) ∙ subst (λ (v : ℕ). is_lt (slice_cmp nat_cmp (id_at us z) (id_at us v)) ≡ true) (sym same) elder) in
         let before : is_before us z x ≡ true =
-          before-child us t z p z x [] l h up_x (way_to-child us t z p l up_z) ∙ ap (λ b. cond b false (is_lt (slice_cmp nat_cmp (id_at us z) (id_at us x)))) (ne_eqb z x apart) ∙ elder in
+        before-child us t z p z x [] l h up_x (way_to-child us t z p l up_z) ∙ ap (λ b. cond b false (is_lt (slice_cmp nat_cmp (id_at us z) (id_at us x)))) (ne_eqb z x apart) ∙ elder in
         let sooner : order_of us z < order_of us x = order-before us t z x l before in
         let outside : is_under us x z ≡ false =
-          under-child us t x p x z [] h l up_z (way_to-child us t x p h up_x) ∙ ne_eqb x z (λ same. apart (sym same)) in
+        under-child us t x p x z [] h l up_z (way_to-child us t x p h up_x) ∙ ne_eqb x z (λ same. apart (sym same)) in
         elim (order-outside us t x z h l outside) [
-          inl first ↦ absurd (omega arith)
-        | inr behind ↦ behind ]
+          | inl first ↦ absurd (omega arith)
+          | inr behind ↦ behind
+        ]
 
 pub has_interval : (us : List UnitRow) → IsTree us → (y first end : ℕ) → y < length us → first ≡ order_of us y → end ≡ order_of us y + size_of us y → HasInterval us y first end
 has_interval us t y first end h at upto = record {
   members = λ x l.
-    under-interval us t x y l h
-    ∙ ap (λ (v : ℕ). nat_le v (order_of us x) && nat_lt (order_of us x) (order_of us y + size_of us y)) (sym at)
-    ∙ ap (λ (v : ℕ). nat_le first (order_of us x) && nat_lt (order_of us x) v) (sym upto)
+      under-interval us t x y l h
+      ∙ ap (λ (v : ℕ). nat_le v (order_of us x) && nat_lt (order_of us x) (order_of us y + size_of us y)) (sym at)
+      ∙ ap (λ (v : ℕ). nat_le first (order_of us x) && nat_lt (order_of us x) v) (sym upto);
 }

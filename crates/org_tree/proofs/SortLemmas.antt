@@ -34,8 +34,9 @@ numbers-hold : (n x : ℕ) → x < n → Contains (numbers n) x
 numbers-hold zero x h = absurd (omega arith)
 numbers-hold (suc n) x h =
     elim (cases_eq x n) [
-      inl last ↦ subst (λ (v : ℕ). Contains (numbers n ++ n ∷ []) v) (sym last) (Contains-push (numbers n) n)
-    | inr other ↦ Contains-append_left (numbers n) (n ∷ []) x (numbers-hold n x (omega arith)) ]
+      | inl last ↦ subst (λ (v : ℕ). Contains (numbers n ++ n ∷ []) v) (sym last) (Contains-push (numbers n) n)
+      | inr other ↦ Contains-append_left (numbers n) (n ∷ []) x (numbers-hold n x (omega arith))
+    ]
 
 distinct_push : (xs : List ℕ) (v : ℕ) → IsDistinct (λ a b. a == b) xs → AllByRecursion (λ y. (y == v) ≡ false) xs → IsDistinct (λ a b. a == b) (xs ++ v ∷ [])
 unfolding IsDistinct
@@ -100,7 +101,7 @@ kin_less us t a b h i apart not_less = by_order (kin_cmp us a b) refl
     by_order Greater e =
         let back : kin_cmp us b a ≡ Less = (kin_total us).antisymm b a ∙ ap ordering_reverse e in
         let less : row_cmp (kin_row us b) (kin_row us a) ≡ Less =
-          less_further (nat_cmp (level_of us b) (level_of us a)) (nat_cmp (family_of us b) (family_of us a)) (slice_cmp nat_cmp (id_at us b) (id_at us a)) (nat_cmp b a) back in
+        less_further (nat_cmp (level_of us b) (level_of us a)) (nat_cmp (family_of us b) (family_of us a)) (slice_cmp nat_cmp (id_at us b) (id_at us a)) (nat_cmp b a) back in
         absurd (false≢true (sym not_less ∙ ap is_lt less))
 
 pub InFamilies-from_sort : (us : List UnitRow) → IsTree us → (rows sorted : List Kin) → rows ≡ map (kin_row us) (numbers (length us)) → IsPermutation rows sorted → IsSortedBy (λ a b. is_lt (row_cmp a b)) sorted → InFamilies us (map (λ (row : Kin). row.place) sorted)
@@ -109,33 +110,33 @@ InFamilies-from_sort us t rows sorted made moved up =
     let kin : List ℕ = map (λ (row : Kin). row.place) sorted in
     let whole : map (λ (row : Kin). row.place) rows ≡ numbers n = ap (map (λ (row : Kin). row.place)) made ∙ places-rows us (numbers n) in
     let moved_places : IsPermutation (numbers n) kin =
-      subst (λ (v : List ℕ). IsPermutation v kin) whole (IsPermutation-map (λ (row : Kin). row.place) rows sorted moved) in
+    subst (λ (v : List ℕ). IsPermutation v kin) whole (IsPermutation-map (λ (row : Kin). row.place) rows sorted moved) in
     let len : length kin ≡ n = length_permutation (numbers n) kin moved_places ∙ length-numbers n in
     let below : All (λ v. v < n) kin = All-permutation (λ v. v < n) (numbers n) kin moved_places (numbers-below n) in
     let distinct : IsDistinct (λ a b. a == b) kin = IsDistinct-IsPermutation (λ a b. a == b) nat_eq_equiv.symm (numbers n) kin moved_places (numbers-distinct n) in
     let own : All (λ (row : Kin). row ≡ kin_row us row.place) sorted =
-      All-permutation (λ (row : Kin). row ≡ kin_row us row.place) rows sorted moved
-      (subst (λ (v : List Kin). All (λ (row : Kin). row ≡ kin_row us row.place) v) (sym made)
-      (All-map (λ (row : Kin). row ≡ kin_row us row.place) (kin_row us) (numbers n) (λ k d h. refl))) in
+    All-permutation (λ (row : Kin). row ≡ kin_row us row.place) rows sorted moved
+    (subst (λ (v : List Kin). All (λ (row : Kin). row ≡ kin_row us row.place) v) (sym made)
+    (All-map (λ (row : Kin). row ≡ kin_row us row.place) (kin_row us) (numbers n) (λ k d h. refl))) in
     record {
       same_length = len;
       in_range = λ i h. below i 0 (omega arith);
       found = λ x h.
-        (let at : Contains kin x = Contains-permutation (numbers n) kin x moved_places (numbers-hold n x h) in
-        (at.0, (omega (arith, at.1), get_or_default kin at.0 0 x at.1 ∙ at.2)));
+          (let at : Contains kin x = Contains-permutation (numbers n) kin x moved_places (numbers-hold n x h) in
+          (at.0, (omega (arith, at.1), get_or_default kin at.0 0 x at.1 ∙ at.2)));
       sorted = λ i j l h.
-        (let d : Kin = kin_row us 0 in
-        let i_in : i < length sorted = let e = length-map sorted (λ (row : Kin). row.place) in omega arith in
-        let j_in : j < length sorted = let e = length-map sorted (λ (row : Kin). row.place) in omega arith in
-        let far : is_lt (row_cmp (get_or sorted j d) (get_or sorted i d)) ≡ false =
+          (let d : Kin = kin_row us 0 in
+          let i_in : i < length sorted = let e = length-map sorted (λ (row : Kin). row.place) in omega arith in
+          let j_in : j < length sorted = let e = length-map sorted (λ (row : Kin). row.place) in omega arith in
+          let far : is_lt (row_cmp (get_or sorted j d) (get_or sorted i d)) ≡ false =
           sorted_far (λ a b. is_lt (row_cmp a b)) (ranks_by row_total (λ (row : Kin). row)) sorted up i j d (omega arith) j_in in
-        let place_i : get_or kin i 0 ≡ (get_or sorted i d).place = get_or-map (λ (row : Kin). row.place) sorted i d 0 i_in in
-        let place_j : get_or kin j 0 ≡ (get_or sorted j d).place = get_or-map (λ (row : Kin). row.place) sorted j d 0 j_in in
-        let row_i : get_or sorted i d ≡ kin_row us (get_or kin i 0) = own i d i_in ∙ ap (kin_row us) (sym place_i) in
-        let row_j : get_or sorted j d ≡ kin_row us (get_or kin j 0) = own j d j_in ∙ ap (kin_row us) (sym place_j) in
-        let not_less : is_lt (row_cmp (kin_row us (get_or kin j 0)) (kin_row us (get_or kin i 0))) ≡ false =
+          let place_i : get_or kin i 0 ≡ (get_or sorted i d).place = get_or-map (λ (row : Kin). row.place) sorted i d 0 i_in in
+          let place_j : get_or kin j 0 ≡ (get_or sorted j d).place = get_or-map (λ (row : Kin). row.place) sorted j d 0 j_in in
+          let row_i : get_or sorted i d ≡ kin_row us (get_or kin i 0) = own i d i_in ∙ ap (kin_row us) (sym place_i) in
+          let row_j : get_or sorted j d ≡ kin_row us (get_or kin j 0) = own j d j_in ∙ ap (kin_row us) (sym place_j) in
+          let not_less : is_lt (row_cmp (kin_row us (get_or kin j 0)) (kin_row us (get_or kin i 0))) ≡ false =
           ap (λ row. is_lt (row_cmp row (kin_row us (get_or kin i 0)))) (sym row_j) ∙ ap (λ row. is_lt (row_cmp (get_or sorted j d) row)) (sym row_i) ∙ far in
-        kin_less us t (get_or kin i 0) (get_or kin j 0) (below i 0 (omega arith)) (below j 0 (omega arith))
-        (λ same. false≢true (sym (apart_from_distinct (λ a b. a == b) kin i j 0 distinct l (omega arith)) ∙ eq-eqb (get_or kin i 0) (get_or kin j 0) same))
-        not_less)
+          kin_less us t (get_or kin i 0) (get_or kin j 0) (below i 0 (omega arith)) (below j 0 (omega arith))
+          (λ same. false≢true (sym (apart_from_distinct (λ a b. a == b) kin i j 0 distinct l (omega arith)) ∙ eq-eqb (get_or kin i 0) (get_or kin j 0) same))
+          not_less);
     }

@@ -1,10 +1,10 @@
 -- What is wrong with a list of units that is no tree.
-use Rattle.std.specs.Prelude.{ℕ, ◌<◌, nat_lt, Bool, false, true, not, cond, ◌&&◌, List, length, Option, Some, None, option_map, is_some, is_none}
+use Rattle.std.specs.Prelude.{ℕ, ◌<◌, nat_lt, Bool, false, true, not, cond, ◌&&◌, List, length, Option, Some, None, option_map, is_some, is_none, IsSome}
 use Rattle.std.specs.Option.{option_map_or}
 use Rattle.org_tree.specs.Count.{count_below, or_else, first_below}
 use Rattle.org_tree.specs.Units.{UnitRow, parent_of, climb}
 use Rattle.org_tree.specs.declared.fault.TreeFault.{TreeFault}
-use Rattle.org_tree.specs.declared.fault.TreeFault.TheVariants.{NoParent, NoRoot, TwoRoots, Loop, TooDeep}
+use Rattle.org_tree.specs.declared.fault.TreeFault.TheVariants.{NoParent, NoRoot, TwoRoots, Loop, TooDeep, Memory}
 
 -- the unit's parent is no unit of the list
 abbrev pub has_bad_parent : List UnitRow → ℕ → Bool
@@ -45,3 +45,12 @@ depth_fault us =
 -- that never reach the root, a level below the twelfth. Each names the first unit that has it
 unfoldable pub tree_fault : List UnitRow → Option TreeFault
 tree_fault us = or_else (shape_fault us) (depth_fault us)
+
+-- a loop's unit has a parent however far one goes up
+abbrev pub NeverReaches : List UnitRow → TreeFault → Type 0
+NeverReaches us (NoParent node) = Unit {0}
+NeverReaches us NoRoot = Unit {0}
+NeverReaches us (TwoRoots second) = Unit {0}
+NeverReaches us (Loop node) = (steps : ℕ) → IsSome (climb steps us node)
+NeverReaches us (TooDeep node) = Unit {0}
+NeverReaches us Memory = Unit {0}

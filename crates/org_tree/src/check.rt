@@ -1,5 +1,5 @@
 ghost use Rattle.std.specs.Prelude.{◌≡◌, ◌⊎◌, ◌^◌, ◌<◌, None, Some, length, IfOk, IfErr, OnOk};
-ghost use Rattle.org_tree.specs.Faults.{tree_fault};
+ghost use Rattle.org_tree.specs.Faults.{tree_fault, NeverReaches};
 ghost use Rattle.org_tree.specs.Levels.{AreLevels};
 ghost use Rattle.org_tree.specs.Units.{IsTree, HasOwnIds};
 ghost use Rattle.org_tree.specs.declared.fault.TreeFault.TheVariants as fault;
@@ -19,6 +19,7 @@ pub fn check(alloc: Global, units: &[(Uid, Option<u32>)]) -> Result<Vec<u8>, Tre
     ensures levels { IfOk result (λ levels. AreLevels units.now levels.items) }
     ensures none { OnOk result (tree_fault units.now ≡ None) }
     ensures fault { IfErr result (λ e. (e ≡ fault.Memory) ⊎ (tree_fault units.now ≡ Some e)) }
+    ensures loop_node { IfErr result (λ e. NeverReaches units.now e) }
 {
     if let Some(fault) = fault_of_shape(units) {
         return Err(fault);

@@ -10,7 +10,11 @@ use dh_base::uid::Uid;
 use std::alloc::{AllocError, Global};
 
 /// The units by level, then by family, siblings by their UIDs.
-pub fn families(alloc: Global, units: &[(Uid, Option<u32>)], levels: &[u8]) -> Result<Vec<u32>, AllocError>
+pub fn families(
+    alloc: Global,
+    units: &[(Uid, Option<u32>)],
+    levels: &[u8],
+) -> Result<Vec<u32>, AllocError>
     requires tree { IsTree units.now }
     requires levels { AreLevels units.now levels.now }
     ensures { IfOk result (λ kin. InFamilies units.now kin.items) }

@@ -4,8 +4,8 @@
 
 pub mod check;
 pub mod checks;
-pub mod fault;
 pub mod families;
+pub mod fault;
 pub mod kin;
 pub mod levels;
 pub mod rows;

@@ -7,7 +7,11 @@ use dh_base::uid::Uid;
 use std::alloc::{AllocError, Global};
 
 /// Where each unit's children stand in the list by families: the first place, and the one behind the last.
-pub fn spans(alloc: Global, units: &[(Uid, Option<u32>)], kin: &[u32]) -> Result<Vec<(u32, u32)>, AllocError>
+pub fn spans(
+    alloc: Global,
+    units: &[(Uid, Option<u32>)],
+    kin: &[u32],
+) -> Result<Vec<(u32, u32)>, AllocError>
     requires tree { IsTree units.now }
     requires kin { InFamilies units.now kin.now }
     ensures { IfOk result (λ spans. AreSpans units.now kin.now (length units.now) spans.items) }

@@ -1,6 +1,6 @@
 ghost use Rattle.std.specs.Prelude.{◌≡◌, ◌⊎◌, ◌↔◌, ◌+◌, ◌^◌, ◌<◌, ◌≤◌, ◌==◌, ◌||◌, false, None, Some, length, IfOk, IfErr, OnOk};
 ghost use Rattle.std.specs.Option.{option_map_or};
-ghost use Rattle.org_tree.specs.Faults.{tree_fault};
+ghost use Rattle.org_tree.specs.Faults.{tree_fault, NeverReaches};
 ghost use Rattle.org_tree.specs.Families.{AreChildren};
 ghost use Rattle.org_tree.specs.Laws.{IsBehindParent, IsBehindElders, HasInterval};
 ghost use Rattle.org_tree.specs.Levels.{AreLevels};
@@ -55,6 +55,8 @@ impl Tree {
         ensures none { OnOk result (tree_fault units.now ≡ None) }
         // a fault other than want of memory comes exactly where it is the first that the units have
         ensures fault { IfErr result (λ e. (e ≡ fault.Memory) ⊎ (tree_fault units.now ≡ Some e)) }
+        // the unit of a loop has a parent however far one goes up
+        ensures loop_node { IfErr result (λ e. NeverReaches units.now e) }
     {
         let levels = check(alloc, units)?;
         Ok(filled(alloc, units, levels)?)

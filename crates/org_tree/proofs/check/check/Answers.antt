@@ -1,10 +1,12 @@
-use Rattle.std.proofs.Common.{rules, ◌≡◌, ◌⊎◌, List, ℕ, Option, None, Some, sym, ap, ◌∙◌, inl, inr}
-use Rattle.std.proofs.lemmas.Result.{IfOk-weaker}
+use Rattle.std.proofs.Common.{rules, ◌≡◌, ◌⊎◌, List, ℕ, Option, None, Some, subst, sym, ap, ◌∙◌, inl, inr}
+use Rattle.std.proofs.lemmas.Result.{IfOk-weaker, IfErr-weaker}
 use Rattle.org_tree.specs.Count.{or_else}
 use Rattle.org_tree.specs.Units.{IsTree}
 use Rattle.org_tree.specs.Levels.{AreLevels}
-use Rattle.org_tree.specs.Faults.{shape_fault, depth_fault, tree_fault}
-use Rattle.org_tree.proofs.FaultLemmas.{HasParents-from_none, shape_parts, IsTree-from_checks, no_depth_fault}
+use Rattle.org_tree.specs.Faults.{shape_fault, depth_fault, tree_fault, NeverReaches}
+use Rattle.org_tree.specs.declared.fault.TreeFault.{TreeFault}
+use Rattle.org_tree.specs.declared.fault.TreeFault.TheVariants as fault
+use Rattle.org_tree.proofs.FaultLemmas.{HasParents-from_none, shape_parts, IsTree-from_checks, no_depth_fault, never_reaches}
 use Rattle.org_tree.proofs.check.check.Goals as goal
 
 pub levels-requires-clause-parents : goal.levels-requires-clause-parents
@@ -24,3 +26,13 @@ returns-clause-none c =
     IfOk-weaker c.levels.result (λ levels. AreLevels us levels.items) (λ _. or_else (shape_fault us) (depth_fault us) ≡ None)
     (λ levels has. ap (λ o. or_else o (depth_fault us)) (sym c.in_default.ensures) ∙ no_depth_fault us levels.items (HasParents-from_none us (shape_parts us (sym c.in_default.ensures)).0) has)
     c.levels.ensures.levels
+
+pub returns-clause-loop_node : goal.returns-clause-loop_node
+unfolding tree_fault
+returns-clause-loop_node c =
+    let us = c.args.units.now in
+    IfErr-weaker c.levels.result (λ e. (e ≡ fault.Memory) ⊎ (depth_fault us ≡ Some e)) (λ e. NeverReaches us e)
+    (λ e is. elim is [
+      inl memory ↦ subst (λ (v : TreeFault). NeverReaches us v) (sym memory) tt
+    | inr depth ↦ never_reaches us e (ap (λ o. or_else o (depth_fault us)) (sym c.in_default.ensures) ∙ depth) ])
+    c.levels.ensures.fault

@@ -12,9 +12,9 @@ twice-requires-clause-inside c =
 pub loop-steps-preserved : goal.loop-steps-preserved
 loop-steps-preserved c = record {
   climbs = Climbs-twice c.args.units.now c.requires.parents c.loop-steps.steps c.loop-steps.jumps.items c.in_ok-jumps-2.jumps.items
-    c.loop-steps.invariant.climbs
-    (subst (λ (v : List (Option ℕ)). IsTwice v c.in_ok-jumps-2.jumps.items) c.deref.ensures.value c.in_ok-jumps-2.ensures);
-  positive = omega (arith, c.loop-steps.invariant.positive)
+      c.loop-steps.invariant.climbs
+      (subst (λ (v : List (Option ℕ)). IsTwice v c.in_ok-jumps-2.jumps.items) c.deref.ensures.value c.in_ok-jumps-2.ensures);
+  positive = omega (arith, c.loop-steps.invariant.positive);
 }
 
 pub returns : goal.returns

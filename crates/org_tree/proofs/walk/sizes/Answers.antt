@@ -10,5 +10,5 @@ returns c =
     let all : c.loop-unit.unit ≡ length us = omega arith in
     record {
       same_length = c.loop-unit.invariant.same_length;
-      each = λ x h. c.loop-unit.invariant.each x h ∙ ap (count_below (λ z. is_under us z x)) all
+      each = λ x h. c.loop-unit.invariant.each x h ∙ ap (count_below (λ z. is_under us z x)) all;
     }

@@ -17,7 +17,7 @@ returns c =
     let span = c.index-span.result.now in
     let read : span ≡ get_or spans unit (0, 0) = c.index-span.ensures ∙ get_or_default spans unit span (0, 0) (let e = held.spans.same_length in omega arith) in
     let whole : Spans us kin (length us) unit span.0 span.1 =
-      subst (λ (v : ℕ × ℕ). Spans us kin (length us) unit v.0 v.1) (sym read) (held.spans.each unit h) in
+    subst (λ (v : ℕ × ℕ). Spans us kin (length us) unit v.0 v.1) (sym read) (held.spans.each unit h) in
     subst (λ (v : List UnitRow). AreChildren v unit (take (span.1 - span.0) (drop span.0 c.deref.result.now))) c.self.view_is
     (subst (λ (v : List ℕ). AreChildren us unit (take (span.1 - span.0) (drop span.0 v))) (sym c.deref.ensures.value)
     (children_in_span us kin held.is_tree held.kin unit span.0 span.1 whole))
