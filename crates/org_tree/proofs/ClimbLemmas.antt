@@ -1,6 +1,6 @@
 -- Going up from a unit: parents that end do so within as many steps as there are units.
-use Rattle.std.proofs.Common.{add-one, zero-add, ◌≡◌, ◌⊎◌, ℕ, zero, suc, ◌+◌, ◌<◌, ◌≤◌, Bool, true, false, cond, List, length, Option, Some, None, refl, sym, ap, ◌∙◌, subst, inl, inr, arith}
-use Rattle.std.specs.Prelude.{option_and_then, is_none, is_some}
+use Rattle.std.proofs.Common.{add-one, zero-add, ◌≡◌, ◌⊎◌, ℕ, zero, suc, ◌+◌, ◌<◌, ◌≤◌, Bool, true, false, List, length, Option, Some, None, refl, sym, ap, ◌∙◌, subst, inl, inr, arith}
+use Rattle.std.specs.Prelude.{option_and_then, is_none}
 use Rattle.std.proofs.lemmas.Bool.{cases_eq, false≢true}
 use Rattle.org_tree.specs.Units.{UnitRow, parent_of, climb}
 use Rattle.org_tree.specs.Count.{count_below}

@@ -1,17 +1,17 @@
 -- A list of units in which a build finds no fault is a tree.
-use Rattle.std.proofs.Common.{◌≡◌, ◌⊎◌, ℕ, zero, suc, ◌+◌, ◌<◌, ◌≤◌, ◌^◌, Bool, true, false, cond, List, length, Option, Some, None, rules, refl, sym, ap, ◌∙◌, subst, inl, inr, arith, add-one}
+use Rattle.std.proofs.Common.{◌≡◌, ℕ, ◌<◌, ◌^◌, Bool, true, false, cond, List, length, Option, Some, None, rules, refl, sym, ap, ◌∙◌, subst, inl, inr, arith}
 use Rattle.std.specs.Prelude.{option_map, option_and_then, is_none, is_some, not, nat_lt, slice_index, IsSome}
 use Rattle.std.specs.Option.{option_map_or}
-use Rattle.std.proofs.lemmas.Bool.{cases_eq, cases_lt, cases_order, false≢true, ltb-true, not-false, and_from, lt-ltb}
+use Rattle.std.proofs.lemmas.Bool.{cases_lt, cases_order, false≢true, ltb-true, not-false, and_from, lt-ltb}
 use Rattle.std.proofs.lemmas.Option.{slice_get_past}
 use Rattle.org_tree.specs.declared.fault.TreeFault.{TreeFault}
 use Rattle.org_tree.specs.declared.fault.TreeFault.TheVariants.{NoParent, NoRoot, TwoRoots, Loop, TooDeep, Memory}
 use Rattle.org_tree.specs.Count.{count_below, or_else, first_below}
-use Rattle.org_tree.specs.Units.{UnitRow, id_at, parent_of, climb, HasParents, HasOwnIds, IsTree}
+use Rattle.org_tree.specs.Units.{UnitRow, parent_of, climb, HasParents, HasOwnIds, IsTree}
 use Rattle.org_tree.specs.Faults.{has_bad_parent, is_root, is_second_root, never_ends, is_too_deep, root_fault, shape_fault, depth_fault, tree_fault, NeverReaches}
-use Rattle.org_tree.specs.Levels.{HasLevel, AreLevels}
+use Rattle.org_tree.specs.Levels.{AreLevels}
 use Rattle.org_tree.proofs.CountLemmas.{first_below_tells, count_below-lt}
-use Rattle.org_tree.proofs.ClimbLemmas.{some_or_none, climb-ends, climb-more, climb-root}
+use Rattle.org_tree.proofs.ClimbLemmas.{some_or_none, climb-ends, climb-more}
 use Rattle.org_tree.proofs.LevelLemmas.{ends-from_HasLevel, shallow-from_HasLevel}
 
 -- where there is no first, none passes
@@ -131,21 +131,24 @@ pub leads_on_for_ever : (us : List UnitRow) (node : ℕ) → tree_fault us ≡ S
 unfolding tree_fault
 leads_on_for_ever us node e steps =
     elim (some_or_none (shape_fault us)) [
-      inl shape ↦ absurd (shape_is_no_loop us node (shape.1 ∙ (let f = ap (λ o. or_else o (depth_fault us)) shape.1 in let g : Some shape.0 ≡ Some (Loop node) = sym f ∙ e in g)))
-    | inr shape ↦
-        let depth : depth_fault us ≡ Some (Loop node) = sym (ap (λ o. or_else o (depth_fault us)) shape) ∙ e in
-        let first : first_below (never_ends us) (length us) ≡ Some node = depth_loop us node depth in
-        let parents = HasParents-from_none us (shape_parts us shape).0 in
-        elim (first_below_tells (never_ends us) (length us)) [
-          inr none ↦ absurd (let n = none.0 in cc)
-        | inl found ↦
-            let same : found.0 ≡ node = let f = found.1 in cc in
-            let endless : never_ends us node ≡ true = subst (λ (v : ℕ). never_ends us v ≡ true) same found.2.passes in
-            let inside : node < length us = subst (λ (v : ℕ). v < length us) same found.2.below in
-            elim (some_or_none (climb steps us node)) [
-              inl there ↦ subst (λ (o : Option ℕ). IsSome o) (sym there.1) (some_is there.0)
-            | inr gone ↦
-                absurd (false≢true (sym (ap (is_some {T = ℕ}) (climb-ends us parents.in_range steps node inside gone)) ∙ endless)) ] ] ]
+      | inl shape ↦ absurd (shape_is_no_loop us node (shape.1 ∙ (let f = ap (λ o. or_else o (depth_fault us)) shape.1 in let g : Some shape.0 ≡ Some (Loop node) = sym f ∙ e in g)))
+      | inr shape ↦
+          let depth : depth_fault us ≡ Some (Loop node) = sym (ap (λ o. or_else o (depth_fault us)) shape) ∙ e in
+          let first : first_below (never_ends us) (length us) ≡ Some node = depth_loop us node depth in
+          let parents = HasParents-from_none us (shape_parts us shape).0 in
+          elim (first_below_tells (never_ends us) (length us)) [
+            | inr none ↦ absurd (let n = none.0 in cc)
+            | inl found ↦
+                let same : found.0 ≡ node = let f = found.1 in cc in
+                let endless : never_ends us node ≡ true = subst (λ (v : ℕ). never_ends us v ≡ true) same found.2.passes in
+                let inside : node < length us = subst (λ (v : ℕ). v < length us) same found.2.below in
+                elim (some_or_none (climb steps us node)) [
+                  | inl there ↦ subst (λ (o : Option ℕ). IsSome o) (sym there.1) (some_is there.0)
+                  | inr gone ↦
+                      absurd (false≢true (sym (ap (is_some {T = ℕ}) (climb-ends us parents.in_range steps node inside gone)) ∙ endless))
+                ]
+          ]
+    ]
   where
     some_is : (v : ℕ) → IsSome (Some v)
     some_is v = search rules

@@ -1,16 +1,16 @@
 -- What a tree's lists say of its units.
-use Rattle.std.proofs.Common.{◌≡◌, ℕ, zero, suc, ◌+◌, ◌-◌, ◌<◌, ◌≤◌, ◌^◌, Bool, true, false, cond, ◌&&◌, List, length, get_or, Option, Some, None, inl, inr, refl, sym, ap, ◌∙◌, subst, arith, add-one}
+use Rattle.std.proofs.Common.{◌≡◌, ℕ, ◌+◌, ◌-◌, ◌<◌, ◌≤◌, cond, ◌&&◌, List, length, get_or, None, sym, ap, ◌∙◌, subst, arith}
 use Rattle.std.specs.Prelude.{nat_le, nat_lt, slice_index}
 use Rattle.std.proofs.lemmas.Bool.{le-leb, lt-leb}
 use Rattle.std.proofs.lemmas.List.{get_or_default}
-use Rattle.org_tree.specs.Units.{UnitRow, IsTree, parent_of, climb, is_under, level_of, ancestor_of, order_of, size_of}
+use Rattle.org_tree.specs.Units.{UnitRow, IsTree, climb, is_under, level_of, ancestor_of, order_of, size_of}
 use Rattle.org_tree.specs.declared.tree.Tree.TheInside.{Inside}
 use Rattle.org_tree.specs.Held.{units_of, IsHeld}
 use Rattle.org_tree.specs.Levels.{AreLevels}
 use Rattle.org_tree.specs.Families.{InFamilies, AreSpans}
 use Rattle.org_tree.specs.Walk.{AreOrders, AreSizes, IsWalk}
 use Rattle.org_tree.proofs.KinLemmas.{level_of-HasLevel}
-use Rattle.org_tree.proofs.OrderLemmas.{order-end, order-lt, under-interval}
+use Rattle.org_tree.proofs.OrderLemmas.{under-interval}
 
 -- a value that was read of a list of numbers, whatever stood for one past the end
 pub order_read : (us : List UnitRow) (orders : List ℕ) (x v : ℕ) → AreOrders us orders → x < length us → v ≡ get_or orders x v → v ≡ order_of us x

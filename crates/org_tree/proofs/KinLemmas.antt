@@ -1,17 +1,16 @@
 -- The list of the units by families: who stands before whom, and the places in the walk that follow.
-use Rattle.std.proofs.Common.{◌≡◌, ◌⊎◌, ℕ, zero, suc, ◌+◌, ◌-◌, ◌<◌, ◌≤◌, Bool, true, false, cond, ◌==◌, List, [], ◌∷◌, ◌++◌, length, get_or, Option, Some, None, Ordering, refl, sym, ap, ◌∙◌, subst, inl, inr, arith, add-one}
-use Rattle.std.specs.Prelude.{option_and_then, unwrap_or, nat_lt}
+use Rattle.std.proofs.Common.{◌≡◌, ◌⊎◌, ℕ, zero, suc, ◌+◌, ◌-◌, ◌<◌, true, List, length, get_or, Some, Ordering, refl, sym, ap, ◌∙◌, subst, inl, inr, arith}
+use Rattle.std.specs.Prelude.{unwrap_or}
 use Rattle.std.specs.declared.cmp.Ordering.TheVariants.{Less, Equal, Greater}
 use Rattle.std.specs.Cmp.{IsTotalOrder}
 use Rattle.std.specs.Ordering.{nat_cmp, is_lt, ordering_then, ordering_reverse}
-use Rattle.std.specs.Cmp.Lexicographic.{slice_cmp}
-use Rattle.std.proofs.lemmas.Bool.{cases_Bool, cases_eq, cases_lt, cases_order, false≢true, eq-eqb, ne_eqb, lt-ltb, le-ltb}
+use Rattle.std.proofs.lemmas.Bool.{cases_Bool, cases_eq, cases_order, false≢true, ne_eqb, lt-ltb, le-ltb}
 use Rattle.std.proofs.lemmas.Cmp.{nat_cmp_total, nat_list_cmp_total, then_total, on_total, tied_itself}
-use Rattle.org_tree.specs.Units.{UnitRow, id_at, parent_of, climb, is_under, level_of, order_of, size_of, IsTree}
+use Rattle.org_tree.specs.Units.{UnitRow, id_at, parent_of, climb, level_of, order_of, size_of, IsTree}
 use Rattle.org_tree.specs.Levels.{HasLevel}
 use Rattle.org_tree.specs.Families.{family_of, kin_cmp, InFamilies}
 use Rattle.org_tree.proofs.ClimbLemmas.{some_or_none, climb-zero, climb-child, climb-root}
-use Rattle.org_tree.proofs.WayLemmas.{tree_induction, level_of-child, level_of-root}
+use Rattle.org_tree.proofs.WayLemmas.{level_of-child, level_of-root}
 use Rattle.org_tree.proofs.BeforeLemmas.{by_id}
 use Rattle.org_tree.proofs.OrderLemmas.{is_elder, order-first_child, order-next_child}
 

@@ -1,14 +1,14 @@
 -- The laws of a tree, for those who build on it.
-use Rattle.std.proofs.Common.{◌≡◌, ◌⊎◌, ℕ, ◌+◌, ◌<◌, ◌≤◌, Bool, true, false, cond, ◌==◌, ◌||◌, ◌&&◌, List, [], ◌∷◌, ◌++◌, length, Option, Some, None, refl, sym, ap, ◌∙◌, subst, inl, inr, arith}
+use Rattle.std.proofs.Common.{◌≡◌, ℕ, ◌+◌, ◌<◌, ◌≤◌, Bool, true, false, cond, ◌==◌, ◌||◌, ◌&&◌, List, [], length, Some, refl, sym, ap, ◌∙◌, subst, inl, inr, arith}
 use Rattle.std.specs.Prelude.{nat_le, nat_lt}
 use Rattle.std.specs.Option.{option_map_or}
 use Rattle.std.specs.Ordering.{nat_cmp, is_lt}
 use Rattle.std.specs.Cmp.Lexicographic.{slice_cmp}
-use Rattle.std.proofs.lemmas.Bool.{cases_eq, false≢true, ne_eqb}
-use Rattle.org_tree.specs.Units.{UnitRow, id_at, parent_of, climb, is_under, is_before, level_of, ancestor_of, order_of, size_of, IsTree}
+use Rattle.std.proofs.lemmas.Bool.{false≢true, ne_eqb}
+use Rattle.org_tree.specs.Units.{UnitRow, id_at, parent_of, is_under, is_before, level_of, order_of, size_of, IsTree}
 use Rattle.org_tree.specs.Laws.{IsBehindParent, IsBehindElders, HasInterval}
 use Rattle.org_tree.proofs.ClimbLemmas.{some_or_none}
-use Rattle.org_tree.proofs.WayLemmas.{way_to, way_to-child, is_under-child, is_under-root, level_of-child, level_of-root}
+use Rattle.org_tree.proofs.WayLemmas.{way_to-child, is_under-child, is_under-root, level_of-child, level_of-root}
 use Rattle.org_tree.proofs.OrderLemmas.{before-child, parent-before, order-before, order-outside, under-child, under-interval, elder-not_itself}
 
 -- x is under y where x is y, or x has a parent and that parent is under y

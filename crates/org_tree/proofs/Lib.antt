@@ -3,6 +3,7 @@ pub mod ClimbLemmas
 pub mod CountLemmas
 pub mod FaultLemmas
 pub mod HeldLemmas
+pub mod IdLemmas
 pub mod KinLemmas
 pub mod LawLemmas
 pub mod LevelLemmas

@@ -1,9 +1,9 @@
 -- Places in the walk: a subtree is an interval, and how a child's place follows from its parent's and from
 -- those of the children before it.
-use Rattle.std.proofs.Common.{◌≡◌, ◌⊎◌, ℕ, zero, suc, ◌+◌, ◌<◌, ◌≤◌, Bool, true, false, cond, ◌==◌, ◌&&◌, ◌||◌, List, [], ◌∷◌, ◌++◌, length, Option, Some, None, Ordering, refl, sym, ap, ◌∙◌, subst, inl, inr, arith, append_assoc}
+use Rattle.std.proofs.Common.{◌≡◌, ◌⊎◌, ℕ, ◌+◌, ◌<◌, ◌≤◌, Bool, true, false, cond, ◌==◌, ◌&&◌, ◌||◌, List, [], ◌∷◌, ◌++◌, length, Some, None, Ordering, refl, sym, ap, ◌∙◌, subst, inl, inr, arith, append_assoc}
 use Rattle.std.specs.Prelude.{nat_le, nat_lt}
 use Rattle.std.specs.declared.cmp.Ordering.TheVariants.{Less, Equal, Greater}
-use Rattle.std.specs.Ordering.{nat_cmp, is_lt, ordering_reverse}
+use Rattle.std.specs.Ordering.{is_lt, ordering_reverse}
 use Rattle.std.proofs.lemmas.Bool.{and_parts, and_from, and_left, and_right, or_right, cases_eq, cases_Bool, false≢true, eq-eqb, ne_eqb, eqb-true, or_cases, le-leb, lt-leb, lt-ltb, le-ltb}
 use Rattle.std.specs.Cmp.{both_ways}
 use Rattle.std.proofs.lemmas.Cmp.{nat_list_cmp_total}
@@ -11,7 +11,7 @@ use Rattle.std.proofs.lemmas.List.{append-nil, append_cancel_left}
 use Rattle.org_tree.specs.Count.{count_below}
 use Rattle.org_tree.specs.Units.{UnitRow, id_at, parent_of, is_under, is_before, order_of, size_of, IsTree}
 use Rattle.org_tree.proofs.CountLemmas.{count_below-agree, count_below-le, count_below-more, count_below-lt, count_below-or, count_below-none, count_below-one}
-use Rattle.org_tree.proofs.WayLemmas.{way_to, way_to-child, way_to-root, tree_induction, front-from_under, under-from_front, under-itself, is_under-child, is_under-root}
+use Rattle.org_tree.proofs.WayLemmas.{way_to, way_to-child, tree_induction, front-from_under, under-from_front, under-itself, is_under-child, is_under-root}
 use Rattle.org_tree.proofs.BeforeLemmas.{by_id, ahead, is_before-ahead, under-not_before, before-in_subtree, behind-subtree, before-trans, before-not_itself, before-total}
 
 pub under-trans : (us : List UnitRow) → IsTree us → (x y z : ℕ) → x < length us → is_under us x y ≡ true → is_under us y z ≡ true → is_under us x z ≡ true

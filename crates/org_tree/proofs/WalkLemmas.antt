@@ -1,16 +1,16 @@
 -- Steps of the loops that count subtrees and number the walk.
-use Rattle.std.proofs.Common.{◌≡◌, ◌⊎◌, ℕ, zero, suc, ◌+◌, ◌-◌, ◌<◌, ◌≤◌, Bool, true, false, cond, ◌==◌, ◌||◌, List, [], ◌∷◌, ◌++◌, length, get_or, set, Option, Some, None, refl, sym, ap, ◌∙◌, subst, inl, inr, arith, add-one, get_or-set_same, get_or-set_other}
+use Rattle.std.proofs.Common.{◌≡◌, ℕ, zero, suc, ◌+◌, ◌-◌, ◌<◌, ◌≤◌, Bool, true, false, cond, ◌==◌, ◌||◌, List, [], ◌∷◌, length, get_or, set, Some, refl, sym, ap, ◌∙◌, subst, inl, inr, arith, add-one, get_or-set_same, get_or-set_other}
 use Rattle.std.specs.Prelude.{◌^◌}
 use Rattle.std.specs.Option.{option_map_or}
 use Rattle.std.specs.List.{IsDistinct, AllByRecursion, list_any}
-use Rattle.std.proofs.lemmas.Bool.{cases_Bool, cases_eq, cases_order, false≢true, eq-eqb, ne_eqb, eqb-true, eqb-false, or_cases}
+use Rattle.std.proofs.lemmas.Bool.{cases_Bool, cases_eq, false≢true, eq-eqb, ne_eqb, eqb-true, eqb-false, or_cases}
 use Rattle.std.proofs.lemmas.List.{length-set}
 use Rattle.std.proofs.lemmas.Map.Steps.{length-le_from_distinct_below}
-use Rattle.org_tree.specs.Count.{count_below, first_below}
-use Rattle.org_tree.specs.Units.{UnitRow, parent_of, is_child, is_under, is_before, level_of, order_of, size_of, IsTree}
+use Rattle.org_tree.specs.Count.{count_below}
+use Rattle.org_tree.specs.Units.{UnitRow, parent_of, is_child, is_under, level_of, order_of, size_of, IsTree}
 use Rattle.org_tree.specs.Families.{InFamilies}
-use Rattle.org_tree.specs.Walk.{CountsUnder, ahead_of, AreSizes, OrdersSoFar, AreOrders, IsWalk}
-use Rattle.org_tree.proofs.CountLemmas.{IsFirst, first_below_tells, count_below-le}
+use Rattle.org_tree.specs.Walk.{ahead_of, AreSizes, OrdersSoFar, AreOrders, IsWalk}
+use Rattle.org_tree.proofs.CountLemmas.{first_below_tells, count_below-le}
 use Rattle.org_tree.proofs.ClimbLemmas.{some_or_none}
 use Rattle.org_tree.proofs.RowLemmas.{is_child-true, is_child-from}
 use Rattle.org_tree.proofs.KinLemmas.{parent_sooner, order-behind_sibling, order-behind_parent}

@@ -1,5 +1,5 @@
 -- What is wrong with a list of units that is no tree.
-use Rattle.std.specs.Prelude.{ℕ, ◌<◌, nat_lt, Bool, false, true, not, cond, ◌&&◌, List, length, Option, Some, None, option_map, is_some, is_none, IsSome}
+use Rattle.std.specs.Prelude.{ℕ, nat_lt, Bool, false, not, cond, ◌&&◌, List, length, Option, Some, None, option_map, is_some, is_none, IsSome}
 use Rattle.std.specs.Option.{option_map_or}
 use Rattle.org_tree.specs.Count.{count_below, or_else, first_below}
 use Rattle.org_tree.specs.Units.{UnitRow, parent_of, climb}

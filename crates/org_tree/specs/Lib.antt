@@ -2,6 +2,7 @@ pub mod Count
 pub mod Families
 pub mod Faults
 pub mod Held
+pub mod Ids
 pub mod KinRows
 pub mod Laws
 pub mod Levels

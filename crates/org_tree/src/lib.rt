@@ -8,7 +8,10 @@ pub mod families;
 pub mod fault;
 pub mod kin;
 pub mod levels;
+pub mod own_ids;
 pub mod rows;
 pub mod spans;
+#[cfg(test)]
+mod tests;
 pub mod tree;
 pub mod walk;

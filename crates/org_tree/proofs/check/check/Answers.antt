@@ -1,4 +1,4 @@
-use Rattle.std.proofs.Common.{rules, ◌≡◌, ◌⊎◌, List, ℕ, Option, None, Some, subst, sym, ap, ◌∙◌, inl, inr}
+use Rattle.std.proofs.Common.{◌≡◌, ◌⊎◌, None, Some, subst, sym, ap, ◌∙◌, inl, inr}
 use Rattle.std.proofs.lemmas.Result.{IfOk-weaker, IfErr-weaker}
 use Rattle.org_tree.specs.Count.{or_else}
 use Rattle.org_tree.specs.Units.{IsTree}
@@ -33,6 +33,7 @@ returns-clause-loop_node c =
     let us = c.args.units.now in
     IfErr-weaker c.levels.result (λ e. (e ≡ fault.Memory) ⊎ (depth_fault us ≡ Some e)) (λ e. NeverReaches us e)
     (λ e is. elim is [
-      inl memory ↦ subst (λ (v : TreeFault). NeverReaches us v) (sym memory) tt
-    | inr depth ↦ never_reaches us e (ap (λ o. or_else o (depth_fault us)) (sym c.in_default.ensures) ∙ depth) ])
+      | inl memory ↦ subst (λ (v : TreeFault). NeverReaches us v) (sym memory) tt
+      | inr depth ↦ never_reaches us e (ap (λ o. or_else o (depth_fault us)) (sym c.in_default.ensures) ∙ depth)
+    ])
     c.levels.ensures.fault

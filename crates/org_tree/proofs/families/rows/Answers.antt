@@ -1,4 +1,4 @@
-use Rattle.std.proofs.Common.{◌≡◌, ◌++◌, ◌∷◌, [], ℕ, map, sym, ap, ◌∙◌, add-one}
+use Rattle.std.proofs.Common.{◌++◌, ◌∷◌, [], ℕ, map, sym, ap, ◌∙◌, add-one}
 use Rattle.std.proofs.lemmas.List.{map-append}
 use Rattle.org_tree.specs.KinRows.{kin_row, numbers}
 use Rattle.org_tree.proofs.families.rows.Goals as goal

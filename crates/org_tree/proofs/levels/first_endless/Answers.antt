@@ -1,6 +1,6 @@
-use Rattle.std.proofs.Common.{◌≡◌, ◌<◌, ◌≤◌, length, List, Option, ℕ, subst, sym, ap, ◌∙◌, arith}
+use Rattle.std.proofs.Common.{length, List, Option, ℕ, subst, sym, ap, ◌∙◌, arith}
 use Rattle.org_tree.specs.Count.{first_below}
-use Rattle.org_tree.specs.Levels.{StaysInside, Climbs, IsTwice, leads_on}
+use Rattle.org_tree.specs.Levels.{StaysInside, IsTwice, leads_on}
 use Rattle.org_tree.proofs.LevelLemmas.{StaysInside-from_Climbs, Climbs-twice, endless-from_Climbs}
 use Rattle.org_tree.proofs.levels.first_endless.Goals as goal
 

@@ -1,4 +1,4 @@
-use Rattle.std.proofs.Common.{◌≡◌, ◌<◌, length, ℕ, subst, sym, ap, ◌∙◌, arith}
+use Rattle.std.proofs.Common.{length, arith}
 use Rattle.std.proofs.lemmas.List.{length_push}
 use Rattle.org_tree.specs.Faults.{is_too_deep}
 use Rattle.org_tree.specs.Levels.{HasLevel}

@@ -1,4 +1,4 @@
-use Rattle.std.proofs.Common.{◌≡◌, ℕ, ◌<◌, length, sym, ◌∙◌, arith}
+use Rattle.std.proofs.Common.{sym, ◌∙◌, arith}
 use Rattle.org_tree.proofs.LevelLemmas.{climb-one}
 use Rattle.org_tree.proofs.levels.single_steps.Goals as goal
 

@@ -1,4 +1,4 @@
-use Rattle.std.proofs.Common.{◌≡◌, sym}
+use Rattle.std.proofs.Common.{sym}
 use Rattle.std.specs.Prelude.{slice_index}
 use Rattle.org_tree.proofs.SpanLemmas.{AreSpans-more}
 use Rattle.org_tree.proofs.spans.take_in.Goals as goal

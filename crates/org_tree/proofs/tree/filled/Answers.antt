@@ -1,4 +1,4 @@
-use Rattle.std.proofs.Common.{◌≡◌, ℕ, List, length, subst}
+use Rattle.std.proofs.Common.{ℕ, List, length, subst}
 use Rattle.org_tree.specs.Families.{AreSpans}
 use Rattle.org_tree.proofs.HeldLemmas.{IsHeld-from}
 use Rattle.org_tree.proofs.tree.filled.Goals as goal

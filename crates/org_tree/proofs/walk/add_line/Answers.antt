@@ -1,10 +1,10 @@
-use Rattle.std.proofs.Common.{◌≡◌, ◌+◌, ◌<◌, ℕ, length, get_or, set, Option, Some, sym, ap, ◌∙◌, subst, arith}
+use Rattle.std.proofs.Common.{◌≡◌, ◌+◌, ◌<◌, ℕ, get_or, set, Option, sym, ap, ◌∙◌, subst, arith}
 use Rattle.std.specs.Option.{option_map_or}
 use Rattle.std.proofs.lemmas.List.{length-set}
 use Rattle.org_tree.specs.Count.{count_below}
 use Rattle.org_tree.specs.Units.{is_under, level_of, parent_of}
 use Rattle.org_tree.specs.Walk.{ahead_of}
-use Rattle.org_tree.proofs.WalkLemmas.{count-step, line_more, line_fits, level_falls}
+use Rattle.org_tree.proofs.WalkLemmas.{line_more, line_fits, level_falls}
 use Rattle.org_tree.proofs.walk.add_line.Goals as goal
 
 pub overflow_add-sizes : goal.overflow_add-sizes

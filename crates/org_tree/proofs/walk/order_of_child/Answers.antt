@@ -1,4 +1,4 @@
-use Rattle.std.proofs.Common.{◌≡◌, ◌+◌, ◌<◌, ℕ, get_or, length, arith}
+use Rattle.std.proofs.Common.{◌≡◌, ◌+◌, ◌<◌, get_or, length, arith}
 use Rattle.org_tree.specs.Units.{order_of}
 use Rattle.org_tree.proofs.OrderLemmas.{order-lt}
 use Rattle.org_tree.proofs.WalkLemmas.{order_after_sibling, order_after_parent}

@@ -1,4 +1,4 @@
-use Rattle.std.proofs.Common.{◌≡◌, ℕ, length, ap, ◌∙◌, arith}
+use Rattle.std.proofs.Common.{◌≡◌, length, ap, ◌∙◌, arith}
 use Rattle.org_tree.specs.Count.{count_below}
 use Rattle.org_tree.specs.Units.{is_under, size_of}
 use Rattle.org_tree.proofs.walk.sizes.Goals as goal

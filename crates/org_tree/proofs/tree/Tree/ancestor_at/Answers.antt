@@ -1,7 +1,6 @@
-use Rattle.std.proofs.Common.{◌≡◌, ◌<◌, ◌-◌, List, length, get_or, sym, ap, ◌∙◌, subst, arith}
-use Rattle.std.proofs.lemmas.List.{get_or_default}
+use Rattle.std.proofs.Common.{◌<◌, ◌-◌, List, length, sym, ap, ◌∙◌, subst}
 use Rattle.org_tree.specs.Held.{units_of}
-use Rattle.org_tree.specs.Units.{UnitRow, climb, level_of, ancestor_of}
+use Rattle.org_tree.specs.Units.{UnitRow, climb, ancestor_of}
 use Rattle.org_tree.proofs.HeldLemmas.{level_read, ancestor-low, ancestor-high}
 use Rattle.org_tree.proofs.tree.Tree.ancestor_at.Goals as goal
 

@@ -1,4 +1,4 @@
-use Rattle.std.proofs.Common.{◌≡◌, ◌<◌, ◌+◌, ℕ, List, length, sym, ap, ◌∙◌, subst, arith}
+use Rattle.std.proofs.Common.{◌≡◌, ◌<◌, List, length, sym, ap, ◌∙◌, subst, arith}
 use Rattle.org_tree.specs.Held.{units_of}
 use Rattle.org_tree.specs.Units.{UnitRow, IsTree, is_under, order_of, size_of}
 use Rattle.org_tree.proofs.HeldLemmas.{order_read, size_read, under_inside, under_left}

@@ -1,4 +1,4 @@
-use Rattle.std.proofs.Common.{◌≡◌, ◌<◌, ℕ, List, length, sym, ap, ◌∙◌, subst}
+use Rattle.std.proofs.Common.{◌<◌, List, length, sym, ap, ◌∙◌, subst}
 use Rattle.org_tree.specs.Held.{units_of}
 use Rattle.org_tree.specs.Units.{UnitRow, IsTree, level_of}
 use Rattle.org_tree.proofs.HeldLemmas.{level_read}

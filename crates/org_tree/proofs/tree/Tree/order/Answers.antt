@@ -1,4 +1,4 @@
-use Rattle.std.proofs.Common.{◌≡◌, ◌<◌, ℕ, List, length, sym, subst, arith}
+use Rattle.std.proofs.Common.{◌≡◌, ◌<◌, ℕ, List, length, sym, subst}
 use Rattle.org_tree.specs.Held.{units_of}
 use Rattle.org_tree.specs.Units.{UnitRow, IsTree, order_of}
 use Rattle.org_tree.proofs.HeldLemmas.{order_read}
