@@ -1,14 +1,14 @@
 -- The order of the walk, read off the ways from the root.
-use Rattle.std.proofs.Common.{◌≡◌, ◌⊎◌, ℕ, zero, suc, ◌+◌, ◌<◌, ◌≤◌, Bool, true, false, cond, ◌==◌, ◌&&◌, ◌||◌, List, [], ◌∷◌, ◌++◌, map, length, Option, Some, None, Ordering, refl, sym, ap, ◌∙◌, subst, inl, inr, arith, append_assoc}
+use Rattle.std.proofs.Common.{◌≡◌, ◌⊎◌, ℕ, ◌<◌, Bool, true, false, cond, ◌==◌, ◌&&◌, List, [], ◌∷◌, ◌++◌, map, length, Ordering, refl, sym, ap, ◌∙◌, inl, inr}
 use Rattle.std.specs.declared.cmp.Ordering.TheVariants.{Less, Equal, Greater}
 use Rattle.std.specs.Cmp.{IsTotalOrder}
-use Rattle.std.specs.Ordering.{nat_cmp, is_lt, is_eq, ordering_then, ordering_reverse}
+use Rattle.std.specs.Ordering.{nat_cmp, is_lt, ordering_then, ordering_reverse}
 use Rattle.std.specs.Cmp.Lexicographic.{slice_cmp}
-use Rattle.std.proofs.lemmas.Bool.{cases_eq, cases_Bool, false≢true, eq-eqb, ne_eqb, eqb-true, and_parts, and_from}
+use Rattle.std.proofs.lemmas.Bool.{cases_eq, cases_Bool, false≢true, eq-eqb, ne_eqb, eqb-true, and_parts}
 use Rattle.std.proofs.lemmas.Cmp.{nat_list_cmp_total, lists_total, tied_itself}
 use Rattle.std.proofs.lemmas.Map.Lookups.{exact_bytes}
 use Rattle.std.proofs.lemmas.List.{map-append, same_from_push}
-use Rattle.org_tree.specs.Units.{UnitRow, id_at, parent_of, is_under, trail_of, is_before, IsTree}
+use Rattle.org_tree.specs.Units.{UnitRow, id_at, is_under, trail_of, is_before, IsTree}
 use Rattle.org_tree.proofs.WayLemmas.{way_to, way_to-child, way_to-root, way_to-last, trail_of-way, tree_induction, front-from_under, under-from_front, under-itself}
 
 abbrev pub by_id : List UnitRow → ℕ → ℕ → Ordering
@@ -49,14 +49,15 @@ ahead-ids us t (a ∷ rest) [] all others = refl
 ahead-ids us t (a ∷ rest) (b ∷ bs) all others =
     let tail : is_lt (slice_cmp (slice_cmp nat_cmp) (map (id_at us) rest) (map (id_at us) bs)) ≡ ahead us rest bs = ahead-ids us t rest bs all.1 others.1 in
     elim (cases_eq a b) [
-      inl same ↦
-        let test : (a == b) ≡ true = eq-eqb a b same in
-        let tie : by_id us a b ≡ Equal = ap (by_id us a) (sym same) ∙ tied_itself nat_list_cmp_total (id_at us a) in
-        rw (test, tie) tail
-    | inr other ↦
-        let test : (a == b) ≡ false = ne_eqb a b other in
-        let apart : ¬ (by_id us a b ≡ Equal) = λ tie. other (t.ids_differ a b all.0 others.0 (exact_bytes (id_at us a) (id_at us b) tie)) in
-        rw test (lt-then (by_id us a b) _ apart) ]
+      | inl same ↦
+          let test : (a == b) ≡ true = eq-eqb a b same in
+          let tie : by_id us a b ≡ Equal = ap (by_id us a) (sym same) ∙ tied_itself nat_list_cmp_total (id_at us a) in
+          rw (test, tie) tail
+      | inr other ↦
+          let test : (a == b) ≡ false = ne_eqb a b other in
+          let apart : ¬ (by_id us a b ≡ Equal) = λ tie. other (t.ids_differ a b all.0 others.0 (exact_bytes (id_at us a) (id_at us b) tie)) in
+          rw test (lt-then (by_id us a b) _ apart)
+    ]
 
 pub is_before-ahead : (us : List UnitRow) → IsTree us → (x y : ℕ) → x < length us → y < length us → is_before us x y ≡ ahead us (way_to us x) (way_to us y)
 unfolding is_before
@@ -89,36 +90,39 @@ ahead-below_right us way [] rest not_front = absurd (false≢true (sym not_front
 ahead-below_right us [] (a ∷ front) rest not_front = refl
 ahead-below_right us (b ∷ way) (a ∷ front) rest not_front =
     elim (cases_eq b a) [
-      inl same ↦
-        let test : (b == a) ≡ true = eq-eqb b a same in
-        let back : (a == b) ≡ true = eq-eqb a b (sym same) in
-        let deeper : is_front front way ≡ false = ap (λ v. v && is_front front way) (sym back) ∙ not_front in
-        rw test (ahead-below_right us way front rest deeper)
-    | inr other ↦
-        let test : (b == a) ≡ false = ne_eqb b a other in
-        rw test refl ]
+      | inl same ↦
+          let test : (b == a) ≡ true = eq-eqb b a same in
+          let back : (a == b) ≡ true = eq-eqb a b (sym same) in
+          let deeper : is_front front way ≡ false = ap (λ v. v && is_front front way) (sym back) ∙ not_front in
+          rw test (ahead-below_right us way front rest deeper)
+      | inr other ↦
+          let test : (b == a) ≡ false = ne_eqb b a other in
+          rw test refl
+    ]
 
 ahead-below_left : (us : List UnitRow) (way front rest : List ℕ) → is_front front way ≡ false → ahead us (front ++ rest) way ≡ ahead us front way
 ahead-below_left us way [] rest not_front = absurd (false≢true (sym not_front))
 ahead-below_left us [] (a ∷ front) rest not_front = refl
 ahead-below_left us (b ∷ way) (a ∷ front) rest not_front =
     elim (cases_eq a b) [
-      inl same ↦
-        let test : (a == b) ≡ true = eq-eqb a b same in
-        let deeper : is_front front way ≡ false = ap (λ v. v && is_front front way) (sym test) ∙ not_front in
-        rw test (ahead-below_left us way front rest deeper)
-    | inr other ↦
-        let test : (a == b) ≡ false = ne_eqb a b other in
-        rw test refl ]
+      | inl same ↦
+          let test : (a == b) ≡ true = eq-eqb a b same in
+          let deeper : is_front front way ≡ false = ap (λ v. v && is_front front way) (sym test) ∙ not_front in
+          rw test (ahead-below_left us way front rest deeper)
+      | inr other ↦
+          let test : (a == b) ≡ false = ne_eqb a b other in
+          rw test refl
+    ]
 
 -- who isn't under y has a way that doesn't begin with y's
 front-not_under : (us : List UnitRow) (z y : ℕ) → y < length us → is_under us z y ≡ false → is_front (way_to us y) (way_to us z) ≡ false
 front-not_under us z y h not_under =
     elim (cases_Bool (is_front (way_to us y) (way_to us z))) [
-      inl front ↦
-        let more = rest-from_front (way_to us y) (way_to us z) front in
-        absurd (false≢true (sym not_under ∙ under-from_front us z y more.0 h more.1))
-    | inr other ↦ other ]
+      | inl front ↦
+          let more = rest-from_front (way_to us y) (way_to us z) front in
+          absurd (false≢true (sym not_under ∙ under-from_front us z y more.0 h more.1))
+      | inr other ↦ other
+    ]
 
 -- who is under y doesn't come before y
 pub under-not_before : (us : List UnitRow) → IsTree us → (z y : ℕ) → z < length us → is_under us z y ≡ true → is_before us z y ≡ false
@@ -179,10 +183,11 @@ before-total us t x y h i = by_order (slice_cmp (slice_cmp nat_cmp) (trail_of us
         let last_x = way_to-last us x h in
         let last_y = way_to-last us y i in
         let ids_x : trail_of us x ≡ map (id_at us) last_x.0 ++ id_at us x ∷ [] =
-          trail_of-way us x ∙ ap (map (id_at us)) last_x.1 ∙ map-append (id_at us) last_x.0 (x ∷ []) in
+        trail_of-way us x ∙ ap (map (id_at us)) last_x.1 ∙ map-append (id_at us) last_x.0 (x ∷ []) in
         let ids_y : trail_of us y ≡ map (id_at us) last_y.0 ++ id_at us y ∷ [] =
-          trail_of-way us y ∙ ap (map (id_at us)) last_y.1 ∙ map-append (id_at us) last_y.0 (y ∷ []) in
+        trail_of-way us y ∙ ap (map (id_at us)) last_y.1 ∙ map-append (id_at us) last_y.0 (y ∷ []) in
         t.ids_differ x y h i (same_from_push _ _ _ _ (sym ids_x ∙ e ∙ ids_y)).1
+
     by_order : (o back : Ordering) → back ≡ ordering_reverse o → (o ≡ Equal → x ≡ y) → (x ≡ y) ⊎ ((is_lt o ≡ true) ⊎ (is_lt back ≡ true))
     by_order Less back turned tie = inr (inl refl)
     by_order Equal back turned tie = inl (tie refl)

@@ -1,7 +1,6 @@
 -- Counts of the numbers below a bound that pass a test, and the first that passes.
-use Rattle.std.proofs.Common.{add-one, ◌≡◌, ◌⊎◌, ℕ, zero, suc, ◌+◌, ◌<◌, ◌≤◌, Bool, true, false, cond, ◌==◌, ◌||◌, Option, Some, None, refl, sym, ap, ◌∙◌, subst, inl, inr, arith}
+use Rattle.std.proofs.Common.{add-one, ◌≡◌, ◌⊎◌, ℕ, zero, suc, ◌+◌, ◌<◌, ◌≤◌, Bool, true, false, cond, ◌==◌, ◌||◌, Some, None, refl, sym, ap, subst, inl, inr, arith}
 use Rattle.std.proofs.lemmas.Bool.{cases_Bool, cases_eq, eq-eqb, ne_eqb, false≢true}
-use Rattle.std.proofs.lemmas.Bool.Decides.{nat_tests}
 use Rattle.org_tree.specs.Count.{count_below, or_else, first_below}
 
 -- tests that agree below n count the same
@@ -37,14 +36,15 @@ pub count_below-lt : (p q : ℕ → Bool) (n j : ℕ) → ((k : ℕ) → k < n �
 count_below-lt p q zero j more in_range off on = absurd (omega arith)
 count_below-lt p q (suc n) j more in_range off on =
     elim (cases_eq j n) [
-      inl here ↦
-        let before : count_below p n ≤ count_below q n = count_below-more p q n (λ k h. more k (omega arith)) in
-        let off_here : p n ≡ false = subst (λ (v : ℕ). p v ≡ false) here off in
-        let on_here : q n ≡ true = subst (λ (v : ℕ). q v ≡ true) here on in
-        rw (off_here, on_here) (omega arith)
-    | inr other ↦
-        let before : count_below p n < count_below q n = count_below-lt p q n j (λ k h. more k (omega arith)) (omega arith) off on in
-        step (p n) (q n) (count_below p n) (count_below q n) before (more n (omega arith)) ]
+      | inl here ↦
+          let before : count_below p n ≤ count_below q n = count_below-more p q n (λ k h. more k (omega arith)) in
+          let off_here : p n ≡ false = subst (λ (v : ℕ). p v ≡ false) here off in
+          let on_here : q n ≡ true = subst (λ (v : ℕ). q v ≡ true) here on in
+          rw (off_here, on_here) (omega arith)
+      | inr other ↦
+          let before : count_below p n < count_below q n = count_below-lt p q n j (λ k h. more k (omega arith)) (omega arith) off on in
+          step (p n) (q n) (count_below p n) (count_below q n) before (more n (omega arith))
+    ]
   where
     step : (s t : Bool) (a b : ℕ) → a < b → (s ≡ true → t ≡ true) → a + cond s 1 0 < b + cond t 1 0
     step true true a b h i = omega arith
@@ -78,14 +78,15 @@ pub count_below-one : (x n : ℕ) → x < n → count_below (λ k. k == x) n ≡
 count_below-one x zero in_range = absurd (omega arith)
 count_below-one x (suc n) in_range =
     elim (cases_eq n x) [
-      inl here ↦
-        let before : count_below (λ k. k == x) n ≡ 0 = count_below-none (λ k. k == x) n (λ k h. ne_eqb k x (λ e. omega arith)) in
-        let found : (n == x) ≡ true = eq-eqb n x here in
-        rw (found, before) refl
-    | inr other ↦
-        let before : count_below (λ k. k == x) n ≡ 1 = count_below-one x n (omega arith) in
-        let missed : (n == x) ≡ false = ne_eqb n x other in
-        rw (missed, before) refl ]
+      | inl here ↦
+          let before : count_below (λ k. k == x) n ≡ 0 = count_below-none (λ k. k == x) n (λ k h. ne_eqb k x (λ e. omega arith)) in
+          let found : (n == x) ≡ true = eq-eqb n x here in
+          rw (found, before) refl
+      | inr other ↦
+          let before : count_below (λ k. k == x) n ≡ 1 = count_below-one x n (omega arith) in
+          let missed : (n == x) ≡ false = ne_eqb n x other in
+          rw (missed, before) refl
+    ]
 
 -- the first number that passes
 pub record IsFirst (p : ℕ → Bool) (n k : ℕ) : Type 0 where
@@ -97,11 +98,13 @@ pub first_below_tells : (p : ℕ → Bool) (n : ℕ) → ((k : ℕ) × (first_be
 first_below_tells p zero = inr (refl, λ j h. absurd (omega arith))
 first_below_tells p (suc n) =
     elim (first_below_tells p n) [
-      inl found ↦ inl (found.0, ap (λ o. or_else o (cond (p n) (Some n) None)) found.1, record { below = omega (arith, found.2.below); passes = found.2.passes; none_before = found.2.none_before })
-    | inr none ↦
-        elim (cases_Bool (p n)) [
-          inl on ↦ inl (n, rw (none.0, on) refl, record { below = omega arith; passes = on; none_before = none.1 })
-        | inr off ↦ inr (rw (none.0, off) refl, λ j h. elim (cases_eq j n) [ inl here ↦ subst (λ (v : ℕ). p v ≡ false) (sym here) off | inr other ↦ none.1 j (omega arith) ]) ] ]
+      | inl found ↦ inl (found.0, ap (λ o. or_else o (cond (p n) (Some n) None)) found.1, record { below = omega (arith, found.2.below); passes = found.2.passes; none_before = found.2.none_before })
+      | inr none ↦
+          elim (cases_Bool (p n)) [
+            | inl on ↦ inl (n, rw (none.0, on) refl, record { below = omega arith; passes = on; none_before = none.1 })
+            | inr off ↦ inr (rw (none.0, off) refl, λ j h. elim (cases_eq j n) [ inl here ↦ subst (λ (v : ℕ). p v ≡ false) (sym here) off | inr other ↦ none.1 j (omega arith) ])
+          ]
+    ]
 
 -- the steps of a search for the first that passes
 pub first_below-more : (p : ℕ → Bool) (i : ℕ) → first_below p i ≡ None → p i ≡ false → first_below p (i + 1) ≡ None
@@ -111,13 +114,14 @@ pub first_below-found : (p : ℕ → Bool) (n i : ℕ) → first_below p i ≡ N
 first_below-found p zero i none on h = absurd (omega arith)
 first_below-found p (suc n) i none on h =
     elim (cases_eq n i) [
-      inl here ↦
-        let none_here : first_below p n ≡ None = subst (λ (v : ℕ). first_below p v ≡ None) (sym here) none in
-        let on_here : p n ≡ true = subst (λ (v : ℕ). p v ≡ true) (sym here) on in
-        rw (none_here, on_here) (ap Some here)
-    | inr other ↦
-        let before : first_below p n ≡ Some i = first_below-found p n i none on (omega arith) in
-        rw before refl ]
+      | inl here ↦
+          let none_here : first_below p n ≡ None = subst (λ (v : ℕ). first_below p v ≡ None) (sym here) none in
+          let on_here : p n ≡ true = subst (λ (v : ℕ). p v ≡ true) (sym here) on in
+          rw (none_here, on_here) (ap Some here)
+      | inr other ↦
+          let before : first_below p n ≡ Some i = first_below-found p n i none on (omega arith) in
+          rw before refl
+    ]
 
 -- the steps of a count
 pub count_below-more_yes : (p : ℕ → Bool) (i : ℕ) → p i ≡ true → count_below p (i + 1) ≡ count_below p i + 1

@@ -1,12 +1,12 @@
 -- The way from the root down to a unit, as places: who is under whom, levels and trails, read off it.
-use Rattle.std.proofs.Common.{◌≡◌, ◌⊎◌, ℕ, zero, suc, ◌+◌, ◌-◌, ◌<◌, ◌≤◌, Bool, true, false, cond, ◌==◌, ◌||◌, List, [], ◌∷◌, ◌++◌, map, length, Option, Some, None, refl, sym, ap, ◌∙◌, subst, inl, inr, arith, length-append, append_assoc}
+use Rattle.std.proofs.Common.{◌≡◌, ℕ, zero, suc, ◌+◌, ◌<◌, ◌≤◌, Bool, true, false, ◌==◌, ◌||◌, List, [], ◌∷◌, ◌++◌, map, length, Option, Some, None, refl, sym, ap, ◌∙◌, subst, inl, inr, arith, length-append, append_assoc}
 use Rattle.std.specs.Option.{option_map_or}
 use Rattle.std.specs.List.{list_any}
-use Rattle.std.proofs.lemmas.Bool.{cases_eq, cases_Bool, false≢true, eq-eqb, eqb-true, or_cases}
+use Rattle.std.proofs.lemmas.Bool.{eq-eqb, eqb-true, or_cases}
 use Rattle.std.proofs.lemmas.List.{map-append, append-nil}
 use Rattle.std.proofs.lemmas.List.Folds.{list_any-append}
 use Rattle.org_tree.specs.Units.{UnitRow, id_at, parent_of, climb, under_within, is_under, level_within, level_of, trail_within, trail_of, IsTree}
-use Rattle.org_tree.proofs.ClimbLemmas.{some_or_none, climb-zero, climb-child, climb-root, climb-ends}
+use Rattle.org_tree.proofs.ClimbLemmas.{some_or_none, climb-zero, climb-child, climb-ends}
 
 -- the units from the root down to x, x last
 unfoldable pub way_within : ℕ → List UnitRow → ℕ → List ℕ
@@ -30,12 +30,13 @@ way_within-enough zero most us x le ends = absurd (let e = climb-zero us x in cc
 way_within-enough (suc steps) zero us x le ends = absurd (omega arith)
 way_within-enough (suc steps) (suc most) us x le ends =
     elim (some_or_none (parent_of us x)) [
-      inl up ↦
-        let p = up.0 in
-        let above : way_within most us p ≡ way_within steps us p =
+      | inl up ↦
+          let p = up.0 in
+          let above : way_within most us p ≡ way_within steps us p =
           way_within-enough steps most us p (omega arith) (sym (climb-child steps us x p up.1) ∙ ends) in
-        way_within-child most us x p up.1 ∙ ap (λ w. w ++ x ∷ []) above ∙ sym (way_within-child steps us x p up.1)
-    | inr top ↦ way_within-root most us x top ∙ sym (way_within-root steps us x top) ]
+          way_within-child most us x p up.1 ∙ ap (λ w. w ++ x ∷ []) above ∙ sym (way_within-child steps us x p up.1)
+      | inr top ↦ way_within-root most us x top ∙ sym (way_within-root steps us x top)
+    ]
 
 -- in a tree the parents of each unit end within as many steps as there are units
 pub tree-ends : (us : List UnitRow) → IsTree us → (x : ℕ) → x < length us → climb (length us) us x ≡ None
@@ -89,7 +90,7 @@ under_within-among (suc most) us x y =
     by_parent above None = refl
     by_parent above (Some p) =
         let split : list_any (λ v. v == y) (way_within most us p ++ x ∷ []) ≡ (list_any (λ v. v == y) (way_within most us p) || ((x == y) || false)) =
-          list_any-append (λ v. v == y) (way_within most us p) (x ∷ []) in
+        list_any-append (λ v. v == y) (way_within most us p) (x ∷ []) in
         or_swap (x == y) (under_within most us p y) ∙ ap (λ b. b || (x == y)) (above p)
         ∙ ap (λ b. list_any (λ v. v == y) (way_within most us p) || b) (sym (or_false (x == y))) ∙ sym split
 
@@ -174,24 +175,26 @@ tree_induction us t P at_root at_child x h = down 12 x h (t.twelve_levels x h)
     down zero x h ends = absurd (let e = climb-zero us x in cc)
     down (suc steps) x h ends =
         elim (some_or_none (parent_of us x)) [
-          inr top ↦ at_root x h top
-        | inl up ↦
-            let in_range : up.0 < length us = t.parent_in_range x up.0 up.1 in
-            at_child x up.0 h in_range up.1 (down steps up.0 in_range (sym (climb-child steps us x up.0 up.1) ∙ ends)) ]
+          | inr top ↦ at_root x h top
+          | inl up ↦
+              let in_range : up.0 < length us = t.parent_in_range x up.0 up.1 in
+              at_child x up.0 h in_range up.1 (down steps up.0 in_range (sym (climb-child steps us x up.0 up.1) ∙ ends))
+        ]
 
 -- who is under y has y's way as a front of its own
 pub front-from_under : (us : List UnitRow) → IsTree us → (z y : ℕ) → z < length us → is_under us z y ≡ true → (y < length us) × ((rest : List ℕ) × (way_to us z ≡ way_to us y ++ rest))
 front-from_under us t z y h =
     tree_induction us t (λ z. is_under us z y ≡ true → (y < length us) × ((rest : List ℕ) × (way_to us z ≡ way_to us y ++ rest)))
     (λ z h top under.
-        let same : z ≡ y = eqb-true z y (sym (is_under-root us z y h top) ∙ under) in
-        itself z h same)
+    let same : z ≡ y = eqb-true z y (sym (is_under-root us z y h top) ∙ under) in
+    itself z h same)
     (λ z p h in_range up above under.
-        elim (or_cases (z == y) (is_under us p y) (sym (is_under-child us t z p y h up) ∙ under)) [
-          inl here ↦ itself z h (eqb-true z y here)
-        | inr higher ↦
-            let more = above higher in
-            (more.0, (more.1.0 ++ z ∷ [], way_to-child us t z p h up ∙ ap (λ w. w ++ z ∷ []) more.1.1 ∙ append_assoc (way_to us y) more.1.0 (z ∷ []))) ])
+    elim (or_cases (z == y) (is_under us p y) (sym (is_under-child us t z p y h up) ∙ under)) [
+      | inl here ↦ itself z h (eqb-true z y here)
+      | inr higher ↦
+          let more = above higher in
+          (more.0, (more.1.0 ++ z ∷ [], way_to-child us t z p h up ∙ ap (λ w. w ++ z ∷ []) more.1.1 ∙ append_assoc (way_to us y) more.1.0 (z ∷ [])))
+    ])
     z h
   where
     itself : (z : ℕ) → z < length us → z ≡ y → (y < length us) × ((rest : List ℕ) × (way_to us z ≡ way_to us y ++ rest))

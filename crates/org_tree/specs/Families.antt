@@ -1,8 +1,8 @@
 -- The units by level, then by family, siblings by their UIDs.
-use Rattle.std.specs.Prelude.{◌≡◌, ℕ, ◌+◌, ◌<◌, ◌≤◌, List, length, slice_index, Option, Some, None, unwrap_or}
+use Rattle.std.specs.Prelude.{◌≡◌, ℕ, ◌<◌, ◌≤◌, ◌↔◌, true, List, length, slice_index, slice_index_or, Contains, Some, unwrap_or}
 use Rattle.std.specs.declared.cmp.Ordering.{Ordering}
 use Rattle.std.specs.declared.cmp.Ordering.TheVariants.{Less}
-use Rattle.std.specs.Ordering.{nat_cmp, ordering_then}
+use Rattle.std.specs.Ordering.{nat_cmp, is_lt, ordering_then}
 use Rattle.std.specs.Cmp.Lexicographic.{slice_cmp}
 use Rattle.org_tree.specs.Units.{UnitRow, id_at, parent_of, level_of}
 
@@ -28,3 +28,13 @@ pub record Spans (us : List UnitRow) (kin : List ℕ) (upto x first end : ℕ) :
   pub first_in_range : first ≤ end
   pub inside : (i : ℕ) → first ≤ i → i < end → parent_of us (slice_index kin i) ≡ Some x
   pub outside : (i : ℕ) → i < upto → parent_of us (slice_index kin i) ≡ Some x → (first ≤ i) × (i < end)
+
+-- each unit's span
+pub record AreSpans (us : List UnitRow) (kin : List ℕ) (upto : ℕ) (spans : List (ℕ × ℕ)) : Type 0 where
+  pub same_length : length spans ≡ length us
+  pub each : (x : ℕ) → x < length us → Spans us kin upto x (slice_index_or spans x (0, 0)).0 (slice_index_or spans x (0, 0)).1
+
+-- a unit's children, ascending by the bytes of their UIDs
+pub record AreChildren (us : List UnitRow) (x : ℕ) (children : List ℕ) : Type 0 where
+  pub members : (z : ℕ) → Contains children z ↔ (parent_of us z ≡ Some x)
+  pub ascending : (i j : ℕ) → i < j → j < length children → is_lt (slice_cmp nat_cmp (id_at us (slice_index children i)) (id_at us (slice_index children j))) ≡ true

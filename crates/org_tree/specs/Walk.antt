@@ -1,5 +1,5 @@
 -- What a build knows of the walk.
-use Rattle.std.specs.Prelude.{◌≡◌, ℕ, ◌+◌, ◌<◌, cond, List, length, slice_index, Option, Some, None}
+use Rattle.std.specs.Prelude.{◌≡◌, ℕ, ◌<◌, cond, List, length, slice_index, Option, Some, None}
 use Rattle.org_tree.specs.Count.{count_below}
 use Rattle.org_tree.specs.Units.{UnitRow, is_under, order_of, size_of}
 

@@ -1,9 +1,34 @@
 ghost use Rattle.std.specs.Prelude.{◌≡◌, ◌^◌, ◌<◌, length};
 ghost use Rattle.org_tree.specs.Count.{first_below};
-ghost use Rattle.org_tree.specs.Faults.{has_bad_parent, is_root, is_second_root};
+ghost use Rattle.org_tree.specs.Faults.{has_bad_parent, is_root, is_second_root, root_fault, shape_fault};
 
+use crate::fault::TreeFault;
 use crate::rows::parent;
 use dh_base::uid::Uid;
+
+/// What is wrong with the parents' places or with the roots.
+pub fn fault_of_shape(units: &[(Uid, Option<u32>)]) -> Option<TreeFault>
+    requires { length units.now < 2 ^ 32 }
+    ensures { result ≡ shape_fault units.now }
+{
+    match first_bad_parent(units) {
+        Some(node) => Some(TreeFault::NoParent { node }),
+        None => fault_of_roots(units),
+    }
+}
+
+fn fault_of_roots(units: &[(Uid, Option<u32>)]) -> Option<TreeFault>
+    requires { length units.now < 2 ^ 32 }
+    ensures { result ≡ root_fault units.now }
+{
+    match first_root(units) {
+        None => Some(TreeFault::NoRoot),
+        Some(_) => match second_root(units) {
+            None => None,
+            Some(second) => Some(TreeFault::TwoRoots { second }),
+        },
+    }
+}
 
 fn leads_out(units: &[(Uid, Option<u32>)], unit: u32) -> bool
     requires { unit < length units.now }
@@ -24,7 +49,7 @@ fn is_top(units: &[(Uid, Option<u32>)], unit: u32) -> bool
 
 /// The first unit whose parent is no unit of the list.
 #[tactic(auto, using(crate::proofs::CountLemmas::searches))]
-pub fn first_bad_parent(units: &[(Uid, Option<u32>)]) -> Option<u32>
+fn first_bad_parent(units: &[(Uid, Option<u32>)]) -> Option<u32>
     requires { length units.now < 2 ^ 32 }
     ensures { result ≡ first_below (has_bad_parent units.now) (length units.now) }
 {
@@ -38,7 +63,7 @@ pub fn first_bad_parent(units: &[(Uid, Option<u32>)]) -> Option<u32>
 
 /// The first unit without a parent.
 #[tactic(auto, using(crate::proofs::CountLemmas::searches))]
-pub fn first_root(units: &[(Uid, Option<u32>)]) -> Option<u32>
+fn first_root(units: &[(Uid, Option<u32>)]) -> Option<u32>
     requires { length units.now < 2 ^ 32 }
     ensures { result ≡ first_below (is_root units.now) (length units.now) }
 {
@@ -52,7 +77,7 @@ pub fn first_root(units: &[(Uid, Option<u32>)]) -> Option<u32>
 
 /// The second unit without a parent.
 #[tactic(auto, using(crate::proofs::CountLemmas::searches))]
-pub fn second_root(units: &[(Uid, Option<u32>)]) -> Option<u32>
+fn second_root(units: &[(Uid, Option<u32>)]) -> Option<u32>
     requires { length units.now < 2 ^ 32 }
     ensures { result ≡ first_below (is_second_root units.now) (length units.now) }
 {

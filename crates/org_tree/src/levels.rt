@@ -49,7 +49,6 @@ pub fn levels(alloc: Global, units: &[(Uid, Option<u32>)]) -> Result<Vec<u8>, Tr
 }
 
 /// What is wrong with a unit below the twelfth level, where it is the first one: a loop goes first.
-#[tactic(auto, unfolding(crate::specs::Faults::depth_fault))]
 fn fault_of_depth(alloc: Global, units: &[(Uid, Option<u32>)], unit: u32) -> TreeFault
     requires parents { HasParents units.now }
     requires few { length units.now < 2 ^ 32 }

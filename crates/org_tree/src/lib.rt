@@ -2,10 +2,16 @@
 //! units so that a unit and all under it stand in one interval.
 #![tactic(auto)]
 
+pub mod check;
 pub mod checks;
-pub mod fault;
 pub mod families;
+pub mod fault;
 pub mod kin;
 pub mod levels;
+pub mod own_ids;
 pub mod rows;
+pub mod spans;
+#[cfg(test)]
+mod tests;
+pub mod tree;
 pub mod walk;

@@ -35,7 +35,12 @@ fn add_line(sizes: &mut [u32], units: &[(Uid, Option<u32>)], unit: u32)
 
 /// The place of each unit in the walk, from the units by families: a parent's place is known before
 /// its children's.
-pub fn orders(alloc: Global, units: &[(Uid, Option<u32>)], kin: &[u32], sizes: &[u32]) -> Result<Vec<u32>, AllocError>
+pub fn orders(
+    alloc: Global,
+    units: &[(Uid, Option<u32>)],
+    kin: &[u32],
+    sizes: &[u32],
+) -> Result<Vec<u32>, AllocError>
     requires tree { IsTree units.now }
     requires kin { InFamilies units.now kin.now }
     requires sizes { AreSizes units.now sizes.now }
@@ -50,7 +55,13 @@ pub fn orders(alloc: Global, units: &[(Uid, Option<u32>)], kin: &[u32], sizes: &
 }
 
 /// The place of one unit: 0 at the root.
-fn order_at(units: &[(Uid, Option<u32>)], kin: &[u32], sizes: &[u32], orders: &[u32], i: usize) -> u32
+fn order_at(
+    units: &[(Uid, Option<u32>)],
+    kin: &[u32],
+    sizes: &[u32],
+    orders: &[u32],
+    i: usize,
+) -> u32
     requires tree { IsTree units.now }
     requires kin { InFamilies units.now kin.now }
     requires sizes { AreSizes units.now sizes.now }
@@ -65,7 +76,14 @@ fn order_at(units: &[(Uid, Option<u32>)], kin: &[u32], sizes: &[u32], orders: &[
 }
 
 /// The place of a child: behind the subtree of the sibling before it, else behind its parent.
-fn order_of_child(units: &[(Uid, Option<u32>)], kin: &[u32], sizes: &[u32], orders: &[u32], i: usize, above: u32) -> u32
+fn order_of_child(
+    units: &[(Uid, Option<u32>)],
+    kin: &[u32],
+    sizes: &[u32],
+    orders: &[u32],
+    i: usize,
+    above: u32,
+) -> u32
     requires tree { IsTree units.now }
     requires kin { InFamilies units.now kin.now }
     requires sizes { AreSizes units.now sizes.now }
@@ -91,11 +109,19 @@ fn sibling_before(units: &[(Uid, Option<u32>)], kin: &[u32], i: usize, above: u3
         return None;
     }
     let before = kin[i - 1];
-    if is_child_of(units, before, above) { Some(before) } else { None }
+    if is_child_of(units, before, above) {
+        Some(before)
+    } else {
+        None
+    }
 }
 
 /// The units in the order of the walk.
-pub fn walk(alloc: Global, units: &[(Uid, Option<u32>)], orders: &[u32]) -> Result<Vec<u32>, AllocError>
+pub fn walk(
+    alloc: Global,
+    units: &[(Uid, Option<u32>)],
+    orders: &[u32],
+) -> Result<Vec<u32>, AllocError>
     requires tree { IsTree units.now }
     requires orders { AreOrders units.now orders.now }
     ensures { IfOk result (λ walk. IsWalk units.now walk.items) }

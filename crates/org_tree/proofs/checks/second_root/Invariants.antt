@@ -8,5 +8,5 @@ use Rattle.org_tree.proofs.checks.second_root.Given as goal
 abbrev pub invariant-loop-i : goal.invariant-loop-i
 invariant-loop-i l = record {
   none_yet : first_below (is_second_root l.units) l.i ≡ None;
-  seen : l.has_root ≡ nat_lt 0 (count_below (is_root l.units) l.i)
+  seen : l.has_root ≡ nat_lt 0 (count_below (is_root l.units) l.i);
 }

@@ -1,4 +1,3 @@
-use Rattle.std.proofs.Common.{◌≡◌, ap, sym, ◌∙◌}
 use Rattle.org_tree.proofs.KinLemmas.{level_of-HasLevel}
 use Rattle.org_tree.proofs.families.row_at.Goals as goal
 

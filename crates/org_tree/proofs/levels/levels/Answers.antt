@@ -1,4 +1,4 @@
-use Rattle.std.proofs.Common.{◌≡◌, ◌<◌, length, ℕ, subst, sym, ap, ◌∙◌, arith}
+use Rattle.std.proofs.Common.{length, arith}
 use Rattle.std.proofs.lemmas.List.{length_push}
 use Rattle.org_tree.specs.Faults.{is_too_deep}
 use Rattle.org_tree.specs.Levels.{HasLevel}
@@ -17,5 +17,5 @@ loop-unit-preserved c =
     rw c.in_ok-push-in-Some.ensures.items record {
       count = omega (arith, done.count, length_push c.loop-unit.levels.items c.in-Some.level);
       each = each_push (HasLevel us) c.loop-unit.levels.items c.in-Some.level c.loop-unit.unit done.count done.each c.in-Some.ensures;
-      none_deep = first_below-more (is_too_deep us) c.loop-unit.unit done.none_deep (shallow-from_HasLevel us c.loop-unit.unit c.in-Some.level c.in-Some.ensures)
+      none_deep = first_below-more (is_too_deep us) c.loop-unit.unit done.none_deep (shallow-from_HasLevel us c.loop-unit.unit c.in-Some.level c.in-Some.ensures);
     }

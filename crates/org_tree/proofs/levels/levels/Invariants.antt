@@ -9,5 +9,5 @@ abbrev pub invariant-loop-unit : goal.invariant-loop-unit
 invariant-loop-unit l = record {
   count : length l.levels.items ≡ l.unit;
   each : (x : ℕ) → x < l.unit → HasLevel l.units x (slice_index l.levels.items x);
-  none_deep : first_below (is_too_deep l.units) l.unit ≡ None
+  none_deep : first_below (is_too_deep l.units) l.unit ≡ None;
 }

@@ -10,7 +10,7 @@ abbrev pub invariant-loop-at : goal.invariant-loop-at
 invariant-loop-at l = record {
   in_range : (p : ℕ) → l.at ≡ Some p → p < length l.units;
   same_length : length l.sizes ≡ length l.units;
-  each : (y : ℕ) → y < length l.units → get_or l.sizes y 0 + ahead_of l.units l.at y ≡ count_below (λ z. is_under l.units z y) (l.unit + 1)
+  each : (y : ℕ) → y < length l.units → get_or l.sizes y 0 + ahead_of l.units l.at y ≡ count_below (λ z. is_under l.units z y) (l.unit + 1);
 }
 
 abbrev pub decreases-loop-at : goal.decreases-loop-at

@@ -1,4 +1,3 @@
-use Rattle.std.proofs.Common.{◌≡◌, length}
 use Rattle.org_tree.specs.Walk.{OrdersSoFar}
 use Rattle.org_tree.proofs.walk.orders.Given as goal
 

@@ -1,5 +1,4 @@
-use Rattle.std.proofs.Common.{◌≡◌, ◌<◌, ℕ, length, ap, ◌∙◌, subst, sym, arith}
-use Rattle.std.specs.Prelude.{vec_len}
+use Rattle.std.proofs.Common.{◌<◌, length, arith}
 use Rattle.org_tree.proofs.OrderLemmas.{order-lt}
 use Rattle.org_tree.proofs.WalkLemmas.{WalkSoFar-more, IsWalk-from_all}
 use Rattle.org_tree.proofs.walk.walk.Goals as goal
