@@ -1,2 +1,3 @@
 pub mod TotalLemmas
 pub mod WordLemmas
+pub mod LinkLemmas

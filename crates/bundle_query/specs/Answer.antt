@@ -29,7 +29,7 @@ values_of json = formed (listed_of (codes "dataValues") value_entry_of json)
 -- the value is of the element that is asked for, in its period and under its unit
 unfoldable pub is_wanted : Units → Asked → ValueEntry → Bool
 is_wanted units asked value =
-  same_id value.element asked.element && is_inside value.month.period asked.period && is_under_unit units.tree units.index value.unit asked.unit
+    same_id value.element asked.element && is_inside value.month.period asked.period && is_under_unit units.tree units.index value.unit asked.unit
 
 -- the value under its month and unit
 abbrev pub written_as : ValueEntry → Written
@@ -46,32 +46,31 @@ sum_text sum = printed (fraction_of sum 1000000) 6
 -- the elements differ, what the data sets and the user name is there, and each value is collected by a data set
 unfoldable pub is_linked : Bundle → List ValueEntry → Bool
 is_linked bundle values =
-  is_none (repeat_of (element_ids bundle.elements))
-  && list_all (set_is_linked (element_ids bundle.elements) (unit_ids bundle.units)) bundle.sets
-  && list_all (names_one_of (unit_ids bundle.units)) bundle.user.units
-  && list_all (λ value. is_collected (map collected_by bundle.sets) value.element value.unit) values
+    is_none (repeat_of (element_ids bundle.elements))
+    && list_all (set_is_linked (element_ids bundle.elements) (unit_ids bundle.units)) bundle.sets
+    && list_all (names_one_of (unit_ids bundle.units)) bundle.user.units
+    && list_all (λ value. is_collected (map collected_by bundle.sets) value.element value.unit) values
 
 -- the element is there, and the unit is under one of the user's
 unfoldable pub may_ask : Bundle → Units → Asked → Bool
 may_ask bundle units asked =
-  is_some (place_of (element_ids bundle.elements) asked.element)
-  && list_any (λ unit. is_under_unit units.tree units.index asked.unit unit.id) bundle.user.units
+    is_some (place_of (element_ids bundle.elements) asked.element)
+    && list_any (λ unit. is_under_unit units.tree units.index asked.unit unit.id) bundle.user.units
 
 -- the text of the body, where the bundle holds together and the query may be asked
 unfoldable pub answer_over : Bundle → List ValueEntry → Asked → List UnitRow → Option (List ℕ)
 answer_over bundle values asked rows =
-  let units = record { index = unit_ids bundle.units; tree = rows } in
-  cond (is_linked bundle values && may_ask bundle units asked)
+    let units : Units = record { index = unit_ids bundle.units; tree = rows } in
+    cond (is_linked bundle values && may_ask bundle units asked)
     (Some (compact_text (body_of asked.element (period_text asked.period) asked.unit (option_map sum_text (total_of (wanted_of units asked values))))))
     None
 
 -- the body that answers the query of a user, where the bundle and the query are in the plain form
 unfoldable pub answer_of : List ℕ → List ℕ → Data → Option (List ℕ)
 answer_of user query json =
-  option_and_then (λ bundle.
+    option_and_then (λ bundle.
     option_and_then (λ values.
-      option_and_then (λ asked. option_and_then (answer_over bundle values asked) (tree_of bundle.units))
-        (asked_of query))
-      (values_of json))
+    option_and_then (λ asked. option_and_then (answer_over bundle values asked) (tree_of bundle.units))
+    (asked_of query))
+    (values_of json))
     (bundle_of user json)
-

@@ -6,3 +6,5 @@ pub mod Asked
 pub mod File
 pub mod Read
 pub mod Links
+pub mod Answer
+pub mod Units

@@ -2,15 +2,19 @@ ghost use Rattle.std.specs.Prelude.{◌≡◌, ◌&&◌, ◌<◌, ◌^◌, ℕ, 
 ghost use Rattle.std.specs.List.{list_all, list_any};
 ghost use Rattle.serde_json.specs.View.{view};
 ghost use Rattle.serde_json.specs.Written.{compact_text};
-ghost use Rattle.bundle_query.specs.Links.{unit_ids, element_ids, tree_of, collected_by, is_collected, is_under_unit};
+ghost use Rattle.bundle_query.specs.Links.{unit_ids, element_ids, tree_of, if_tree, collected_by, is_collected, is_under_unit};
 ghost use Rattle.bundle_query.specs.Answer.{is_wanted, written_as, wanted_of, sum_text, is_linked, may_ask, answer_over, answer_of};
-ghost use Rattle.bundle_query.specs.Units.{PlacesUnits, PlacesElements};
+ghost use Rattle.std.specs.Prelude.{unsigned_abs, vec_len};
+ghost use Rattle.org_tree.specs.Units.{HasOwnIds};
+ghost use Rattle.bundle_query.specs.Units.{PlacesUnits, IndexesDiffering};
 
 use crate::asked::{Asked, read_query};
 use crate::body::body_text;
 use crate::bundle::{ElementEntry, SetEntry, UnitEntry, ValueEntry};
 use crate::file::{Bundle, entries, read_bundle};
-use crate::links::{Collected, all_collected, are_there, ids_of_units, is_collected, rows, sets_are_linked};
+use crate::links::{
+    Collected, all_collected, are_there, ids_of_units, is_collected, rows, sets_are_linked,
+};
 use crate::total::{Key, Written, total};
 use dh_base::frac::Frac;
 use dh_base::memory::Memory;
@@ -30,11 +34,111 @@ pub struct Units {
     pub tree: Tree,
 }
 
-fn build_tree(alloc: Global, rows: &[(Uid, Option<u32>)]) -> Result<Option<Tree>, Memory>
+// The tree of some rows, if they are one.
+fn tree_of_rows(alloc: Global, rows: &[(Uid, Option<u32>)]) -> Result<Option<Tree>, Memory>
+    requires few { length rows.now < 2 ^ 32 }
+    requires own_ids { HasOwnIds rows.now }
+    ensures { IfOk result (λ tree. tree ≡ if_tree rows.now) }
 {
     match Tree::build(alloc, rows) {
         Ok(tree) => Ok(Some(tree)),
         Err(TreeFault::Memory) => Err(Memory),
         Err(_) => Ok(None),
     }
+}
+
+// The identifiers by their places, if they differ.
+fn index_of(alloc: Global, ids: Vec<Uid>) -> Result<Option<UidIndex>, Memory>
+    requires { vec_len ids < 2 ^ 32 }
+    ensures { IfOk result (λ index. IndexesDiffering ids.items index) }
+{
+    match UidIndex::of(alloc, ids) {
+        Ok(index) => Ok(Some(index)),
+        Err(IndexFault::Twice(_)) => Ok(None),
+        Err(IndexFault::Memory) => Err(Memory),
+    }
+}
+
+#[tactic(auto, unfolding(crate::specs::Links::tree_of), using(crate::proofs::LinkLemmas::rows_of_own_ids, crate::proofs::LinkLemmas::rows_of_length))]
+fn place_units(alloc: Global, units: &[UnitEntry]) -> Result<Option<Units>, Memory>
+    ensures { IfOk result (λ placed. PlacesUnits units.now placed) }
+{
+    if units.len() >= u32::MAX as usize + 1 {
+        return Ok(None);
+    }
+    let ids = ids_of_units(alloc, units)?;
+    let Some(index) = index_of(alloc, ids)? else {
+        return Ok(None);
+    };
+    let Some(rows) = rows(alloc, &index, units)? else {
+        return Ok(None);
+    };
+    let Some(tree) = tree_of_rows(alloc, &rows)? else {
+        return Ok(None);
+    };
+    Ok(Some(Units { index, tree }))
+}
+
+// Whether both units are there and the one is under the other.
+#[tactic(auto, unfolding(crate::specs::Links::is_under_unit), using(crate::proofs::LinkLemmas::place_of_in))]
+fn is_under_unit(units: &Units, unit: Uid, above: Uid) -> bool
+    requires { length units.now.index ≡ length units.now.tree }
+    ensures { result ≡ is_under_unit units.now.tree units.now.index unit above }
+{
+    let Some(x) = units.index.find(unit) else {
+        return false;
+    };
+    let Some(y) = units.index.find(above) else {
+        return false;
+    };
+    units.tree.is_under(x, y)
+}
+
+#[tactic(auto, unfolding(crate::specs::Answer::is_wanted))]
+fn is_wanted(units: &Units, asked: &Asked, value: &ValueEntry) -> bool
+    requires { length units.now.index ≡ length units.now.tree }
+    ensures { result ≡ is_wanted units.now asked.now value.now }
+{
+    value.element == asked.element
+        && value.month.period.inside(asked.period)
+        && is_under_unit(units, value.unit, asked.unit)
+}
+
+fn written(value: &ValueEntry) -> Written
+    ensures { result ≡ written_as value.now }
+{
+    Written {
+        key: Key {
+            first: value.month.period.first(),
+            unit: value.unit,
+        },
+        micros: value.amount.micros.value(),
+    }
+}
+
+// The values that are wanted, under their months and units.
+fn wanted(
+    alloc: Global,
+    units: &Units,
+    asked: &Asked,
+    values: &[ValueEntry],
+) -> Result<Vec<Written>, Memory>
+    requires { length units.now.index ≡ length units.now.tree }
+    ensures { IfOk result (λ wanted. wanted.items ≡ wanted_of units.now asked.now values.now) }
+{
+    Ok(
+        values
+            .iter()
+            .filter(|value| is_wanted(units, asked, value))
+            .map(|value| written(value))
+            .collect(alloc)?,
+    )
+}
+
+// A sum of millionths as a text.
+fn sum_text(alloc: Global, sum: i128) -> Result<Vec<u8>, Memory>
+    requires { unsigned_abs sum < 2 ^ 127 }
+    ensures { IfOk result (λ text. text.items ≡ sum_text sum) }
+{
+    print_rounded(alloc, Frac::of(sum, 1_000_000), 6)
 }

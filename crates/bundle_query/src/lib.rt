@@ -3,6 +3,7 @@
 //! and one unit. What is in another form is told apart from want of memory.
 #![tactic(auto)]
 
+pub mod answer;
 pub mod asked;
 pub mod body;
 pub mod bundle;
