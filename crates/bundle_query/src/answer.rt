@@ -4,6 +4,7 @@ ghost use Rattle.serde_json.specs.View.{view};
 ghost use Rattle.serde_json.specs.Written.{compact_text};
 ghost use Rattle.bundle_query.specs.Links.{unit_ids, element_ids, tree_of, if_tree, collected_by, is_collected, is_under_unit};
 ghost use Rattle.bundle_query.specs.Answer.{is_wanted, written_as, wanted_of, sum_text, is_linked, may_ask, answer_over, answer_of};
+ghost use Rattle.bundle_query.specs.Total.{total_of};
 ghost use Rattle.std.specs.Prelude.{unsigned_abs, vec_len};
 ghost use Rattle.org_tree.specs.Units.{HasOwnIds};
 ghost use Rattle.bundle_query.specs.Units.{PlacesUnits, IndexesDiffering};
@@ -141,4 +142,50 @@ fn sum_text(alloc: Global, sum: i128) -> Result<Vec<u8>, Memory>
     ensures { IfOk result (λ text. text.items ≡ sum_text sum) }
 {
     print_rounded(alloc, Frac::of(sum, 1_000_000), 6)
+}
+
+fn ids_of_elements(alloc: Global, elements: &[ElementEntry]) -> Result<Vec<Uid>, Memory>
+    ensures { IfOk result (λ ids. ids.items ≡ element_ids elements.now) }
+{
+    Ok(elements.iter().map(|element| element.id).collect(alloc)?)
+}
+
+// Whether each value is collected by some data set.
+fn all_are_collected(sets: &[Collected], values: &[ValueEntry]) -> bool
+    ensures { result ≡ list_all (λ value. is_collected sets.now value.element value.unit) values.now }
+{
+    values
+        .iter()
+        .all(|value| is_collected(sets, value.element, value.unit))
+}
+
+fn values_are_collected(
+    alloc: Global,
+    sets: &[SetEntry],
+    values: &[ValueEntry],
+) -> Result<bool, Memory>
+    ensures { IfOk result (λ all. all ≡ list_all (λ value. is_collected (map collected_by sets.now) value.element value.unit) values.now) }
+{
+    let sets = all_collected(alloc, sets)?;
+    Ok(all_are_collected(&sets, values))
+}
+
+// Whether the unit is under one of the user's.
+fn is_under_any(units: &Units, unit: Uid, above: &[Reference]) -> bool
+    requires { length units.now.index ≡ length units.now.tree }
+    ensures { result ≡ list_any (λ other. is_under_unit units.now.tree units.now.index unit other.id) above.now }
+{
+    above
+        .iter()
+        .any(|other| is_under_unit(units, unit, other.id))
+}
+
+// The text of the value of a query, where there is one.
+fn value_text(alloc: Global, wanted: &[Written]) -> Result<Option<Vec<u8>>, Memory>
+    ensures { IfOk result (λ text. option_map (λ bytes. bytes.items) text ≡ option_map sum_text (total_of wanted.now)) }
+{
+    match total(alloc, wanted)? {
+        None => Ok(None),
+        Some(sum) => Ok(Some(sum_text(alloc, sum)?)),
+    }
 }

@@ -1,4 +1,4 @@
-ghost use Rattle.std.specs.Prelude.{◌≡◌, ◌<◌, ◌^◌, ℕ, ℤ, pos, ◌≤ℤ◌, ◌+ℤ◌, ◌-ℤ◌, length, IfOk};
+ghost use Rattle.std.specs.Prelude.{◌≡◌, ◌<◌, ◌^◌, ℕ, ℤ, pos, ◌≤ℤ◌, ◌+ℤ◌, ◌-ℤ◌, length, unsigned_abs, IfOk, IfSome};
 ghost use Rattle.bundle_query.specs.Total.{same_key, total_of};
 
 use dh_base::memory::Memory;
@@ -39,7 +39,8 @@ fn count_of(values: &[Written]) -> usize
 
 /// The sum in millionths of what was written last under each key, or `None` where nothing was written.
 pub fn total(alloc: Global, values: &[Written]) -> Result<Option<i128>, Memory>
-    ensures { IfOk result (λ sum. sum ≡ total_of values.now) }
+    ensures sum { IfOk result (λ sum. sum ≡ total_of values.now) }
+    ensures small { IfOk result (λ sum. IfSome sum (λ sum. unsigned_abs sum < 2 ^ 127)) }
 {
     if values.is_empty() {
         return Ok(None);

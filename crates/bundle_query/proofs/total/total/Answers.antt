@@ -11,8 +11,8 @@ use Rattle.bundle_query.specs.declared.total.Key.{Key}
 use Rattle.bundle_query.proofs.TotalLemmas.{sum-new, sum-written_again, total_of-empty, total_of-filled, seen_more, not-from_true, not-from_false, drop-before}
 use Rattle.bundle_query.proofs.total.total.Goals as goal
 
-pub returns-then-is_empty : goal.returns-then-is_empty
-returns-then-is_empty c = total_of-empty c.args.values.now (grind arith)
+pub returns-then-is_empty-clause-sum : goal.returns-then-is_empty-clause-sum
+returns-then-is_empty-clause-sum c = total_of-empty c.args.values.now (grind arith)
 
 pub loop-at-preserved-then-branch : goal.loop-at-preserved-then-branch
 loop-at-preserved-then-branch c =
@@ -50,8 +50,8 @@ loop-at-preserved c =
       high = omega (arith, ints);
     }
 
-pub returns : goal.returns
-returns c =
+pub returns-clause-sum : goal.returns-clause-sum
+returns-clause-sum c =
     let some : 0 < length c.args.values.now = grind arith in
     let none_left : c.loop-at.at ≡ 0 = omega arith in
     let start : drop c.loop-at.at c.args.values.now ≡ c.args.values.now = ap (λ n. drop n c.args.values.now) none_left in
