@@ -57,12 +57,17 @@ may_ask bundle units asked =
     is_some (place_of (element_ids bundle.elements) asked.element)
     && list_any (λ unit. is_under_unit units.tree units.index asked.unit unit.id) bundle.user.units
 
+-- the text of the body with the value of what is wanted
+unfoldable pub body_over : Units → Asked → List ValueEntry → List ℕ
+body_over units asked values =
+  compact_text (body_of asked.element (period_text asked.period) asked.unit (option_map sum_text (total_of (wanted_of units asked values))))
+
 -- the text of the body, where the bundle holds together and the query may be asked
 unfoldable pub answer_over : Bundle → List ValueEntry → Asked → List UnitRow → Option (List ℕ)
 answer_over bundle values asked rows =
     let units : Units = record { index = unit_ids bundle.units; tree = rows } in
     cond (is_linked bundle values && may_ask bundle units asked)
-    (Some (compact_text (body_of asked.element (period_text asked.period) asked.unit (option_map sum_text (total_of (wanted_of units asked values))))))
+    (Some (body_over units asked values))
     None
 
 -- the body that answers the query of a user, where the bundle and the query are in the plain form

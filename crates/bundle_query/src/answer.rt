@@ -3,10 +3,11 @@ ghost use Rattle.std.specs.List.{list_all, list_any};
 ghost use Rattle.serde_json.specs.View.{view};
 ghost use Rattle.serde_json.specs.Written.{compact_text};
 ghost use Rattle.bundle_query.specs.Links.{unit_ids, element_ids, tree_of, if_tree, collected_by, is_collected, is_under_unit};
-ghost use Rattle.bundle_query.specs.Answer.{is_wanted, written_as, wanted_of, sum_text, is_linked, may_ask, answer_over, answer_of};
+ghost use Rattle.bundle_query.specs.Answer.{is_wanted, written_as, wanted_of, sum_text, is_linked, may_ask, body_over, answer_over, answer_of};
 ghost use Rattle.bundle_query.specs.Total.{total_of};
 ghost use Rattle.std.specs.Prelude.{unsigned_abs, vec_len};
 ghost use Rattle.org_tree.specs.Units.{HasOwnIds};
+ghost use Rattle.uid_index.specs.Places.{repeat_of};
 ghost use Rattle.bundle_query.specs.Units.{PlacesUnits, IndexesDiffering};
 
 use crate::asked::{Asked, read_query};
@@ -188,4 +189,50 @@ fn value_text(alloc: Global, wanted: &[Written]) -> Result<Option<Vec<u8>>, Memo
         None => Ok(None),
         Some(sum) => Ok(Some(sum_text(alloc, sum)?)),
     }
+}
+
+// Whether what the data sets, the user and the values name is there.
+#[tactic(auto, unfolding(crate::specs::Answer::is_linked))]
+fn is_linked(
+    alloc: Global,
+    bundle: &Bundle,
+    units: &UidIndex,
+    elements: &UidIndex,
+    values: &[ValueEntry],
+) -> Result<bool, Memory>
+    requires units { units.now ≡ unit_ids bundle.now.units }
+    requires elements { elements.now ≡ element_ids bundle.now.elements }
+    requires differ { repeat_of (element_ids bundle.now.elements) ≡ None }
+    ensures { IfOk result (λ linked. linked ≡ is_linked bundle.now values.now) }
+{
+    if !sets_are_linked(elements, units, bundle.sets.as_slice()) {
+        return Ok(false);
+    }
+    if !are_there(units, bundle.user.units.as_slice()) {
+        return Ok(false);
+    }
+    values_are_collected(alloc, bundle.sets.as_slice(), values)
+}
+
+// Whether the element is there and the unit is under one of the user's.
+#[tactic(auto, unfolding(crate::specs::Answer::may_ask))]
+fn may_ask(bundle: &Bundle, units: &Units, elements: &UidIndex, asked: &Asked) -> bool
+    requires places { length units.now.index ≡ length units.now.tree }
+    requires elements { elements.now ≡ element_ids bundle.now.elements }
+    ensures { result ≡ may_ask bundle.now units.now asked.now }
+{
+    elements.find(asked.element).is_some()
+        && is_under_any(units, asked.unit, bundle.user.units.as_slice())
+}
+
+// The body for the values that are wanted.
+#[tactic(auto, unfolding(crate::specs::Answer::body_over))]
+fn body_over(alloc: Global, units: &Units, asked: &Asked, values: &[ValueEntry]) -> Result<Vec<u8>, Memory>
+    requires { length units.now.index ≡ length units.now.tree }
+    ensures { IfOk result (λ text. text.items ≡ body_over units.now asked.now values.now) }
+{
+    let wanted = wanted(alloc, units, asked, values)?;
+    let value = value_text(alloc, &wanted)?;
+    let period = asked.period.print(alloc)?;
+    body_text(alloc, &asked.element.bytes(), &period, &asked.unit.bytes(), value.as_deref())
 }
