@@ -47,13 +47,17 @@ length-ids : (rows : List UnitRow) → length (map (λ row. row.0) rows) ≡ len
 length-ids [] = refl
 length-ids (row ∷ rows) = ap suc (length-ids rows)
 
-length-unit_ids : (units : List UnitEntry) → length (unit_ids units) ≡ length units
+pub length-unit_ids : (units : List UnitEntry) → length (unit_ids units) ≡ length units
 length-unit_ids [] = refl
 length-unit_ids (unit ∷ units) = ap suc (length-unit_ids units)
 
 -- there are as many rows as units
 pub rows_of_length : (ids : List (List ℕ)) (units : List UnitEntry) (rows : List UnitRow) → rows_of ids units ≡ Some rows → length rows ≡ length units
 rows_of_length ids units rows is = sym (length-ids rows) ∙ ap length (rows_of-ids ids units rows is) ∙ length-unit_ids units
+
+-- as many identifiers as rows
+pub rows_of_length_ids : (ids : List (List ℕ)) (units : List UnitEntry) (rows : List UnitRow) → rows_of ids units ≡ Some rows → length (unit_ids units) ≡ length rows
+rows_of_length_ids ids units rows is = sym (ap length (rows_of-ids ids units rows is)) ∙ length-ids rows
 
 -- where no identifier stands twice, each row has its own
 pub rows_of_own_ids : (ids : List (List ℕ)) (units : List UnitEntry) (rows : List UnitRow) → rows_of ids units ≡ Some rows → repeat_of (unit_ids units) ≡ None → HasOwnIds rows

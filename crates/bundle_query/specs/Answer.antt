@@ -1,5 +1,5 @@
 -- The answer to one query over a bundle.
-use Rattle.std.specs.Prelude.{ℕ, ℤ, Bool, true, false, cond, ◌&&◌, List, [], ◌∷◌, map, filter, Option, Some, None, is_some, is_none, option_map, option_and_then, codes}
+use Rattle.std.specs.Prelude.{ℕ, ℤ, ◌^◌, nat_lt, length, Bool, true, false, cond, ◌&&◌, List, [], ◌∷◌, map, filter, Option, Some, None, is_some, is_none, option_map, option_and_then, codes}
 use Rattle.std.specs.List.{list_all, list_any}
 use Rattle.serde_json.specs.Data.{Data}
 use Rattle.serde_json.specs.Written.{compact_text}
@@ -60,7 +60,7 @@ may_ask bundle units asked =
 -- the text of the body with the value of what is wanted
 unfoldable pub body_over : Units → Asked → List ValueEntry → List ℕ
 body_over units asked values =
-  compact_text (body_of asked.element (period_text asked.period) asked.unit (option_map sum_text (total_of (wanted_of units asked values))))
+    compact_text (body_of asked.element (period_text asked.period) asked.unit (option_map sum_text (total_of (wanted_of units asked values))))
 
 -- the text of the body, where the bundle holds together and the query may be asked
 unfoldable pub answer_over : Bundle → List ValueEntry → Asked → List UnitRow → Option (List ℕ)
@@ -70,12 +70,15 @@ answer_over bundle values asked rows =
     (Some (body_over units asked values))
     None
 
+-- the same, where the units are a tree
+unfoldable pub answer_asked : Bundle → List ValueEntry → Asked → Option (List ℕ)
+answer_asked bundle values asked = option_and_then (answer_over bundle values asked) (tree_of bundle.units)
+
+-- the same, where the values and the query are in their forms
+unfoldable pub answer_with : Bundle → List ℕ → Data → Option (List ℕ)
+answer_with bundle query json =
+    option_and_then (λ values. option_and_then (answer_asked bundle values) (asked_of query)) (values_of json)
+
 -- the body that answers the query of a user, where the bundle and the query are in the plain form
 unfoldable pub answer_of : List ℕ → List ℕ → Data → Option (List ℕ)
-answer_of user query json =
-    option_and_then (λ bundle.
-    option_and_then (λ values.
-    option_and_then (λ asked. option_and_then (answer_over bundle values asked) (tree_of bundle.units))
-    (asked_of query))
-    (values_of json))
-    (bundle_of user json)
+answer_of user query json = option_and_then (λ bundle. answer_with bundle query json) (bundle_of user json)

@@ -3,12 +3,12 @@ ghost use Rattle.std.specs.List.{list_all, list_any};
 ghost use Rattle.serde_json.specs.View.{view};
 ghost use Rattle.serde_json.specs.Written.{compact_text};
 ghost use Rattle.bundle_query.specs.Links.{unit_ids, element_ids, tree_of, if_tree, collected_by, is_collected, is_under_unit};
-ghost use Rattle.bundle_query.specs.Answer.{is_wanted, written_as, wanted_of, sum_text, is_linked, may_ask, body_over, answer_over, answer_of};
+ghost use Rattle.bundle_query.specs.Answer.{is_wanted, written_as, wanted_of, sum_text, is_linked, may_ask, body_over, answer_over, answer_asked, answer_with, answer_of};
 ghost use Rattle.bundle_query.specs.Total.{total_of};
-ghost use Rattle.std.specs.Prelude.{unsigned_abs, vec_len};
+ghost use Rattle.std.specs.Prelude.{unsigned_abs, vec_len, nat_lt};
 ghost use Rattle.org_tree.specs.Units.{HasOwnIds};
 ghost use Rattle.uid_index.specs.Places.{repeat_of};
-ghost use Rattle.bundle_query.specs.Units.{PlacesUnits, IndexesDiffering};
+ghost use Rattle.bundle_query.specs.Units.{PlacesUnits, IndexesDiffering, LinksElements};
 
 use crate::asked::{Asked, read_query};
 use crate::body::body_text;
@@ -61,7 +61,7 @@ fn index_of(alloc: Global, ids: Vec<Uid>) -> Result<Option<UidIndex>, Memory>
     }
 }
 
-#[tactic(auto, unfolding(crate::specs::Links::tree_of), using(crate::proofs::LinkLemmas::rows_of_own_ids, crate::proofs::LinkLemmas::rows_of_length))]
+#[tactic(auto, unfolding(crate::specs::Links::tree_of), using(crate::proofs::LinkLemmas::rows_of_own_ids, crate::proofs::LinkLemmas::rows_of_length, crate::proofs::LinkLemmas::rows_of_length_ids))]
 fn place_units(alloc: Global, units: &[UnitEntry]) -> Result<Option<Units>, Memory>
     ensures { IfOk result (λ placed. PlacesUnits units.now placed) }
 {
@@ -203,6 +203,7 @@ fn is_linked(
     requires units { units.now ≡ unit_ids bundle.now.units }
     requires elements { elements.now ≡ element_ids bundle.now.elements }
     requires differ { repeat_of (element_ids bundle.now.elements) ≡ None }
+    requires few { length bundle.now.elements < 2 ^ 32 }
     ensures { IfOk result (λ linked. linked ≡ is_linked bundle.now values.now) }
 {
     if !sets_are_linked(elements, units, bundle.sets.as_slice()) {
@@ -227,12 +228,128 @@ fn may_ask(bundle: &Bundle, units: &Units, elements: &UidIndex, asked: &Asked) -
 
 // The body for the values that are wanted.
 #[tactic(auto, unfolding(crate::specs::Answer::body_over))]
-fn body_over(alloc: Global, units: &Units, asked: &Asked, values: &[ValueEntry]) -> Result<Vec<u8>, Memory>
+fn body_over(
+    alloc: Global,
+    units: &Units,
+    asked: &Asked,
+    values: &[ValueEntry],
+) -> Result<Vec<u8>, Memory>
     requires { length units.now.index ≡ length units.now.tree }
     ensures { IfOk result (λ text. text.items ≡ body_over units.now asked.now values.now) }
 {
     let wanted = wanted(alloc, units, asked, values)?;
     let value = value_text(alloc, &wanted)?;
     let period = asked.period.print(alloc)?;
-    body_text(alloc, &asked.element.bytes(), &period, &asked.unit.bytes(), value.as_deref())
+    body_text(
+        alloc,
+        &asked.element.bytes(),
+        &period,
+        &asked.unit.bytes(),
+        value.as_deref(),
+    )
+}
+
+fn are_few(elements: &[ElementEntry]) -> bool
+    ensures { result ≡ nat_lt (length elements.now) (2 ^ 32) }
+{
+    elements.len() < 4_294_967_296
+}
+
+// The elements by place, where the bundle holds together.
+#[tactic(auto, unfolding(crate::specs::Answer::is_linked))]
+fn linked_elements(
+    alloc: Global,
+    bundle: &Bundle,
+    units: &UidIndex,
+    values: &[ValueEntry],
+) -> Result<Option<UidIndex>, Memory>
+    requires { units.now ≡ unit_ids bundle.now.units }
+    ensures { IfOk result (λ elements. LinksElements bundle.now values.now elements) }
+{
+    if !are_few(bundle.elements.as_slice()) {
+        return Ok(None);
+    }
+    let ids = ids_of_elements(alloc, bundle.elements.as_slice())?;
+    let Some(elements) = index_of(alloc, ids)? else {
+        return Ok(None);
+    };
+    if is_linked(alloc, bundle, units, &elements, values)? {
+        Ok(Some(elements))
+    } else {
+        Ok(None)
+    }
+}
+
+// The body, where the bundle holds together and the query may be asked.
+#[tactic(auto, unfolding(crate::specs::Answer::answer_over))]
+fn answer_over(
+    alloc: Global,
+    bundle: &Bundle,
+    values: &[ValueEntry],
+    asked: &Asked,
+    units: &Units,
+) -> Result<Option<Vec<u8>>, Memory>
+    requires places { units.now.index ≡ unit_ids bundle.now.units }
+    requires same { length units.now.index ≡ length units.now.tree }
+    ensures { IfOk result (λ body. option_map (λ text. text.items) body ≡ answer_over bundle.now values.now asked.now units.now.tree) }
+{
+    let Some(elements) = linked_elements(alloc, bundle, &units.index, values)? else {
+        return Ok(None);
+    };
+    if !may_ask(bundle, units, &elements, asked) {
+        return Ok(None);
+    }
+    Ok(Some(body_over(alloc, units, asked, values)?))
+}
+
+// The same, where the units are a tree.
+#[tactic(auto, unfolding(crate::specs::Answer::answer_asked))]
+fn answer_asked(
+    alloc: Global,
+    bundle: &Bundle,
+    values: &[ValueEntry],
+    asked: &Asked,
+) -> Result<Option<Vec<u8>>, Memory>
+    ensures { IfOk result (λ body. option_map (λ text. text.items) body ≡ answer_asked bundle.now values.now asked.now) }
+{
+    let Some(units) = place_units(alloc, bundle.units.as_slice())? else {
+        return Ok(None);
+    };
+    answer_over(alloc, bundle, values, asked, &units)
+}
+
+// The same, where the values and the query are in their forms.
+#[tactic(auto, unfolding(crate::specs::Answer::answer_with))]
+fn answer_with(
+    alloc: Global,
+    bundle: &Bundle,
+    query: &str,
+    document: &Value,
+) -> Result<Option<Vec<u8>>, Memory>
+    ensures { IfOk result (λ body. option_map (λ text. text.items) body ≡ answer_with bundle.now query.now (view document.now)) }
+{
+    let Some(values) = entries::<ValueEntry>(alloc, document, "dataValues")? else {
+        return Ok(None);
+    };
+    let Some(asked) = read_query(query.as_bytes()) else {
+        return Ok(None);
+    };
+    answer_asked(alloc, bundle, values.as_slice(), &asked)
+}
+
+/// The body that answers a user's query over a bundle, or `None` where the bundle or the query isn't
+/// in the plain form.
+#[tactic(auto, unfolding(crate::specs::Answer::answer_of))]
+pub fn answer(
+    alloc: Global,
+    document: &Value,
+    user: &str,
+    query: &str,
+) -> Result<Option<Vec<u8>>, Memory>
+    ensures { IfOk result (λ body. option_map (λ text. text.items) body ≡ answer_of user.now query.now (view document.now)) }
+{
+    let Some(bundle) = read_bundle(alloc, document, user)? else {
+        return Ok(None);
+    };
+    answer_with(alloc, &bundle, query, document)
 }

@@ -215,7 +215,11 @@ pub fn require_object(alloc: Global, value: &Value) -> Result<(), FormFault>
 }
 
 /// A list under a key that has to be there.
-pub fn required_list<T: ReadJson>(alloc: Global, value: &Value, key: &str) -> Result<Items<T>, FormFault>
+pub fn required_list<T: ReadJson>(
+    alloc: Global,
+    value: &Value,
+    key: &str,
+) -> Result<Items<T>, FormFault>
     ensures { Gives (field_of key.now (list_of T.form) (view value.now)) result }
 {
     match value.get(key) {

@@ -5,3 +5,5 @@
 pub mod fault;
 pub mod form;
 pub mod reference;
+#[cfg(test)]
+mod tests;

@@ -39,7 +39,7 @@ none_here : (before : List (List ℕ)) (id : List ℕ) (rest : List (List ℕ)) 
     → (list_any (λ other. same_id id other) before ≡ false) × (repeat_behind (before ++ id ∷ []) rest ≡ None)
 none_here before id rest none =
     elim (list_any (λ other. same_id id other) before) as (λ b. cond b (Some (length before)) (repeat_behind (before ++ id ∷ []) rest) ≡ None
-        → (b ≡ false) × (repeat_behind (before ++ id ∷ []) rest ≡ None))
+    → (b ≡ false) × (repeat_behind (before ++ id ∷ []) rest ≡ None))
     [ true ↦ λ some. absurd (cc) | false ↦ λ later. (refl, later) ] none
 
 -- a later identifier is none of the earlier ones
@@ -51,20 +51,26 @@ later_apart before (id ∷ rest) i j none less from within same =
     let joined : (before ++ id ∷ []) ++ rest ≡ before ++ id ∷ rest = append_assoc before (id ∷ []) rest in
     let longer : length (before ++ id ∷ []) ≡ length before + 1 = length-append before (id ∷ []) in
     elim (cases_order j (length before)) [
-      inl at ↦
-        let seam : get_or (before ++ id ∷ rest) j [] ≡ id = ap (λ n. get_or (before ++ id ∷ rest) n []) at ∙ get_or-append_seam before id rest [] in
-        let short : i < length before = omega arith in
-        let front : get_or (before ++ id ∷ rest) i [] ≡ get_or before i [] = get_or-append before (id ∷ rest) [] i short in
-        apart_from before id i here.0 short (sym front ∙ same ∙ seam)
-    | inr other ↦ elim other [ inl short ↦ absurd (omega arith) | inr past ↦
-        later_apart (before ++ id ∷ []) rest i j here.1 less (omega arith) (omega arith)
-            (ap (λ l. get_or l i []) joined ∙ same ∙ sym (ap (λ l. get_or l j []) joined)) ] ]
+      | inl at ↦
+          let seam : get_or (before ++ id ∷ rest) j [] ≡ id = ap (λ n. get_or (before ++ id ∷ rest) n []) at ∙ get_or-append_seam before id rest [] in
+          let short : i < length before = omega arith in
+          let front : get_or (before ++ id ∷ rest) i [] ≡ get_or before i [] = get_or-append before (id ∷ rest) [] i short in
+          apart_from before id i here.0 short (sym front ∙ same ∙ seam)
+      | inr other ↦ elim other [
+        | inl short ↦ absurd (omega arith)
+        | inr past ↦
+            later_apart (before ++ id ∷ []) rest i j here.1 less (omega arith) (omega arith)
+            (ap (λ l. get_or l i []) joined ∙ same ∙ sym (ap (λ l. get_or l j []) joined))
+      ]
+    ]
 
 -- identifiers of which none stands twice differ
 pub repeat_of-differ : (ids : List (List ℕ)) → repeat_of ids ≡ None → (x y : ℕ) → x < length ids → y < length ids → get_or ids x [] ≡ get_or ids y [] → x ≡ y
 repeat_of-differ ids none x y left right same =
     elim (cases_order x y) [
-      inl equal ↦ equal
-    | inr other ↦ elim other [
-        inl less ↦ absurd (later_apart [] ids x y none less (omega arith) (omega arith) same)
-      | inr more ↦ absurd (later_apart [] ids y x none more (omega arith) (omega arith) (sym same)) ] ]
+      | inl equal ↦ equal
+      | inr other ↦ elim other [
+        | inl less ↦ absurd (later_apart [] ids x y none less (omega arith) (omega arith) same)
+        | inr more ↦ absurd (later_apart [] ids y x none more (omega arith) (omega arith) (sym same))
+      ]
+    ]

@@ -2,6 +2,8 @@
 #![tactic(auto)]
 
 mod id_set;
+#[cfg(test)]
+mod tests;
 
 ghost use Rattle.std.specs.Prelude.{◌≡◌, ◌+◌, ◌<◌, ◌^◌, ℕ, List, length, Some, vec_len, slice_get};
 ghost use Rattle.uid_index.specs.declared.IndexFault.TheVariants.{Memory as OutOfMemory};
