@@ -62,7 +62,7 @@ iso_year_start-is y year =
     let weekday = weekday_number-parts (days_from_civil (pos y) 1 4) in
     omega (arith, signed_arith, fourth, weekday)
 
-pub weeks_in_year-is : (y : ℕ) → 1900 ≤ y → y ≤ 9998 → iso_weeks (pos y) ≡ weeks_in_year y
+pub weeks_in_year-is : (y : ℕ) → 1900 ≤ y → y ≤ 9999 → iso_weeks (pos y) ≡ weeks_in_year y
 weeks_in_year-is y year top =
     let here = iso_year_start-is y year in
     let there = iso_year_start-is (y + 1) (omega arith) in
@@ -83,7 +83,7 @@ epoch_day-is date y m d year ye me de =
     rw (ye, me, de) (days_from_civil-is y m d year (omega arith) (omega arith) (omega arith))
 
 -- a year of weeks has 52 or 53
-pub weeks_in_year_bounds : (y : ℕ) → 1900 ≤ y → y ≤ 9998 → (52 ≤ weeks_in_year y) × (weeks_in_year y ≤ 53)
+pub weeks_in_year_bounds : (y : ℕ) → 1900 ≤ y → y ≤ 9999 → (52 ≤ weeks_in_year y) × (weeks_in_year y ≤ 53)
 weeks_in_year_bounds y year top =
     let next = weeks_in_year-next (pos y) (pos (y + 1)) (omega (arith, signed_arith), omega (arith, signed_arith)) refl in
     let same = weeks_in_year-is y year top in

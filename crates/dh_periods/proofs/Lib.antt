@@ -5,3 +5,4 @@ pub mod TextLemmas
 pub mod ListedLemmas
 pub mod BoundLemmas
 pub mod HeldLemmas
+pub mod InverseLemmas

@@ -4,3 +4,4 @@ pub mod Days
 pub mod Spans
 pub mod Texts
 pub mod Held
+pub mod Places
