@@ -22,21 +22,21 @@ IsCount c = (c ≡ 1) ⊎ (c ≡ 2) ⊎ (c ≡ 3) ⊎ (c ≡ 6) ⊎ (c ≡ 12)
 abbrev pub HasCount : Shape → Type 0
 HasCount Day = Unit {0}
 HasCount Week = Unit {0}
-HasCount (Months count opening) = IsCount count × (opening ≤ 9)
+HasCount (Months count opening) = IsCount count × (opening ≤ 9) × (opening < count)
 
 pub shape_of-count : (kind : PeriodType) → HasCount (shape_of kind)
 unfolding IsCount
 shape_of-count Daily = tt
 shape_of-count Weekly = tt
-shape_of-count Monthly = (inl refl, omega arith)
-shape_of-count BiMonthly = (inr (inl refl), omega arith)
-shape_of-count Quarterly = (inr (inr (inl refl)), omega arith)
-shape_of-count SixMonthly = (inr (inr (inr (inl refl))), omega arith)
-shape_of-count SixMonthlyApril = (inr (inr (inr (inl refl))), omega arith)
-shape_of-count Yearly = (inr (inr (inr (inr refl))), omega arith)
-shape_of-count FinancialApril = (inr (inr (inr (inr refl))), omega arith)
-shape_of-count FinancialJuly = (inr (inr (inr (inr refl))), omega arith)
-shape_of-count FinancialOct = (inr (inr (inr (inr refl))), omega arith)
+shape_of-count Monthly = (inl refl, omega arith, omega arith)
+shape_of-count BiMonthly = (inr (inl refl), omega arith, omega arith)
+shape_of-count Quarterly = (inr (inr (inl refl)), omega arith, omega arith)
+shape_of-count SixMonthly = (inr (inr (inr (inl refl))), omega arith, omega arith)
+shape_of-count SixMonthlyApril = (inr (inr (inr (inl refl))), omega arith, omega arith)
+shape_of-count Yearly = (inr (inr (inr (inr refl))), omega arith, omega arith)
+shape_of-count FinancialApril = (inr (inr (inr (inr refl))), omega arith, omega arith)
+shape_of-count FinancialJuly = (inr (inr (inr (inr refl))), omega arith, omega arith)
+shape_of-count FinancialOct = (inr (inr (inr (inr refl))), omega arith, omega arith)
 
 -- what holds of these five holds of each count
 pub by_count : (P : ℕ → Type 0) → P 1 → P 2 → P 3 → P 6 → P 12 → (c : ℕ) → IsCount c → P c
@@ -55,7 +55,7 @@ months-in_year : (c : ℕ) → IsCount c → InYear c
 unfolding InYear
 months-in_year = by_count InYear (λ year o n low high opens. (omega arith, omega arith, omega arith, omega arith)) (λ year o n low high opens. (omega arith, omega arith, omega arith, omega arith)) (λ year o n low high opens. (omega arith, omega arith, omega arith, omega arith)) (λ year o n low high opens. (omega arith, omega arith, omega arith, omega arith)) (λ year o n low high opens. (omega arith, omega arith, omega arith, omega arith))
 
-date-parts : (p : PeriodName) → is_in_year_as Day p ≡ true → (1 ≤ p.number) × (p.number ≤ 12) × (1 ≤ p.day) × (p.day ≤ month_length p.year p.number)
+pub date-parts : (p : PeriodName) → is_in_year_as Day p ≡ true → (1 ≤ p.number) × (p.number ≤ 12) × (1 ≤ p.day) × (p.day ≤ month_length p.year p.number)
 date-parts p h =
     let a = and_parts (nat_le 1 p.number) (nat_le p.number 12 && (nat_le 1 p.day && nat_le p.day (month_length p.year p.number))) h in
     let b = and_parts (nat_le p.number 12) (nat_le 1 p.day && nat_le p.day (month_length p.year p.number)) a.1 in

@@ -6,3 +6,5 @@ pub mod ListedLemmas
 pub mod BoundLemmas
 pub mod HeldLemmas
 pub mod InverseLemmas
+pub mod PlaceLemmas
+pub mod ContainingLemmas

@@ -20,7 +20,7 @@ choice : {A : Type 0} (b : Bool) (x y z : A) → (if b then x else y) ≡ z → 
 choice true x y z e = inl (refl, e)
 choice false x y z e = inr (refl, e)
 
-some_when : {A : Type 0} (b : Bool) (x z : A) → (if b then Some x else None) ≡ Some z → (b ≡ true) × (x ≡ z)
+pub some_when : {A : Type 0} (b : Bool) (x z : A) → (if b then Some x else None) ≡ Some z → (b ≡ true) × (x ≡ z)
 some_when true x z e = (refl, cc)
 some_when false x z e = absurd (cc)
 

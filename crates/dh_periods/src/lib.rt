@@ -5,6 +5,7 @@ mod days;
 mod kind;
 mod name;
 mod period;
+mod places;
 mod print;
 mod read;
 

@@ -1,0 +1,128 @@
+-- A period is found again by its place, and by each of its days.
+use Rattle.std.proofs.Common.{◌≡◌, ℕ, zero, suc, ◌+◌, ◌-◌, ◌*◌, ◌/◌, ◌%◌, ◌<◌, ◌≤◌, ◌⊎◌, inl, inr, Bool, true, false, refl, sym, ap, ◌∙◌, arith}
+use Rattle.std.proofs.lemmas.Bool.{cases_lt}
+use Rattle.dh_periods.specs.declared.kind.PeriodType.{PeriodType}
+use Rattle.dh_periods.specs.declared.kind.Shape.{Shape}
+use Rattle.dh_periods.specs.declared.kind.Shape.TheVariants.{Day, Week, Months}
+use Rattle.dh_periods.specs.declared.name.PeriodName.{PeriodName}
+use Rattle.dh_periods.specs.Calendar.{month_length, days_before_month, month_place, day_place, first_week, weeks_in_year, month_with, year_with}
+use Rattle.dh_periods.specs.Types.{shape_of}
+use Rattle.dh_periods.specs.Days.{is_in_year_as, is_listed, first_place_as, end_place_as, first_place, end_place, start_month}
+use Rattle.dh_periods.specs.Places.{ordinal_as, ordinal_of, nth_as, nth_period, place_as, place_with, year_of}
+use Rattle.dh_periods.proofs.CalendarLemmas.{days_before_month-next, days_before_month-later, month_with-is, month_with-from, month_with-before}
+use Rattle.dh_periods.proofs.JiffLemmas.{weeks_in_year_bounds}
+use Rattle.dh_periods.proofs.InverseLemmas.{week-of}
+use Rattle.dh_periods.proofs.ListedLemmas.{listed-parts}
+use Rattle.dh_periods.proofs.BoundLemmas.{IsCount, HasCount, shape_of-count, by_count, date-parts, number-parts}
+
+name-is : (kind : PeriodType) (y n d : ℕ) (p : PeriodName) → kind ≡ p.kind → y ≡ p.year → n ≡ p.number → d ≡ p.day → record { kind = kind; year = y; number = n; day = d } ≡ p
+name-is kind y n d p a b c e = rw (a, b, c, e) refl
+
+-- the month with a date
+date-month : (p : PeriodName) → 1900 ≤ p.year → is_in_year_as Day p ≡ true → month_with (day_place p.year p.number p.day) ≡ month_place p.year p.number
+date-month p low h =
+    let parts = date-parts p h in
+    let k = month_place p.year p.number in
+    let year : 1900 + k / 12 ≡ p.year = omega arith in
+    let month : k % 12 + 1 ≡ p.number = omega arith in
+    let next : days_before_month (k + 1) ≡ days_before_month k + month_length p.year p.number = rw (year, month) at (days_before_month-next k) in
+    month_with-is k (day_place p.year p.number p.day) (omega arith) (omega arith)
+
+-- the month with a month's first day
+first-month : (k : ℕ) → month_with (days_before_month k) ≡ k
+first-month k =
+    let later = days_before_month-later k (k + 1) (omega arith) in
+    month_with-is k (days_before_month k) (omega arith) (omega arith)
+
+-- the months of a year, in periods of so many
+InMonths : ℕ → Type 0
+InMonths c = (year opening n month : ℕ) → 1 ≤ n → n ≤ 12 / c → opening < c
+    → 12 * year + opening + c * (n - 1) ≤ month → month < 12 * year + opening + c * (n - 1) + c
+    → ((month - opening) / c ≡ 12 / c * year + (n - 1)) × ((12 / c * year + (n - 1)) / (12 / c) ≡ year) × ((12 / c * year + (n - 1)) % (12 / c) + 1 ≡ n)
+    × ((12 * year + opening + c * (n - 1)) / 12 ≡ year)
+
+in-months : (c : ℕ) → IsCount c → InMonths c
+unfolding InMonths
+in-months = by_count InMonths
+    (λ year o n m low high opens from to. (omega arith, omega arith, omega arith, omega arith))
+    (λ year o n m low high opens from to. (omega arith, omega arith, omega arith, omega arith))
+    (λ year o n m low high opens from to. (omega arith, omega arith, omega arith, omega arith))
+    (λ year o n m low high opens from to. (omega arith, omega arith, omega arith, omega arith))
+    (λ year o n m low high opens from to. (omega arith, omega arith, omega arith, omega arith))
+
+count-least : (c : ℕ) → IsCount c → 1 ≤ c
+count-least = by_count (λ (c : ℕ). 1 ≤ c) (omega arith) (omega arith) (omega arith) (omega arith) (omega arith)
+
+months-at : (c : ℕ) → IsCount c → (year opening n month : ℕ) → 1 ≤ n → n ≤ 12 / c → opening < c
+    → 12 * year + opening + c * (n - 1) ≤ month → month < 12 * year + opening + c * (n - 1) + c
+    → ((month - opening) / c ≡ 12 / c * year + (n - 1)) × ((12 / c * year + (n - 1)) / (12 / c) ≡ year) × ((12 / c * year + (n - 1)) % (12 / c) + 1 ≡ n)
+    × ((12 * year + opening + c * (n - 1)) / 12 ≡ year)
+unfolding InMonths
+months-at c h = in-months c h
+
+nth_as-kind : (s : Shape) (kind : PeriodType) (i : ℕ) → (nth_as s kind i).kind ≡ kind
+nth_as-kind Day kind i = refl
+nth_as-kind Week kind i = refl
+nth_as-kind (Months count opening) kind i = refl
+
+-- what a shape's places say of a period
+record IsPlaced (s : Shape) (p : PeriodName) : Type 0 where
+  pub again : nth_as s p.kind (ordinal_as s p) ≡ p
+  pub days : (n : ℕ) → first_place_as s p ≤ n → n < end_place_as s p → place_as s n ≡ ordinal_as s p
+
+placed-as : (s : Shape) (p : PeriodName) → HasCount s → 1900 ≤ p.year → p.year ≤ 2100 → is_in_year_as s p ≡ true → IsPlaced s p
+placed-as Day p c low high h =
+    let parts = date-parts p h in
+    let month = date-month p low h in
+    record {
+      again = name-is p.kind _ _ _ p refl (rw month (omega arith)) (rw month (omega arith)) (rw month (omega arith));
+      days = λ n from to. omega arith }
+placed-as Week p c low high h =
+    let parts = number-parts (weeks_in_year p.year) p h in
+    let weeks = weeks_in_year_bounds p.year low (omega arith) in
+    let year = week-of p.year (first_week p.year + (p.number - 1)) low (omega arith) (omega arith) in
+    record {
+      again = name-is p.kind _ _ _ p refl year (rw year (omega arith)) (sym parts.2);
+      days = λ n from to. omega arith }
+placed-as (Months count opening) p c low high h =
+    let parts = number-parts (12 / count) p h in
+    let year = p.year - 1900 in
+    let start = start_month count opening p.year p.number in
+    let least = count-least count c.0 in
+    let here = months-at count c.0 year opening p.number start parts.0 parts.1 c.2 (omega arith) (omega arith) in
+    record {
+      again = name-is p.kind _ _ _ p refl (rw here.1 (omega arith)) here.2 (sym parts.2);
+      days = λ n from to. (months-at count c.0 year opening p.number (month_with n) parts.0 parts.1 c.2 (month_with-from start n from) (month_with-before (start + count) n to)).0 }
+
+-- the year of the first day, but for weeks
+year-as : (s : Shape) (p : PeriodName) → HasCount s → 1900 ≤ p.year → is_in_year_as s p ≡ true → (s ≡ Week → ⊥) → year_with (first_place_as s p) ≡ p.year
+year-as Day p c low h other = let parts = date-parts p h in rw (date-month p low h) (omega arith)
+year-as Week p c low h other = absurd (other refl)
+year-as (Months count opening) p c low h other =
+    let parts = number-parts (12 / count) p h in
+    let start = start_month count opening p.year p.number in
+    let least = count-least count c.0 in
+    let here = months-at count c.0 (p.year - 1900) opening p.number start parts.0 parts.1 c.2 (omega arith) (omega arith) in
+    rw (first-month start) (rw here.3 (omega arith))
+
+placed : (p : PeriodName) → is_listed p ≡ true → IsPlaced (shape_of p.kind) p
+placed p h = let parts = listed-parts p h in placed-as (shape_of p.kind) p (shape_of-count p.kind) parts.0 parts.1 parts.2
+
+-- the period with the place of a period is that period
+pub nth_period-ordinal : (p : PeriodName) → is_listed p ≡ true → nth_period p.kind (ordinal_of p) ≡ p
+unfolding nth_period ordinal_of
+nth_period-ordinal p h = (placed p h).again
+
+-- each day of a period is in the place of that period
+pub place_with-day : (p : PeriodName) (n : ℕ) → is_listed p ≡ true → first_place p ≤ n → n < end_place p → place_with p.kind n ≡ ordinal_of p
+unfolding place_with ordinal_of first_place end_place
+place_with-day p n h from to = (placed p h).days n from to
+
+pub year_of-written : (p : PeriodName) → is_listed p ≡ true → (shape_of p.kind ≡ Week → ⊥) → year_of p ≡ p.year
+unfolding year_of first_place
+year_of-written p h other = let parts = listed-parts p h in year-as (shape_of p.kind) p (shape_of-count p.kind) parts.0 parts.2 other
+
+pub nth_period-kind : (kind : PeriodType) (i : ℕ) → (nth_period kind i).kind ≡ kind
+unfolding nth_period
+nth_period-kind kind i = nth_as-kind (shape_of kind) kind i
+
