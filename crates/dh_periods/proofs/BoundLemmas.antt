@@ -12,7 +12,7 @@ use Rattle.dh_periods.specs.Calendar.{month_length, days_before_month, month_pla
 use Rattle.dh_periods.specs.Types.{shape_of}
 use Rattle.dh_periods.specs.Days.{is_in_year_as, is_listed, first_place_as, end_place_as, first_place, end_place, first_day, last_day, start_month}
 use Rattle.dh_periods.proofs.CalendarLemmas.{days_before_month-zero, days_before_month-next, days_before_month-later}
-use Rattle.dh_periods.proofs.JiffLemmas.{weeks_in_year_bounds}
+use Rattle.dh_periods.proofs.JiffLemmas.{weeks_in_year_bounds, days_before_month-end}
 use Rattle.dh_periods.proofs.ListedLemmas.{listed-parts}
 
 -- a year has as many periods of a type as its months allow
@@ -103,10 +103,9 @@ place-bounds p h =
     (b.0, b.1, b.2, parts.1)
 
 -- the first day is not behind the last, and both are small
-pub day-bounds : (p : PeriodName) → is_listed p ≡ true → (neg_ℤ (pos 25567) ≤ℤ first_day p) × (first_day p ≤ℤ last_day p) × (last_day p ≤ℤ pos 50000)
+pub day-bounds : (p : PeriodName) → is_listed p ≡ true → (neg_ℤ (pos 25567) ≤ℤ first_day p) × (first_day p ≤ℤ last_day p) × (last_day p ≤ℤ pos 48119)
 unfolding first_day last_day
 day-bounds p h =
     let b = place-bounds p h in
-    let far = days_before_month-later 0 2421 (omega arith) in
-    let none = days_before_month-zero in
+    let far = days_before_month-end in
     (omega (arith, signed_arith), omega (arith, signed_arith), omega (arith, signed_arith))

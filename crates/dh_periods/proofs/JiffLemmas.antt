@@ -10,7 +10,7 @@ use Rattle.jiff_core.specs.IsoWeek.{days_from_iso, weeks_in_year as iso_weeks}
 use Rattle.jiff_core.proofs.IsoWeekLemmas.{weeks_in_year-next}
 use Rattle.jiff_core.specs.Calendar.{day_count, days_from_civil, iso_year_start}
 use Rattle.jiff_core.proofs.CalendarLemmas.{day_count-next_month, day_count-next_year, day_count-last_of_year, day_count-day, days_from_civil-day_count, weekday_number-parts}
-use Rattle.jiff_core.proofs.MarchLemmas.{day_count-early}
+use Rattle.jiff_core.proofs.MarchLemmas.{day_count-early, day_count-late}
 use Rattle.jiff_core.proofs.SignedLemmas.{signed_arith}
 use Rattle.dh_periods.specs.Calendar.{month_length, days_before_month, month_place, day_place, unix_day, first_week, weeks_in_year}
 use Rattle.dh_periods.proofs.CalendarLemmas.{days_before_month-zero, days_before_month-next}
@@ -94,3 +94,10 @@ pub days_from_iso-monday : (y week : ℕ) → 1900 ≤ y → days_from_iso (pos 
 days_from_iso-monday y week year =
     let none : 7 * (first_week y + (week - 1)) + 0 ≡ 7 * (first_week y + (week - 1)) = omega arith in
     days_from_iso-is y week Monday year ∙ ap unix_day none
+
+-- 1 October 2101, behind the last day of all periods
+pub days_before_month-end : days_before_month 2421 ≡ 73_687
+days_before_month-end =
+    let counted : day_count (pos 2101) 10 1 ≡ days_before_month 2421 + 4_346_386 = day_count-month 2421 in
+    let value : day_count (pos 2101) 10 1 ≡ 4_420_073 = day_count-late (pos 2101) 12101 10 1 refl (omega arith) (omega arith) (omega arith) in
+    omega (arith, counted, value)

@@ -1,5 +1,7 @@
 -- A period is found again by its place, and by each of its days.
-use Rattle.std.proofs.Common.{◌≡◌, ℕ, zero, suc, ◌+◌, ◌-◌, ◌*◌, ◌/◌, ◌%◌, ◌<◌, ◌≤◌, ◌⊎◌, inl, inr, Bool, true, false, refl, sym, ap, ◌∙◌, arith}
+use Rattle.std.proofs.Common.{◌≡◌, ℕ, zero, suc, ◌+◌, ◌-◌, ◌*◌, ◌/◌, ◌%◌, ◌<◌, ◌≤◌, ◌⊎◌, inl, inr, Bool, true, false, refl, sym, ap, ◌∙◌, arith, ◌^◌, ℤ, pos, ◌+ℤ◌, to_z, of_z, to_z-of_z, FitsSigned, w16}
+use Rattle.std.specs.Prelude.{unsigned_abs}
+use Rattle.jiff_core.proofs.SignedLemmas.{signed_arith}
 use Rattle.std.proofs.lemmas.Bool.{cases_lt}
 use Rattle.dh_periods.specs.declared.kind.PeriodType.{PeriodType}
 use Rattle.dh_periods.specs.declared.kind.Shape.{Shape}
@@ -7,9 +9,9 @@ use Rattle.dh_periods.specs.declared.kind.Shape.TheVariants.{Day, Week, Months}
 use Rattle.dh_periods.specs.declared.name.PeriodName.{PeriodName}
 use Rattle.dh_periods.specs.Calendar.{month_length, days_before_month, month_place, day_place, first_week, weeks_in_year, month_with, year_with}
 use Rattle.dh_periods.specs.Types.{shape_of}
-use Rattle.dh_periods.specs.Days.{is_in_year_as, is_listed, first_place_as, end_place_as, first_place, end_place, start_month}
+use Rattle.dh_periods.specs.Days.{is_in_year_as, is_listed, first_place_as, end_place_as, first_place, end_place, first_day, start_month}
 use Rattle.dh_periods.specs.Places.{ordinal_as, ordinal_of, nth_as, nth_period, place_as, place_with, year_of}
-use Rattle.dh_periods.proofs.CalendarLemmas.{days_before_month-next, days_before_month-later, month_with-is, month_with-from, month_with-before}
+use Rattle.dh_periods.proofs.CalendarLemmas.{days_before_month-next, days_before_month-later, month_with-is, month_with-from, month_with-before, month_with-bounds, days_before_month-zero}
 use Rattle.dh_periods.proofs.JiffLemmas.{weeks_in_year_bounds}
 use Rattle.dh_periods.proofs.InverseLemmas.{week-of}
 use Rattle.dh_periods.proofs.ListedLemmas.{listed-parts}
@@ -126,3 +128,87 @@ pub nth_period-kind : (kind : PeriodType) (i : ℕ) → (nth_period kind i).kind
 unfolding nth_period
 nth_period-kind kind i = nth_as-kind (shape_of kind) kind i
 
+
+-- what one shape says is what the whole definition says
+pub candidate-as : (s : Shape) (kind : PeriodType) (n : ℕ) (r : PeriodName) → s ≡ shape_of kind → r ≡ nth_as s kind (place_as s n) → r ≡ nth_period kind (place_with kind n)
+unfolding nth_period place_with
+candidate-as s kind n r same e = rw (← same) e
+
+pub nth-as : (s : Shape) (kind : PeriodType) (i : ℕ) (r : PeriodName) → s ≡ shape_of kind → r ≡ nth_as s kind i → r ≡ nth_period kind i
+unfolding nth_period
+nth-as s kind i r same e = rw (← same) e
+
+-- the places of the periods that there are
+abbrev pub IsSmall : Shape → ℕ → Type 0
+IsSmall Day i = i ≤ 80_000
+IsSmall Week i = i ≤ 12_000
+IsSmall (Months count opening) i = i ≤ 3_000
+
+few-months : (c : ℕ) → IsCount c → (i : ℕ) → 1900 + i / (12 / c) ≤ 2100 → i ≤ 3000
+few-months = by_count (λ (c : ℕ). (i : ℕ) → 1900 + i / (12 / c) ≤ 2100 → i ≤ 3000) (λ i h. omega arith) (λ i h. omega arith) (λ i h. omega arith) (λ i h. omega arith) (λ i h. omega arith)
+
+year-small : (n : ℕ) → year_with n ≤ 2100 → n ≤ 80000
+year-small n h =
+    let b = month_with-bounds n in
+    let later = days_before_month-later 0 (month_with n + 1) (omega arith) in
+    omega (arith, days_before_month-zero)
+
+nth-small-as : (s : Shape) (kind : PeriodType) (i : ℕ) → HasCount s → (nth_as s kind i).year ≤ 2100 → IsSmall s i
+nth-small-as Day kind i c h = year-small i h
+nth-small-as Week kind i c h = let b = year-small (7 * i + 3) h in omega arith
+nth-small-as (Months count opening) kind i c h = few-months count c.0 i h
+
+pub nth-small : (s : Shape) (kind : PeriodType) (i : ℕ) → s ≡ shape_of kind → is_listed (nth_period kind i) ≡ true → IsSmall s i
+unfolding nth_period
+nth-small s kind i same h =
+    let parts = listed-parts (nth_as (shape_of kind) kind i) h in
+    let small = nth-small-as (shape_of kind) kind i (shape_of-count kind) parts.1 in
+    rw same small
+
+-- the place of a period from its first day, by its shape
+pub first_place-day : (p : PeriodName) → Day ≡ shape_of p.kind → first_place p ≡ ordinal_of p
+unfolding first_place ordinal_of
+first_place-day p same = rw (← same) refl
+
+pub first_place-week : (p : PeriodName) → Week ≡ shape_of p.kind → first_place p ≡ 7 * ordinal_of p
+unfolding first_place ordinal_of
+first_place-week p same = rw (← same) refl
+
+pub ordinal_of-months : (p : PeriodName) (count opening : ℕ) → Months count opening ≡ shape_of p.kind → ordinal_of p ≡ 12 / count * (p.year - 1900) + (p.number - 1)
+unfolding ordinal_of
+ordinal_of-months p count opening same = rw (← same) refl
+
+small-any : (s : Shape) (i : ℕ) → IsSmall s i → i ≤ 80000
+small-any Day i h = h
+small-any Week i h = omega arith
+small-any (Months count opening) i h = omega arith
+
+pub ordinal_of-small : (p : PeriodName) → is_listed p ≡ true → ordinal_of p ≤ 80000
+ordinal_of-small p h =
+    let there : is_listed (nth_period p.kind (ordinal_of p)) ≡ true = rw (nth_period-ordinal p h) h in
+    small-any (shape_of p.kind) (ordinal_of p) (nth-small (shape_of p.kind) p.kind (ordinal_of p) refl there)
+
+number-as : (s : Shape) (p : PeriodName) → is_in_year_as s p ≡ true → 1 ≤ p.number
+number-as Day p h = (date-parts p h).0
+number-as Week p h = (number-parts (weeks_in_year p.year) p h).0
+number-as (Months count opening) p h = (number-parts (12 / count) p h).0
+
+-- the bounds of a period's year and number
+pub name-bounds : (p : PeriodName) → is_listed p ≡ true → (1900 ≤ p.year) × (p.year ≤ 2100) × (1 ≤ p.number)
+name-bounds p h = let parts = listed-parts p h in (parts.0, parts.1, number-as (shape_of p.kind) p parts.2)
+
+-- the number of days since 1 January 1900 of a first day is its place
+pub first_place-from : (p : PeriodName) (n : ℕ) (first : ℤ) → first ≡ first_day p → pos n ≡ first +ℤ pos 25567 → n ≡ first_place p
+unfolding first_day
+first_place-from p n first e counted = omega (arith, signed_arith)
+
+-- a year comes back from the machine's number for it
+pub year-read : (z : ℤ) (y : ℕ) → z ≡ pos y → y < 2 ^ 15 → unsigned_abs (to_z w16 (of_z w16 z)) ≡ y
+year-read z y e h =
+    let fits : FitsSigned w16 (pos y) = omega (arith, signed_arith) in
+    let back : to_z w16 (of_z w16 (pos y)) ≡ pos y = to_z-of_z fits in
+    rw e (rw back refl)
+
+pub year_of-place : (p : PeriodName) (n : ℕ) → n ≡ first_place p → year_with n ≡ year_of p
+unfolding year_of
+year_of-place p n e = ap (λ (k : ℕ). year_with k) e

@@ -1,5 +1,5 @@
 -- Periods by their place among those of their type, which is 0 for the earliest.
-use Rattle.std.specs.Prelude.{ℕ, ◌+◌, ◌-◌, ◌*◌, ◌/◌, ◌%◌, ◌&&◌, if◌then◌else◌, Option, Some, None, ℤ, pos, ◌+ℤ◌, unsigned_abs, int_le}
+use Rattle.std.specs.Prelude.{ℕ, ◌+◌, ◌-◌, ◌*◌, ◌/◌, ◌%◌, Bool, ◌&&◌, if◌then◌else◌, Option, Some, None, ℤ, pos, ◌+ℤ◌, ◌≤ℤ◌, unsigned_abs, int_le}
 use Rattle.dh_periods.specs.declared.kind.PeriodType.{PeriodType}
 use Rattle.dh_periods.specs.declared.kind.Shape.{Shape}
 use Rattle.dh_periods.specs.declared.kind.Shape.TheVariants.{Day, Week, Months}
@@ -39,11 +39,17 @@ place_with kind n = place_as (shape_of kind) n
 unfoldable pub candidate : PeriodType → ℤ → PeriodName
 candidate kind day = nth_period kind (place_with kind (unsigned_abs (day +ℤ pos 25567)))
 
+-- a period has the days from first to last
+abbrev pub Has : PeriodName → ℤ → ℤ → Type 0
+Has p first last = (first_day p ≤ℤ first) × (first ≤ℤ last) × (last ≤ℤ last_day p)
+
+-- the same as a test
+unfoldable pub has_days : PeriodName → ℤ → ℤ → Bool
+has_days p first last = int_le (first_day p) first && (int_le first last && int_le last (last_day p))
+
 -- the period of that type with the days from first to last
 unfoldable pub containing_of : PeriodType → ℤ → ℤ → Option PeriodName
-containing_of kind first last =
-    if is_listed (candidate kind first) && (int_le (first_day (candidate kind first)) first && (int_le first last && int_le last (last_day (candidate kind first))))
-    then Some (candidate kind first) else None
+containing_of kind first last = if is_listed (candidate kind first) && has_days (candidate kind first) first last then Some (candidate kind first) else None
 
 -- the year of a period's first day
 unfoldable pub year_of : PeriodName → ℕ

@@ -1,8 +1,9 @@
 //! Periods by their place among those of their type, and by the days that they have.
-ghost use Rattle.std.specs.Prelude.{◌≡◌, ◌≤◌, ◌<◌, ◌+◌, ◌-◌, ◌*◌, ◌%◌, pos};
+ghost use Rattle.std.specs.Prelude.{◌≡◌, ◌≤◌, ◌<◌, ◌+◌, ◌-◌, ◌*◌, ◌%◌, pos, IsTrue};
 ghost use Rattle.jiff_core.specs.Date.{epoch_day};
 ghost use Rattle.dh_periods.specs.declared.kind.Shape.TheVariants.{Day, Week, Months};
 ghost use Rattle.dh_periods.specs.Calendar.{unix_day, month_with, year_with, first_week, days_before_month};
+ghost use Rattle.dh_periods.specs.Days.{is_listed};
 ghost use Rattle.dh_periods.specs.Places.{nth_as, place_as, nth_period, place_with};
 
 use crate::days::FIRST_YEAR;
@@ -38,6 +39,7 @@ fn week_at(place: u32) -> ISOWeekDate
 fn month_at(place: u32) -> u16
     requires { place ≤ 100_000 }
     ensures value { result ≡ month_with place }
+    ensures bound { result ≤ 10_000 }
 {
     let date = date_at(place);
     12 * (date.year as u16 - FIRST_YEAR) + u16::from(date.month) - 1
@@ -81,5 +83,41 @@ fn nth_months(kind: PeriodType, count: u8, opening: u8, place: u16) -> PeriodNam
         year: FIRST_YEAR + place / in_year,
         number: (place % in_year + 1) as u8,
         day: 1,
+    }
+}
+
+/// The place of the months with that day among the periods of so many months.
+fn months_with(count: u8, opening: u8, place: u32) -> u16
+    requires place { place ≤ 80_000 }
+    requires count { 1 ≤ count }
+    ensures value { result ≡ place_as (Months count opening) place }
+    ensures bound { result ≤ 10_000 }
+{
+    month_at(place).saturating_sub(u16::from(opening)) / u16::from(count)
+}
+
+/// The only period of that type that can have the day so many days after 1 January 1900.
+pub(crate) fn candidate(kind: PeriodType, place: u32) -> PeriodName
+    requires { place ≤ 80_000 }
+    ensures { result ≡ nth_period kind (place_with kind place) }
+{
+    match shape_of(kind) {
+        Shape::Day => nth_day(kind, place),
+        Shape::Week => nth_week(kind, place / 7),
+        Shape::Months { count, opening } => {
+            nth_months(kind, count, opening, months_with(count, opening, place))
+        }
+    }
+}
+
+/// The period of that type with that place, which is one of those that there are.
+pub(crate) fn nth(kind: PeriodType, place: u32) -> PeriodName
+    requires { IsTrue (is_listed (nth_period kind place)) }
+    ensures { result ≡ nth_period kind place }
+{
+    match shape_of(kind) {
+        Shape::Day => nth_day(kind, place),
+        Shape::Week => nth_week(kind, place),
+        Shape::Months { count, opening } => nth_months(kind, count, opening, place as u16),
     }
 }
