@@ -8,3 +8,4 @@ pub mod HeldLemmas
 pub mod InverseLemmas
 pub mod PlaceLemmas
 pub mod ContainingLemmas
+pub mod RunLemmas

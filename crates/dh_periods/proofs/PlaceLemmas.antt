@@ -62,7 +62,7 @@ months-at : (c : ℕ) → IsCount c → (year opening n month : ℕ) → 1 ≤ n
 unfolding InMonths
 months-at c h = in-months c h
 
-nth_as-kind : (s : Shape) (kind : PeriodType) (i : ℕ) → (nth_as s kind i).kind ≡ kind
+pub nth_as-kind : (s : Shape) (kind : PeriodType) (i : ℕ) → (nth_as s kind i).kind ≡ kind
 nth_as-kind Day kind i = refl
 nth_as-kind Week kind i = refl
 nth_as-kind (Months count opening) kind i = refl

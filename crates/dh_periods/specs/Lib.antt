@@ -5,3 +5,4 @@ pub mod Spans
 pub mod Texts
 pub mod Held
 pub mod Places
+pub mod Relative

@@ -8,6 +8,7 @@ mod period;
 mod places;
 mod print;
 mod read;
+mod windows;
 
 pub use kind::PeriodType;
 pub use name::PeriodName;
