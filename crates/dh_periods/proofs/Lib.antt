@@ -9,3 +9,4 @@ pub mod InverseLemmas
 pub mod PlaceLemmas
 pub mod ContainingLemmas
 pub mod RunLemmas
+pub mod CivilLemmas

@@ -212,3 +212,7 @@ year-read z y e h =
 pub year_of-place : (p : PeriodName) (n : ℕ) → n ≡ first_place p → year_with n ≡ year_of p
 unfolding year_of
 year_of-place p n e = ap (λ (k : ℕ). year_with k) e
+
+pub place-as : (s : Shape) (kind : PeriodType) (n r : ℕ) → s ≡ shape_of kind → r ≡ place_as s n → r ≡ place_with kind n
+unfolding place_with
+place-as s kind n r same e = rw (← same) e

@@ -1,18 +1,19 @@
 -- Which places have a period, and the runs of periods that relative periods stand for.
-use Rattle.std.proofs.Common.{◌≡◌, ℕ, zero, suc, ◌+◌, ◌-◌, ◌*◌, ◌/◌, ◌%◌, ◌<◌, ◌≤◌, ◌⊎◌, inl, inr, Bool, true, false, ◌&&◌, nat_le, List, [], ◌∷◌, ◌++◌, refl, sym, ap, subst, ◌∙◌, arith}
+use Rattle.std.proofs.Common.{◌≡◌, ℕ, zero, suc, ◌+◌, ◌-◌, ◌*◌, ◌/◌, ◌%◌, ◌<◌, ◌≤◌, ◌⊎◌, inl, inr, Bool, true, false, ◌&&◌, nat_le, List, [], ◌∷◌, ◌++◌, refl, sym, ap, subst, ◌∙◌, arith, Option, Some, None, ℤ, pos, ◌+ℤ◌}
+use Rattle.std.specs.Prelude.{unsigned_abs}
 use Rattle.std.proofs.lemmas.Bool.{cases_lt, and_from, le-leb, eq-eqb}
 use Rattle.dh_periods.specs.declared.kind.PeriodType.{PeriodType}
 use Rattle.dh_periods.specs.declared.kind.PeriodType.TheVariants.{Daily, Weekly, Monthly, BiMonthly, Quarterly, SixMonthly, SixMonthlyApril, Yearly, FinancialApril, FinancialJuly, FinancialOct}
 use Rattle.dh_periods.specs.declared.kind.Shape.{Shape}
 use Rattle.dh_periods.specs.declared.kind.Shape.TheVariants.{Day, Week, Months}
 use Rattle.dh_periods.specs.declared.name.PeriodName.{PeriodName}
-use Rattle.dh_periods.specs.declared.windows.Relative.{Relative}
-use Rattle.dh_periods.specs.declared.windows.Relative.TheVariants.{Before, OfYear}
+use Rattle.dh_periods.specs.declared.windows.Stretch.{Stretch}
+use Rattle.dh_periods.specs.declared.windows.Stretch.TheVariants.{Before, OfYear}
 use Rattle.dh_periods.specs.Calendar.{month_length, days_before_month, month_place, day_place, first_week, weeks_in_year, month_with, year_with}
 use Rattle.dh_periods.specs.Types.{shape_of}
 use Rattle.dh_periods.specs.Days.{is_in_year_as, is_listed}
 use Rattle.dh_periods.specs.Places.{nth_as, nth_period, place_as, place_with}
-use Rattle.dh_periods.specs.Relative.{IsReach, HasReach, run_of, periods_on}
+use Rattle.dh_periods.specs.Relative.{IsReach, IsYearRun, run_of, periods_on, relative_named, relative_of}
 use Rattle.dh_periods.proofs.CalendarLemmas.{days_before_month-next, days_before_month-zero, days_before_month-later, month_with-bounds, month_with-from, month_with-before, first_week-thursday}
 use Rattle.dh_periods.proofs.JiffLemmas.{days_before_month-end}
 use Rattle.dh_periods.proofs.ListedLemmas.{listed-from}
@@ -127,7 +128,7 @@ reaches FinancialOct n day back i near from to = absurd near
 
 
 -- the same of the periods of the day's year
-reaches-year : (kind : PeriodType) (count n i : ℕ) → IsDay n → HasReach (OfYear kind count) → count * (year_with n - 1900) ≤ i → i < count * (year_with n - 1900) + count → is_listed (nth_period kind i) ≡ true
+reaches-year : (kind : PeriodType) (count n i : ℕ) → IsDay n → IsYearRun kind count → count * (year_with n - 1900) ≤ i → i < count * (year_with n - 1900) + count → is_listed (nth_period kind i) ≡ true
 unfolding HasPeriod
 reaches-year Monthly count n i day has from to =
     let m = month-range n day in
@@ -163,3 +164,32 @@ far-enough SixMonthlyApril n back day near = absurd near
 far-enough FinancialApril n back day near = absurd near
 far-enough FinancialJuly n back day near = absurd near
 far-enough FinancialOct n back day near = absurd near
+
+pub before-listed : (kind : PeriodType) (n back count p : ℕ) → 3652 ≤ n → n ≤ 73_048 → IsReach kind back → count ≤ back + 1 → p ≡ place_with kind n → (i : ℕ) → p - back ≤ i → i < p - back + count → is_listed (nth_period kind i) ≡ true
+unfolding Reaches
+before-listed kind n back count p low high near few same i from to =
+    let day : IsDay n = record { from = low; to = high } in
+    let far = far-enough kind n back day near in
+    reaches kind n day back i near (omega arith) (omega arith)
+
+pub back-in : (kind : PeriodType) (n back p : ℕ) → 3652 ≤ n → n ≤ 73_048 → IsReach kind back → p ≡ place_with kind n → back ≤ p
+back-in kind n back p low high near same =
+    let day : IsDay n = record { from = low; to = high } in
+    let far = far-enough kind n back day near in
+    omega arith
+
+pub year-listed : (kind : PeriodType) (count n y : ℕ) → 3652 ≤ n → n ≤ 73_048 → IsYearRun kind count → y ≡ year_with n - 1900 → (i : ℕ) → count * y ≤ i → i < count * y + count → is_listed (nth_period kind i) ≡ true
+year-listed kind count n y low high has same i from to =
+    let day : IsDay n = record { from = low; to = high } in
+    reaches-year kind count n i day has (rw (← same) from) (rw (← same) to)
+
+-- a name's periods, and no name
+pub relative_of-some : (name : List ℕ) (day : ℤ) (n : ℕ) (r : Stretch) (xs : List PeriodName) → pos n ≡ day +ℤ pos 25567 → Some r ≡ relative_named name → xs ≡ periods_on n r → Some xs ≡ relative_of name day
+unfolding relative_of
+relative_of-some name day n r xs place named is =
+    let same : n ≡ unsigned_abs (day +ℤ pos 25567) = ap unsigned_abs place in
+    rw (← named, ← same, is) refl
+
+pub relative_of-none : (name : List ℕ) (day : ℤ) → None ≡ relative_named name → None ≡ relative_of name day
+unfolding relative_of
+relative_of-none name day none = rw (← none) refl

@@ -6,3 +6,4 @@ pub mod Texts
 pub mod Held
 pub mod Places
 pub mod Relative
+pub mod Civil

@@ -3,16 +3,16 @@ use Rattle.std.specs.Prelude.{ℕ, zero, suc, ◌+◌, ◌-◌, ◌*◌, ◌≤�
 use Rattle.dh_periods.specs.declared.kind.PeriodType.{PeriodType}
 use Rattle.dh_periods.specs.declared.kind.PeriodType.TheVariants.{Daily, Weekly, Monthly, BiMonthly, Quarterly, SixMonthly, SixMonthlyApril, Yearly, FinancialApril, FinancialJuly, FinancialOct}
 use Rattle.dh_periods.specs.declared.name.PeriodName.{PeriodName}
-use Rattle.dh_periods.specs.declared.windows.Relative.{Relative}
-use Rattle.dh_periods.specs.declared.windows.Relative.TheVariants.{Before, OfYear}
+use Rattle.dh_periods.specs.declared.windows.Stretch.{Stretch}
+use Rattle.dh_periods.specs.declared.windows.Stretch.TheVariants.{Before, OfYear}
 use Rattle.dh_periods.specs.Calendar.{year_with}
 use Rattle.dh_periods.specs.Places.{nth_period, place_with}
 
-abbrev pub before_of : PeriodType → ℕ → ℕ → Option Relative
+abbrev pub before_of : PeriodType → ℕ → ℕ → Option Stretch
 before_of kind back count = Some (Before kind back count)
 
 -- one period: that of the day, or the one before it
-abbrev pub single_named : List ℕ → Option Relative
+abbrev pub single_named : List ℕ → Option Stretch
 single_named name =
     if bytes_eq name (codes "TODAY") then Some (Before Daily 0 1)
     else (if bytes_eq name (codes "YESTERDAY") then Some (Before Daily 1 1)
@@ -27,7 +27,7 @@ single_named name =
     else None)))))))))
 
 -- several: those before that of the day, or all of the day's year
-abbrev pub several_named : List ℕ → Option Relative
+abbrev pub several_named : List ℕ → Option Stretch
 several_named name =
     if bytes_eq name (codes "LAST_3_MONTHS") then Some (Before Monthly 3 3)
     else (if bytes_eq name (codes "LAST_6_MONTHS") then Some (Before Monthly 6 6)
@@ -38,11 +38,11 @@ several_named name =
     else (if bytes_eq name (codes "QUARTERS_THIS_YEAR") then Some (OfYear Quarterly 4)
     else None))))))
 
-abbrev pub some_or : Option Relative → Option Relative → Option Relative
+abbrev pub some_or : Option Stretch → Option Stretch → Option Stretch
 some_or (Some r) other = Some r
 some_or None other = other
 
-unfoldable pub relative_named : List ℕ → Option Relative
+unfoldable pub relative_named : List ℕ → Option Stretch
 relative_named name = some_or (single_named name) (several_named name)
 
 -- how far a relative period reaches back
@@ -59,11 +59,15 @@ IsReach FinancialApril back = ⊥
 IsReach FinancialJuly back = ⊥
 IsReach FinancialOct back = ⊥
 
-abbrev pub HasReach : Relative → Type 0
+-- the periods of a year
+abbrev pub IsYearRun : PeriodType → ℕ → Type 0
+IsYearRun Monthly count = count ≡ 12
+IsYearRun Quarterly count = count ≡ 4
+IsYearRun _ count = ⊥
+
+abbrev pub HasReach : Stretch → Type 0
 HasReach (Before kind back count) = IsReach kind back × (count ≤ back + 1)
-HasReach (OfYear Monthly count) = count ≡ 12
-HasReach (OfYear Quarterly count) = count ≡ 4
-HasReach (OfYear _ count) = ⊥
+HasReach (OfYear kind count) = IsYearRun kind count
 
 -- so many periods of a type from a place on, oldest first
 unfoldable pub run_of : PeriodType → ℕ → ℕ → List PeriodName
@@ -71,7 +75,7 @@ run_of kind start zero = []
 run_of kind start (suc count) = run_of kind start count ++ nth_period kind (start + count) ∷ []
 
 -- the periods that a relative period stands for on the nth day since 1 January 1900
-abbrev pub periods_on : ℕ → Relative → List PeriodName
+abbrev pub periods_on : ℕ → Stretch → List PeriodName
 periods_on n (Before kind back count) = run_of kind (place_with kind n - back) count
 periods_on n (OfYear kind count) = run_of kind (count * (year_with n - 1900)) count
 

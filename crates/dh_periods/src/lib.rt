@@ -1,6 +1,7 @@
 //! Periods of a health reporting system: days, weeks, months and longer, each written as a short text.
 #![tactic(auto)]
 
+mod dates;
 mod days;
 mod kind;
 mod name;
@@ -10,6 +11,8 @@ mod print;
 mod read;
 mod windows;
 
+pub use dates::civil;
 pub use kind::PeriodType;
 pub use name::PeriodName;
 pub use period::Period;
+pub use windows::relative;

@@ -8,15 +8,12 @@ ghost use Rattle.dh_periods.specs.Days.{first_day, last_day, listed, is_listed, 
 use crate::days::{FIRST_YEAR, span_of};
 use crate::kind::{PeriodType, Shape, shape_of};
 use crate::name::PeriodName;
-use crate::places::{candidate, date_at};
+use crate::places::{FIRST_DAY, candidate, date_at, place_of};
 use crate::print::print_name;
 use crate::read::read_name;
 use dh_base::memory::Memory;
 use std::alloc::Global;
 use std::marker::Model;
-
-/// 1 January 1900, the first day of all periods.
-const FIRST_DAY: i32 = -25_567;
 
 /// 30 September 2101, the last day of all periods.
 const LAST_DAY: i32 = 48_119;
@@ -61,15 +58,6 @@ fn period_in(text: &[u8]) -> Option<Period>
     ensures { result ≡ period_of text.now }
 {
     Period::named(read_name(text)?)
-}
-
-fn place_of(day: i32) -> u32
-    requires from { neg_ℤ (pos 25567) ≤ℤ day }
-    requires to { day ≤ℤ pos 48119 }
-    ensures value { pos result ≡ day +ℤ pos 25567 }
-    ensures bound { result ≤ 80_000 }
-{
-    (day - FIRST_DAY) as u32
 }
 
 fn year_in(first: i32, name: PeriodName) -> u16

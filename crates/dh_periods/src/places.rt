@@ -1,5 +1,5 @@
 //! Periods by their place among those of their type, and by the days that they have.
-ghost use Rattle.std.specs.Prelude.{◌≡◌, ◌≤◌, ◌<◌, ◌+◌, ◌-◌, ◌*◌, ◌%◌, pos, IsTrue};
+ghost use Rattle.std.specs.Prelude.{◌≡◌, ◌≤◌, ◌<◌, ◌+◌, ◌-◌, ◌*◌, ◌%◌, pos, neg_ℤ, ◌+ℤ◌, ◌≤ℤ◌, IsTrue};
 ghost use Rattle.jiff_core.specs.Date.{epoch_day};
 ghost use Rattle.dh_periods.specs.declared.kind.Shape.TheVariants.{Day, Week, Months};
 ghost use Rattle.dh_periods.specs.Calendar.{unix_day, month_with, year_with, first_week, days_before_month};
@@ -11,8 +11,21 @@ use crate::kind::{PeriodType, Shape, shape_of};
 use crate::name::PeriodName;
 use jiff_core::civil::{Date, ISOWeekDate};
 
+/// 1 January 1900, the first day of all periods.
+pub(crate) const FIRST_DAY: i32 = -25_567;
+
 /// How many days 1 January 1900 lies behind the first day of the library.
 const DAYS_BEFORE: u32 = 4_346_020;
+
+/// How many days after 1 January 1900 a day lies.
+pub(crate) fn place_of(day: i32) -> u32
+    requires from { neg_ℤ (pos 25567) ≤ℤ day }
+    requires to { day ≤ℤ pos 48119 }
+    ensures value { pos result ≡ day +ℤ pos 25567 }
+    ensures bound { result ≤ 80_000 }
+{
+    (day - FIRST_DAY) as u32
+}
 
 /// The date so many days after 1 January 1900.
 pub(crate) fn date_at(place: u32) -> Date
@@ -119,5 +132,18 @@ pub(crate) fn nth(kind: PeriodType, place: u32) -> PeriodName
         Shape::Day => nth_day(kind, place),
         Shape::Week => nth_week(kind, place),
         Shape::Months { count, opening } => nth_months(kind, count, opening, place as u16),
+    }
+}
+
+/// The place of the period with that day among those of its type.
+pub(crate) fn place_with(kind: PeriodType, place: u32) -> u32
+    requires { place ≤ 80_000 }
+    ensures value { result ≡ place_with kind place }
+    ensures bound { result ≤ 80_000 }
+{
+    match shape_of(kind) {
+        Shape::Day => place,
+        Shape::Week => place / 7,
+        Shape::Months { count, opening } => u32::from(months_with(count, opening, place)),
     }
 }

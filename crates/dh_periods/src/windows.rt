@@ -1,18 +1,20 @@
 //! Relative periods.
 ghost use Rattle.std.specs.Prelude.{◌≡◌, ◌≤◌, ◌<◌, ◌+◌, ◌-◌, ◌*◌, ℕ, pos, neg_ℤ, ◌≤ℤ◌, IsTrue, IfSome, IfOk, option_map};
 ghost use Rattle.dh_periods.specs.Days.{is_listed};
-ghost use Rattle.dh_periods.specs.Places.{nth_period};
-ghost use Rattle.dh_periods.specs.Relative.{before_of, single_named, several_named, relative_named, HasReach, run_of};
+ghost use Rattle.dh_periods.specs.Places.{nth_period, place_with};
+ghost use Rattle.dh_periods.specs.Relative.{before_of, single_named, several_named, relative_named, IsReach, IsYearRun, HasReach, run_of, periods_on, relative_of};
+ghost use Rattle.dh_periods.specs.Calendar.{year_with};
 
 use crate::kind::PeriodType;
 use crate::period::Period;
-use crate::places::nth;
+use crate::days::FIRST_YEAR;
+use crate::places::{date_at, nth, place_of, place_with};
 use dh_base::memory::Memory;
 use std::alloc::Global;
 
 /// A relative period, as it stands to the day on which it is asked for.
 #[derive(Clone, Copy)]
-pub(crate) enum Relative {
+pub(crate) enum Stretch {
     /// So many periods, the first of which is `back` before the one with the day.
     Before {
         kind: PeriodType,
@@ -23,13 +25,13 @@ pub(crate) enum Relative {
     OfYear { kind: PeriodType, count: u32 },
 }
 
-fn before(kind: PeriodType, back: u32, count: u32) -> Option<Relative>
+fn before(kind: PeriodType, back: u32, count: u32) -> Option<Stretch>
     ensures { result ≡ before_of kind back count }
 {
-    Some(Relative::Before { kind, back, count })
+    Some(Stretch::Before { kind, back, count })
 }
 
-fn single_named(name: &[u8]) -> Option<Relative>
+fn single_named(name: &[u8]) -> Option<Stretch>
     ensures value { result ≡ single_named name.now }
     ensures reach { IfSome result HasReach }
 {
@@ -66,7 +68,7 @@ fn single_named(name: &[u8]) -> Option<Relative>
     None
 }
 
-fn several_named(name: &[u8]) -> Option<Relative>
+fn several_named(name: &[u8]) -> Option<Stretch>
     ensures value { result ≡ several_named name.now }
     ensures reach { IfSome result HasReach }
 {
@@ -86,13 +88,13 @@ fn several_named(name: &[u8]) -> Option<Relative>
         return before(PeriodType::Yearly, 5, 5);
     }
     if name == b"MONTHS_THIS_YEAR".as_slice() {
-        return Some(Relative::OfYear {
+        return Some(Stretch::OfYear {
             kind: PeriodType::Monthly,
             count: 12,
         });
     }
     if name == b"QUARTERS_THIS_YEAR".as_slice() {
-        return Some(Relative::OfYear {
+        return Some(Stretch::OfYear {
             kind: PeriodType::Quarterly,
             count: 4,
         });
@@ -102,7 +104,7 @@ fn several_named(name: &[u8]) -> Option<Relative>
 
 /// What a name stands for.
 #[tactic(auto, unfolding(crate::specs::Relative::relative_named))]
-fn relative_named(name: &[u8]) -> Option<Relative>
+fn relative_named(name: &[u8]) -> Option<Stretch>
     ensures value { result ≡ relative_named name.now }
     ensures reach { IfSome result HasReach }
 {
@@ -133,4 +135,63 @@ fn run_of(alloc: Global, kind: PeriodType, start: u32, count: u32) -> Result<Vec
         periods.push(period_nth(kind, place))?;
     }
     Ok(periods)
+}
+
+fn before_on(
+    alloc: Global,
+    kind: PeriodType,
+    back: u32,
+    count: u32,
+    place: u32,
+) -> Result<Vec<Period>, Memory>
+    requires from { 3652 ≤ place }
+    requires to { place ≤ 73_048 }
+    requires reach { IsReach kind back }
+    requires count { count ≤ back + 1 }
+    ensures { IfOk result
+        (λ periods. periods.items ≡ run_of kind (place_with kind place - back) count) }
+{
+    run_of(alloc, kind, place_with(kind, place) - back, count)
+}
+
+fn year_on(
+    alloc: Global,
+    kind: PeriodType,
+    count: u32,
+    place: u32,
+) -> Result<Vec<Period>, Memory>
+    requires from { 3652 ≤ place }
+    requires to { place ≤ 73_048 }
+    requires reach { IsYearRun kind count }
+    ensures { IfOk result
+        (λ periods. periods.items ≡ run_of kind (count * (year_with place - 1900)) count) }
+{
+    let years = u32::from(date_at(place).year as u16 - FIRST_YEAR);
+    run_of(alloc, kind, count * years, count)
+}
+
+fn periods_on(alloc: Global, relative: Stretch, place: u32) -> Result<Vec<Period>, Memory>
+    requires from { 3652 ≤ place }
+    requires to { place ≤ 73_048 }
+    requires reach { HasReach relative }
+    ensures { IfOk result (λ periods. periods.items ≡ periods_on place relative) }
+{
+    match relative {
+        Stretch::Before { kind, back, count } => before_on(alloc, kind, back, count, place),
+        Stretch::OfYear { kind, count } => year_on(alloc, kind, count, place),
+    }
+}
+
+/// The periods that a relative name stands for on a day from 1 January 1910 to 31 December 2099,
+/// oldest first, or `None` where there is no such name.
+pub fn relative(alloc: Global, name: &[u8], day: i32) -> Result<Option<Vec<Period>>, Memory>
+    requires from { neg_ℤ (pos 21915) ≤ℤ day }
+    requires to { day ≤ℤ pos 47481 }
+    ensures { IfOk result
+        (λ found. option_map (λ periods. periods.items) found ≡ relative_of name.now day) }
+{
+    let Some(relative) = relative_named(name) else {
+        return Ok(None);
+    };
+    Ok(Some(periods_on(alloc, relative, place_of(day))?))
 }
