@@ -10,3 +10,4 @@ pub mod PlaceLemmas
 pub mod ContainingLemmas
 pub mod RunLemmas
 pub mod CivilLemmas
+pub mod TypeLemmas

@@ -1,6 +1,7 @@
 //! The types of periods.
-ghost use Rattle.std.specs.Prelude.{◌≡◌};
-ghost use Rattle.dh_periods.specs.Types.{shape_of, IsShape};
+ghost use Rattle.std.specs.Prelude.{◌≡◌, ◌≢◌, IfSome, IfNone};
+ghost use Rattle.dh_periods.specs.declared.kind.PeriodType.{PeriodType};
+ghost use Rattle.dh_periods.specs.Types.{shape_of, type_name, type_named, IsShape};
 
 /// The types of periods, in the order in which periods of the same days are sorted.
 #[derive(Clone, Copy, PartialEq, Eq, PartialOrd, Ord, Hash, Debug)]
@@ -16,6 +17,58 @@ pub enum PeriodType {
     FinancialApril,
     FinancialJuly,
     FinancialOct,
+}
+
+/// All types, in their order.
+const ALL_TYPES: [PeriodType; 11] = [
+    PeriodType::Daily,
+    PeriodType::Weekly,
+    PeriodType::Monthly,
+    PeriodType::BiMonthly,
+    PeriodType::Quarterly,
+    PeriodType::SixMonthly,
+    PeriodType::SixMonthlyApril,
+    PeriodType::Yearly,
+    PeriodType::FinancialApril,
+    PeriodType::FinancialJuly,
+    PeriodType::FinancialOct,
+];
+
+#[tactic(auto, unfolding(crate::specs::Types::type_named))]
+fn type_named(name: &[u8]) -> Option<PeriodType>
+    ensures { result ≡ type_named name.now }
+{
+    ALL_TYPES.iter().copied().find(|kind| kind.name() == name)
+}
+
+impl PeriodType {
+    /// The type of that name, such as `Monthly`, or `None` where no type has it.
+    pub fn parse(name: &[u8]) -> Option<PeriodType>
+        ensures value { result ≡ type_named name.now }
+        ensures found { IfSome result (λ kind. type_name kind ≡ name.now) }
+        ensures none { IfNone result ((kind : PeriodType) → type_name kind ≢ name.now) }
+    {
+        type_named(name)
+    }
+
+    /// The name of the type, such as `Monthly`.
+    pub fn name(self) -> &'static [u8]
+        ensures { result.now ≡ type_name self }
+    {
+        match self {
+            PeriodType::Daily => b"Daily",
+            PeriodType::Weekly => b"Weekly",
+            PeriodType::Monthly => b"Monthly",
+            PeriodType::BiMonthly => b"BiMonthly",
+            PeriodType::Quarterly => b"Quarterly",
+            PeriodType::SixMonthly => b"SixMonthly",
+            PeriodType::SixMonthlyApril => b"SixMonthlyApril",
+            PeriodType::Yearly => b"Yearly",
+            PeriodType::FinancialApril => b"FinancialApril",
+            PeriodType::FinancialJuly => b"FinancialJuly",
+            PeriodType::FinancialOct => b"FinancialOct",
+        }
+    }
 }
 
 /// How the periods of a type lie in a year.
