@@ -11,3 +11,4 @@ pub mod ContainingLemmas
 pub mod RunLemmas
 pub mod CivilLemmas
 pub mod TypeLemmas
+pub mod KeyLemmas

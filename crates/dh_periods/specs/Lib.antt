@@ -7,3 +7,4 @@ pub mod Held
 pub mod Places
 pub mod Relative
 pub mod Civil
+pub mod Keys

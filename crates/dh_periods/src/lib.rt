@@ -14,5 +14,5 @@ mod windows;
 pub use dates::civil;
 pub use kind::PeriodType;
 pub use name::PeriodName;
-pub use period::Period;
+pub use period::{Period, containing};
 pub use windows::relative;

@@ -126,6 +126,17 @@ fn period_with(kind: PeriodType, first: i32, last: i32) -> Option<Period>
     period_at(kind, first, last)
 }
 
+/// The period of that type that has the days from `first` to `last`, or `None` where there is
+/// none, as where the first is after the last.
+pub fn containing(kind: PeriodType, first: i32, last: i32) -> Option<Period>
+    ensures value { result ≡ containing_of kind first last }
+    ensures found { IfSome result (λ p. (p.kind ≡ kind) × Has p first last) }
+    ensures none { IfNone result
+        ((p : PeriodName) → IsTrue (is_listed p) → p.kind ≡ kind → ¬ Has p first last) }
+{
+    period_with(kind, first, last)
+}
+
 impl Period {
     /// The period of that name, or `None` where there is none.
     pub fn named(name: PeriodName) -> Option<Period>
@@ -208,16 +219,5 @@ impl Period {
         ensures place { nth_period self.kind (ordinal_of self) ≡ self }
     {
         ordinal_in(self.first, self.name) as i32
-    }
-
-    /// The period of that type that has the days from `first` to `last`, or `None` where there is
-    /// none, as where the first is after the last.
-    pub fn containing(kind: PeriodType, first: i32, last: i32) -> Option<Period>
-        ensures value { result ≡ containing_of kind first last }
-        ensures found { IfSome result (λ p. (p.kind ≡ kind) × Has p first last) }
-        ensures none { IfNone result
-            ((p : PeriodName) → IsTrue (is_listed p) → p.kind ≡ kind → ¬ Has p first last) }
-    {
-        period_with(kind, first, last)
     }
 }

@@ -1,7 +1,7 @@
 use Rattle.std.proofs.Common.{◌≡◌, FitsSigned, to_z-of_z, w32}
 use Rattle.dh_periods.specs.Places.{containing_of}
 use Rattle.dh_periods.proofs.ContainingLemmas.{containing-found, containing-none}
-use Rattle.dh_periods.proofs.period.Period.containing.Goals as goal
+use Rattle.dh_periods.proofs.period.containing.Goals as goal
 
 pub returns-clause-found : goal.returns-clause-found
 returns-clause-found c =
