@@ -11,6 +11,11 @@ mod print;
 mod read;
 mod windows;
 
+#[cfg(test)]
+mod tests;
+#[cfg(test)]
+mod vectors;
+
 pub use dates::civil;
 pub use kind::PeriodType;
 pub use name::PeriodName;
