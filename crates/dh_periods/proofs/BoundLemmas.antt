@@ -11,7 +11,7 @@ use Rattle.dh_periods.specs.declared.name.PeriodName.{PeriodName}
 use Rattle.dh_periods.specs.Calendar.{month_length, days_before_month, month_place, weeks_in_year}
 use Rattle.dh_periods.specs.Types.{shape_of}
 use Rattle.dh_periods.specs.Days.{is_in_year_as, is_listed, first_place_as, end_place_as, first_place, end_place, first_day, last_day, start_month}
-use Rattle.dh_periods.proofs.CalendarLemmas.{days_before_month-zero, days_before_month-next, days_before_month-later}
+use Rattle.dh_periods.proofs.CalendarLemmas.{days_before_month-next, days_before_month-later}
 use Rattle.dh_periods.proofs.JiffLemmas.{weeks_in_year_bounds, days_before_month-end}
 use Rattle.dh_periods.proofs.ListedLemmas.{listed-parts}
 

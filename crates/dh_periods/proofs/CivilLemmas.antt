@@ -1,11 +1,10 @@
 -- A date that is read is written so, and one that is written is read.
-use Rattle.std.proofs.Common.{◌≡◌, ℕ, ◌+◌, ◌-◌, ◌*◌, ◌/◌, ◌%◌, ◌<◌, ◌≤◌, ◌⊎◌, inl, inr, Bool, true, false, ◌&&◌, nat_le, if◌then◌else◌, Option, Some, None, List, [], ◌∷◌, ◌++◌, length, slice_index, refl, sym, ap, subst, ◌∙◌, arith, ℤ}
-use Rattle.std.specs.Prelude.{codes, option_map, option_and_then, ◌==◌, IfSome, IfNone, IsTrue}
+use Rattle.std.proofs.Common.{◌≡◌, ℕ, inl, inr, true, ◌&&◌, Option, Some, None, List, [], ◌∷◌, ◌++◌, length, slice_index, refl, sym, ap, subst, ◌∙◌, arith, ℤ}
+use Rattle.std.specs.Prelude.{codes, option_and_then, ◌==◌, IfSome, IfNone}
 use Rattle.std.proofs.lemmas.Bool.{and_parts, eqb-true}
 use Rattle.dh_periods.specs.declared.kind.PeriodType.TheVariants.{Daily}
 use Rattle.dh_periods.specs.declared.kind.Shape.TheVariants.{Day}
 use Rattle.dh_periods.specs.declared.name.PeriodName.{PeriodName}
-use Rattle.dh_periods.specs.Calendar.{month_length}
 use Rattle.dh_periods.specs.Days.{is_in_year_as, is_listed, listed, first_day}
 use Rattle.dh_periods.specs.Texts.{two_digits, four_digits, number_of_two, number_of_four, dated}
 use Rattle.dh_periods.specs.Civil.{date_text, IsDateText, read_date, civil_of}
@@ -50,7 +49,7 @@ read_date-is text p e =
     let o = number_of_two (s 5) (s 6) in
     let l = number_of_two (s 8) (s 9) in
     let taken : ((length text == 10 && (s 4 == 45 && s 7 == 45)) ≡ true) × (option_and_then (λ y. dated y o l) (number_of_four (s 0) (s 1) (s 2) (s 3)) ≡ Some p) =
-        elim (choice (length text == 10 && (s 4 == 45 && s 7 == 45)) _ _ _ e) [ inl t ↦ t | inr none ↦ absurd (cc none.1) ] in
+    elim (choice (length text == 10 && (s 4 == 45 && s 7 == 45)) _ _ _ e) [ inl t ↦ t | inr none ↦ absurd (cc none.1) ] in
     let shape = and_parts (length text == 10) (s 4 == 45 && s 7 == 45) taken.0 in
     let hyphens = and_parts (s 4 == 45) (s 7 == 45) shape.1 in
     let year = and_then-some (λ (y : ℕ). dated y o l) (number_of_four (s 0) (s 1) (s 2) (s 3)) p taken.1 in

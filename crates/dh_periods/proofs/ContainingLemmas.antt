@@ -1,12 +1,12 @@
 -- The period that is found for two days is the one that has them.
-use Rattle.std.proofs.Common.{◌≡◌, ℕ, ◌+◌, ◌-◌, ◌<◌, ◌≤◌, ◌⊎◌, inl, inr, Bool, true, false, ◌&&◌, if◌then◌else◌, Option, Some, None, refl, sym, ap, subst, ◌∙◌, arith, ℤ, pos, negsuc, neg_ℤ, ◌+ℤ◌, ◌-ℤ◌, ◌≤ℤ◌, ◌<ℤ◌}
+use Rattle.std.proofs.Common.{◌≡◌, ℕ, ◌<◌, ◌≤◌, ◌⊎◌, inl, inr, Bool, true, ◌&&◌, if◌then◌else◌, Option, Some, None, refl, sym, ap, subst, ◌∙◌, arith, ℤ, pos, negsuc, neg_ℤ, ◌+ℤ◌, ◌≤ℤ◌, ◌<ℤ◌}
 use Rattle.std.specs.Prelude.{unsigned_abs, int_le, IfSome, IfNone, IsTrue}
-use Rattle.std.proofs.lemmas.Bool.{cases_Bool, and_parts, and_from}
+use Rattle.std.proofs.lemmas.Bool.{cases_Bool, and_parts}
 use Rattle.jiff_core.proofs.SignedLemmas.{signed_arith}
 use Rattle.dh_periods.specs.declared.kind.PeriodType.{PeriodType}
 use Rattle.dh_periods.specs.declared.name.PeriodName.{PeriodName}
 use Rattle.dh_periods.specs.Days.{is_listed, listed, first_place, end_place, first_day, last_day}
-use Rattle.dh_periods.specs.Places.{ordinal_of, nth_period, place_with, candidate, containing_of, has_days, Has}
+use Rattle.dh_periods.specs.Places.{nth_period, place_with, candidate, containing_of, has_days, Has}
 use Rattle.dh_periods.proofs.HeldLemmas.{int_le-at, int_le-yes}
 use Rattle.dh_periods.proofs.BoundLemmas.{day-bounds}
 use Rattle.dh_periods.proofs.TextLemmas.{some_when}
@@ -73,12 +73,13 @@ containing-none kind first last (Some p) e = tt
 pub containing_of-outside : (kind : PeriodType) (first last : ℤ) → (first <ℤ neg_ℤ (pos 25567)) ⊎ (pos 48119 <ℤ first) → None ≡ containing_of kind first last
 containing_of-outside kind first last out =
     elim (cases_option (containing_of kind first last)) [
-      inl none ↦ sym none |
-      inr some ↦
-        let is = containing_of-is kind first last some.0 some.1 in
-        let bounds = day-bounds some.0 is.0 in
-        let has = is.2 in
-        absurd (elim out [ inl early ↦ omega (arith, signed_arith) | inr late ↦ omega (arith, signed_arith) ]) ]
+      | inl none ↦ sym none
+      | inr some ↦
+          let is = containing_of-is kind first last some.0 some.1 in
+          let bounds = day-bounds some.0 is.0 in
+          let has = is.2 in
+          absurd (elim out [ inl early ↦ omega (arith, signed_arith) | inr late ↦ omega (arith, signed_arith) ])
+    ]
 
 -- the candidate is taken where it is listed and has the days
 pub containing_of-listed : (kind : PeriodType) (first last : ℤ) (p : PeriodName) (taken : Bool) → Some p ≡ listed (candidate kind first) → taken ≡ has_days p first last → (if taken then Some p else None) ≡ containing_of kind first last
@@ -91,8 +92,9 @@ pub containing_of-unlisted : (kind : PeriodType) (first last : ℤ) → None ≡
 unfolding containing_of
 containing_of-unlisted kind first last e =
     elim (cases_Bool (is_listed (candidate kind first))) [
-      inl there ↦ let some : listed (candidate kind first) ≡ Some (candidate kind first) = rw there refl in absurd (cc) |
-      inr not_there ↦ rw not_there refl ]
+      | inl there ↦ let some : listed (candidate kind first) ≡ Some (candidate kind first) = rw there refl in absurd (cc)
+      | inr not_there ↦ rw not_there refl
+    ]
 
 -- the candidate by the place of the day
 pub candidate-at : (kind : PeriodType) (first : ℤ) (n : ℕ) (r : PeriodName) → pos n ≡ first +ℤ pos 25567 → r ≡ nth_period kind (place_with kind n) → r ≡ candidate kind first

@@ -1,5 +1,5 @@
 -- What a period holds, in the numbers that its methods compute with.
-use Rattle.std.proofs.Common.{◌≡◌, ◌≤◌, pos, neg_ℤ, inl, inr, true, false, ◌&&◌, refl, sym, ◌∙◌, arith, w32, of_z, to_z, to_z-of_z, FitsSigned, ℤ, ◌≤ℤ◌}
+use Rattle.std.proofs.Common.{◌≡◌, pos, neg_ℤ, inl, inr, true, false, ◌&&◌, refl, sym, ◌∙◌, arith, w32, of_z, to_z, to_z-of_z, FitsSigned, ℤ, ◌≤ℤ◌}
 use Rattle.std.specs.Prelude.{int_le}
 use Rattle.std.proofs.lemmas.Bool.{cases_Bool, and_right}
 use Rattle.jiff_core.proofs.SignedLemmas.{signed_arith}

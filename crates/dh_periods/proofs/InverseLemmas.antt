@@ -1,7 +1,7 @@
 -- The library's date and week of a day are those of this crate's calendar.
-use Rattle.std.proofs.Common.{◌≡◌, ℕ, zero, suc, ◌+◌, ◌-◌, ◌*◌, ◌/◌, ◌%◌, ◌<◌, ◌≤◌, ◌⊎◌, inl, inr, Bool, true, false, refl, sym, ap, subst, ◌∙◌, arith, ℤ, pos, negsuc, neg_ℤ, ◌+ℤ◌, ◌-ℤ◌, ◌<ℤ◌, ◌≤ℤ◌}
+use Rattle.std.proofs.Common.{◌≡◌, ℕ, ◌+◌, ◌-◌, ◌*◌, ◌/◌, ◌%◌, ◌<◌, ◌≤◌, inl, inr, false, refl, ap, subst, ◌∙◌, arith, ℤ, pos, negsuc, neg_ℤ, ◌+ℤ◌, ◌<ℤ◌, ◌≤ℤ◌}
 use Rattle.std.specs.Prelude.{int_lt}
-use Rattle.std.proofs.lemmas.Bool.{cases_eq, cases_lt, cases_Bool}
+use Rattle.std.proofs.lemmas.Bool.{cases_Bool}
 use Rattle.jiff_core.specs.declared.civil.date.Date.{Date}
 use Rattle.jiff_core.specs.declared.civil.iso_week_date.ISOWeekDate.{ISOWeekDate}
 use Rattle.jiff_core.specs.declared.civil.weekday.Weekday.{Weekday}
@@ -11,7 +11,7 @@ use Rattle.jiff_core.specs.Date.{epoch_day}
 use Rattle.jiff_core.specs.IsoWeek.{days_from_iso, weeks_in_year as iso_weeks}
 use Rattle.jiff_core.specs.IsoWeekDate.{iso_epoch_day}
 use Rattle.std.specs.Int.{IsInRange}
-use Rattle.jiff_core.specs.Calendar.{days_in_month, day_count, days_from_civil, iso_year_start, IsYear}
+use Rattle.jiff_core.specs.Calendar.{days_in_month, iso_year_start, IsYear}
 use Rattle.jiff_core.proofs.DateLemmas.{civil}
 use Rattle.jiff_core.proofs.IsoWeekLemmas.{weeks_in_year-next, iso_year_start_near}
 use Rattle.jiff_core.proofs.CalendarLemmas.{day_count-lt_year, day_count-later_year, days_from_civil-day_count, days_in_year_bounds}
@@ -38,14 +38,15 @@ natural (negsuc y) e = let h = lt-false (negsuc y) (pos 1900) e in absurd (omega
 date-year : (date : Date) (n : ℕ) → epoch_day date ≡ unix_day n → int_lt date.year (pos 1900) ≡ false
 date-year date n e =
     elim (cases_Bool (int_lt date.year (pos 1900))) [
-      inr late ↦ late |
-      inl early ↦
-        let before = lt-true date.year (pos 1900) early in
-        let lt : date.year <ℤ pos 1900 = omega (arith, signed_arith) in
-        let less = day_count-lt_year date.year date.month date.day (pos 1900) 1 1 (civil date) (omega arith) lt in
-        let counted = days_from_civil-day_count date.year date.month date.day in
-        let first = day_count-first in
-        absurd (omega (arith, signed_arith)) ]
+      | inr late ↦ late
+      | inl early ↦
+          let before = lt-true date.year (pos 1900) early in
+          let lt : date.year <ℤ pos 1900 = omega (arith, signed_arith) in
+          let less = day_count-lt_year date.year date.month date.day (pos 1900) 1 1 (civil date) (omega arith) lt in
+          let counted = days_from_civil-day_count date.year date.month date.day in
+          let first = day_count-first in
+          absurd (omega (arith, signed_arith))
+    ]
 
 date-month : (date : Date) (y : ℕ) → date.year ≡ pos y → date.day ≤ month_length y date.month
 date-month date y e =
@@ -86,34 +87,36 @@ date-parts date n e =
 start-early : (next : ℤ) → neg_ℤ (pos 9999) ≤ℤ next → next ≤ℤ pos 1900 → iso_year_start next ≤ℤ neg_ℤ (pos 25567)
 start-early next low high =
     elim (cases_Bool (int_lt next (pos 1900))) [
-      inl early ↦
-        let before = lt-true next (pos 1900) early in
-        let near = iso_year_start_near next (omega (arith, signed_arith), omega (arith, signed_arith)) in
-        let later = day_count-later_year next (pos 1900) (omega (arith, signed_arith)) (omega (arith, signed_arith)) in
-        let days = days_in_year_bounds next in
-        let counted = days_from_civil-day_count next 1 1 in
-        let first = day_count-first in
-        omega (arith, signed_arith) |
-      inr late ↦
-        let after = lt-false next (pos 1900) late in
-        let is : next ≡ pos 1900 = omega (arith, signed_arith) in
-        let start = iso_year_start-is 1900 (omega arith) in
-        let none = days_before_month-zero in
-        rw is (omega (arith, signed_arith)) ]
+      | inl early ↦
+          let before = lt-true next (pos 1900) early in
+          let near = iso_year_start_near next (omega (arith, signed_arith), omega (arith, signed_arith)) in
+          let later = day_count-later_year next (pos 1900) (omega (arith, signed_arith)) (omega (arith, signed_arith)) in
+          let days = days_in_year_bounds next in
+          let counted = days_from_civil-day_count next 1 1 in
+          let first = day_count-first in
+          omega (arith, signed_arith)
+      | inr late ↦
+          let after = lt-false next (pos 1900) late in
+          let is : next ≡ pos 1900 = omega (arith, signed_arith) in
+          let start = iso_year_start-is 1900 (omega arith) in
+          let none = days_before_month-zero in
+          rw is (omega (arith, signed_arith))
+    ]
 
 week-year : (w : ISOWeekDate) (n : ℕ) → iso_epoch_day w ≡ unix_day n → int_lt w.year (pos 1900) ≡ false
 unfolding days_from_iso
 week-year w n e =
     elim (cases_Bool (int_lt w.year (pos 1900))) [
-      inr late ↦ late |
-      inl early ↦
-        let before = lt-true w.year (pos 1900) early in
-        let year_in = w.year_in in
-        let week_in = w.week_in in
-        let weeks = weeks_in_year-next w.year (w.year +ℤ pos 1) year_in refl in
-        let day = monday_zero-bound w.weekday in
-        let end = start-early (w.year +ℤ pos 1) (omega (arith, signed_arith)) (omega (arith, signed_arith)) in
-        absurd (omega (arith, signed_arith)) ]
+      | inr late ↦ late
+      | inl early ↦
+          let before = lt-true w.year (pos 1900) early in
+          let year_in = w.year_in in
+          let week_in = w.week_in in
+          let weeks = weeks_in_year-next w.year (w.year +ℤ pos 1) year_in refl in
+          let day = monday_zero-bound w.weekday in
+          let end = start-early (w.year +ℤ pos 1) (omega (arith, signed_arith)) (omega (arith, signed_arith)) in
+          absurd (omega (arith, signed_arith))
+    ]
 
 -- the year with the Thursday of a week is the year of the week
 pub week-of : (y i : ℕ) → 1900 ≤ y → first_week y ≤ i → i < first_week (y + 1) → year_with (7 * i + 3) ≡ y

@@ -1,5 +1,5 @@
 -- Equality of periods decides whether they are one, and a period is its type and its first day.
-use Rattle.std.proofs.Common.{◌≡◌, ℕ, Bool, true, false, ◌&&◌, refl, sym, ap, subst, ◌∙◌, rules, arith, ◌≤ℤ◌}
+use Rattle.std.proofs.Common.{◌≡◌, true, ◌&&◌, refl, sym, ap, subst, ◌∙◌, rules, arith}
 use Rattle.std.specs.Prelude.{nat_eq}
 use Rattle.std.specs.Ordering.{int_eq}
 use Rattle.std.specs.Bool.{Decides}
@@ -46,14 +46,15 @@ same_name-true a b e =
 
 -- two periods compare as equal exactly where they are one
 pub same_period-Decides : (a b : PeriodName) → Decides (same_period a b) (a ≡ b)
-same_period-Decides a b =
-    (λ e.
-        let l = and_parts (int_eq (last_day a) (last_day b)) (int_eq (first_day a) (first_day b) && same_name a b) e in
-        let f = and_parts (int_eq (first_day a) (first_day b)) (same_name a b) l.1 in
-        same_name-true a b f.1,
-     λ e.
-        let P : PeriodName → Type 0 = λ c. same_period a c ≡ true in
-        subst P e (same_period-self a))
+same_period-Decides a b = (
+  λ e.
+      let l = and_parts (int_eq (last_day a) (last_day b)) (int_eq (first_day a) (first_day b) && same_name a b) e in
+      let f = and_parts (int_eq (first_day a) (first_day b)) (same_name a b) l.1 in
+      same_name-true a b f.1,
+  λ e.
+      let P : PeriodName → Type 0 = λ c. same_period a c ≡ true in
+      subst P e (same_period-self a),
+)
 
 -- a period is its type and its first day
 pub period-is : (a b : PeriodName) → is_listed a ≡ true → is_listed b ≡ true → a.kind ≡ b.kind → first_day a ≡ first_day b → a ≡ b

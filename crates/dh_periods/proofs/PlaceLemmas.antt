@@ -1,8 +1,7 @@
 -- A period is found again by its place, and by each of its days.
-use Rattle.std.proofs.Common.{◌≡◌, ℕ, zero, suc, ◌+◌, ◌-◌, ◌*◌, ◌/◌, ◌%◌, ◌<◌, ◌≤◌, ◌⊎◌, inl, inr, Bool, true, false, refl, sym, ap, ◌∙◌, arith, ◌^◌, ℤ, pos, ◌+ℤ◌, to_z, of_z, to_z-of_z, FitsSigned, w16}
+use Rattle.std.proofs.Common.{◌≡◌, ℕ, ◌+◌, ◌-◌, ◌*◌, ◌/◌, ◌%◌, ◌<◌, ◌≤◌, true, refl, sym, ap, arith, ◌^◌, ℤ, pos, ◌+ℤ◌, to_z, of_z, to_z-of_z, FitsSigned, w16}
 use Rattle.std.specs.Prelude.{unsigned_abs}
 use Rattle.jiff_core.proofs.SignedLemmas.{signed_arith}
-use Rattle.std.proofs.lemmas.Bool.{cases_lt}
 use Rattle.dh_periods.specs.declared.kind.PeriodType.{PeriodType}
 use Rattle.dh_periods.specs.declared.kind.Shape.{Shape}
 use Rattle.dh_periods.specs.declared.kind.Shape.TheVariants.{Day, Week, Months}
@@ -78,14 +77,16 @@ placed-as Day p c low high h =
     let month = date-month p low h in
     record {
       again = name-is p.kind _ _ _ p refl (rw month (omega arith)) (rw month (omega arith)) (rw month (omega arith));
-      days = λ n from to. omega arith }
+      days = λ n from to. omega arith;
+    }
 placed-as Week p c low high h =
     let parts = number-parts (weeks_in_year p.year) p h in
     let weeks = weeks_in_year_bounds p.year low (omega arith) in
     let year = week-of p.year (first_week p.year + (p.number - 1)) low (omega arith) (omega arith) in
     record {
       again = name-is p.kind _ _ _ p refl year (rw year (omega arith)) (sym parts.2);
-      days = λ n from to. omega arith }
+      days = λ n from to. omega arith;
+    }
 placed-as (Months count opening) p c low high h =
     let parts = number-parts (12 / count) p h in
     let year = p.year - 1900 in
@@ -94,7 +95,8 @@ placed-as (Months count opening) p c low high h =
     let here = months-at count c.0 year opening p.number start parts.0 parts.1 c.2 (omega arith) (omega arith) in
     record {
       again = name-is p.kind _ _ _ p refl (rw here.1 (omega arith)) here.2 (sym parts.2);
-      days = λ n from to. (months-at count c.0 year opening p.number (month_with n) parts.0 parts.1 c.2 (month_with-from start n from) (month_with-before (start + count) n to)).0 }
+      days = λ n from to. (months-at count c.0 year opening p.number (month_with n) parts.0 parts.1 c.2 (month_with-from start n from) (month_with-before (start + count) n to)).0;
+    }
 
 -- the year of the first day, but for weeks
 year-as : (s : Shape) (p : PeriodName) → HasCount s → 1900 ≤ p.year → is_in_year_as s p ≡ true → (s ≡ Week → ⊥) → year_with (first_place_as s p) ≡ p.year
@@ -127,7 +129,6 @@ year_of-written p h other = let parts = listed-parts p h in year-as (shape_of p.
 pub nth_period-kind : (kind : PeriodType) (i : ℕ) → (nth_period kind i).kind ≡ kind
 unfolding nth_period
 nth_period-kind kind i = nth_as-kind (shape_of kind) kind i
-
 
 -- what one shape says is what the whole definition says
 pub candidate-as : (s : Shape) (kind : PeriodType) (n : ℕ) (r : PeriodName) → s ≡ shape_of kind → r ≡ nth_as s kind (place_as s n) → r ≡ nth_period kind (place_with kind n)

@@ -1,20 +1,19 @@
 -- Which places have a period, and the runs of periods that relative periods stand for.
-use Rattle.std.proofs.Common.{◌≡◌, ℕ, zero, suc, ◌+◌, ◌-◌, ◌*◌, ◌/◌, ◌%◌, ◌<◌, ◌≤◌, ◌⊎◌, inl, inr, Bool, true, false, ◌&&◌, nat_le, List, [], ◌∷◌, ◌++◌, refl, sym, ap, subst, ◌∙◌, arith, Option, Some, None, ℤ, pos, ◌+ℤ◌}
+use Rattle.std.proofs.Common.{◌≡◌, ℕ, suc, ◌+◌, ◌-◌, ◌*◌, ◌/◌, ◌%◌, ◌<◌, ◌≤◌, true, List, [], ◌∷◌, ◌++◌, refl, sym, ap, subst, ◌∙◌, arith, Some, None, ℤ, pos, ◌+ℤ◌}
 use Rattle.std.specs.Prelude.{unsigned_abs}
-use Rattle.std.proofs.lemmas.Bool.{cases_lt, and_from, le-leb, eq-eqb}
+use Rattle.std.proofs.lemmas.Bool.{and_from, le-leb, eq-eqb}
 use Rattle.dh_periods.specs.declared.kind.PeriodType.{PeriodType}
 use Rattle.dh_periods.specs.declared.kind.PeriodType.TheVariants.{Daily, Weekly, Monthly, BiMonthly, Quarterly, SixMonthly, SixMonthlyApril, Yearly, FinancialApril, FinancialJuly, FinancialOct}
 use Rattle.dh_periods.specs.declared.kind.Shape.{Shape}
 use Rattle.dh_periods.specs.declared.kind.Shape.TheVariants.{Day, Week, Months}
 use Rattle.dh_periods.specs.declared.name.PeriodName.{PeriodName}
 use Rattle.dh_periods.specs.declared.windows.Stretch.{Stretch}
-use Rattle.dh_periods.specs.declared.windows.Stretch.TheVariants.{Before, OfYear}
-use Rattle.dh_periods.specs.Calendar.{month_length, days_before_month, month_place, day_place, first_week, weeks_in_year, month_with, year_with}
+use Rattle.dh_periods.specs.Calendar.{month_length, days_before_month, month_place, first_week, weeks_in_year, month_with, year_with}
 use Rattle.dh_periods.specs.Types.{shape_of}
 use Rattle.dh_periods.specs.Days.{is_in_year_as, is_listed}
-use Rattle.dh_periods.specs.Places.{nth_as, nth_period, place_as, place_with}
+use Rattle.dh_periods.specs.Places.{nth_as, nth_period, place_with}
 use Rattle.dh_periods.specs.Relative.{IsReach, IsYearRun, run_of, periods_on, relative_named, relative_of}
-use Rattle.dh_periods.proofs.CalendarLemmas.{days_before_month-next, days_before_month-zero, days_before_month-later, month_with-bounds, month_with-from, month_with-before, first_week-thursday}
+use Rattle.dh_periods.proofs.CalendarLemmas.{days_before_month-next, days_before_month-zero, days_before_month-later, month_with-bounds, month_with-before}
 use Rattle.dh_periods.proofs.JiffLemmas.{days_before_month-end}
 use Rattle.dh_periods.proofs.ListedLemmas.{listed-from}
 use Rattle.dh_periods.proofs.PlaceLemmas.{nth_as-kind}
@@ -125,7 +124,6 @@ reaches SixMonthlyApril n day back i near from to = absurd near
 reaches FinancialApril n day back i near from to = absurd near
 reaches FinancialJuly n day back i near from to = absurd near
 reaches FinancialOct n day back i near from to = absurd near
-
 
 -- the same of the periods of the day's year
 reaches-year : (kind : PeriodType) (count n i : ℕ) → IsDay n → IsYearRun kind count → count * (year_with n - 1900) ≤ i → i < count * (year_with n - 1900) + count → is_listed (nth_period kind i) ≡ true

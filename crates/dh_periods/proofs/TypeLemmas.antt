@@ -1,5 +1,5 @@
 -- A type is found by its name alone.
-use Rattle.std.proofs.Common.{◌≡◌, ℕ, List, [], ◌∷◌, Option, Some, None, Bool, true, false, ◌⊎◌, inl, inr, refl, sym, ◌∙◌, ap}
+use Rattle.std.proofs.Common.{◌≡◌, ℕ, List, [], ◌∷◌, Option, Some, None, Bool, true, inl, inr, refl, sym, ◌∙◌, ap}
 use Rattle.std.proofs.lemmas.Bool.{cases_Bool, cond-true, cond-false}
 use Rattle.std.proofs.lemmas.Slice.Eq.{bytes_eq-Decides}
 use Rattle.std.specs.Prelude.{IfSome, IfNone, find, bytes_eq}
@@ -29,8 +29,9 @@ find-true : {A : Type 0} (p : A → Bool) (xs : List A) (x : A) → find p xs �
 find-true p [] x e = absurd (cc)
 find-true p (y ∷ ys) x e =
     elim (cases_Bool (p y)) [
-      inl passes ↦ let same : Some y ≡ Some x = sym (cond-true (p y) (Some y) (find p ys) passes) ∙ e in let is : y ≡ x = cc in rw (← is) passes |
-      inr fails ↦ find-true p ys x (sym (cond-false (p y) (Some y) (find p ys) fails) ∙ e) ]
+      | inl passes ↦ let same : Some y ≡ Some x = sym (cond-true (p y) (Some y) (find p ys) passes) ∙ e in let is : y ≡ x = cc in rw (← is) passes
+      | inr fails ↦ find-true p ys x (sym (cond-false (p y) (Some y) (find p ys) fails) ∙ e)
+    ]
 
 pub type_named-found : (name : List ℕ) (r : Option PeriodType) → r ≡ type_named name → IfSome r (λ kind. type_name kind ≡ name)
 unfolding type_named

@@ -1,5 +1,5 @@
 -- Calendar dates as text, in the extended format of ISO 8601.
-use Rattle.std.specs.Prelude.{◌≡◌, ℕ, Bool, ◌&&◌, ◌==◌, IsTrue, if◌then◌else◌, Option, None, option_map, option_and_then, List, ◌++◌, length, slice_index, codes, ℤ}
+use Rattle.std.specs.Prelude.{◌≡◌, ℕ, ◌&&◌, ◌==◌, IsTrue, if◌then◌else◌, Option, None, option_map, option_and_then, List, ◌++◌, length, slice_index, codes, ℤ}
 use Rattle.dh_periods.specs.declared.kind.PeriodType.TheVariants.{Daily}
 use Rattle.dh_periods.specs.declared.name.PeriodName.{PeriodName}
 use Rattle.dh_periods.specs.Days.{is_listed, listed, first_day}

@@ -9,12 +9,11 @@ mod period;
 mod places;
 mod print;
 mod read;
-mod windows;
-
 #[cfg(test)]
 mod tests;
 #[cfg(test)]
 mod vectors;
+mod windows;
 
 pub use dates::civil;
 pub use kind::PeriodType;

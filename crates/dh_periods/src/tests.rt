@@ -59,28 +59,31 @@ fn days_have_periods(rt: HostRuntime) -> Result<(), Fail> {
     Ok(())
 }
 
+/// Text, first and last date, number of days, year of the first day.
+const WORKED: &str = "\
+2020W53 2020-12-28 2021-01-03 7 2020\n\
+2020W1 2019-12-30 2020-01-05 7 2019\n\
+2004AprilS2 2004-10-01 2005-03-31 182 2004\n\
+2004Oct 2004-10-01 2005-09-30 365 2004\n\
+200401B 2004-01-01 2004-02-29 60 2004\n\
+";
+
 #[test]
-fn weeks_cross_years(rt: HostRuntime) -> Result<(), Fail> {
-    let week = Period::parse(b"2020W53").expect(&rt, "a week");
-    let year = Period::parse(b"2020").expect(&rt, "a year");
-    let month = Period::parse(b"202012").expect(&rt, "a month");
-    assert_eq!(rt; Some(week.first()), civil(b"2020-12-28"));
-    assert_eq!(rt; Some(week.last()), civil(b"2021-01-03"));
-    assert_eq!(rt; week.days(), 7);
-    assert!(rt; !week.inside(year) && !week.inside(month) && month.inside(year));
-    assert_eq!(rt; week.year(), 2020);
-    let early = Period::parse(b"2020W1").expect(&rt, "a week");
-    assert_eq!(rt; Some(early.first()), civil(b"2019-12-30"));
-    assert_eq!(rt; early.year(), 2019);
-    assert!(rt; Period::parse(b"2021W53").is_none());
-    let half = Period::parse(b"2004AprilS2").expect(&rt, "a half");
-    assert_eq!(rt; Some(half.first()), civil(b"2004-10-01"));
-    assert_eq!(rt; Some(half.last()), civil(b"2005-03-31"));
-    let financial = Period::parse(b"2004Oct").expect(&rt, "a financial year");
-    assert_eq!(rt; Some(financial.last()), civil(b"2005-09-30"));
-    assert!(rt; half < financial && week > half && early < week);
-    let pair = Period::parse(b"200401B").expect(&rt, "two months");
-    assert_eq!(rt; (Some(pair.first()), pair.days()), (civil(b"2004-01-01"), 60));
+fn periods_have_days(rt: HostRuntime) -> Result<(), Fail> {
+    for line in WORKED.lines() {
+        let mut words = line.split(' ');
+        let period = Period::parse(words.next().expect(&rt, line).as_bytes()).expect(&rt, line);
+        let first = civil(words.next().expect(&rt, line).as_bytes());
+        let last = civil(words.next().expect(&rt, line).as_bytes());
+        let days: u32 = words.next().expect(&rt, line).parse().expect(&rt, line);
+        let year: i32 = words.next().expect(&rt, line).parse().expect(&rt, line);
+        assert_eq!(rt;
+            (Some(period.first()), Some(period.last())),
+            (first, last),
+            "{line}"
+        );
+        assert_eq!(rt; (period.days(), period.year()), (days, year), "{line}");
+    }
     for text in [
         b"2023-02-29".as_slice(),
         b"1899-12-31",
@@ -89,6 +92,29 @@ fn weeks_cross_years(rt: HostRuntime) -> Result<(), Fail> {
         b"2024/01/01",
     ] {
         assert!(rt; civil(text).is_none());
+    }
+    Ok(())
+}
+
+/// A period, another, and whether the first comes before the other and whether it lies in it.
+const PAIRS: &str = "\
+2020W53 2020 no no\n\
+2020W53 202012 no no\n\
+202012 2020 no yes\n\
+2004AprilS2 2004Oct yes yes\n\
+2004 2004Q4 yes no\n\
+2004Q4 2004S2 no yes\n\
+20040101 20040101 no yes\n\
+";
+
+#[test]
+fn periods_are_ordered(rt: HostRuntime) -> Result<(), Fail> {
+    for line in PAIRS.lines() {
+        let mut words = line.split(' ');
+        let one = Period::parse(words.next().expect(&rt, line).as_bytes()).expect(&rt, line);
+        let other = Period::parse(words.next().expect(&rt, line).as_bytes()).expect(&rt, line);
+        assert_eq!(rt; one < other, words.next() == Some("yes"), "{line}");
+        assert_eq!(rt; one.inside(other), words.next() == Some("yes"), "{line}");
     }
     assert!(rt; PeriodType::parse(b"SixMonthlyApril") == Some(PeriodType::SixMonthlyApril));
     assert!(rt; PeriodType::parse(b"monthly").is_none());

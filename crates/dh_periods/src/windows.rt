@@ -5,9 +5,9 @@ ghost use Rattle.dh_periods.specs.Places.{nth_period, place_with};
 ghost use Rattle.dh_periods.specs.Relative.{before_of, single_named, several_named, relative_named, IsReach, IsYearRun, HasReach, run_of, periods_on, relative_of};
 ghost use Rattle.dh_periods.specs.Calendar.{year_with};
 
+use crate::days::FIRST_YEAR;
 use crate::kind::PeriodType;
 use crate::period::Period;
-use crate::days::FIRST_YEAR;
 use crate::places::{date_at, nth, place_of, place_with};
 use dh_base::memory::Memory;
 use std::alloc::Global;
@@ -22,7 +22,10 @@ pub(crate) enum Stretch {
         count: u32,
     },
     /// The so many periods of the year with the day.
-    OfYear { kind: PeriodType, count: u32 },
+    OfYear {
+        kind: PeriodType,
+        count: u32,
+    },
 }
 
 fn before(kind: PeriodType, back: u32, count: u32) -> Option<Stretch>
@@ -154,12 +157,7 @@ fn before_on(
     run_of(alloc, kind, place_with(kind, place) - back, count)
 }
 
-fn year_on(
-    alloc: Global,
-    kind: PeriodType,
-    count: u32,
-    place: u32,
-) -> Result<Vec<Period>, Memory>
+fn year_on(alloc: Global, kind: PeriodType, count: u32, place: u32) -> Result<Vec<Period>, Memory>
     requires from { 3652 ≤ place }
     requires to { place ≤ 73_048 }
     requires reach { IsYearRun kind count }

@@ -1,4 +1,3 @@
-use Rattle.std.proofs.Common.{◌≡◌, ap, ◌∙◌}
 use Rattle.dh_periods.proofs.CivilLemmas.{civil-found, civil-none}
 use Rattle.dh_periods.proofs.dates.civil.Goals as goal
 

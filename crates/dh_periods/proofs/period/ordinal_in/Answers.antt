@@ -1,6 +1,4 @@
-use Rattle.std.proofs.Common.{◌≡◌, ◌+◌, ◌-◌, ◌*◌, ◌/◌, ◌≤◌, arith, sym, ap, ◌∙◌, pos, ◌+ℤ◌}
-use Rattle.dh_periods.specs.Days.{first_place}
-use Rattle.dh_periods.specs.Places.{ordinal_of}
+use Rattle.std.proofs.Common.{arith, sym, ◌∙◌}
 use Rattle.dh_periods.proofs.HeldLemmas.{first-in}
 use Rattle.dh_periods.proofs.PlaceLemmas.{first_place-from, first_place-day, first_place-week, ordinal_of-months, ordinal_of-small, name-bounds}
 use Rattle.dh_periods.proofs.period.ordinal_in.Goals as goal

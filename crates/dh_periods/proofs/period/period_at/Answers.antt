@@ -1,7 +1,6 @@
-use Rattle.std.proofs.Common.{◌≡◌, ◌&&◌, true, false, Some, None, arith, sym, ap, ◌∙◌, ℤ, pos, neg_ℤ, ◌+ℤ◌, to_z, of_z, to_z-of_z, FitsSigned, w32, rules}
-use Rattle.std.specs.Prelude.{int_le}
-use Rattle.dh_periods.specs.Days.{first_day, last_day, listed}
-use Rattle.dh_periods.specs.Places.{candidate, has_days}
+use Rattle.std.proofs.Common.{◌≡◌, true, false, Some, sym, ap, ◌∙◌, to_z-of_z, FitsSigned, w32, rules}
+use Rattle.dh_periods.specs.Days.{listed}
+use Rattle.dh_periods.specs.Places.{candidate}
 use Rattle.dh_periods.proofs.ContainingLemmas.{candidate-at, containing_of-listed, containing_of-unlisted, has_days-is}
 use Rattle.dh_periods.proofs.period.period_at.Goals as goal
 

@@ -1,8 +1,5 @@
-use Rattle.std.proofs.Common.{◌≡◌, ◌+◌, ◌-◌, ◌*◌, ◌/◌, ◌≤◌, ◌<◌, ◌^◌, arith, sym, ap, ◌∙◌, pos, ◌+ℤ◌, ℕ}
-use Rattle.jiff_core.proofs.SignedLemmas.{signed_casts}
+use Rattle.std.proofs.Common.{◌<◌, ◌^◌, arith, sym, ◌∙◌}
 use Rattle.dh_periods.specs.Calendar.{year_with}
-use Rattle.dh_periods.specs.Days.{first_place}
-use Rattle.dh_periods.specs.Places.{year_of}
 use Rattle.dh_periods.proofs.HeldLemmas.{first-in}
 use Rattle.dh_periods.proofs.PlaceLemmas.{first_place-from, year_of-written, year-read, year_of-place}
 use Rattle.dh_periods.proofs.CalendarLemmas.{month_with-small}

@@ -1,4 +1,4 @@
-use Rattle.std.proofs.Common.{◌≡◌, ◌∙◌, ap}
+use Rattle.std.proofs.Common.{◌∙◌, ap}
 use Rattle.dh_periods.specs.declared.kind.Shape.TheVariants.{Day, Week, Months}
 use Rattle.dh_periods.specs.Places.{nth_as}
 use Rattle.dh_periods.proofs.PlaceLemmas.{candidate-as}

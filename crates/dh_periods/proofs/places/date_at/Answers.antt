@@ -1,4 +1,4 @@
-use Rattle.std.proofs.Common.{◌≡◌, arith, ◌+ℤ◌, pos}
+use Rattle.std.proofs.Common.{◌≡◌, arith}
 use Rattle.jiff_core.specs.Date.{epoch_day}
 use Rattle.jiff_core.proofs.SignedLemmas.{signed_arith}
 use Rattle.dh_periods.specs.Calendar.{unix_day}

@@ -1,4 +1,4 @@
-use Rattle.std.proofs.Common.{◌≡◌, FitsSigned, to_z-of_z, w32}
+use Rattle.std.proofs.Common.{FitsSigned, to_z-of_z, w32}
 use Rattle.dh_periods.proofs.RunLemmas.{relative_of-some, relative_of-none}
 use Rattle.dh_periods.proofs.windows.relative.Goals as goal
 

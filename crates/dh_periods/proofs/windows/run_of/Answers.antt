@@ -1,4 +1,4 @@
-use Rattle.std.proofs.Common.{◌≡◌, ◌≤◌, sym, ap, ◌∙◌, arith}
+use Rattle.std.proofs.Common.{◌≤◌, sym, ◌∙◌, arith}
 use Rattle.dh_periods.proofs.RunLemmas.{run_of-none, run_of-more}
 use Rattle.dh_periods.proofs.windows.run_of.Goals as goal
 

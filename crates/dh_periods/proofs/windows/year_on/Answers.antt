@@ -1,4 +1,4 @@
-use Rattle.std.proofs.Common.{◌≡◌, ◌+◌, ◌-◌, ◌/◌, ◌<◌, ◌^◌, arith, ℕ, ap, ◌∙◌}
+use Rattle.std.proofs.Common.{◌-◌, ◌<◌, ◌^◌, arith, ℕ, ap, ◌∙◌}
 use Rattle.dh_periods.specs.Calendar.{year_with}
 use Rattle.dh_periods.proofs.CalendarLemmas.{month_with-small}
 use Rattle.dh_periods.proofs.PlaceLemmas.{year-read}
