@@ -1,6 +1,7 @@
 //! The types of periods.
 ghost use Rattle.std.specs.Prelude.{◌≡◌, ◌≢◌, IfSome, IfNone};
 ghost use Rattle.dh_periods.specs.declared.kind.PeriodType.{PeriodType};
+ghost use Rattle.dh_periods.specs.declared.kind.Shape.TheVariants.{Months};
 ghost use Rattle.dh_periods.specs.Types.{shape_of, type_name, type_named, IsShape};
 
 /// The types of periods, in the order in which periods of the same days are sorted.
@@ -82,6 +83,12 @@ pub(crate) enum Shape {
     Months { count: u8, opening: u8 },
 }
 
+fn months(count: u8, opening: u8) -> Shape
+    ensures { result ≡ Months count opening }
+{
+    Shape::Months { count, opening }
+}
+
 /// How the periods of that type lie in a year.
 pub(crate) fn shape_of(kind: PeriodType) -> Shape
     ensures value { result ≡ shape_of kind }
@@ -90,41 +97,14 @@ pub(crate) fn shape_of(kind: PeriodType) -> Shape
     match kind {
         PeriodType::Daily => Shape::Day,
         PeriodType::Weekly => Shape::Week,
-        PeriodType::Monthly => Shape::Months {
-            count: 1,
-            opening: 0,
-        },
-        PeriodType::BiMonthly => Shape::Months {
-            count: 2,
-            opening: 0,
-        },
-        PeriodType::Quarterly => Shape::Months {
-            count: 3,
-            opening: 0,
-        },
-        PeriodType::SixMonthly => Shape::Months {
-            count: 6,
-            opening: 0,
-        },
-        PeriodType::SixMonthlyApril => Shape::Months {
-            count: 6,
-            opening: 3,
-        },
-        PeriodType::Yearly => Shape::Months {
-            count: 12,
-            opening: 0,
-        },
-        PeriodType::FinancialApril => Shape::Months {
-            count: 12,
-            opening: 3,
-        },
-        PeriodType::FinancialJuly => Shape::Months {
-            count: 12,
-            opening: 6,
-        },
-        PeriodType::FinancialOct => Shape::Months {
-            count: 12,
-            opening: 9,
-        },
+        PeriodType::Monthly => months(1, 0),
+        PeriodType::BiMonthly => months(2, 0),
+        PeriodType::Quarterly => months(3, 0),
+        PeriodType::SixMonthly => months(6, 0),
+        PeriodType::SixMonthlyApril => months(6, 3),
+        PeriodType::Yearly => months(12, 0),
+        PeriodType::FinancialApril => months(12, 3),
+        PeriodType::FinancialJuly => months(12, 6),
+        PeriodType::FinancialOct => months(12, 9),
     }
 }
