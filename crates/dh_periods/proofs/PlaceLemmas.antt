@@ -1,5 +1,5 @@
 -- A period is found again by its place, and by each of its days.
-use Rattle.std.proofs.Common.{◌≡◌, ℕ, ◌+◌, ◌-◌, ◌*◌, ◌/◌, ◌%◌, ◌<◌, ◌≤◌, true, refl, sym, ap, arith, ◌^◌, ℤ, pos, ◌+ℤ◌, to_z, of_z, to_z-of_z, FitsSigned, w16}
+use Rattle.std.proofs.Common.{◌≡◌, ◌∙◌, ℕ, ◌+◌, ◌-◌, ◌*◌, ◌/◌, ◌%◌, ◌<◌, ◌≤◌, true, refl, sym, ap, arith, ◌^◌, ℤ, pos, ◌+ℤ◌, to_z, of_z, to_z-of_z, FitsSigned, w16}
 use Rattle.std.specs.Prelude.{unsigned_abs}
 use Rattle.jiff_core.proofs.SignedLemmas.{signed_arith}
 use Rattle.dh_periods.specs.declared.kind.PeriodType.{PeriodType}
@@ -8,7 +8,7 @@ use Rattle.dh_periods.specs.declared.kind.Shape.TheVariants.{Day, Week, Months}
 use Rattle.dh_periods.specs.declared.name.PeriodName.{PeriodName}
 use Rattle.dh_periods.specs.Calendar.{month_length, days_before_month, month_place, day_place, first_week, weeks_in_year, month_with, year_with}
 use Rattle.dh_periods.specs.Types.{shape_of}
-use Rattle.dh_periods.specs.Days.{is_in_year_as, is_listed, first_place_as, end_place_as, first_place, end_place, first_day, start_month}
+use Rattle.dh_periods.specs.Days.{is_in_year_as, is_listed, first_place_as, end_place_as, first_place, end_place, first_day, last_day, start_month}
 use Rattle.dh_periods.specs.Places.{ordinal_as, ordinal_of, nth_as, nth_period, place_as, place_with, year_of}
 use Rattle.dh_periods.proofs.CalendarLemmas.{days_before_month-next, days_before_month-later, month_with-is, month_with-from, month_with-before, month_with-bounds, days_before_month-zero}
 use Rattle.dh_periods.proofs.JiffLemmas.{weeks_in_year_bounds}
@@ -217,3 +217,46 @@ year_of-place p n e = ap (λ (k : ℕ). year_with k) e
 pub place-as : (s : Shape) (kind : PeriodType) (n r : ℕ) → s ≡ shape_of kind → r ≡ place_as s n → r ≡ place_with kind n
 unfolding place_with
 place-as s kind n r same e = rw (← same) e
+
+-- where the period with a place begins, as days since 1 January 1900
+start_as : Shape → ℕ → ℕ
+start_as Day i = i
+start_as Week i = 7 * i
+start_as (Months count opening) i = days_before_month (opening + count * i)
+
+-- the months before the nth period of a year
+MonthsBefore : ℕ → Type 0
+MonthsBefore c = (year opening n : ℕ) → 1 ≤ n
+    → (12 * year + opening + c * (n - 1) ≡ opening + c * (12 / c * year + (n - 1)))
+    × (12 * year + opening + c * (n - 1) + c ≡ opening + c * (12 / c * year + (n - 1) + 1))
+
+months-before : (c : ℕ) → IsCount c → MonthsBefore c
+unfolding MonthsBefore
+months-before = by_count MonthsBefore
+    (λ year o n low. (omega arith, omega arith))
+    (λ year o n low. (omega arith, omega arith))
+    (λ year o n low. (omega arith, omega arith))
+    (λ year o n low. (omega arith, omega arith))
+    (λ year o n low. (omega arith, omega arith))
+
+starts-as : (s : Shape) (p : PeriodName) → HasCount s → is_in_year_as s p ≡ true → (first_place_as s p ≡ start_as s (ordinal_as s p)) × (end_place_as s p ≡ start_as s (ordinal_as s p + 1))
+unfolding start_as MonthsBefore
+starts-as Day p c h = (refl, refl)
+starts-as Week p c h = (refl, omega arith)
+starts-as (Months count opening) p c h =
+    let parts = number-parts (12 / count) p h in
+    let months = months-before count c.0 (p.year - 1900) opening p.number parts.0 in
+    (ap days_before_month months.0, ap days_before_month months.1)
+
+-- the period with the next place begins on the day behind this one
+pub ordinal_of-next : (p q : PeriodName) → is_listed p ≡ true → is_listed q ≡ true → q.kind ≡ p.kind → ordinal_of q ≡ ordinal_of p + 1 → first_day q ≡ last_day p +ℤ pos 1
+unfolding first_place end_place first_day last_day ordinal_of
+ordinal_of-next p q hp hq same next =
+    let lp = listed-parts p hp in
+    let lq = listed-parts q hq in
+    let sp = starts-as (shape_of p.kind) p (shape_of-count p.kind) lp.2 in
+    let sq = starts-as (shape_of q.kind) q (shape_of-count q.kind) lq.2 in
+    let place : ordinal_as (shape_of q.kind) q ≡ ordinal_as (shape_of p.kind) p + 1 = next in
+    let begin : first_place_as (shape_of q.kind) q ≡ end_place_as (shape_of p.kind) p =
+    sq.0 ∙ ap (start_as (shape_of q.kind)) place ∙ ap (λ (k : PeriodType). start_as (shape_of k) (ordinal_as (shape_of p.kind) p + 1)) same ∙ sym sp.1 in
+    omega (arith, signed_arith, begin)

@@ -217,6 +217,8 @@ impl Period {
     pub fn ordinal(self) -> i32
         ensures value { result ≡ pos (ordinal_of self) }
         ensures place { nth_period self.kind (ordinal_of self) ≡ self }
+        ensures next { (p : PeriodName) → IsTrue (is_listed p) → p.kind ≡ self.kind
+            → ordinal_of p ≡ ordinal_of self + 1 → first_day p ≡ last_day self +ℤ pos 1 }
     {
         ordinal_in(self.first, self.name) as i32
     }
