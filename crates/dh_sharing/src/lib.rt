@@ -5,3 +5,6 @@
 pub mod access;
 pub mod ranges;
 pub mod rule;
+
+#[cfg(test)]
+mod tests;
