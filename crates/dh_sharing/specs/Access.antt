@@ -24,7 +24,7 @@ access_of text =
       read = slice_index text 0 == 114;
       write = slice_index text 1 == 119;
       data_read = slice_index text 2 == 114;
-      data_write = slice_index text 3 == 119
+      data_write = slice_index text 3 == 119;
     }
     else None
 

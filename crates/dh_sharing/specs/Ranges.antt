@@ -1,5 +1,5 @@
 -- Lists of ranges of numbers, each with its first number and the one behind its last.
-use Rattle.std.specs.Prelude.{◌≡◌, ℕ, ◌+◌, ◌<◌, ◌≤◌, nat_le, nat_lt, Bool, ◌&&◌, List, length, slice_index_or}
+use Rattle.std.specs.Prelude.{◌≡◌, ℕ, ◌<◌, ◌≤◌, nat_le, nat_lt, Bool, ◌&&◌, List, length, slice_index_or}
 use Rattle.std.specs.List.{list_any}
 
 abbrev pub is_in_range : ℕ → ℕ × ℕ → Bool

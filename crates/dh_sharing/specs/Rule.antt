@@ -1,8 +1,7 @@
 -- The rule of sharing: a right that any entry gives is given.
-use Rattle.std.specs.Prelude.{ℕ, Bool, ◌==◌, ◌&&◌, ◌||◌, false, Option, Some, None}
+use Rattle.std.specs.Prelude.{ℕ, Bool, ◌==◌, ◌&&◌, ◌||◌, false}
 use Rattle.std.specs.List.{list_any}
 use Rattle.std.specs.Option.{option_map_or}
-use Rattle.dh_sharing.specs.declared.access.Access.{Access}
 use Rattle.dh_sharing.specs.declared.access.Right.{Right}
 use Rattle.dh_sharing.specs.declared.rule.UserFacts.{UserFacts}
 use Rattle.dh_sharing.specs.declared.rule.Sharing.{Sharing}

@@ -5,6 +5,5 @@
 pub mod access;
 pub mod ranges;
 pub mod rule;
-
 #[cfg(test)]
 mod tests;

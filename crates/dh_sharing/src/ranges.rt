@@ -55,7 +55,11 @@ impl ViewRanges {
 fn filled(alloc: Global, intervals: &[(u32, u32)]) -> Result<Vec<(u32, u32)>, AllocError>
     ensures { IfOk result (λ solid. solid.items ≡ filter is_filled intervals.now) }
 {
-    intervals.iter().filter(|interval| interval.0 < interval.1).copied().collect(alloc)
+    intervals
+        .iter()
+        .filter(|interval| interval.0 < interval.1)
+        .copied()
+        .collect(alloc)
 }
 
 /// Joins ranges that overlap or touch.

@@ -50,11 +50,15 @@ fn is_owner(user: &UserFacts, object: &Sharing) -> bool
 fn user_may(number: u32, right: Right, users: &[(u32, Access)]) -> bool
     ensures { result ≡ list_any (λ entry. (entry.0 == number) && has entry.1 right) users.now }
 {
-    users.iter().any(|entry| entry.0 == number && entry.1.has(right))
+    users
+        .iter()
+        .any(|entry| entry.0 == number && entry.1.has(right))
 }
 
 fn group_may(own: &[u32], right: Right, groups: &[(u32, Access)]) -> bool
     ensures { result ≡ list_any (λ entry. list_any (λ group. group == entry.0) own.now && has entry.1 right) groups.now }
 {
-    groups.iter().any(|entry| own.contains(&entry.0) && entry.1.has(right))
+    groups
+        .iter()
+        .any(|entry| own.contains(&entry.0) && entry.1.has(right))
 }

@@ -7,8 +7,20 @@ use std::test::Fail;
 
 // Access strings with one character that is off, or one too few or too many.
 const NONE: [&[u8]; 14] = [
-    b"", b"rwrw---", b"rwrw-----", b"wwrw----", b"rrrw----", b"rwww----", b"rwrr----", b"rwrwr---",
-    b"rwrw-w--", b"rwrw--r-", b"rwrw---w", b"Rwrw----", b"rw rw---", b"rwrw---\xff",
+    b"",
+    b"rwrw---",
+    b"rwrw-----",
+    b"wwrw----",
+    b"rrrw----",
+    b"rwww----",
+    b"rwrr----",
+    b"rwrwr---",
+    b"rwrw-w--",
+    b"rwrw--r-",
+    b"rwrw---w",
+    b"Rwrw----",
+    b"rw rw---",
+    b"rwrw---\xff",
 ];
 
 #[test]
@@ -66,7 +78,18 @@ fn union_of_entries(rt: HostRuntime) -> Result<(), Fail> {
 
 #[test]
 fn joined_ranges(rt: HostRuntime) -> Result<(), Fail> {
-    let ranges = ViewRanges::of(rt.alloc(), &[(9, 12), (2, 4), (4, 6), (20, 20), (10, 11), (3, 5), (30, 31)])?;
+    let ranges = ViewRanges::of(
+        rt.alloc(),
+        &[
+            (9, 12),
+            (2, 4),
+            (4, 6),
+            (20, 20),
+            (10, 11),
+            (3, 5),
+            (30, 31),
+        ],
+    )?;
     assert_eq!(rt; ranges.parts(), [(2, 6), (9, 12), (30, 31)].as_slice());
     for order in [2, 5, 9, 11, 30] {
         assert!(rt; ranges.holds(order));

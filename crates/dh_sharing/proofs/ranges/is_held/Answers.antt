@@ -1,4 +1,4 @@
-use Rattle.std.proofs.Common.{◌≡◌, ◌<◌, ℕ, sym, subst, arith}
+use Rattle.std.proofs.Common.{ℕ, sym, subst, arith}
 use Rattle.dh_sharing.specs.Ranges.{IsCount}
 use Rattle.dh_sharing.proofs.RangeLemmas.{within-last, within-none}
 use Rattle.dh_sharing.proofs.ranges.is_held.Goals as goal
