@@ -1,0 +1,15 @@
+pub mod BeforeLemmas
+pub mod ClimbLemmas
+pub mod CountLemmas
+pub mod FaultLemmas
+pub mod HeldLemmas
+pub mod IdLemmas
+pub mod KinLemmas
+pub mod LawLemmas
+pub mod LevelLemmas
+pub mod OrderLemmas
+pub mod RowLemmas
+pub mod SortLemmas
+pub mod SpanLemmas
+pub mod WalkLemmas
+pub mod WayLemmas

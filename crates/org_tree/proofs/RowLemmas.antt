@@ -1,0 +1,31 @@
+-- What the code reads of a row.
+use Rattle.std.proofs.Common.{◌≡◌, ◌==◌, ℕ, ◌<◌, true, false, List, [], length, get_or, Option, Some, None, refl, ap, ◌∙◌}
+use Rattle.std.proofs.lemmas.Bool.{false≢true, eq-eqb, eqb-true}
+use Rattle.std.specs.Prelude.{option_and_then}
+use Rattle.std.specs.Option.{option_map_or}
+use Rattle.std.proofs.lemmas.Option.{slice_get-get_or}
+use Rattle.org_tree.specs.Levels.{jump}
+use Rattle.org_tree.specs.Units.{UnitRow, parent_of, id_at, is_child}
+
+pub parent_of-read : (us : List UnitRow) (x : ℕ) (d : UnitRow) → x < length us → parent_of us x ≡ (get_or us x d).1
+parent_of-read us x d h = ap (λ o. option_and_then (λ (u : UnitRow). u.1) o) (slice_get-get_or us x d h)
+
+pub id_at-read : (us : List UnitRow) (x : ℕ) (d : UnitRow) → x < length us → id_at us x ≡ (get_or us x d).0
+id_at-read us x d h = ap (λ o. option_map_or (λ (u : UnitRow). u.0) o []) (slice_get-get_or us x d h)
+
+pub ruleset row_reads = (parent_of-read, id_at-read)
+
+pub jump-read : (jumps : List (Option ℕ)) (x : ℕ) (d : Option ℕ) → x < length jumps → jump jumps x ≡ get_or jumps x d
+jump-read jumps x d h = ap (λ o. option_and_then (λ (v : Option ℕ). v) o) (slice_get-get_or jumps x d h)
+
+pub ruleset jump_reads = (jump-read)
+
+pub is_child-true : (us : List UnitRow) (x p : ℕ) → is_child us x p ≡ true → parent_of us x ≡ Some p
+is_child-true us x p is = by_parent (parent_of us x) is
+  where
+    by_parent : (o : Option ℕ) → option_map_or (λ q. q == p) o false ≡ true → o ≡ Some p
+    by_parent None e = absurd (false≢true e)
+    by_parent (Some q) e = ap Some (eqb-true q p e)
+
+pub is_child-from : (us : List UnitRow) (x p : ℕ) → parent_of us x ≡ Some p → is_child us x p ≡ true
+is_child-from us x p up = ap (λ o. option_map_or (λ q. q == p) o false) up ∙ eq-eqb p p refl

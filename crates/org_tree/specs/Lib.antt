@@ -1,0 +1,10 @@
+pub mod Count
+pub mod Families
+pub mod Faults
+pub mod Held
+pub mod Ids
+pub mod KinRows
+pub mod Laws
+pub mod Levels
+pub mod Units
+pub mod Walk
