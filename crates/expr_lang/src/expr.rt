@@ -50,7 +50,7 @@ fn nodes_of(alloc: Global, text: &[u8], place: Place, days: &[Uid]) -> Result<No
 
 fn whole(alloc: Global, text: &[u8], place: Place, days: &[Uid], wanted: Option<Sort>) -> Result<Expr, ExprFault> {
     let nodes = nodes_of(alloc, text, place, days)?;
-    let known = survey(alloc, &nodes.nodes)?;
+    let known = survey(alloc, nodes.nodes.as_slice())?;
     if known.depth > MOST_DEPTH {
         return Err(ExprFault::TooDeep { at: 0 });
     }
@@ -60,8 +60,8 @@ fn whole(alloc: Global, text: &[u8], place: Place, days: &[Uid], wanted: Option<
     if let Some(at) = misfit_as(known, wanted) {
         return Err(ExprFault::Sort { at });
     }
-    let tree = build(alloc, &nodes.nodes)?;
-    let (items, places) = items_of(alloc, &nodes.nodes)?;
+    let tree = build(alloc, nodes.nodes.as_slice())?;
+    let (items, places) = items_of(alloc, nodes.nodes.as_slice())?;
     Ok(Expr { tree, items, places })
 }
 

@@ -2,6 +2,7 @@
 
 ghost use Rattle.std.specs.Prelude.{◌≡◌};
 
+use dh_base::memory::Memory;
 use std::alloc::{AllocError, AllocFailed};
 use thiserror::Error;
 
@@ -48,12 +49,12 @@ pub enum ReadFault {
     Memory,
 }
 
-impl From<AllocError> for ReadFault {
-    ghost use Rattle.expr_lang.specs.declared.fault.ReadFault.TheVariants.{Memory};
+impl From<Memory> for ReadFault {
+    ghost use Rattle.expr_lang.specs.declared.fault.ReadFault.TheVariants as faults;
 
-    ghost from_gives = { λ _ fault. fault ≡ Memory };
+    ghost from_gives = { λ _ fault. fault ≡ faults.Memory };
 
-    fn from(_error: AllocError) -> ReadFault {
+    fn from(_error: Memory) -> ReadFault {
         ReadFault::Memory
     }
 }

@@ -7,6 +7,7 @@ mod fault;
 mod item;
 mod print;
 mod reading;
+mod stack;
 mod survey;
 mod token;
 mod tree;

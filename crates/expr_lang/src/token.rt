@@ -1,6 +1,7 @@
 //! The next word of a text.
 
-ghost use Rattle.std.specs.Prelude.{◌≡◌, ◌≤◌, ◌<◌, ◌^◌, length};
+ghost use Rattle.std.specs.Prelude.{◌≡◌, ◌≤◌, ◌<◌, ◌^◌, ◌-◌, length, MatchResult};
+ghost use Rattle.expr_lang.specs.Token.{is_comparison_of, is_allowed_of, fits_of, front_of, better_of, longest_of, digit_count, digits_of_front, number_of, exponent_of};
 
 use crate::words::{self, Symbol};
 use crate::tree::Binary;
@@ -23,6 +24,7 @@ pub struct Front {
 }
 
 pub fn is_comparison(operator: Binary) -> bool
+    ensures { result ≡ is_comparison_of operator }
 {
     matches!(
         operator,
@@ -31,6 +33,7 @@ pub fn is_comparison(operator: Binary) -> bool
 }
 
 fn is_allowed(allowed: Allowed, symbol: Symbol) -> bool
+    ensures { result ≡ is_allowed_of allowed symbol }
 {
     match symbol {
         Symbol::Caret => allowed.caret,
@@ -42,16 +45,19 @@ fn is_allowed(allowed: Allowed, symbol: Symbol) -> bool
     }
 }
 
-fn fits(class: u8, byte: u8) -> bool
+fn fits(letter: u8, byte: u8) -> bool
+    ensures { result ≡ fits_of letter byte }
 {
-    match class {
+    match letter {
         b'@' => byte.is_ascii_alphabetic(),
         b'$' => byte.is_ascii_alphanumeric(),
-        _ => class == byte,
+        _ => letter == byte,
     }
 }
 
 fn front_len(word: &[u8], bytes: &[u8]) -> usize
+    ensures value { result ≡ front_of word.now bytes.now }
+    ensures within { result ≤ length bytes.now }
 {
     let mut len = 0;
     while len < word.len() && len < bytes.len() && fits(word[len], bytes[len]) {
@@ -61,6 +67,8 @@ fn front_len(word: &[u8], bytes: &[u8]) -> usize
 }
 
 fn better(best: Front, symbol: Symbol, bytes: &[u8]) -> Front
+    ensures value { result ≡ better_of best symbol bytes.now }
+    ensures within { best.len ≤ length bytes.now → result.len ≤ length bytes.now }
 {
     let word = words::text(symbol);
     let len = front_len(word, bytes);
@@ -72,7 +80,10 @@ fn better(best: Front, symbol: Symbol, bytes: &[u8]) -> Front
     }
 }
 
+#[tactic(auto, unfolding(crate::specs::Token::longest_of))]
 pub fn longest(allowed: Allowed, symbols: &[Symbol], bytes: &[u8]) -> Front
+    ensures value { result ≡ longest_of allowed symbols.now bytes.now }
+    ensures within { result.len ≤ length bytes.now }
 {
     let mut best = Front { len: 0, symbol: None };
     for symbol in symbols {
@@ -86,6 +97,11 @@ pub fn longest(allowed: Allowed, symbols: &[Symbol], bytes: &[u8]) -> Front
 /// The digits at the front, at most so many: the number that they write, and how many there are.
 fn digits_at(bytes: &[u8], most: usize) -> (u64, usize)
     requires { most ≤ 12 }
+    ensures count { result.1 ≡ digit_count most bytes.now }
+    ensures value { result.0 ≡ digits_of_front most bytes.now }
+    ensures small { result.0 < 10 ^ most }
+    ensures within { result.1 ≤ length bytes.now }
+    ensures few { result.1 ≤ most }
 {
     let mut value = 0;
     let mut count = 0;
@@ -96,8 +112,12 @@ fn digits_at(bytes: &[u8], most: usize) -> (u64, usize)
     (value, count)
 }
 
-fn scale(decimals: usize) -> u64 {
+fn scale(decimals: usize) -> u64
+    requires { decimals ≤ 6 }
+    ensures { result ≡ 10 ^ (6 - decimals) }
+{
     match decimals {
+        0 => 1_000_000,
         1 => 100_000,
         2 => 10_000,
         3 => 1_000,
@@ -108,7 +128,11 @@ fn scale(decimals: usize) -> u64 {
 }
 
 /// The number at the front in millionths and its length, or how many bytes may begin one.
-pub fn number_at(bytes: &[u8]) -> Result<(u64, usize), usize> {
+#[tactic(auto, unfolding(crate::specs::Token::number_of))]
+pub fn number_at(bytes: &[u8]) -> Result<(u64, usize), usize>
+    ensures value { result ≡ number_of bytes.now }
+    ensures within { MatchResult result (λ f. f.1 ≤ length bytes.now) (λ n. n ≤ length bytes.now) }
+{
     let (whole, len) = digits_at(bytes, 12);
     if len == 0 {
         return Err(0);
@@ -125,7 +149,11 @@ pub fn number_at(bytes: &[u8]) -> Result<(u64, usize), usize> {
 }
 
 /// The exponent at the front and its length: 0 to 64, in one or two digits.
-pub fn exponent_at(bytes: &[u8]) -> Result<(u8, usize), usize> {
+#[tactic(auto, unfolding(crate::specs::Token::exponent_of))]
+pub fn exponent_at(bytes: &[u8]) -> Result<(u8, usize), usize>
+    ensures value { result ≡ exponent_of bytes.now }
+    ensures within { MatchResult result (λ f. f.1 ≤ length bytes.now) (λ n. n ≤ length bytes.now) }
+{
     let (value, len) = digits_at(bytes, 2);
     if len == 0 {
         return Err(0);

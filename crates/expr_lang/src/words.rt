@@ -1,7 +1,7 @@
 //! The words of the language, and which of them may come where.
 
 ghost use Rattle.std.specs.Prelude.{◌≡◌};
-ghost use Rattle.expr_lang.specs.Words.{text_of, operands_of, items_of_place};
+ghost use Rattle.expr_lang.specs.Words.{text_of, operator_text_of, call_text_of, item_text_of, rate_text_of, operands_of, start_of, items_of_place, followers, marks_of, bracket_of, nothing_of};
 
 use crate::tree::{Binary, Place};
 use dh_base::plain::Rate;
@@ -57,6 +57,7 @@ pub enum ItemForm {
     EntityCount,
 }
 
+#[tactic(auto, unfolding(crate::specs::Words::text_of))]
 /// How a word is written. `@` stands for a letter, `$` for a letter or a digit.
 pub fn text(symbol: Symbol) -> &'static [u8]
     ensures { result.now ≡ text_of symbol }
@@ -255,7 +256,10 @@ const AFTER_OPERANDS: [Symbol; 17] = [
 ];
 
 /// The words with which an operand may begin.
-pub fn operands(place: Place) -> &'static [Symbol] {
+#[tactic(auto, unfolding(crate::specs::Words::operands_of))]
+pub fn operands(place: Place) -> &'static [Symbol]
+    ensures { result.now ≡ operands_of place }
+{
     match place {
         Place::Aggregate => &AGGREGATE_OPERANDS,
         Place::Program => &PROGRAM_OPERANDS,
@@ -263,7 +267,10 @@ pub fn operands(place: Place) -> &'static [Symbol] {
 }
 
 /// The words with which a whole expression may begin.
-pub fn start(place: Place) -> &'static [Symbol] {
+#[tactic(auto, unfolding(crate::specs::Words::start_of))]
+pub fn start(place: Place) -> &'static [Symbol]
+    ensures { result.now ≡ start_of place }
+{
     match place {
         Place::Aggregate => &AGGREGATE_OPERANDS,
         Place::Program => &PROGRAM_START,
@@ -271,7 +278,10 @@ pub fn start(place: Place) -> &'static [Symbol] {
 }
 
 /// The items.
-pub fn items(place: Place) -> &'static [Symbol] {
+#[tactic(auto, unfolding(crate::specs::Words::items_of_place))]
+pub fn items(place: Place) -> &'static [Symbol]
+    ensures { result.now ≡ items_of_place place }
+{
     match place {
         Place::Aggregate => &AGGREGATE_ITEMS,
         Place::Program => &PROGRAM_ITEMS,
@@ -279,23 +289,35 @@ pub fn items(place: Place) -> &'static [Symbol] {
 }
 
 /// The words that may follow an operand.
-pub fn after_operands() -> &'static [Symbol] {
+#[tactic(auto, unfolding(crate::specs::Words::followers))]
+pub fn after_operands() -> &'static [Symbol]
+    ensures { result.now ≡ followers }
+{
     &AFTER_OPERANDS
 }
 
 const MARKS: [Symbol; 3] = [Symbol::Close, Symbol::Comma, Symbol::Quote];
 
-pub fn marks() -> &'static [Symbol] {
+#[tactic(auto, unfolding(crate::specs::Words::marks_of))]
+pub fn marks() -> &'static [Symbol]
+    ensures { result.now ≡ marks_of }
+{
     &MARKS
 }
 
 const BRACKET: [Symbol; 1] = [Symbol::Open];
 
-pub fn bracket() -> &'static [Symbol] {
+#[tactic(auto, unfolding(crate::specs::Words::bracket_of))]
+pub fn bracket() -> &'static [Symbol]
+    ensures { result.now ≡ bracket_of }
+{
     &BRACKET
 }
 
-pub fn none() -> &'static [Symbol] {
+#[tactic(auto, unfolding(crate::specs::Words::nothing_of))]
+pub fn none() -> &'static [Symbol]
+    ensures { result.now ≡ nothing_of }
+{
     &MARKS[..0]
 }
 
