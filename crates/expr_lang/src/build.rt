@@ -1,66 +1,65 @@
-//! The tree with given nodes.
+//! The tree and the items with given nodes.
 
-ghost use Rattle.std.specs.Prelude.{◌≡◌};
+ghost use Rattle.std.specs.Prelude.{◌≡◌, ◌∷◌, OnOk, IfOk};
+ghost use Rattle.expr_lang.specs.Leaves.{leaf_of_node};
+ghost use Rattle.expr_lang.specs.Shape.{Shape, shape_of};
+ghost use Rattle.expr_lang.specs.Build.{shapes_of, top_shape, under_shape, shapes_after, built};
 
 use crate::reading::{Node, Spot};
+use crate::survey::leaf_at;
 use crate::tree::{Item, Leaf, Tree};
-use std::alloc::{AllocError, Global};
+use dh_base::memory::Memory;
+use dh_base::uid::Uid;
+use std::alloc::Global;
 
-const ZERO: Leaf = Leaf::Number(0);
-
-fn taken(stack: &mut Vec<Tree>) -> Tree {
-    stack.pop().unwrap_or(Tree::Leaf(ZERO))
+fn take(stack: &mut Vec<Tree>) -> Tree
+    ensures top { shape_of result ≡ top_shape (shapes_of stack.old.items) }
+    ensures rest { shapes_of stack.new.items ≡ under_shape (shapes_of stack.old.items) }
+{
+    match stack.pop() {
+        Some(tree) => tree,
+        None => Tree::Leaf(Leaf::Number(0)),
+    }
 }
 
-fn tree_of(alloc: Global, stack: &mut Vec<Tree>, node: Node) -> Result<Tree, AllocError> {
-    match node {
-        Node::Leaf(leaf) => Ok(Tree::Leaf(leaf)),
+fn put(stack: &mut Vec<Tree>, tree: Tree) -> Result<(), Memory>
+    ensures { OnOk result (shapes_of stack.new.items ≡ shape_of tree ∷ shapes_of stack.old.items) }
+{
+    stack.push(tree)?;
+    Ok(())
+}
+
+fn advance(alloc: Global, stack: &mut Vec<Tree>, text: &[u8], days: &[Uid], spot: Spot) -> Result<(), Memory>
+    ensures { OnOk result (shapes_of stack.new.items ≡ shapes_after text.now days.now spot.at spot.node (shapes_of stack.old.items)) }
+{
+    match spot.node {
         Node::Unary(unary) => {
-            let operand = Box::new(alloc, taken(stack))?;
-            Ok(Tree::Unary(unary, operand))
+            let operand = Box::new(alloc, take(stack))?;
+            put(stack, Tree::Unary(unary, operand))
         }
         Node::Binary(binary) => {
-            let right = Box::new(alloc, taken(stack))?;
-            let left = Box::new(alloc, taken(stack))?;
-            Ok(Tree::Binary(binary, left, right))
+            let right = Box::new(alloc, take(stack))?;
+            let left = Box::new(alloc, take(stack))?;
+            put(stack, Tree::Binary(binary, left, right))
         }
         Node::If => {
-            let other = Box::new(alloc, taken(stack))?;
-            let one = Box::new(alloc, taken(stack))?;
-            let test = Box::new(alloc, taken(stack))?;
-            Ok(Tree::If(test, one, other))
+            let other = Box::new(alloc, take(stack))?;
+            let one = Box::new(alloc, take(stack))?;
+            let test = Box::new(alloc, take(stack))?;
+            put(stack, Tree::If(test, one, other))
         }
+        _ => put(stack, Tree::Leaf(leaf_at(text, days, spot.at, spot.node))),
     }
 }
 
 /// The tree with these nodes, each of which stands behind its operands.
-pub fn build(alloc: Global, nodes: &[Spot]) -> Result<Tree, AllocError> {
+#[tactic(auto, unfolding(crate::specs::Build::built))]
+pub fn build(alloc: Global, text: &[u8], days: &[Uid], nodes: &[Spot]) -> Result<Tree, Memory>
+    ensures { IfOk result (λ tree. shape_of tree ≡ built text.now days.now nodes.now) }
+{
     let mut stack = Vec::new(alloc);
     for spot in nodes {
-        let tree = tree_of(alloc, &mut stack, spot.node)?;
-        stack.push(tree)?;
+        advance(alloc, &mut stack, text, days, *spot)?;
     }
-    Ok(taken(&mut stack))
-}
-
-fn item_at(spot: Spot) -> Option<Item> {
-    match spot.node {
-        Node::Leaf(Leaf::Item(item)) | Node::Leaf(Leaf::Day(item)) => Some(item),
-        _ => None,
-    }
-}
-
-/// The different items in order of their first occurrence, and the places of these.
-pub fn items_of(alloc: Global, nodes: &[Spot]) -> Result<(Vec<Item>, Vec<usize>), AllocError> {
-    let mut items = Vec::new(alloc);
-    let mut places = Vec::new(alloc);
-    for spot in nodes {
-        if let Some(item) = item_at(*spot) {
-            if !items.contains(&item) {
-                items.push(item)?;
-                places.push(spot.at)?;
-            }
-        }
-    }
-    Ok((items, places))
+    Ok(take(&mut stack))
 }

@@ -619,11 +619,14 @@ fn finish(reader: Reader, at: usize) -> Result<Nodes, ReadFault>
 }
 
 /// The text from a place on.
-fn rest(text: &[u8], at: usize) -> &[u8]
-    requires { at ≤ length text.now }
+pub fn rest(text: &[u8], at: usize) -> &[u8]
     ensures { result.now ≡ drop at text.now }
 {
-    &text[at..]
+    if at <= text.len() {
+        &text[at..]
+    } else {
+        &text[text.len()..]
+    }
 }
 
 /// Reads a whole text.
