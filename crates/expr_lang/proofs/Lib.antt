@@ -1,3 +1,4 @@
 pub mod Digits
 pub mod Stacks
 pub mod Readings
+pub mod Decimals

@@ -3,3 +3,9 @@ pub mod Words
 pub mod Token
 pub mod Item
 pub mod Reading
+pub mod Leaves
+pub mod Survey
+pub mod Shape
+pub mod Build
+pub mod Print
+pub mod Parse

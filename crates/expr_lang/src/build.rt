@@ -63,3 +63,31 @@ pub fn build(alloc: Global, text: &[u8], days: &[Uid], nodes: &[Spot]) -> Result
     }
     Ok(take(&mut stack))
 }
+
+fn item_of_leaf(leaf: Leaf) -> Option<Item> {
+    match leaf {
+        Leaf::Number(_) => None,
+        Leaf::Item(item) => Some(item),
+        Leaf::Day(item) => Some(item),
+    }
+}
+
+/// The different items in order of their first occurrence, and the places of these.
+pub fn list_items(
+    alloc: Global,
+    text: &[u8],
+    days: &[Uid],
+    nodes: &[Spot],
+) -> Result<(Vec<Item>, Vec<usize>), Memory> {
+    let mut items = Vec::new(alloc);
+    let mut places = Vec::new(alloc);
+    for spot in nodes {
+        if let Some(item) = item_of_leaf(leaf_at(text, days, spot.at, spot.node)) {
+            if !items.contains(&item) {
+                items.push(item)?;
+                places.push(spot.at)?;
+            }
+        }
+    }
+    Ok((items, places))
+}

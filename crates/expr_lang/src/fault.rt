@@ -3,7 +3,6 @@
 ghost use Rattle.std.specs.Prelude.{◌≡◌};
 
 use dh_base::memory::Memory;
-use std::alloc::{AllocError, AllocFailed};
 use thiserror::Error;
 
 /// Why a text isn't an expression that may stand in its place. Each place counts bytes from 0.
@@ -22,26 +21,6 @@ pub enum ExprFault {
     Memory,
 }
 
-impl From<AllocError> for ExprFault {
-    ghost use Rattle.expr_lang.specs.declared.fault.ExprFault.TheVariants.{Memory};
-
-    ghost from_gives = { λ _ fault. fault ≡ Memory };
-
-    fn from(_error: AllocError) -> ExprFault {
-        ExprFault::Memory
-    }
-}
-
-impl<T: Drop> From<AllocFailed<T>> for ExprFault {
-    ghost use Rattle.expr_lang.specs.declared.fault.ExprFault.TheVariants.{Memory};
-
-    ghost from_gives = { λ _ fault. fault ≡ Memory };
-
-    fn from(_error: AllocFailed<T>) -> ExprFault {
-        ExprFault::Memory
-    }
-}
-
 /// Why a text has no nodes.
 #[derive(Clone, Copy, Debug, PartialEq, Eq)]
 pub enum ReadFault {
@@ -56,5 +35,15 @@ impl From<Memory> for ReadFault {
 
     fn from(_error: Memory) -> ReadFault {
         ReadFault::Memory
+    }
+}
+
+impl From<Memory> for ExprFault {
+    ghost use Rattle.expr_lang.specs.declared.fault.ExprFault.TheVariants as faults;
+
+    ghost from_gives = { λ _ fault. fault ≡ faults.Memory };
+
+    fn from(_error: Memory) -> ExprFault {
+        ExprFault::Memory
     }
 }

@@ -320,14 +320,3 @@ pub fn none() -> &'static [Symbol]
 {
     &MARKS[..0]
 }
-
-/// The name of a rate.
-pub fn rate_name(rate: Rate) -> &'static [u8] {
-    match rate {
-        Rate::Expected => b"EXPECTED_REPORTS",
-        Rate::Actual => b"ACTUAL_REPORTS",
-        Rate::OnTime => b"ACTUAL_REPORTS_ON_TIME",
-        Rate::Reported => b"REPORTING_RATE",
-        Rate::ReportedOnTime => b"REPORTING_RATE_ON_TIME",
-    }
-}
