@@ -2,3 +2,4 @@ pub mod Digits
 pub mod Stacks
 pub mod Readings
 pub mod Decimals
+pub mod Listing

@@ -7,5 +7,7 @@ pub mod Leaves
 pub mod Survey
 pub mod Shape
 pub mod Build
+pub mod Items
 pub mod Print
 pub mod Parse
+pub mod Expr

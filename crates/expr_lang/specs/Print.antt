@@ -128,6 +128,6 @@ text_from least (One operator operand) =
     in_brackets (nat_lt (unary_level_of operator) least) (before_of operator ++ text_from (inner_level_of operator) operand ++ behind_of operator)
 text_from least (Two operator left right) =
     in_brackets (nat_lt (binary_level_of operator) least)
-      (opening_of operator ++ text_from (left_level_of operator) left ++ between_of operator ++ text_from (right_level_of operator) right ++ closing_of operator)
+    (opening_of operator ++ text_from (left_level_of operator) left ++ between_of operator ++ text_from (right_level_of operator) right ++ closing_of operator)
 text_from least (Choice test one other) =
     codes "if(" ++ text_from 0 test ++ codes "," ++ text_from 0 one ++ codes "," ++ text_from 0 other ++ codes ")"

@@ -198,7 +198,8 @@ unfoldable pub with_operator : Reader → ℕ → Binary → Reader
 with_operator reader at operator = record reader {
   expect = expect.Operand;
   frames = frame.Pending (spot_of at (node.Binary operator)) ∷ frames_reduced (level_of operator) reader.frames;
-  nodes = nodes_reduced (level_of operator) reader.frames reader.nodes }
+  nodes = nodes_reduced (level_of operator) reader.frames reader.nodes;
+}
 
 -- what a call's first argument has to be
 abbrev pub first_argument : Call → Expect
@@ -226,7 +227,8 @@ with_open reader at = record reader {
   expect = if is_bracket reader.expect then after_open_of (top_of reader.frames) else expect.Operand;
   frames = if is_bracket reader.expect then reader.frames else frame.Bracket ∷ reader.frames;
   opened = reader.opened + 1;
-  crowded = crowded_at reader at }
+  crowded = crowded_at reader at;
+}
 
 abbrev pub call_frame : ℕ → Call → ℕ → CallFrame
 call_frame place name arguments = record { at = place; call = name; count = arguments }
@@ -270,7 +272,8 @@ abbrev pub comma_in : List Frame → List Spot → Reader → Reader
 comma_in (frame.Call c ∷ frames) nodes' reader = record reader {
   expect = later_argument c.call;
   frames = frame.Call (counted_of c) ∷ frames;
-  nodes = joined c nodes' }
+  nodes = joined c nodes';
+}
 comma_in frames nodes' reader = record reader { frames = rest_of frames; nodes = nodes' }
 
 unfoldable pub with_comma : Reader → Reader
@@ -285,7 +288,8 @@ with_close reader = record reader {
   expect = expect.Operator true;
   frames = rest_of (frames_reduced 1 reader.frames);
   nodes = closed (top_of (frames_reduced 1 reader.frames)) (nodes_reduced 1 reader.frames reader.nodes);
-  opened = reader.opened - 1 }
+  opened = reader.opened - 1;
+}
 
 abbrev pub is_quote : Expect → Bool
 is_quote expect.Quote = true
@@ -296,8 +300,11 @@ with_quote reader =
     if is_quote reader.expect
     then record reader { expect = expect.Operand; frames = frame.Quote ∷ reader.frames; quoted = true }
     else record reader {
-      expect = expect.Comma; frames = rest_of (frames_reduced 1 reader.frames);
-      nodes = nodes_reduced 1 reader.frames reader.nodes; quoted = false }
+      expect = expect.Comma;
+      frames = rest_of (frames_reduced 1 reader.frames);
+      nodes = nodes_reduced 1 reader.frames reader.nodes;
+      quoted = false;
+    }
 
 unfoldable pub with_word : Reader → ℕ → Symbol → Reader
 with_word reader at symbol.Open = with_open reader at

@@ -87,8 +87,12 @@ edge_if_taken place None operand = None
 
 abbrev pub unary_known_of : ℕ → Unary → Known → Known
 unary_known_of place operator operand = record {
-  depth = one_deeper operand.depth; sort = given_by_of operator; at = place; literal = false;
-  misfit = first_of_two (edge_if_taken place (taken_by_of operator) operand) operand.misfit }
+  depth = one_deeper operand.depth;
+  sort = given_by_of operator;
+  at = place;
+  literal = false;
+  misfit = first_of_two (edge_if_taken place (taken_by_of operator) operand) operand.misfit;
+}
 
 -- a list of arguments is as deep as the deepest of them
 abbrev pub deeper_of : Binary → ℕ → ℕ
@@ -97,17 +101,25 @@ deeper_of _ depth = one_deeper depth
 
 abbrev pub binary_known_of : ℕ → Binary → Known → Known → Known
 binary_known_of place operator left right = record {
-  depth = deeper_of operator (max left.depth right.depth); sort = given_by_two operator; at = place; literal = false;
+  depth = deeper_of operator (max left.depth right.depth);
+  sort = given_by_two operator;
+  at = place;
+  literal = false;
   misfit = first_of_two
-    (first_of_two (edge_of place (taken_by_two operator) left) (edge_of place (taken_by_two operator) right))
-    (first_of_two left.misfit right.misfit) }
+      (first_of_two (edge_of place (taken_by_two operator) left) (edge_of place (taken_by_two operator) right))
+      (first_of_two left.misfit right.misfit);
+}
 
 abbrev pub if_known_of : ℕ → Known → Known → Known → Known
 if_known_of place test one other = record {
-  depth = one_deeper (max (max test.depth one.depth) other.depth); sort = sort.Number; at = place; literal = false;
+  depth = one_deeper (max (max test.depth one.depth) other.depth);
+  sort = sort.Number;
+  at = place;
+  literal = false;
   misfit = first_of_two
-    (first_of_two (edge_of place sort.Truth test) (first_of_two (edge_of place sort.Number one) (edge_of place sort.Number other)))
-    (first_of_two test.misfit (first_of_two one.misfit other.misfit)) }
+      (first_of_two (edge_of place sort.Truth test) (first_of_two (edge_of place sort.Number one) (edge_of place sort.Number other)))
+      (first_of_two test.misfit (first_of_two one.misfit other.misfit));
+}
 
 abbrev pub nothing_known : Known
 nothing_known = record { depth = 0; sort = sort.Number; at = 0; literal = false; misfit = None }

@@ -79,7 +79,7 @@ number_of bytes =
     if nat_eq whole 0 then Err 0
     else if nat_eq (slice_index bytes whole) 46
     then (if nat_eq decimals 0 then Err (whole + 1)
-          else Ok (digits_of_front 12 bytes * 1000000 + digits_of_front 6 rest * 10 ^ (6 - decimals), whole + 1 + decimals))
+    else Ok (digits_of_front 12 bytes * 1000000 + digits_of_front 6 rest * 10 ^ (6 - decimals), whole + 1 + decimals))
     else Ok (digits_of_front 12 bytes * 1000000, whole)
 
 -- an exponent of 0 to 64 in one or two digits, as many as there are, and its length

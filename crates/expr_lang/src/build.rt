@@ -1,6 +1,7 @@
 //! The tree and the items with given nodes.
 
-ghost use Rattle.std.specs.Prelude.{◌≡◌, ◌∷◌, OnOk, IfOk};
+ghost use Rattle.std.specs.Prelude.{◌≡◌, ◌∷◌, ◌↔◌, OnOk, IfOk, IsTrue, Contains, vec_len};
+ghost use Rattle.expr_lang.specs.Items.{item_of_leaf_of, occurrences, ListsOne, Lists};
 ghost use Rattle.expr_lang.specs.Leaves.{leaf_of_node};
 ghost use Rattle.expr_lang.specs.Shape.{Shape, shape_of};
 ghost use Rattle.expr_lang.specs.Build.{shapes_of, top_shape, under_shape, shapes_after, built};
@@ -29,7 +30,13 @@ fn put(stack: &mut Vec<Tree>, tree: Tree) -> Result<(), Memory>
     Ok(())
 }
 
-fn advance(alloc: Global, stack: &mut Vec<Tree>, text: &[u8], days: &[Uid], spot: Spot) -> Result<(), Memory>
+fn advance(
+    alloc: Global,
+    stack: &mut Vec<Tree>,
+    text: &[u8],
+    days: &[Uid],
+    spot: Spot,
+) -> Result<(), Memory>
     ensures { OnOk result (shapes_of stack.new.items ≡ shapes_after text.now days.now spot.at spot.node (shapes_of stack.old.items)) }
 {
     match spot.node {
@@ -64,12 +71,20 @@ pub fn build(alloc: Global, text: &[u8], days: &[Uid], nodes: &[Spot]) -> Result
     Ok(take(&mut stack))
 }
 
-fn item_of_leaf(leaf: Leaf) -> Option<Item> {
+fn item_of_leaf(leaf: &Leaf) -> Option<Item>
+    ensures { result ≡ item_of_leaf_of leaf.now }
+{
     match leaf {
         Leaf::Number(_) => None,
-        Leaf::Item(item) => Some(item),
-        Leaf::Day(item) => Some(item),
+        Leaf::Item(item) => Some(*item),
+        Leaf::Day(item) => Some(*item),
     }
+}
+
+fn is_among(item: &Item, items: &Vec<Item>) -> bool
+    ensures { IsTrue result ↔ Contains items.now.items item.now }
+{
+    items.contains(item)
 }
 
 /// The different items in order of their first occurrence, and the places of these.
@@ -78,16 +93,36 @@ pub fn list_items(
     text: &[u8],
     days: &[Uid],
     nodes: &[Spot],
-) -> Result<(Vec<Item>, Vec<usize>), Memory> {
+) -> Result<(Vec<Item>, Vec<usize>), Memory>
+    ensures value { IfOk result (λ listed. Lists (occurrences text.now days.now nodes.now) listed.0.items listed.1.items) }
+    ensures paired { IfOk result (λ listed. vec_len listed.0 ≡ vec_len listed.1) }
+{
     let mut items = Vec::new(alloc);
     let mut places = Vec::new(alloc);
     for spot in nodes {
-        if let Some(item) = item_of_leaf(leaf_at(text, days, spot.at, spot.node)) {
-            if !items.contains(&item) {
-                items.push(item)?;
-                places.push(spot.at)?;
-            }
-        }
+        list(&mut items, &mut places, text, days, *spot)?;
     }
     Ok((items, places))
+}
+
+/// Puts the item of a node at the end, unless it has none or one that is there already.
+fn list(
+    items: &mut Vec<Item>,
+    places: &mut Vec<usize>,
+    text: &[u8],
+    days: &[Uid],
+    spot: Spot,
+) -> Result<(), Memory>
+    ensures value { OnOk result (ListsOne (item_of_leaf_of (leaf_of_node text.now days.now spot.at spot.node)) spot.at
+        items.old.items places.old.items items.new.items places.new.items) }
+    ensures paired { OnOk result (vec_len items.old ≡ vec_len places.old → vec_len items.new ≡ vec_len places.new) }
+{
+    let leaf = leaf_at(text, days, spot.at, spot.node);
+    if let Some(item) = item_of_leaf(&leaf) {
+        if !is_among(&item, items) {
+            places.push(spot.at)?;
+            items.push(item)?;
+        }
+    }
+    Ok(())
 }

@@ -1,17 +1,8 @@
-//! Expressions, and their reading.
+//! Expressions that were read.
 
-ghost use Rattle.std.specs.Prelude.{◌≡◌, ◌<◌, length, Some, None, slice_index};
-ghost use Rattle.expr_lang.specs.Parse.{nodes_of_text, judged, accepted, Accepts, HasNodes};
-ghost use Rattle.expr_lang.specs.Reading.{Gives};
-ghost use Rattle.expr_lang.specs.Survey.{survey_of};
+ghost use Rattle.std.specs.Prelude.{◌≡◌, vec_len};
 
-use crate::build::{build, list_items};
-use crate::fault::{ExprFault, ReadFault};
-use crate::reading::{Nodes, read};
-use crate::survey::{Known, misfit_as, survey};
-use crate::tree::{Item, Place, Sort, Tree};
-use dh_base::uid::Uid;
-use std::alloc::Global;
+use crate::tree::{Item, Tree};
 
 /// An expression that was read.
 #[derive(Debug, Drop)]
@@ -19,92 +10,38 @@ pub struct Expr {
     pub tree: Tree,
     items: Vec<Item>,
     places: Vec<usize>,
+    ghost paired: { vec_len items ≡ vec_len places },
 }
 
 impl Expr {
-    /// The different items, in order of their first occurrence.
-    pub fn items(&self) -> &[Item] {
-        &self.items
-    }
-}
+    ghost use Rattle.std.specs.Prelude.{◌≡◌, ◌<◌, length, slice_index, vec_len};
+    ghost use Rattle.expr_lang.specs.Expr.{items_in, places_in};
 
-const MOST_BYTES: usize = 4096;
-const MOST_DEPTH: u64 = 512;
-
-/// The nodes of a text of at most 4,096 bytes.
-#[tactic(auto, unfolding(crate::specs::Parse::nodes_of_text))]
-fn nodes_of(alloc: Global, text: &[u8], place: Place) -> Result<Nodes, ReadFault>
-    ensures { Gives result (nodes_of_text place text.now) }
-{
-    if text.len() <= MOST_BYTES {
-        return read(alloc, text, place);
-    }
-    match read(alloc, &text[..MOST_BYTES], place) {
-        Ok(_) => Err(ReadFault::Syntax(MOST_BYTES)),
-        Err(fault) => Err(fault),
-    }
-}
-
-/// What is read, unless it is too deep or its sorts don't fit.
-fn judge(nodes: Nodes, known: Known, wanted: Option<Sort>) -> Result<Nodes, ExprFault>
-    ensures { result ≡ judged known wanted nodes }
-{
-    if known.depth > MOST_DEPTH {
-        return Err(ExprFault::TooDeep { at: 0 });
-    }
-    if let Some(at) = nodes.crowded {
-        return Err(ExprFault::TooDeep { at });
-    }
-    if let Some(at) = misfit_as(known, wanted) {
-        return Err(ExprFault::Sort { at });
-    }
-    Ok(nodes)
-}
-
-#[tactic(auto, unfolding(crate::specs::Parse::accepted))]
-fn accept(alloc: Global, text: &[u8], place: Place, days: &[Uid], wanted: Option<Sort>) -> Result<Nodes, ExprFault>
-    ensures { Accepts (λ nodes answer. nodes ≡ answer) result (accepted place days.now wanted text.now) }
-{
-    match nodes_of(alloc, text, place) {
-        Err(ReadFault::Syntax(at)) => Err(ExprFault::Syntax { at }),
-        Err(ReadFault::Memory) => Err(ExprFault::Memory),
-        Ok(nodes) => {
-            let known = survey(alloc, text, days, nodes.nodes.as_slice())?;
-            judge(nodes, known, wanted)
+    pub(crate) fn new(tree: Tree, items: Vec<Item>, places: Vec<usize>) -> Expr
+        requires { vec_len items ≡ vec_len places }
+        ensures tree { result.tree ≡ tree }
+        ensures items { items_in result ≡ items.items }
+        ensures places { places_in result ≡ places.items }
+    {
+        Expr {
+            tree,
+            items,
+            places,
         }
     }
-}
 
-fn whole(alloc: Global, text: &[u8], place: Place, days: &[Uid], wanted: Option<Sort>) -> Result<Expr, ExprFault>
-    ensures { Accepts (λ expr nodes. HasNodes text.now days.now expr.tree nodes) result (accepted place days.now wanted text.now) }
-{
-    let nodes = accept(alloc, text, place, days, wanted)?;
-    let tree = build(alloc, text, days, nodes.nodes.as_slice())?;
-    let (items, places) = list_items(alloc, text, days, nodes.nodes.as_slice())?;
-    Ok(Expr {
-        tree,
-        items,
-        places,
-    })
-}
+    /// The different items, in order of their first occurrence.
+    pub fn items(&self) -> &[Item]
+        ensures { result.now ≡ items_in self.now }
+    {
+        &self.items
+    }
 
-/// The expression that a text is, of any sort. `days` has the elements and attributes whose values
-/// are days.
-pub fn parse(alloc: Global, text: &[u8], place: Place, days: &[Uid]) -> Result<Expr, ExprFault>
-    ensures { Accepts (λ expr nodes. HasNodes text.now days.now expr.tree nodes) result (accepted place days.now None text.now) }
-{
-    whole(alloc, text, place, days, None)
-}
-
-/// The expression that a text is, of this sort.
-pub fn parse_sorted(
-    alloc: Global,
-    text: &[u8],
-    place: Place,
-    days: &[Uid],
-    wanted: Sort,
-) -> Result<Expr, ExprFault>
-    ensures { Accepts (λ expr nodes. HasNodes text.now days.now expr.tree nodes) result (accepted place days.now (Some wanted) text.now) }
-{
-    whole(alloc, text, place, days, Some(wanted))
+    /// The first byte of the first occurrence of an item.
+    pub fn item_at(&self, n: usize) -> usize
+        requires { n < length (items_in self.now) }
+        ensures { result ≡ slice_index (places_in self.now) n }
+    {
+        self.places[n]
+    }
 }

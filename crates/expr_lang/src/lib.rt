@@ -5,7 +5,8 @@ mod build;
 mod expr;
 mod fault;
 mod item;
-mod print;
+mod parsing;
+mod printing;
 mod reading;
 mod stack;
 mod survey;
@@ -13,9 +14,10 @@ mod token;
 mod tree;
 mod words;
 
-pub use expr::{Expr, parse, parse_sorted};
+pub use expr::Expr;
 pub use fault::ExprFault;
-pub use print::print;
+pub use parsing::{parse, parse_sorted};
+pub use printing::print;
 pub use tree::{Binary, Item, Leaf, Place, Sort, Tree, Unary};
 
 #[cfg(test)]

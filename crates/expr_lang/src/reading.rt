@@ -6,9 +6,9 @@ ghost use Rattle.expr_lang.specs.Reading.{number_found as specs_number_found, ex
 ghost use Rattle.expr_lang.specs.Stack.{top_of};
 ghost use Rattle.expr_lang.specs.Token.{number_of, exponent_of};
 
-use crate::token::{Allowed, Front, exponent_at, longest, number_at};
 use crate::fault::ReadFault;
 use crate::stack::Stack;
+use crate::token::{Allowed, Front, exponent_at, longest, number_at};
 use crate::tree::{Binary, Place, Unary};
 use crate::words::{self, Call, ItemForm, Symbol};
 use dh_base::items::Items;
@@ -276,7 +276,13 @@ fn word_found(front: Front) -> Result<Found, usize>
 
 /// The next token of the text, or how many bytes may begin one.
 #[tactic(auto, unfolding(crate::specs::Reading::token_from))]
-fn token_at(expect: Expect, frames: &Stack<Frame>, quoted: bool, place: Place, bytes: &[u8]) -> Result<Found, usize>
+fn token_at(
+    expect: Expect,
+    frames: &Stack<Frame>,
+    quoted: bool,
+    place: Place,
+    bytes: &[u8],
+) -> Result<Found, usize>
     ensures value { result ≡ token_from expect frames.now quoted place bytes.now }
     ensures within { MatchResult result (λ f. f.len ≤ length bytes.now) (λ n. n ≤ length bytes.now) }
 {
@@ -286,7 +292,11 @@ fn token_at(expect: Expect, frames: &Stack<Frame>, quoted: bool, place: Place, b
     if takes_a_number(expect) && !bytes.is_empty() && bytes[0].is_ascii_digit() {
         return number_found(bytes);
     }
-    word_found(longest(allowed(expect, frames, quoted), words_at(expect, place), bytes))
+    word_found(longest(
+        allowed(expect, frames, quoted),
+        words_at(expect, place),
+        bytes,
+    ))
 }
 
 /// A pending sign or operator at the end that binds at least so tightly.
@@ -367,7 +377,10 @@ fn put_leaf(reader: &mut Reader, at: usize, leaf: Node) -> Result<(), Memory>
 fn put_sign(reader: &mut Reader, at: usize, sign: Unary) -> Result<(), Memory>
     ensures { OnOk result (reader.new ≡ with_sign reader.old at sign) }
 {
-    reader.frames.push(Frame::Pending(Spot { at, node: Node::Unary(sign) }))?;
+    reader.frames.push(Frame::Pending(Spot {
+        at,
+        node: Node::Unary(sign),
+    }))?;
     reader.expect = Expect::Operand;
     Ok(())
 }
@@ -377,7 +390,10 @@ fn put_operator(reader: &mut Reader, at: usize, operator: Binary) -> Result<(), 
     ensures { OnOk result (reader.new ≡ with_operator reader.old at operator) }
 {
     reduce(&mut reader.frames, &mut reader.nodes, level(operator))?;
-    reader.frames.push(Frame::Pending(Spot { at, node: Node::Binary(operator) }))?;
+    reader.frames.push(Frame::Pending(Spot {
+        at,
+        node: Node::Binary(operator),
+    }))?;
     reader.expect = Expect::Operand;
     Ok(())
 }
@@ -425,7 +441,9 @@ fn put_open(reader: &mut Reader, at: usize) -> Result<(), Memory>
 fn put_call(reader: &mut Reader, at: usize, call: Call) -> Result<(), Memory>
     ensures { OnOk result (reader.new ≡ with_call reader.old at call) }
 {
-    reader.frames.push(Frame::Call(CallFrame { at, call, count: 0 }))?;
+    reader
+        .frames
+        .push(Frame::Call(CallFrame { at, call, count: 0 }))?;
     reader.expect = Expect::Bracket;
     Ok(())
 }
@@ -435,7 +453,10 @@ fn join(nodes: &mut Items<Spot>, frame: CallFrame) -> Result<(), Memory>
     ensures { OnOk result (nodes.new ≡ joined frame nodes.old) }
 {
     if frame.count > 0 && is_list(frame.call) {
-        nodes.push(Spot { at: frame.at, node: Node::Binary(Binary::Comma) })?;
+        nodes.push(Spot {
+            at: frame.at,
+            node: Node::Binary(Binary::Comma),
+        })?;
     }
     Ok(())
 }
@@ -483,7 +504,11 @@ fn put_comma(reader: &mut Reader) -> Result<(), Memory>
     if let Some(Frame::Call(frame)) = reader.frames.pop() {
         join(&mut reader.nodes, frame)?;
         reader.frames.push(Frame::Call(counted(frame)))?;
-        reader.expect = if frame.call == Call::FirstNonNull { Expect::Plain } else { Expect::Operand };
+        reader.expect = if frame.call == Call::FirstNonNull {
+            Expect::Plain
+        } else {
+            Expect::Operand
+        };
     }
     Ok(())
 }
@@ -495,7 +520,10 @@ fn put_close(reader: &mut Reader) -> Result<(), Memory>
     reduce(&mut reader.frames, &mut reader.nodes, 1)?;
     if let Some(Frame::Call(frame)) = reader.frames.pop() {
         join(&mut reader.nodes, frame)?;
-        reader.nodes.push(Spot { at: frame.at, node: call_node(frame.call) })?;
+        reader.nodes.push(Spot {
+            at: frame.at,
+            node: call_node(frame.call),
+        })?;
     }
     reader.opened = reader.opened.saturating_sub(1);
     reader.expect = Expect::Operator(true);
@@ -546,7 +574,10 @@ fn put_exponent(reader: &mut Reader, exponent: u8) -> Result<(), Memory>
     ensures { OnOk result (reader.new ≡ with_exponent reader.old exponent) }
 {
     if let Expect::Exponent(at) = reader.expect {
-        reader.nodes.push(Spot { at, node: Node::Unary(Unary::Power(exponent)) })?;
+        reader.nodes.push(Spot {
+            at,
+            node: Node::Unary(Unary::Power(exponent)),
+        })?;
     }
     reader.expect = Expect::Operator(false);
     Ok(())

@@ -3,8 +3,8 @@
 ghost use Rattle.std.specs.Prelude.{◌≡◌, ◌≤◌, ◌<◌, ◌^◌, ◌-◌, length, MatchResult};
 ghost use Rattle.expr_lang.specs.Token.{is_comparison_of, is_allowed_of, fits_of, front_of, better_of, longest_of, digit_count, digits_of_front, number_of, exponent_of};
 
-use crate::words::{self, Symbol};
 use crate::tree::Binary;
+use crate::words::{self, Symbol};
 
 /// Which of the words that may follow an operand are allowed.
 #[derive(Clone, Copy, Debug, PartialEq, Eq)]
@@ -28,7 +28,12 @@ pub fn is_comparison(operator: Binary) -> bool
 {
     matches!(
         operator,
-        Binary::Equal | Binary::NotEqual | Binary::Less | Binary::AtMost | Binary::Greater | Binary::AtLeast
+        Binary::Equal
+            | Binary::NotEqual
+            | Binary::Less
+            | Binary::AtMost
+            | Binary::Greater
+            | Binary::AtLeast
     )
 }
 
@@ -73,7 +78,11 @@ fn better(best: Front, symbol: Symbol, bytes: &[u8]) -> Front
     let word = words::text(symbol);
     let len = front_len(word, bytes);
     if best.len < len || (best.len == len && len == word.len()) {
-        let symbol = if len == word.len() { Some(symbol) } else { None };
+        let symbol = if len == word.len() {
+            Some(symbol)
+        } else {
+            None
+        };
         Front { len, symbol }
     } else {
         best
@@ -85,7 +94,10 @@ pub fn longest(allowed: Allowed, symbols: &[Symbol], bytes: &[u8]) -> Front
     ensures value { result ≡ longest_of allowed symbols.now bytes.now }
     ensures within { result.len ≤ length bytes.now }
 {
-    let mut best = Front { len: 0, symbol: None };
+    let mut best = Front {
+        len: 0,
+        symbol: None,
+    };
     for symbol in symbols {
         if is_allowed(allowed, *symbol) {
             best = better(best, *symbol, bytes);
@@ -142,7 +154,10 @@ pub fn number_at(bytes: &[u8]) -> Result<(u64, usize), usize>
         if decimals == 0 {
             return Err(len + 1);
         }
-        Ok((whole * 1_000_000 + part * scale(decimals), len + 1 + decimals))
+        Ok((
+            whole * 1_000_000 + part * scale(decimals),
+            len + 1 + decimals,
+        ))
     } else {
         Ok((whole * 1_000_000, len))
     }

@@ -36,9 +36,15 @@ pub enum Item {
     /// `[days]`
     Days,
     /// `R{set.REPORTING_RATE}` and the other rates
-    Rate { set: Uid, rate: Rate },
+    Rate {
+        set: Uid,
+        rate: Rate,
+    },
     /// `#{stage.element}`
-    StageElement { stage: Uid, element: Uid },
+    StageElement {
+        stage: Uid,
+        element: Uid,
+    },
     /// `A{attribute}`
     Attribute(Uid),
     /// `V{event_date}`

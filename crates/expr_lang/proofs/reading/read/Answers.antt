@@ -24,9 +24,10 @@ loop-most-preserved c =
     let e : suc (c.loop-most.most - 1) ≡ c.loop-most.most = omega arith in
     let same = sym s ∙ ap (λ (k : ℕ). read_rest c.args.place k c.loop-most.reader c.loop-most.at (drop c.loop-most.at c.args.text.now)) e ∙ c.loop-most.invariant.0 in
     let after = c.loop-most.at + c.blanks-at.result + c.in-Ok.found.len in
-    let opened = opened_token c.loop-most.reader (c.loop-most.at + c.blanks-at.result) c.in-Ok.found.token in
-    ( ap (λ (r : Reader). read_rest c.args.place (c.loop-most.most - 1) r after (drop after c.args.text.now)) c.in_ok-put_token-in-Ok.ensures
-      ∙ ap (read_rest c.args.place (c.loop-most.most - 1) (with_token c.loop-most.reader (c.loop-most.at + c.blanks-at.result) c.in-Ok.found.token) after) (sym (drop-drop c.in-Ok.found.len (c.loop-most.at + c.blanks-at.result) c.args.text.now))
-      ∙ same
-    , omega (arith, ap length c.rest.ensures, length-drop c.loop-most.at c.args.text.now, ap length c.rest-bytes.ensures, length-drop (c.loop-most.at + c.blanks-at.result) c.args.text.now, c.in-Ok.ensures.within)
-    , omega (arith, opened, ap (λ (r : Reader). r.opened) c.in_ok-put_token-in-Ok.ensures) )
+    let opened = opened_token c.loop-most.reader (c.loop-most.at + c.blanks-at.result) c.in-Ok.found.token in (
+      ap (λ (r : Reader). read_rest c.args.place (c.loop-most.most - 1) r after (drop after c.args.text.now)) c.in_ok-put_token-in-Ok.ensures
+          ∙ ap (read_rest c.args.place (c.loop-most.most - 1) (with_token c.loop-most.reader (c.loop-most.at + c.blanks-at.result) c.in-Ok.found.token) after) (sym (drop-drop c.in-Ok.found.len (c.loop-most.at + c.blanks-at.result) c.args.text.now))
+          ∙ same,
+      omega (arith, ap length c.rest.ensures, length-drop c.loop-most.at c.args.text.now, ap length c.rest-bytes.ensures, length-drop (c.loop-most.at + c.blanks-at.result) c.args.text.now, c.in-Ok.ensures.within),
+      omega (arith, opened, ap (λ (r : Reader). r.opened) c.in_ok-put_token-in-Ok.ensures),
+    )
