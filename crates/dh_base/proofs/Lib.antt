@@ -1,0 +1,5 @@
+pub mod DecimalLemmas
+pub mod FractionLemmas
+pub mod GcdLemmas
+pub mod ReadBackLemmas
+pub mod RoundingLemmas
