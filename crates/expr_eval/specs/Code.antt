@@ -1,5 +1,5 @@
 -- The postfix form of an expression, and what a machine with one stack makes of it.
-use Rattle.std.specs.Prelude.{◌≡◌, ℕ, zero, suc, ◌+◌, Bool, true, false, not, List, [], ◌∷◌, ◌++◌, length, take, drop, reverse, map, Option, Some, None, Result, Ok, Err, is_some, is_none, unwrap_or, if◌then◌else◌}
+use Rattle.std.specs.Prelude.{◌≡◌, ℕ, zero, suc, ◌+◌, Bool, true, false, not, List, [], ◌∷◌, ◌++◌, length, take, drop, reverse, map, Option, Some, None, Result, Ok, Err, is_some, is_none, unwrap_or, min, if◌then◌else◌}
 use Rattle.dh_base.specs.declared.plain.Strategy.{Strategy}
 use Rattle.dh_base.specs.Fractions.{Fraction}
 use Rattle.expr_lang.specs.declared.tree.Item.{Item}
@@ -18,10 +18,14 @@ use Rattle.expr_eval.specs.declared.evaluation.Answer.{Answer}
 use Rattle.expr_eval.specs.declared.evaluation.Answer.TheVariants as answer
 use Rattle.expr_eval.specs.declared.code.Instr.{Instr}
 use Rattle.expr_eval.specs.declared.code.Instr.TheVariants as instr
-use Rattle.expr_eval.specs.Meaning.{zero_fraction, literal_of, number_of, truth_of, then_with, applied_one, applied_two, best_of, skips, value_of_cell}
+use Rattle.expr_eval.specs.Meaning.{zero_fraction, literal_of, number_of, truth_of, then_with, applied_one, applied_two, chosen_of, best_of, skips, value_of_cell}
 use Rattle.expr_eval.specs.Given.{entry_at}
 
 -- ---- the form
+
+abbrev pub asked_instr : Bool → ℕ → Instr
+asked_instr true n = instr.Present n
+asked_instr false n = instr.Absent n
 
 abbrev pub leaf_code : (Item → ℕ) → Leaf → List Instr
 leaf_code index (leaf.Number n) = instr.Number (literal_of n) ∷ []
@@ -29,10 +33,8 @@ leaf_code index (leaf.Item i) = instr.Load (index i) ∷ []
 leaf_code index (leaf.Day i) = instr.LoadDay (index i) ∷ []
 
 abbrev pub asked_code : (Item → ℕ) → Bool → Shape → List Instr
-asked_code index true (Operand (leaf.Item i)) = instr.Present (index i) ∷ []
-asked_code index true (Operand (leaf.Day i)) = instr.Present (index i) ∷ []
-asked_code index false (Operand (leaf.Item i)) = instr.Absent (index i) ∷ []
-asked_code index false (Operand (leaf.Day i)) = instr.Absent (index i) ∷ []
+asked_code index wanted (Operand (leaf.Item i)) = asked_instr wanted (index i) ∷ []
+asked_code index wanted (Operand (leaf.Day i)) = asked_instr wanted (index i) ∷ []
 asked_code index wanted _ = instr.Truth wanted ∷ []
 
 -- from the last of a list of items and numbers to the first
@@ -135,6 +137,15 @@ abbrev pub run : List (Option Fraction) → List Instr → ℕ → List Cell →
 run entries [] skip stack = Ok stack
 run entries (i ∷ code) (suc skip) stack = run entries code skip stack
 run entries (i ∷ code) zero stack = go_to (run entries code) (act entries i stack)
+
+-- the place of the next instruction behind one at a place and so many that are passed
+abbrev pub passed_to : ℕ → ℕ → ℕ → ℕ
+passed_to at skip count = min (at + 1 + skip) count
+
+-- the best so far, if there is one, against the next
+abbrev pub next_best_of : Bool → Option Fraction → Fraction → Result Fraction Value
+next_best_of greatest (Some best) next = chosen_of greatest best next
+next_best_of greatest None next = Ok next
 
 abbrev pub top_value : Result (List Cell) Value → Result Cell Value
 top_value (Ok stack) = Ok (top_cell stack)

@@ -18,6 +18,7 @@ pub use expr::Expr;
 pub use fault::ExprFault;
 pub use parsing::{parse, parse_sorted};
 pub use printing::print;
+pub use stack::Stack;
 pub use tree::{Binary, Item, Leaf, Place, Sort, Tree, Unary};
 
 #[cfg(test)]

@@ -76,4 +76,13 @@ impl<T> Stack<T> {
     {
         self.entries.len()
     }
+
+    /// Takes so many items off.
+    pub fn cut(&mut self, count: usize)
+    where
+        T: Drop,
+        ensures { self.new ≡ drop count self.old }
+    {
+        self.entries.truncate(self.entries.len().saturating_sub(count));
+    }
 }
