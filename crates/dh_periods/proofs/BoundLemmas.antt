@@ -11,8 +11,8 @@ use Rattle.dh_periods.specs.declared.name.PeriodName.{PeriodName}
 use Rattle.dh_periods.specs.Calendar.{month_length, days_before_month, month_place, weeks_in_year}
 use Rattle.dh_periods.specs.Types.{shape_of}
 use Rattle.dh_periods.specs.Days.{is_in_year_as, is_listed, first_place_as, end_place_as, first_place, end_place, first_day, last_day, start_month}
-use Rattle.dh_periods.proofs.CalendarLemmas.{days_before_month-zero, days_before_month-next, days_before_month-later}
-use Rattle.dh_periods.proofs.JiffLemmas.{weeks_in_year_bounds}
+use Rattle.dh_periods.proofs.CalendarLemmas.{days_before_month-next, days_before_month-later}
+use Rattle.dh_periods.proofs.JiffLemmas.{weeks_in_year_bounds, days_before_month-end}
 use Rattle.dh_periods.proofs.ListedLemmas.{listed-parts}
 
 -- a year has as many periods of a type as its months allow
@@ -22,21 +22,21 @@ IsCount c = (c ≡ 1) ⊎ (c ≡ 2) ⊎ (c ≡ 3) ⊎ (c ≡ 6) ⊎ (c ≡ 12)
 abbrev pub HasCount : Shape → Type 0
 HasCount Day = Unit {0}
 HasCount Week = Unit {0}
-HasCount (Months count opening) = IsCount count × (opening ≤ 9)
+HasCount (Months count opening) = IsCount count × (opening ≤ 9) × (opening < count)
 
 pub shape_of-count : (kind : PeriodType) → HasCount (shape_of kind)
 unfolding IsCount
 shape_of-count Daily = tt
 shape_of-count Weekly = tt
-shape_of-count Monthly = (inl refl, omega arith)
-shape_of-count BiMonthly = (inr (inl refl), omega arith)
-shape_of-count Quarterly = (inr (inr (inl refl)), omega arith)
-shape_of-count SixMonthly = (inr (inr (inr (inl refl))), omega arith)
-shape_of-count SixMonthlyApril = (inr (inr (inr (inl refl))), omega arith)
-shape_of-count Yearly = (inr (inr (inr (inr refl))), omega arith)
-shape_of-count FinancialApril = (inr (inr (inr (inr refl))), omega arith)
-shape_of-count FinancialJuly = (inr (inr (inr (inr refl))), omega arith)
-shape_of-count FinancialOct = (inr (inr (inr (inr refl))), omega arith)
+shape_of-count Monthly = (inl refl, omega arith, omega arith)
+shape_of-count BiMonthly = (inr (inl refl), omega arith, omega arith)
+shape_of-count Quarterly = (inr (inr (inl refl)), omega arith, omega arith)
+shape_of-count SixMonthly = (inr (inr (inr (inl refl))), omega arith, omega arith)
+shape_of-count SixMonthlyApril = (inr (inr (inr (inl refl))), omega arith, omega arith)
+shape_of-count Yearly = (inr (inr (inr (inr refl))), omega arith, omega arith)
+shape_of-count FinancialApril = (inr (inr (inr (inr refl))), omega arith, omega arith)
+shape_of-count FinancialJuly = (inr (inr (inr (inr refl))), omega arith, omega arith)
+shape_of-count FinancialOct = (inr (inr (inr (inr refl))), omega arith, omega arith)
 
 -- what holds of these five holds of each count
 pub by_count : (P : ℕ → Type 0) → P 1 → P 2 → P 3 → P 6 → P 12 → (c : ℕ) → IsCount c → P c
@@ -55,7 +55,7 @@ months-in_year : (c : ℕ) → IsCount c → InYear c
 unfolding InYear
 months-in_year = by_count InYear (λ year o n low high opens. (omega arith, omega arith, omega arith, omega arith)) (λ year o n low high opens. (omega arith, omega arith, omega arith, omega arith)) (λ year o n low high opens. (omega arith, omega arith, omega arith, omega arith)) (λ year o n low high opens. (omega arith, omega arith, omega arith, omega arith)) (λ year o n low high opens. (omega arith, omega arith, omega arith, omega arith))
 
-date-parts : (p : PeriodName) → is_in_year_as Day p ≡ true → (1 ≤ p.number) × (p.number ≤ 12) × (1 ≤ p.day) × (p.day ≤ month_length p.year p.number)
+pub date-parts : (p : PeriodName) → is_in_year_as Day p ≡ true → (1 ≤ p.number) × (p.number ≤ 12) × (1 ≤ p.day) × (p.day ≤ month_length p.year p.number)
 date-parts p h =
     let a = and_parts (nat_le 1 p.number) (nat_le p.number 12 && (nat_le 1 p.day && nat_le p.day (month_length p.year p.number))) h in
     let b = and_parts (nat_le p.number 12) (nat_le 1 p.day && nat_le p.day (month_length p.year p.number)) a.1 in
@@ -103,10 +103,9 @@ place-bounds p h =
     (b.0, b.1, b.2, parts.1)
 
 -- the first day is not behind the last, and both are small
-pub day-bounds : (p : PeriodName) → is_listed p ≡ true → (neg_ℤ (pos 25567) ≤ℤ first_day p) × (first_day p ≤ℤ last_day p) × (last_day p ≤ℤ pos 50000)
+pub day-bounds : (p : PeriodName) → is_listed p ≡ true → (neg_ℤ (pos 25567) ≤ℤ first_day p) × (first_day p ≤ℤ last_day p) × (last_day p ≤ℤ pos 48119)
 unfolding first_day last_day
 day-bounds p h =
     let b = place-bounds p h in
-    let far = days_before_month-later 0 2421 (omega arith) in
-    let none = days_before_month-zero in
+    let far = days_before_month-end in
     (omega (arith, signed_arith), omega (arith, signed_arith), omega (arith, signed_arith))

@@ -99,3 +99,10 @@ pub year_bounds : (y : ℕ) → 1900 ≤ y → (day_place y 1 1 + 336 ≤ day_pl
 year_bounds y h =
     let later = days_before_month-later (month_place y 1) (month_place (y + 1) 1) (omega arith) in
     (omega arith, omega arith)
+
+-- a month has at least 28 days
+pub month_with-small : (n : ℕ) → 28 * month_with n ≤ n
+month_with-small n =
+    let b = month_with-bounds n in
+    let later = days_before_month-later 0 (month_with n) (omega arith) in
+    omega (arith, days_before_month-zero)

@@ -1,5 +1,5 @@
 -- What a period holds, in the numbers that its methods compute with.
-use Rattle.std.proofs.Common.{◌≡◌, inl, inr, true, false, ◌&&◌, refl, sym, ◌∙◌, arith, w32, of_z, to_z, to_z-of_z, FitsSigned, ℤ, ◌≤ℤ◌}
+use Rattle.std.proofs.Common.{◌≡◌, pos, neg_ℤ, inl, inr, true, false, ◌&&◌, refl, sym, ◌∙◌, arith, w32, of_z, to_z, to_z-of_z, FitsSigned, ℤ, ◌≤ℤ◌}
 use Rattle.std.specs.Prelude.{int_le}
 use Rattle.std.proofs.lemmas.Bool.{cases_Bool, and_right}
 use Rattle.jiff_core.proofs.SignedLemmas.{signed_arith}
@@ -62,3 +62,11 @@ pub held-outside : (a b : Inside) (p q : PeriodName) → IsHeld a → IsHeld b �
 held-outside a b p q ha hb ep eq e =
     let test : int_le (first_day b.name) (first_day a.name) ≡ false = rw (inside-first a ha, inside-first b hb) at e in
     rw (inside-first a ha, inside-first b hb, ← ep, ← eq) (is_inside-not a.name b.name test)
+
+-- a first day fits the machine's numbers
+pub first-in : (first : ℤ) (p : PeriodName) → is_listed p ≡ true → first ≡ first_day p → (neg_ℤ (pos 25567) ≤ℤ to_z w32 (of_z w32 first)) × (to_z w32 (of_z w32 first) ≤ℤ pos 48119) × (to_z w32 (of_z w32 first) ≡ first)
+first-in first p h e =
+    let b = day-bounds p h in
+    let fits : FitsSigned w32 (first_day p) = omega (arith, signed_arith) in
+    let back : to_z w32 (of_z w32 (first_day p)) ≡ first_day p = to_z-of_z fits in
+    rw e (rw back b.0, rw back (omega (arith, signed_arith)), back)

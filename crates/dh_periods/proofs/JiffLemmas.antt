@@ -10,7 +10,7 @@ use Rattle.jiff_core.specs.IsoWeek.{days_from_iso, weeks_in_year as iso_weeks}
 use Rattle.jiff_core.proofs.IsoWeekLemmas.{weeks_in_year-next}
 use Rattle.jiff_core.specs.Calendar.{day_count, days_from_civil, iso_year_start}
 use Rattle.jiff_core.proofs.CalendarLemmas.{day_count-next_month, day_count-next_year, day_count-last_of_year, day_count-day, days_from_civil-day_count, weekday_number-parts}
-use Rattle.jiff_core.proofs.MarchLemmas.{day_count-early}
+use Rattle.jiff_core.proofs.MarchLemmas.{day_count-early, day_count-late}
 use Rattle.jiff_core.proofs.SignedLemmas.{signed_arith}
 use Rattle.dh_periods.specs.Calendar.{month_length, days_before_month, month_place, day_place, unix_day, first_week, weeks_in_year}
 use Rattle.dh_periods.proofs.CalendarLemmas.{days_before_month-zero, days_before_month-next}
@@ -62,7 +62,7 @@ iso_year_start-is y year =
     let weekday = weekday_number-parts (days_from_civil (pos y) 1 4) in
     omega (arith, signed_arith, fourth, weekday)
 
-pub weeks_in_year-is : (y : ℕ) → 1900 ≤ y → y ≤ 9998 → iso_weeks (pos y) ≡ weeks_in_year y
+pub weeks_in_year-is : (y : ℕ) → 1900 ≤ y → y ≤ 9999 → iso_weeks (pos y) ≡ weeks_in_year y
 weeks_in_year-is y year top =
     let here = iso_year_start-is y year in
     let there = iso_year_start-is (y + 1) (omega arith) in
@@ -83,7 +83,7 @@ epoch_day-is date y m d year ye me de =
     rw (ye, me, de) (days_from_civil-is y m d year (omega arith) (omega arith) (omega arith))
 
 -- a year of weeks has 52 or 53
-pub weeks_in_year_bounds : (y : ℕ) → 1900 ≤ y → y ≤ 9998 → (52 ≤ weeks_in_year y) × (weeks_in_year y ≤ 53)
+pub weeks_in_year_bounds : (y : ℕ) → 1900 ≤ y → y ≤ 9999 → (52 ≤ weeks_in_year y) × (weeks_in_year y ≤ 53)
 weeks_in_year_bounds y year top =
     let next = weeks_in_year-next (pos y) (pos (y + 1)) (omega (arith, signed_arith), omega (arith, signed_arith)) refl in
     let same = weeks_in_year-is y year top in
@@ -94,3 +94,10 @@ pub days_from_iso-monday : (y week : ℕ) → 1900 ≤ y → days_from_iso (pos 
 days_from_iso-monday y week year =
     let none : 7 * (first_week y + (week - 1)) + 0 ≡ 7 * (first_week y + (week - 1)) = omega arith in
     days_from_iso-is y week Monday year ∙ ap unix_day none
+
+-- 1 October 2101, behind the last day of all periods
+pub days_before_month-end : days_before_month 2421 ≡ 73_687
+days_before_month-end =
+    let counted : day_count (pos 2101) 10 1 ≡ days_before_month 2421 + 4_346_386 = day_count-month 2421 in
+    let value : day_count (pos 2101) 10 1 ≡ 4_420_073 = day_count-late (pos 2101) 12101 10 1 refl (omega arith) (omega arith) (omega arith) in
+    omega (arith, counted, value)

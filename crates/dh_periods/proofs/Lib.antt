@@ -5,3 +5,10 @@ pub mod TextLemmas
 pub mod ListedLemmas
 pub mod BoundLemmas
 pub mod HeldLemmas
+pub mod InverseLemmas
+pub mod PlaceLemmas
+pub mod ContainingLemmas
+pub mod RunLemmas
+pub mod CivilLemmas
+pub mod TypeLemmas
+pub mod KeyLemmas

@@ -16,19 +16,19 @@ use Rattle.dh_periods.proofs.ListedLemmas.{listed-parts}
 use Rattle.dh_periods.specs.Texts.{one_digit, two_digits, four_digits, short_digits, ending_as, period_text, padded_text, IsTextOf, is_digit, number_of_one, number_of_two, number_of_four, whole, numbered, dated, read_two, read_three, read_ending, read_name, period_of}
 
 -- which branch a choice took
-choice : {A : Type 0} (b : Bool) (x y z : A) → (if b then x else y) ≡ z → ((b ≡ true) × (x ≡ z)) ⊎ ((b ≡ false) × (y ≡ z))
+pub choice : {A : Type 0} (b : Bool) (x y z : A) → (if b then x else y) ≡ z → ((b ≡ true) × (x ≡ z)) ⊎ ((b ≡ false) × (y ≡ z))
 choice true x y z e = inl (refl, e)
 choice false x y z e = inr (refl, e)
 
-some_when : {A : Type 0} (b : Bool) (x z : A) → (if b then Some x else None) ≡ Some z → (b ≡ true) × (x ≡ z)
+pub some_when : {A : Type 0} (b : Bool) (x z : A) → (if b then Some x else None) ≡ Some z → (b ≡ true) × (x ≡ z)
 some_when true x z e = (refl, cc)
 some_when false x z e = absurd (cc)
 
-and_then-some : {A B : Type 0} (f : A → Option B) (o : Option A) (z : B) → option_and_then f o ≡ Some z → (x : A) × (o ≡ Some x) × (f x ≡ Some z)
+pub and_then-some : {A B : Type 0} (f : A → Option B) (o : Option A) (z : B) → option_and_then f o ≡ Some z → (x : A) × (o ≡ Some x) × (f x ≡ Some z)
 and_then-some f (Some x) z e = (x, refl, e)
 and_then-some f None z e = absurd (cc)
 
-map-some : {A B : Type 0} (f : A → B) (o : Option A) (z : B) → option_map f o ≡ Some z → (x : A) × (o ≡ Some x) × (f x ≡ z)
+pub map-some : {A B : Type 0} (f : A → B) (o : Option A) (z : B) → option_map f o ≡ Some z → (x : A) × (o ≡ Some x) × (f x ≡ z)
 map-some f (Some x) z e = (x, refl, cc)
 map-some f None z e = absurd (cc)
 
@@ -45,7 +45,7 @@ one-read a n e =
     let range = digit-bounds a taken.0 in
     (omega (arith, taken.1), omega (arith, taken.1))
 
-two-read : (a b n : ℕ) → number_of_two a b ≡ Some n → (n < 100) × (a ≡ 48 + n / 10) × (b ≡ 48 + n % 10)
+pub two-read : (a b n : ℕ) → number_of_two a b ≡ Some n → (n < 100) × (a ≡ 48 + n / 10) × (b ≡ 48 + n % 10)
 two-read a b n e =
     let taken = some_when (is_digit a && is_digit b) (10 * (a - 48) + (b - 48)) n e in
     let both = and_parts _ _ taken.0 in
@@ -53,7 +53,7 @@ two-read a b n e =
     let second = digit-bounds b both.1 in
     (omega (arith, taken.1), omega (arith, taken.1), omega (arith, taken.1))
 
-four-read : (a b c d n : ℕ) → number_of_four a b c d ≡ Some n → (a ≡ 48 + n / 1000) × (b ≡ 48 + n / 100 % 10) × (c ≡ 48 + n / 10 % 10) × (d ≡ 48 + n % 10)
+pub four-read : (a b c d n : ℕ) → number_of_four a b c d ≡ Some n → (a ≡ 48 + n / 1000) × (b ≡ 48 + n / 100 % 10) × (c ≡ 48 + n / 10 % 10) × (d ≡ 48 + n % 10)
 four-read a b c d n e =
     let taken = some_when ((is_digit a && is_digit b) && (is_digit c && is_digit d)) (1000 * (a - 48) + 100 * (b - 48) + 10 * (c - 48) + (d - 48)) n e in
     let halves = and_parts _ _ taken.0 in
@@ -71,12 +71,12 @@ one-written n h =
     let value : 48 + n - 48 ≡ n = omega arith in
     rw (digit-is (48 + n) (omega arith) (omega arith)) (ap Some value)
 
-two-written : (n : ℕ) → n < 100 → number_of_two (48 + n / 10) (48 + n % 10) ≡ Some n
+pub two-written : (n : ℕ) → n < 100 → number_of_two (48 + n / 10) (48 + n % 10) ≡ Some n
 two-written n h =
     let value : 10 * (48 + n / 10 - 48) + (48 + n % 10 - 48) ≡ n = omega arith in
     rw (digit-is (48 + n / 10) (omega arith) (omega arith), digit-is (48 + n % 10) (omega arith) (omega arith)) (ap Some value)
 
-four-written : (n : ℕ) → n < 10000 → number_of_four (48 + n / 1000) (48 + n / 100 % 10) (48 + n / 10 % 10) (48 + n % 10) ≡ Some n
+pub four-written : (n : ℕ) → n < 10000 → number_of_four (48 + n / 1000) (48 + n / 100 % 10) (48 + n / 10 % 10) (48 + n % 10) ≡ Some n
 four-written n h =
     let value : 1000 * (48 + n / 1000 - 48) + 100 * (48 + n / 100 % 10 - 48) + 10 * (48 + n / 10 % 10 - 48) + (48 + n % 10 - 48) ≡ n = omega arith in
     rw (digit-is (48 + n / 1000) (omega arith) (omega arith), digit-is (48 + n / 100 % 10) (omega arith) (omega arith), digit-is (48 + n / 10 % 10) (omega arith) (omega arith), digit-is (48 + n % 10) (omega arith) (omega arith)) (ap Some value)
@@ -96,7 +96,7 @@ list_of_three : (r : List ℕ) → length r ≡ 3 → r ≡ slice_index r 0 ∷ 
 list_of_three [] h = absurd (omega arith)
 list_of_three (a ∷ r) h = ap (λ s. a ∷ s) (list_of_two r (omega arith))
 
-list_of_four : (r : List ℕ) → length r ≡ 4 → r ≡ slice_index r 0 ∷ slice_index r 1 ∷ slice_index r 2 ∷ slice_index r 3 ∷ []
+pub list_of_four : (r : List ℕ) → length r ≡ 4 → r ≡ slice_index r 0 ∷ slice_index r 1 ∷ slice_index r 2 ∷ slice_index r 3 ∷ []
 list_of_four [] h = absurd (omega arith)
 list_of_four (a ∷ r) h = ap (λ s. a ∷ s) (list_of_three r (omega arith))
 

@@ -4,3 +4,7 @@ pub mod Days
 pub mod Spans
 pub mod Texts
 pub mod Held
+pub mod Places
+pub mod Relative
+pub mod Civil
+pub mod Keys

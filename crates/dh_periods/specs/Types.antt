@@ -1,5 +1,5 @@
 -- The types of periods: what each is called, and how its periods lie in a year.
-use Rattle.std.specs.Prelude.{ℕ, ◌≤◌, List}
+use Rattle.std.specs.Prelude.{ℕ, ◌≤◌, List, [], ◌∷◌, Option, find, bytes_eq}
 use lib.Chars.{codes}
 use Rattle.dh_periods.specs.declared.kind.PeriodType.{PeriodType}
 use Rattle.dh_periods.specs.declared.kind.PeriodType.TheVariants.{Daily, Weekly, Monthly, BiMonthly, Quarterly, SixMonthly, SixMonthlyApril, Yearly, FinancialApril, FinancialJuly, FinancialOct}
@@ -39,3 +39,11 @@ type_name Yearly = codes "Yearly"
 type_name FinancialApril = codes "FinancialApril"
 type_name FinancialJuly = codes "FinancialJuly"
 type_name FinancialOct = codes "FinancialOct"
+
+-- all types, in their order
+abbrev pub all_types : List PeriodType
+all_types = Daily ∷ Weekly ∷ Monthly ∷ BiMonthly ∷ Quarterly ∷ SixMonthly ∷ SixMonthlyApril ∷ Yearly ∷ FinancialApril ∷ FinancialJuly ∷ FinancialOct ∷ []
+
+-- the type of that name
+unfoldable pub type_named : List ℕ → Option PeriodType
+type_named name = find (λ kind. bytes_eq (type_name kind) name) all_types

@@ -1,6 +1,8 @@
 //! The types of periods.
-ghost use Rattle.std.specs.Prelude.{◌≡◌};
-ghost use Rattle.dh_periods.specs.Types.{shape_of, IsShape};
+ghost use Rattle.std.specs.Prelude.{◌≡◌, ◌≢◌, IfSome, IfNone};
+ghost use Rattle.dh_periods.specs.declared.kind.PeriodType.{PeriodType};
+ghost use Rattle.dh_periods.specs.declared.kind.Shape.TheVariants.{Months};
+ghost use Rattle.dh_periods.specs.Types.{shape_of, type_name, type_named, IsShape};
 
 /// The types of periods, in the order in which periods of the same days are sorted.
 #[derive(Clone, Copy, PartialEq, Eq, PartialOrd, Ord, Hash, Debug)]
@@ -18,6 +20,58 @@ pub enum PeriodType {
     FinancialOct,
 }
 
+/// All types, in their order.
+const ALL_TYPES: [PeriodType; 11] = [
+    PeriodType::Daily,
+    PeriodType::Weekly,
+    PeriodType::Monthly,
+    PeriodType::BiMonthly,
+    PeriodType::Quarterly,
+    PeriodType::SixMonthly,
+    PeriodType::SixMonthlyApril,
+    PeriodType::Yearly,
+    PeriodType::FinancialApril,
+    PeriodType::FinancialJuly,
+    PeriodType::FinancialOct,
+];
+
+#[tactic(auto, unfolding(crate::specs::Types::type_named))]
+fn type_named(name: &[u8]) -> Option<PeriodType>
+    ensures { result ≡ type_named name.now }
+{
+    ALL_TYPES.iter().copied().find(|kind| kind.name() == name)
+}
+
+impl PeriodType {
+    /// The type of that name, such as `Monthly`, or `None` where no type has it.
+    pub fn parse(name: &[u8]) -> Option<PeriodType>
+        ensures value { result ≡ type_named name.now }
+        ensures found { IfSome result (λ kind. type_name kind ≡ name.now) }
+        ensures none { IfNone result ((kind : PeriodType) → type_name kind ≢ name.now) }
+    {
+        type_named(name)
+    }
+
+    /// The name of the type, such as `Monthly`.
+    pub fn name(self) -> &'static [u8]
+        ensures { result.now ≡ type_name self }
+    {
+        match self {
+            PeriodType::Daily => b"Daily",
+            PeriodType::Weekly => b"Weekly",
+            PeriodType::Monthly => b"Monthly",
+            PeriodType::BiMonthly => b"BiMonthly",
+            PeriodType::Quarterly => b"Quarterly",
+            PeriodType::SixMonthly => b"SixMonthly",
+            PeriodType::SixMonthlyApril => b"SixMonthlyApril",
+            PeriodType::Yearly => b"Yearly",
+            PeriodType::FinancialApril => b"FinancialApril",
+            PeriodType::FinancialJuly => b"FinancialJuly",
+            PeriodType::FinancialOct => b"FinancialOct",
+        }
+    }
+}
+
 /// How the periods of a type lie in a year.
 #[derive(Clone, Copy)]
 pub(crate) enum Shape {
@@ -29,6 +83,12 @@ pub(crate) enum Shape {
     Months { count: u8, opening: u8 },
 }
 
+fn months(count: u8, opening: u8) -> Shape
+    ensures { result ≡ Months count opening }
+{
+    Shape::Months { count, opening }
+}
+
 /// How the periods of that type lie in a year.
 pub(crate) fn shape_of(kind: PeriodType) -> Shape
     ensures value { result ≡ shape_of kind }
@@ -37,41 +97,14 @@ pub(crate) fn shape_of(kind: PeriodType) -> Shape
     match kind {
         PeriodType::Daily => Shape::Day,
         PeriodType::Weekly => Shape::Week,
-        PeriodType::Monthly => Shape::Months {
-            count: 1,
-            opening: 0,
-        },
-        PeriodType::BiMonthly => Shape::Months {
-            count: 2,
-            opening: 0,
-        },
-        PeriodType::Quarterly => Shape::Months {
-            count: 3,
-            opening: 0,
-        },
-        PeriodType::SixMonthly => Shape::Months {
-            count: 6,
-            opening: 0,
-        },
-        PeriodType::SixMonthlyApril => Shape::Months {
-            count: 6,
-            opening: 3,
-        },
-        PeriodType::Yearly => Shape::Months {
-            count: 12,
-            opening: 0,
-        },
-        PeriodType::FinancialApril => Shape::Months {
-            count: 12,
-            opening: 3,
-        },
-        PeriodType::FinancialJuly => Shape::Months {
-            count: 12,
-            opening: 6,
-        },
-        PeriodType::FinancialOct => Shape::Months {
-            count: 12,
-            opening: 9,
-        },
+        PeriodType::Monthly => months(1, 0),
+        PeriodType::BiMonthly => months(2, 0),
+        PeriodType::Quarterly => months(3, 0),
+        PeriodType::SixMonthly => months(6, 0),
+        PeriodType::SixMonthlyApril => months(6, 3),
+        PeriodType::Yearly => months(12, 0),
+        PeriodType::FinancialApril => months(12, 3),
+        PeriodType::FinancialJuly => months(12, 6),
+        PeriodType::FinancialOct => months(12, 9),
     }
 }

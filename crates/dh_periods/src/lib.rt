@@ -1,13 +1,22 @@
 //! Periods of a health reporting system: days, weeks, months and longer, each written as a short text.
 #![tactic(auto)]
 
+mod dates;
 mod days;
 mod kind;
 mod name;
 mod period;
+mod places;
 mod print;
 mod read;
+#[cfg(test)]
+mod tests;
+#[cfg(test)]
+mod vectors;
+mod windows;
 
+pub use dates::civil;
 pub use kind::PeriodType;
 pub use name::PeriodName;
-pub use period::Period;
+pub use period::{Period, containing};
+pub use windows::relative;

@@ -15,7 +15,7 @@ fn number_of_one(byte: u8) -> Option<u8>
     }
 }
 
-fn number_of_two(tens: u8, ones: u8) -> Option<u8>
+pub(crate) fn number_of_two(tens: u8, ones: u8) -> Option<u8>
     ensures { result ≡ number_of_two tens ones }
 {
     if tens.is_ascii_digit() && ones.is_ascii_digit() {
@@ -25,7 +25,7 @@ fn number_of_two(tens: u8, ones: u8) -> Option<u8>
     }
 }
 
-fn number_of_four(thousands: u8, hundreds: u8, tens: u8, ones: u8) -> Option<u16>
+pub(crate) fn number_of_four(thousands: u8, hundreds: u8, tens: u8, ones: u8) -> Option<u16>
     ensures { result ≡ number_of_four thousands hundreds tens ones }
 {
     let high = number_of_two(thousands, hundreds)?;
@@ -56,7 +56,7 @@ fn numbered(kind: PeriodType, year: u16, number: Option<u8>) -> Option<PeriodNam
     })
 }
 
-fn dated(year: u16, month: Option<u8>, day: Option<u8>) -> Option<PeriodName>
+pub(crate) fn dated(year: u16, month: Option<u8>, day: Option<u8>) -> Option<PeriodName>
     ensures { result ≡ dated year month day }
 {
     let number = month?;

@@ -1,0 +1,3 @@
+pub mod Combos
+pub mod Held
+pub mod Single

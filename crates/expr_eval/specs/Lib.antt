@@ -1,0 +1,4 @@
+pub mod Meaning
+pub mod Given
+pub mod Code
+pub mod Correct

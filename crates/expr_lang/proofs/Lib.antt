@@ -1,0 +1,5 @@
+pub mod Digits
+pub mod Stacks
+pub mod Readings
+pub mod Decimals
+pub mod Listing

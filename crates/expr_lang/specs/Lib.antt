@@ -1,0 +1,13 @@
+pub mod Stack
+pub mod Words
+pub mod Token
+pub mod Item
+pub mod Reading
+pub mod Leaves
+pub mod Survey
+pub mod Shape
+pub mod Build
+pub mod Items
+pub mod Print
+pub mod Parse
+pub mod Expr

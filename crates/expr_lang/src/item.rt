@@ -1,0 +1,100 @@
+//! The items that words name.
+
+ghost use Rattle.std.specs.Prelude.{◌≡◌, ◌<◌};
+ghost use Rattle.expr_lang.specs.Item.{uid_from, item_from, is_among_of, is_day_of, leaf_from};
+
+use crate::tree::{Item, Leaf};
+use crate::words::ItemForm;
+use dh_base::uid::Uid;
+
+fn uid_at(bytes: &[u8], from: usize) -> Option<Uid>
+    requires { from < 64 }
+    ensures { result ≡ uid_from from bytes.now }
+{
+    if bytes.len() < from + 11 {
+        return None;
+    }
+    Uid::parse(&bytes[from..from + 11])
+}
+
+/// The item that a word of this form names.
+#[tactic(auto, unfolding(crate::specs::Item::item_from))]
+pub fn item_of(form: ItemForm, bytes: &[u8]) -> Option<Item>
+    ensures { result ≡ item_from form bytes.now }
+{
+    match form {
+        ItemForm::Element => {
+            let element = uid_at(bytes, 2)?;
+            Some(Item::Element {
+                element,
+                combo: None,
+                attribute: None,
+            })
+        }
+        ItemForm::ElementCombo => {
+            let element = uid_at(bytes, 2)?;
+            let combo = uid_at(bytes, 14)?;
+            Some(Item::Element {
+                element,
+                combo: Some(combo),
+                attribute: None,
+            })
+        }
+        ItemForm::ElementCombos => {
+            let element = uid_at(bytes, 2)?;
+            let combo = uid_at(bytes, 14)?;
+            let attribute = uid_at(bytes, 26)?;
+            Some(Item::Element {
+                element,
+                combo: Some(combo),
+                attribute: Some(attribute),
+            })
+        }
+        ItemForm::Constant => Some(Item::Constant(uid_at(bytes, 2)?)),
+        ItemForm::Group => Some(Item::Group(uid_at(bytes, 4)?)),
+        ItemForm::Days => Some(Item::Days),
+        ItemForm::Rate(rate) => {
+            let set = uid_at(bytes, 2)?;
+            Some(Item::Rate { set, rate })
+        }
+        ItemForm::StageElement => {
+            let stage = uid_at(bytes, 2)?;
+            let element = uid_at(bytes, 14)?;
+            Some(Item::StageElement { stage, element })
+        }
+        ItemForm::Attribute => Some(Item::Attribute(uid_at(bytes, 2)?)),
+        ItemForm::EventDate => Some(Item::EventDate),
+        ItemForm::EnrollmentDate => Some(Item::EnrollmentDate),
+        ItemForm::EventCount => Some(Item::EventCount),
+        ItemForm::EnrollmentCount => Some(Item::EnrollmentCount),
+        ItemForm::EntityCount => Some(Item::EntityCount),
+    }
+}
+
+/// The operand that an item is: some items are days.
+pub fn leaf_of(item: Item, days: &[Uid]) -> Leaf
+    ensures { result ≡ leaf_from days.now item }
+{
+    if is_day(&item, days) {
+        Leaf::Day(item)
+    } else {
+        Leaf::Item(item)
+    }
+}
+
+fn is_day(item: &Item, days: &[Uid]) -> bool
+    ensures { result ≡ is_day_of days.now item.now }
+{
+    match item {
+        Item::EventDate | Item::EnrollmentDate => true,
+        Item::StageElement { stage: _, element } => is_among(*element, days),
+        Item::Attribute(attribute) => is_among(*attribute, days),
+        _ => false,
+    }
+}
+
+fn is_among(uid: Uid, days: &[Uid]) -> bool
+    ensures { result ≡ is_among_of uid days.now }
+{
+    days.contains(&uid)
+}

@@ -1,0 +1,25 @@
+//! The expression language of indicators, validation rules, predictors and program indicators.
+#![tactic(auto)]
+
+mod build;
+mod expr;
+mod fault;
+mod item;
+mod parsing;
+mod printing;
+mod reading;
+mod stack;
+mod survey;
+mod token;
+mod tree;
+mod words;
+
+pub use expr::Expr;
+pub use fault::ExprFault;
+pub use parsing::{parse, parse_sorted};
+pub use printing::print;
+pub use stack::Stack;
+pub use tree::{Binary, Item, Leaf, Place, Sort, Tree, Unary};
+
+#[cfg(test)]
+mod tests;

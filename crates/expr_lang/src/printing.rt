@@ -1,0 +1,341 @@
+//! Expressions as text.
+
+ghost use Rattle.std.specs.Prelude.{◌≡◌, ◌++◌, ◌<◌, ◌≤◌, ◌^◌, ◌+◌, [], if◌then◌else◌, OnOk, IfOk};
+ghost use Rattle.std.specs.Fmt.{decimal};
+ghost use Rattle.expr_lang.specs.Print.{decimals_text, number_text, rate_name_of, more_text, named_text, item_text, leaf_text, unary_level_of, binary_level_of, exponent_text, before_of, behind_of, inner_level_of, opening_of, between_of, closing_of, left_level_of, right_level_of, text_from};
+ghost use Rattle.expr_lang.specs.Shape.{shape_of};
+ghost use Rattle.expr_lang.specs.Words.{operator_text_of};
+
+use crate::expr::Expr;
+use crate::reading::level;
+use crate::tree::{Binary, Item, Leaf, Tree, Unary};
+use crate::words::operator_text;
+use dh_base::memory::Memory;
+use dh_base::plain::Rate;
+use dh_base::uid::Uid;
+use std::alloc::Global;
+
+/// The text of an expression, with the fewest brackets.
+pub fn print(alloc: Global, expr: &Expr) -> Result<Vec<u8>, Memory>
+    ensures { IfOk result (λ text. text.items ≡ text_from 0 (shape_of expr.now.tree)) }
+{
+    let mut out = Vec::new(alloc);
+    put_tree(alloc, &mut out, 0, &expr.tree)?;
+    Ok(out)
+}
+
+fn unary_level(unary: Unary) -> u8
+    ensures { result ≡ unary_level_of unary }
+{
+    match unary {
+        Unary::Negate | Unary::Not => 6,
+        Unary::Power(_) => 7,
+        _ => 8,
+    }
+}
+
+fn inner_level(unary: Unary) -> u8
+    ensures { result ≡ inner_level_of unary }
+{
+    match unary {
+        Unary::Negate | Unary::Not => 6,
+        Unary::Power(_) => 8,
+        _ => 0,
+    }
+}
+
+fn binary_level(binary: Binary) -> u8
+    ensures { result ≡ binary_level_of binary }
+{
+    match binary {
+        Binary::DaysBetween => 8,
+        other => level(other),
+    }
+}
+
+/// Comparisons form no chains.
+fn left_level(binary: Binary) -> u8
+    ensures { result ≡ left_level_of binary }
+{
+    if binary == Binary::DaysBetween {
+        return 0;
+    }
+    let own = level(binary);
+    if own == 3 { 4 } else { own }
+}
+
+/// Chains group to the left.
+fn right_level(binary: Binary) -> u8
+    ensures { result ≡ right_level_of binary }
+{
+    match binary {
+        Binary::DaysBetween => 0,
+        other => level(other) + 1,
+    }
+}
+
+fn put(out: &mut Vec<u8>, text: &[u8]) -> Result<(), Memory>
+    ensures { OnOk result (out.new.items ≡ out.old.items ++ text.now) }
+{
+    out.extend_from_slice(text)?;
+    Ok(())
+}
+
+fn before(unary: Unary) -> &'static [u8]
+    ensures { result.now ≡ before_of unary }
+{
+    match unary {
+        Unary::Negate => b"-",
+        Unary::Not => b"!",
+        Unary::Power(_) => b"",
+        Unary::IsNull => b"isNull(",
+        Unary::IsNotNull => b"isNotNull(",
+        Unary::FirstNonNull => b"firstNonNull(",
+        Unary::Greatest => b"greatest(",
+        Unary::Least => b"least(",
+        Unary::HasValue => b"d2:hasValue(",
+        Unary::Zing => b"d2:zing(",
+        Unary::Oizp => b"d2:oizp(",
+    }
+}
+
+fn put_behind(out: &mut Vec<u8>, unary: Unary) -> Result<(), Memory>
+    ensures { OnOk result (out.new.items ≡ out.old.items ++ behind_of unary) }
+{
+    match unary {
+        Unary::Negate | Unary::Not => Ok(()),
+        Unary::Power(exponent) => {
+            put(out, b"^")?;
+            put_exponent(out, exponent)
+        }
+        _ => put(out, b")"),
+    }
+}
+
+fn put_exponent(out: &mut Vec<u8>, exponent: u8) -> Result<(), Memory>
+    ensures { OnOk result (out.new.items ≡ out.old.items ++ exponent_text exponent) }
+{
+    if exponent < 10 {
+        put(out, &[b'0' + exponent])
+    } else {
+        put(out, &[b'0' + exponent / 10 % 10, b'0' + exponent % 10])
+    }
+}
+
+fn opening(binary: Binary) -> &'static [u8]
+    ensures { result.now ≡ opening_of binary }
+{
+    match binary {
+        Binary::DaysBetween => b"d2:daysBetween(",
+        _ => b"",
+    }
+}
+
+fn between(binary: Binary) -> &'static [u8]
+    ensures { result.now ≡ between_of binary }
+{
+    match binary {
+        Binary::DaysBetween => b",",
+        other => operator_text(other),
+    }
+}
+
+fn closing(binary: Binary) -> &'static [u8]
+    ensures { result.now ≡ closing_of binary }
+{
+    match binary {
+        Binary::DaysBetween => b")",
+        _ => b"",
+    }
+}
+
+/// The text of a tree where it has to bind at least so tightly.
+fn put_tree(alloc: Global, out: &mut Vec<u8>, least: u8, tree: &Tree) -> Result<(), Memory>
+    ensures { OnOk result (out.new.items ≡ out.old.items ++ text_from least (shape_of tree.now)) }
+{
+    match tree {
+        Tree::Leaf(leaf) => put_leaf(alloc, out, leaf),
+        Tree::Unary(unary, operand) => {
+            let inside = unary_level(*unary) < least;
+            put_if(out, inside, b"(")?;
+            put(out, before(*unary))?;
+            put_tree(alloc, out, inner_level(*unary), operand)?;
+            put_behind(out, *unary)?;
+            put_if(out, inside, b")")
+        }
+        Tree::Binary(binary, left, right) => {
+            let inside = binary_level(*binary) < least;
+            put_if(out, inside, b"(")?;
+            put(out, opening(*binary))?;
+            put_tree(alloc, out, left_level(*binary), left)?;
+            put(out, between(*binary))?;
+            put_tree(alloc, out, right_level(*binary), right)?;
+            put(out, closing(*binary))?;
+            put_if(out, inside, b")")
+        }
+        Tree::If(test, one, other) => {
+            put(out, b"if(")?;
+            put_tree(alloc, out, 0, test)?;
+            put(out, b",")?;
+            put_tree(alloc, out, 0, one)?;
+            put(out, b",")?;
+            put_tree(alloc, out, 0, other)?;
+            put(out, b")")
+        }
+    }
+}
+
+fn put_if(out: &mut Vec<u8>, needed: bool, text: &[u8]) -> Result<(), Memory>
+    ensures { OnOk result (out.new.items ≡ out.old.items ++ (if needed then text.now else [])) }
+{
+    if needed { put(out, text) } else { Ok(()) }
+}
+
+fn put_leaf(alloc: Global, out: &mut Vec<u8>, leaf: &Leaf) -> Result<(), Memory>
+    ensures { OnOk result (out.new.items ≡ out.old.items ++ leaf_text leaf.now) }
+{
+    match leaf {
+        Leaf::Number(millionths) => put_number(alloc, out, *millionths),
+        Leaf::Item(item) => put_item(out, item),
+        Leaf::Day(item) => put_item(out, item),
+    }
+}
+
+#[tactic(auto, unfolding(crate::specs::Print::number_text))]
+fn put_number(alloc: Global, out: &mut Vec<u8>, millionths: u64) -> Result<(), Memory>
+    ensures { OnOk result (out.new.items ≡ out.old.items ++ number_text millionths) }
+{
+    put_whole(alloc, out, millionths / 1_000_000)?;
+    let part = millionths % 1_000_000;
+    if part == 0 {
+        return Ok(());
+    }
+    put(out, b".")?;
+    put_decimals(out, 6, part)
+}
+
+fn put_whole(alloc: Global, out: &mut Vec<u8>, number: u64) -> Result<(), Memory>
+    ensures { OnOk result (out.new.items ≡ out.old.items ++ decimal number) }
+{
+    let text = number.to_string(alloc)?;
+    put(out, text.as_bytes())
+}
+
+fn unit(places: u8) -> u64
+    requires { places ≤ 6 }
+    ensures { result ≡ 10 ^ places }
+{
+    match places {
+        0 => 1,
+        1 => 10,
+        2 => 100,
+        3 => 1_000,
+        4 => 10_000,
+        5 => 100_000,
+        _ => 1_000_000,
+    }
+}
+
+/// The digits of a part behind a point, up to the last that isn't 0.
+fn put_decimals(out: &mut Vec<u8>, most: u8, part: u64) -> Result<(), Memory>
+    requires few { most ≤ 6 }
+    requires small { part < 10 ^ most }
+    ensures { OnOk result (out.new.items ≡ out.old.items ++ decimals_text most part) }
+{
+    let mut places = most;
+    let mut left = part;
+    while places > 0 && left > 0 {
+        places -= 1;
+        let one = unit(places);
+        put(out, &[digit(left / one)])?;
+        left %= one;
+    }
+    Ok(())
+}
+
+fn digit(value: u64) -> u8
+    requires { value < 10 }
+    ensures { result ≡ 48 + value }
+{
+    b'0' + value as u8
+}
+
+fn put_uid(out: &mut Vec<u8>, uid: Uid) -> Result<(), Memory>
+    ensures { OnOk result (out.new.items ≡ out.old.items ++ uid) }
+{
+    put(out, &uid.bytes())
+}
+
+fn put_more(out: &mut Vec<u8>, uid: Option<Uid>) -> Result<(), Memory>
+    ensures { OnOk result (out.new.items ≡ out.old.items ++ more_text uid) }
+{
+    match uid {
+        Some(uid) => {
+            put(out, b".")?;
+            put_uid(out, uid)
+        }
+        None => Ok(()),
+    }
+}
+
+fn put_named(out: &mut Vec<u8>, name: &[u8], uid: Uid) -> Result<(), Memory>
+    ensures { OnOk result (out.new.items ≡ out.old.items ++ named_text name.now uid) }
+{
+    put(out, name)?;
+    put_uid(out, uid)?;
+    put(out, b"}")
+}
+
+fn rate_name(rate: Rate) -> &'static [u8]
+    ensures { result.now ≡ rate_name_of rate }
+{
+    match rate {
+        Rate::Expected => b"EXPECTED_REPORTS",
+        Rate::Actual => b"ACTUAL_REPORTS",
+        Rate::OnTime => b"ACTUAL_REPORTS_ON_TIME",
+        Rate::Reported => b"REPORTING_RATE",
+        Rate::ReportedOnTime => b"REPORTING_RATE_ON_TIME",
+    }
+}
+
+#[tactic(auto, unfolding(crate::specs::Print::item_text))]
+fn put_item(out: &mut Vec<u8>, item: &Item) -> Result<(), Memory>
+    ensures { OnOk result (out.new.items ≡ out.old.items ++ item_text item.now) }
+{
+    match item {
+        Item::Element {
+            element,
+            combo,
+            attribute,
+        } => {
+            put(out, b"#{")?;
+            put_uid(out, *element)?;
+            put_more(out, *combo)?;
+            put_more(out, *attribute)?;
+            put(out, b"}")
+        }
+        Item::Constant(uid) => put_named(out, b"C{", *uid),
+        Item::Group(uid) => put_named(out, b"OUG{", *uid),
+        Item::Days => put(out, b"[days]"),
+        Item::Rate { set, rate } => {
+            put(out, b"R{")?;
+            put_uid(out, *set)?;
+            put(out, b".")?;
+            put(out, rate_name(*rate))?;
+            put(out, b"}")
+        }
+        Item::StageElement { stage, element } => {
+            put(out, b"#{")?;
+            put_uid(out, *stage)?;
+            put(out, b".")?;
+            put_uid(out, *element)?;
+            put(out, b"}")
+        }
+        Item::Attribute(uid) => put_named(out, b"A{", *uid),
+        Item::EventDate => put(out, b"V{event_date}"),
+        Item::EnrollmentDate => put(out, b"V{enrollment_date}"),
+        Item::EventCount => put(out, b"V{event_count}"),
+        Item::EnrollmentCount => put(out, b"V{enrollment_count}"),
+        Item::EntityCount => put(out, b"V{tei_count}"),
+    }
+}

@@ -1,0 +1,688 @@
+//! Reading a text from left to right.
+
+ghost use Rattle.std.specs.Prelude.{◌≡◌, ◌≤◌, ◌<◌, ◌^◌, length, drop, List, OnOk, MatchResult};
+ghost use Rattle.expr_lang.specs.Reading.{level_of, node_level, enclosing_of, compares, least_arguments, most_arguments, allow, all_allowed, allowed_in, allowed_after, words_for, allowed_for, takes_number, token_from, binding_of, frames_reduced, nodes_reduced, after_leaf_of, is_count_of, with_leaf, with_sign, with_operator, first_argument, after_open_of, with_open, with_call, is_list_of, counted_of, joined, node_of_call, later_argument, with_comma, with_close, with_quote, with_word, with_exponent, with_token, is_blank_of, blank_count, may_end_in, new_reader, ended, Gives, read_text};
+ghost use Rattle.expr_lang.specs.Reading.{number_found as specs_number_found, exponent_found as specs_exponent_found, word_found as specs_word_found};
+ghost use Rattle.expr_lang.specs.Stack.{top_of};
+ghost use Rattle.expr_lang.specs.Token.{number_of, exponent_of};
+
+use crate::fault::ReadFault;
+use crate::stack::Stack;
+use crate::token::{Allowed, Front, exponent_at, longest, number_at};
+use crate::tree::{Binary, Place, Unary};
+use crate::words::{self, Call, ItemForm, Symbol};
+use dh_base::items::Items;
+use dh_base::memory::Memory;
+use std::alloc::Global;
+
+/// A node of a tree, with the place of its first byte, or that of its operator.
+#[derive(Clone, Copy, Debug, PartialEq, Eq)]
+pub struct Spot {
+    pub at: usize,
+    pub node: Node,
+}
+
+#[derive(Clone, Copy, Debug, PartialEq, Eq)]
+pub enum Node {
+    /// A number of millionths.
+    Number(u64),
+    /// An item, which stands at the node's place.
+    Item(ItemForm),
+    Unary(Unary),
+    Binary(Binary),
+    If,
+}
+
+/// What has been opened or begun, and waits for more.
+#[derive(Clone, Copy, Debug, PartialEq, Eq)]
+pub enum Frame {
+    /// A sign or an operator, which waits for its last operand.
+    Pending(Spot),
+    Bracket,
+    Quote,
+    /// A call with so many whole arguments.
+    Call(CallFrame),
+}
+
+#[derive(Clone, Copy, Debug, PartialEq, Eq)]
+pub struct CallFrame {
+    pub at: usize,
+    pub call: Call,
+    pub count: usize,
+}
+
+/// What may come next.
+#[derive(Clone, Copy, Debug, PartialEq, Eq)]
+pub enum Expect {
+    /// The first operand of the whole text.
+    Start,
+    Operand,
+    /// An item, as in `isNull`.
+    Item,
+    /// An item or a number, as in `firstNonNull`.
+    Plain,
+    /// The bracket behind a call's name.
+    Bracket,
+    /// A quoted text.
+    Quote,
+    /// The exponent behind the `^` at this place.
+    Exponent(usize),
+    /// What may follow an operand, a `^` among it or not.
+    Operator(bool),
+    /// The comma behind a quoted text.
+    Comma,
+    /// The bracket behind an item, as in `isNull`.
+    Close,
+    /// A comma or a bracket, as in `firstNonNull`.
+    More,
+    /// Nothing.
+    End,
+}
+
+/// What was read so far.
+#[derive(Debug, Drop)]
+pub struct Reader {
+    pub expect: Expect,
+    pub frames: Stack<Frame>,
+    /// The nodes that are whole, each behind its operands.
+    pub nodes: Items<Spot>,
+    /// How many brackets are open.
+    pub opened: usize,
+    /// The first bracket that stands inside 64 others.
+    pub crowded: Option<usize>,
+    /// Whether a quote is open.
+    pub quoted: bool,
+}
+
+#[derive(Clone, Copy, Debug, PartialEq, Eq)]
+pub enum Token {
+    Word(Symbol),
+    Number(u64),
+    Exponent(u8),
+}
+
+#[derive(Clone, Copy, Debug, PartialEq, Eq)]
+pub struct Found {
+    pub token: Token,
+    pub len: usize,
+}
+
+pub fn level(operator: Binary) -> u8
+    ensures { result ≡ level_of operator }
+{
+    match operator {
+        Binary::Or => 1,
+        Binary::And => 2,
+        Binary::Equal
+        | Binary::NotEqual
+        | Binary::Less
+        | Binary::AtMost
+        | Binary::Greater
+        | Binary::AtLeast => 3,
+        Binary::Add | Binary::Subtract => 4,
+        Binary::Multiply | Binary::Divide | Binary::Remainder => 5,
+        Binary::DaysBetween | Binary::Comma => 0,
+    }
+}
+
+fn pending_level(spot: Spot) -> u8
+    ensures { result ≡ node_level spot.node }
+{
+    match spot.node {
+        Node::Binary(operator) => level(operator),
+        _ => 6,
+    }
+}
+
+/// What encloses the operand at the end, and whether a comparison is pending inside of it.
+fn enclosing(frames: &Stack<Frame>) -> (Option<Frame>, bool)
+    ensures frame { result.0 ≡ enclosing_of frames.now }
+    ensures comparison { result.1 ≡ compares frames.now }
+{
+    let mut comparison = false;
+    for above in 0..frames.len() {
+        match frames.get(above) {
+            Some(Frame::Pending(spot)) => comparison = comparison || pending_level(spot) == 3,
+            other => return (other, comparison),
+        }
+    }
+    (None, comparison)
+}
+
+fn least(call: Call) -> usize
+    ensures { result ≡ least_arguments call }
+{
+    match call {
+        Call::If | Call::Condition => 3,
+        Call::DaysBetween => 2,
+        _ => 1,
+    }
+}
+
+fn most(call: Call) -> usize
+    ensures { result ≡ most_arguments call }
+{
+    match call {
+        Call::If | Call::Condition => 3,
+        Call::DaysBetween => 2,
+        Call::FirstNonNull | Call::Greatest | Call::Least => 4096,
+        _ => 1,
+    }
+}
+
+fn allowing(caret: bool, close: bool, comma: bool, quote: bool, comparison: bool) -> Allowed
+    ensures { result ≡ allow caret close comma quote comparison }
+{
+    Allowed {
+        caret,
+        close,
+        comma,
+        quote,
+        comparison,
+    }
+}
+
+fn allowed_within(frame: Option<Frame>, caret: bool, comparison: bool) -> Allowed
+    ensures { result ≡ allowed_in frame caret comparison }
+{
+    match frame {
+        Some(Frame::Bracket) => allowing(caret, true, false, false, comparison),
+        Some(Frame::Quote) => allowing(caret, false, false, true, comparison),
+        Some(Frame::Call(frame)) => {
+            let close = least(frame.call) <= frame.count.saturating_add(1);
+            let comma = frame.count.saturating_add(1) < most(frame.call);
+            allowing(caret, close, comma, false, comparison)
+        }
+        _ => allowing(caret, false, false, false, comparison),
+    }
+}
+
+#[tactic(auto, unfolding(crate::specs::Reading::allowed_after))]
+fn allowed_at(frames: &Stack<Frame>, caret: bool) -> Allowed
+    ensures { result ≡ allowed_after frames.now caret }
+{
+    let (frame, comparison) = enclosing(frames);
+    allowed_within(frame, caret, !comparison)
+}
+
+/// The words of which the next may be one.
+fn words_at(expect: Expect, place: Place) -> &'static [Symbol]
+    ensures { result.now ≡ words_for expect place }
+{
+    match expect {
+        Expect::Start => words::start(place),
+        Expect::Operand => words::operands(place),
+        Expect::Item | Expect::Plain => words::items(place),
+        Expect::Bracket => words::bracket(),
+        Expect::Operator(_) => words::after_operands(),
+        Expect::Quote | Expect::Comma | Expect::Close | Expect::More => words::marks(),
+        Expect::Exponent(_) | Expect::End => words::none(),
+    }
+}
+
+/// And which of these are allowed.
+fn allowed(expect: Expect, frames: &Stack<Frame>, quoted: bool) -> Allowed
+    ensures { result ≡ allowed_for expect frames.now quoted }
+{
+    match expect {
+        Expect::Operator(caret) => allowed_at(frames, caret),
+        Expect::Quote => allowing(false, false, false, !quoted, false),
+        Expect::Comma => allowing(false, false, true, false, false),
+        Expect::Close => allowing(false, true, false, false, false),
+        Expect::More => allowing(false, true, true, false, false),
+        _ => allowing(true, true, true, true, true),
+    }
+}
+
+fn takes_a_number(expect: Expect) -> bool
+    ensures { result ≡ takes_number expect }
+{
+    matches!(expect, Expect::Start | Expect::Operand | Expect::Plain)
+}
+
+fn exponent_found(bytes: &[u8]) -> Result<Found, usize>
+    ensures value { result ≡ specs_exponent_found (exponent_of bytes.now) }
+    ensures within { MatchResult result (λ f. f.len ≤ length bytes.now) (λ n. n ≤ length bytes.now) }
+{
+    let (exponent, len) = exponent_at(bytes)?;
+    Ok(Found {
+        token: Token::Exponent(exponent),
+        len,
+    })
+}
+
+fn number_found(bytes: &[u8]) -> Result<Found, usize>
+    ensures value { result ≡ specs_number_found (number_of bytes.now) }
+    ensures within { MatchResult result (λ f. f.len ≤ length bytes.now) (λ n. n ≤ length bytes.now) }
+{
+    let (number, len) = number_at(bytes)?;
+    Ok(Found {
+        token: Token::Number(number),
+        len,
+    })
+}
+
+fn word_found(front: Front) -> Result<Found, usize>
+    ensures { result ≡ specs_word_found front.symbol front.len }
+{
+    match front.symbol {
+        Some(symbol) => Ok(Found {
+            token: Token::Word(symbol),
+            len: front.len,
+        }),
+        None => Err(front.len),
+    }
+}
+
+/// The next token of the text, or how many bytes may begin one.
+#[tactic(auto, unfolding(crate::specs::Reading::token_from))]
+fn token_at(
+    expect: Expect,
+    frames: &Stack<Frame>,
+    quoted: bool,
+    place: Place,
+    bytes: &[u8],
+) -> Result<Found, usize>
+    ensures value { result ≡ token_from expect frames.now quoted place bytes.now }
+    ensures within { MatchResult result (λ f. f.len ≤ length bytes.now) (λ n. n ≤ length bytes.now) }
+{
+    if let Expect::Exponent(_) = expect {
+        return exponent_found(bytes);
+    }
+    if takes_a_number(expect) && !bytes.is_empty() && bytes[0].is_ascii_digit() {
+        return number_found(bytes);
+    }
+    word_found(longest(
+        allowed(expect, frames, quoted),
+        words_at(expect, place),
+        bytes,
+    ))
+}
+
+/// A pending sign or operator at the end that binds at least so tightly.
+fn binding(frames: &Stack<Frame>, least: u8) -> Option<Spot>
+    ensures { result ≡ binding_of least frames.now }
+{
+    match frames.get(0) {
+        Some(Frame::Pending(spot)) if least <= pending_level(spot) => Some(spot),
+        _ => None,
+    }
+}
+
+/// Moves pending signs and operators that bind at least so tightly to the nodes.
+fn reduce(frames: &mut Stack<Frame>, nodes: &mut Items<Spot>, least: u8) -> Result<(), Memory>
+    ensures frames { OnOk result (frames.new ≡ frames_reduced least frames.old) }
+    ensures nodes { OnOk result (nodes.new ≡ nodes_reduced least frames.old nodes.old) }
+{
+    while let Some(spot) = binding(frames, least) {
+        nodes.push(spot)?;
+        let _ = frames.pop();
+    }
+    Ok(())
+}
+
+impl Reader {
+    pub fn new(alloc: Global) -> Reader
+        ensures { result ≡ new_reader }
+    {
+        Reader {
+            expect: Expect::Start,
+            frames: Stack::new(alloc),
+            nodes: Items::new(alloc),
+            opened: 0,
+            crowded: None,
+            quoted: false,
+        }
+    }
+}
+
+/// What may come behind an operand that stands where this is expected.
+fn after_leaf(expect: Expect, leaf: Node) -> Expect
+    ensures { result ≡ after_leaf_of expect leaf }
+{
+    match expect {
+        Expect::Item => Expect::Close,
+        Expect::Plain => Expect::More,
+        _ => {
+            if is_count(leaf) {
+                Expect::End
+            } else {
+                Expect::Operator(true)
+            }
+        }
+    }
+}
+
+fn is_count(leaf: Node) -> bool
+    ensures { result ≡ is_count_of leaf }
+{
+    matches!(
+        leaf,
+        Node::Item(ItemForm::EventCount)
+            | Node::Item(ItemForm::EnrollmentCount)
+            | Node::Item(ItemForm::EntityCount)
+    )
+}
+
+#[tactic(auto, unfolding(crate::specs::Reading::with_leaf))]
+fn put_leaf(reader: &mut Reader, at: usize, leaf: Node) -> Result<(), Memory>
+    ensures { OnOk result (reader.new ≡ with_leaf reader.old at leaf) }
+{
+    reader.nodes.push(Spot { at, node: leaf })?;
+    reader.expect = after_leaf(reader.expect, leaf);
+    Ok(())
+}
+
+#[tactic(auto, unfolding(crate::specs::Reading::with_sign))]
+fn put_sign(reader: &mut Reader, at: usize, sign: Unary) -> Result<(), Memory>
+    ensures { OnOk result (reader.new ≡ with_sign reader.old at sign) }
+{
+    reader.frames.push(Frame::Pending(Spot {
+        at,
+        node: Node::Unary(sign),
+    }))?;
+    reader.expect = Expect::Operand;
+    Ok(())
+}
+
+#[tactic(auto, unfolding(crate::specs::Reading::with_operator))]
+fn put_operator(reader: &mut Reader, at: usize, operator: Binary) -> Result<(), Memory>
+    ensures { OnOk result (reader.new ≡ with_operator reader.old at operator) }
+{
+    reduce(&mut reader.frames, &mut reader.nodes, level(operator))?;
+    reader.frames.push(Frame::Pending(Spot {
+        at,
+        node: Node::Binary(operator),
+    }))?;
+    reader.expect = Expect::Operand;
+    Ok(())
+}
+
+/// What a call's first argument has to be.
+fn first_of(call: Call) -> Expect
+    ensures { result ≡ first_argument call }
+{
+    match call {
+        Call::Condition => Expect::Quote,
+        Call::IsNull | Call::IsNotNull | Call::HasValue => Expect::Item,
+        Call::FirstNonNull => Expect::Plain,
+        _ => Expect::Operand,
+    }
+}
+
+fn after_open(frames: &Stack<Frame>) -> Expect
+    ensures { result ≡ after_open_of (top_of frames.now) }
+{
+    match frames.get(0) {
+        Some(Frame::Call(frame)) => first_of(frame.call),
+        _ => Expect::Operand,
+    }
+}
+
+#[tactic(auto, unfolding(crate::specs::Reading::with_open))]
+fn put_open(reader: &mut Reader, at: usize) -> Result<(), Memory>
+    requires { reader.old.opened < 2 ^ 63 }
+    ensures { OnOk result (reader.new ≡ with_open reader.old at) }
+{
+    if reader.crowded.is_none() && reader.opened >= 64 {
+        reader.crowded = Some(at);
+    }
+    reader.opened += 1;
+    if reader.expect == Expect::Bracket {
+        reader.expect = after_open(&reader.frames);
+    } else {
+        reader.frames.push(Frame::Bracket)?;
+        reader.expect = Expect::Operand;
+    }
+    Ok(())
+}
+
+#[tactic(auto, unfolding(crate::specs::Reading::with_call))]
+fn put_call(reader: &mut Reader, at: usize, call: Call) -> Result<(), Memory>
+    ensures { OnOk result (reader.new ≡ with_call reader.old at call) }
+{
+    reader
+        .frames
+        .push(Frame::Call(CallFrame { at, call, count: 0 }))?;
+    reader.expect = Expect::Bracket;
+    Ok(())
+}
+
+/// Takes one more argument into a call that is a list.
+fn join(nodes: &mut Items<Spot>, frame: CallFrame) -> Result<(), Memory>
+    ensures { OnOk result (nodes.new ≡ joined frame nodes.old) }
+{
+    if frame.count > 0 && is_list(frame.call) {
+        nodes.push(Spot {
+            at: frame.at,
+            node: Node::Binary(Binary::Comma),
+        })?;
+    }
+    Ok(())
+}
+
+fn is_list(call: Call) -> bool
+    ensures { result ≡ is_list_of call }
+{
+    matches!(call, Call::FirstNonNull | Call::Greatest | Call::Least)
+}
+
+fn call_node(call: Call) -> Node
+    ensures { result ≡ node_of_call call }
+{
+    match call {
+        Call::If | Call::Condition => Node::If,
+        Call::IsNull => Node::Unary(Unary::IsNull),
+        Call::IsNotNull => Node::Unary(Unary::IsNotNull),
+        Call::FirstNonNull => Node::Unary(Unary::FirstNonNull),
+        Call::Greatest => Node::Unary(Unary::Greatest),
+        Call::Least => Node::Unary(Unary::Least),
+        Call::DaysBetween => Node::Binary(Binary::DaysBetween),
+        Call::HasValue => Node::Unary(Unary::HasValue),
+        Call::Zing => Node::Unary(Unary::Zing),
+        Call::Oizp => Node::Unary(Unary::Oizp),
+    }
+}
+
+/// The call with one more argument.
+fn counted(frame: CallFrame) -> CallFrame
+    ensures { result ≡ counted_of frame }
+{
+    let count = if frame.count < 4096 {
+        frame.count + 1
+    } else {
+        4096
+    };
+    CallFrame { count, ..frame }
+}
+
+#[tactic(auto, unfolding(crate::specs::Reading::with_comma))]
+fn put_comma(reader: &mut Reader) -> Result<(), Memory>
+    ensures { OnOk result (reader.new ≡ with_comma reader.old) }
+{
+    reduce(&mut reader.frames, &mut reader.nodes, 1)?;
+    if let Some(Frame::Call(frame)) = reader.frames.pop() {
+        join(&mut reader.nodes, frame)?;
+        reader.frames.push(Frame::Call(counted(frame)))?;
+        reader.expect = if frame.call == Call::FirstNonNull {
+            Expect::Plain
+        } else {
+            Expect::Operand
+        };
+    }
+    Ok(())
+}
+
+#[tactic(auto, unfolding(crate::specs::Reading::with_close))]
+fn put_close(reader: &mut Reader) -> Result<(), Memory>
+    ensures { OnOk result (reader.new ≡ with_close reader.old) }
+{
+    reduce(&mut reader.frames, &mut reader.nodes, 1)?;
+    if let Some(Frame::Call(frame)) = reader.frames.pop() {
+        join(&mut reader.nodes, frame)?;
+        reader.nodes.push(Spot {
+            at: frame.at,
+            node: call_node(frame.call),
+        })?;
+    }
+    reader.opened = reader.opened.saturating_sub(1);
+    reader.expect = Expect::Operator(true);
+    Ok(())
+}
+
+#[tactic(auto, unfolding(crate::specs::Reading::with_quote))]
+fn put_quote(reader: &mut Reader) -> Result<(), Memory>
+    ensures { OnOk result (reader.new ≡ with_quote reader.old) }
+{
+    if reader.expect == Expect::Quote {
+        reader.frames.push(Frame::Quote)?;
+        reader.quoted = true;
+        reader.expect = Expect::Operand;
+    } else {
+        reduce(&mut reader.frames, &mut reader.nodes, 1)?;
+        let _ = reader.frames.pop();
+        reader.quoted = false;
+        reader.expect = Expect::Comma;
+    }
+    Ok(())
+}
+
+#[tactic(auto, unfolding(crate::specs::Reading::with_word))]
+fn put_word(reader: &mut Reader, at: usize, symbol: Symbol) -> Result<(), Memory>
+    requires { reader.old.opened < 2 ^ 63 }
+    ensures { OnOk result (reader.new ≡ with_word reader.old at symbol) }
+{
+    match symbol {
+        Symbol::Open => put_open(reader, at),
+        Symbol::Close => put_close(reader),
+        Symbol::Comma => put_comma(reader),
+        Symbol::Quote => put_quote(reader),
+        Symbol::Caret => {
+            reader.expect = Expect::Exponent(at);
+            Ok(())
+        }
+        Symbol::Minus => put_sign(reader, at, Unary::Negate),
+        Symbol::Bang => put_sign(reader, at, Unary::Not),
+        Symbol::Operator(operator) => put_operator(reader, at, operator),
+        Symbol::Call(call) => put_call(reader, at, call),
+        Symbol::Item(form) => put_leaf(reader, at, Node::Item(form)),
+    }
+}
+
+#[tactic(auto, unfolding(crate::specs::Reading::with_exponent))]
+fn put_exponent(reader: &mut Reader, exponent: u8) -> Result<(), Memory>
+    ensures { OnOk result (reader.new ≡ with_exponent reader.old exponent) }
+{
+    if let Expect::Exponent(at) = reader.expect {
+        reader.nodes.push(Spot {
+            at,
+            node: Node::Unary(Unary::Power(exponent)),
+        })?;
+    }
+    reader.expect = Expect::Operator(false);
+    Ok(())
+}
+
+#[tactic(auto, unfolding(crate::specs::Reading::with_token))]
+fn put_token(reader: &mut Reader, at: usize, token: Token) -> Result<(), Memory>
+    requires { reader.old.opened < 2 ^ 63 }
+    ensures { OnOk result (reader.new ≡ with_token reader.old at token) }
+{
+    match token {
+        Token::Word(symbol) => put_word(reader, at, symbol),
+        Token::Number(number) => put_leaf(reader, at, Node::Number(number)),
+        Token::Exponent(exponent) => put_exponent(reader, exponent),
+    }
+}
+
+fn is_blank(byte: u8) -> bool
+    ensures { result ≡ is_blank_of byte }
+{
+    byte == b' ' || byte == b'\t' || byte == b'\r' || byte == b'\n'
+}
+
+fn blanks(bytes: &[u8]) -> usize
+    ensures count { result ≡ blank_count bytes.now }
+    ensures within { result ≤ length bytes.now }
+{
+    let mut count = 0;
+    while count < bytes.len() && is_blank(bytes[count]) {
+        count += 1;
+    }
+    count
+}
+
+/// Whether a text may end here.
+fn may_end(expect: Expect, frames: &Stack<Frame>) -> bool
+    ensures { result ≡ may_end_in expect frames.now }
+{
+    match expect {
+        Expect::Operator(_) => enclosing(frames).0.is_none(),
+        Expect::End => true,
+        _ => false,
+    }
+}
+
+/// The nodes of a text, each behind its operands, and the first bracket inside 64 others.
+#[derive(Debug, Drop)]
+pub struct Nodes {
+    pub nodes: Items<Spot>,
+    pub crowded: Option<usize>,
+}
+
+#[tactic(auto)]
+fn finish(reader: Reader, at: usize) -> Result<Nodes, ReadFault>
+    ensures { Gives result (ended reader at) }
+{
+    if !may_end(reader.expect, &reader.frames) {
+        return Err(ReadFault::Syntax(at));
+    }
+    let Reader {
+        expect: _,
+        mut frames,
+        mut nodes,
+        opened: _,
+        crowded,
+        quoted: _,
+    } = reader;
+    reduce(&mut frames, &mut nodes, 1)?;
+    Ok(Nodes { nodes, crowded })
+}
+
+/// The text from a place on.
+pub fn rest(text: &[u8], at: usize) -> &[u8]
+    ensures { result.now ≡ drop at text.now }
+{
+    if at <= text.len() {
+        &text[at..]
+    } else {
+        &text[text.len()..]
+    }
+}
+
+/// Reads a whole text.
+#[tactic(auto, unfolding(crate::specs::Reading::read_text, crate::specs::Reading::read_rest))]
+pub fn read(alloc: Global, text: &[u8], place: Place) -> Result<Nodes, ReadFault>
+    ensures { Gives result (read_text place text.now) }
+{
+    let mut reader = Reader::new(alloc);
+    let mut at = 0;
+    let mut most = text.len() + 1;
+    while most > 0 {
+        most -= 1;
+        at += blanks(rest(text, at));
+        if at == text.len() {
+            return finish(reader, at);
+        }
+        let bytes = rest(text, at);
+        let found = token_at(reader.expect, &reader.frames, reader.quoted, place, bytes);
+        match found {
+            Err(len) => return Err(ReadFault::Syntax(at + len)),
+            Ok(found) => {
+                put_token(&mut reader, at, found.token)?;
+                at += found.len;
+            }
+        }
+    }
+    Err(ReadFault::Syntax(at))
+}

@@ -1,0 +1,286 @@
+//! The depth and the sorts of a tree, from its nodes.
+
+ghost use Rattle.std.specs.Prelude.{◌≡◌, OnOk, IfOk};
+ghost use Rattle.expr_lang.specs.Leaves.{leaf_of_node};
+ghost use Rattle.expr_lang.specs.Survey.{same_sort, leaf_sort_of, is_literal_of, taken_by_of, given_by_of, taken_by_two, given_by_two, first_of_two, edge_of, one_deeper, edge_if_taken, leaf_known_of, unary_known_of, deeper_of, binary_known_of, if_known_of, topmost, below, known_after, survey_of, misfit_of};
+
+use crate::item::{item_of, leaf_of};
+use crate::reading::{Node, Spot, rest};
+use crate::stack::Stack;
+use crate::tree::{Binary, Leaf, Sort, Unary};
+use dh_base::memory::Memory;
+use dh_base::uid::Uid;
+use std::alloc::Global;
+
+/// What is known of a whole operand.
+#[derive(Clone, Copy, Debug, PartialEq, Eq)]
+pub struct Known {
+    pub depth: u64,
+    pub sort: Sort,
+    /// The place of its call, operator, item or number.
+    pub at: usize,
+    /// Whether it is a number that is written out.
+    pub literal: bool,
+    /// The first place inside of it whose sorts don't fit.
+    pub misfit: Option<usize>,
+}
+
+fn is_same(a: Sort, b: Sort) -> bool
+    ensures { result ≡ same_sort a b }
+{
+    match (a, b) {
+        (Sort::Number, Sort::Number) => true,
+        (Sort::Truth, Sort::Truth) => true,
+        (Sort::Day, Sort::Day) => true,
+        _ => false,
+    }
+}
+
+/// The operand of a node that stands at a place of the text.
+pub fn leaf_at(text: &[u8], days: &[Uid], at: usize, node: Node) -> Leaf
+    ensures { result ≡ leaf_of_node text.now days.now at node }
+{
+    match node {
+        Node::Number(number) => Leaf::Number(number),
+        Node::Item(form) => match item_of(form, rest(text, at)) {
+            Some(item) => leaf_of(item, days),
+            None => Leaf::Number(0),
+        },
+        _ => Leaf::Number(0),
+    }
+}
+
+fn leaf_sort(leaf: &Leaf) -> Sort
+    ensures { result ≡ leaf_sort_of leaf.now }
+{
+    match leaf {
+        Leaf::Number(_) => Sort::Number,
+        Leaf::Item(_) => Sort::Number,
+        Leaf::Day(_) => Sort::Day,
+    }
+}
+
+fn is_literal(leaf: &Leaf) -> bool
+    ensures { result ≡ is_literal_of leaf.now }
+{
+    match leaf {
+        Leaf::Number(_) => true,
+        Leaf::Item(_) => false,
+        Leaf::Day(_) => false,
+    }
+}
+
+/// The sort that an operator takes, where it isn't any.
+fn taken_by(unary: Unary) -> Option<Sort>
+    ensures { result ≡ taken_by_of unary }
+{
+    match unary {
+        Unary::Not => Some(Sort::Truth),
+        Unary::IsNull | Unary::IsNotNull | Unary::HasValue => None,
+        _ => Some(Sort::Number),
+    }
+}
+
+fn given_by(unary: Unary) -> Sort
+    ensures { result ≡ given_by_of unary }
+{
+    match unary {
+        Unary::Not | Unary::IsNull | Unary::IsNotNull | Unary::HasValue => Sort::Truth,
+        _ => Sort::Number,
+    }
+}
+
+fn taken_by_binary(binary: Binary) -> Sort
+    ensures { result ≡ taken_by_two binary }
+{
+    match binary {
+        Binary::Or | Binary::And => Sort::Truth,
+        Binary::DaysBetween => Sort::Day,
+        _ => Sort::Number,
+    }
+}
+
+fn given_by_binary(binary: Binary) -> Sort
+    ensures { result ≡ given_by_two binary }
+{
+    match binary {
+        Binary::Or
+        | Binary::And
+        | Binary::Equal
+        | Binary::NotEqual
+        | Binary::Less
+        | Binary::AtMost
+        | Binary::Greater
+        | Binary::AtLeast => Sort::Truth,
+        _ => Sort::Number,
+    }
+}
+
+fn first(a: Option<usize>, b: Option<usize>) -> Option<usize>
+    ensures { result ≡ first_of_two a b }
+{
+    match (a, b) {
+        (Some(x), Some(y)) => Some(x.min(y)),
+        (Some(x), None) => Some(x),
+        (None, other) => other,
+    }
+}
+
+/// The first place that doesn't fit where an operand is taken at a sort.
+fn edge(at: usize, taken: Sort, operand: Known) -> Option<usize>
+    ensures { result ≡ edge_of at taken operand }
+{
+    if is_same(operand.sort, taken) {
+        None
+    } else if operand.literal {
+        Some(at)
+    } else {
+        Some(at.min(operand.at))
+    }
+}
+
+fn edge_at(at: usize, taken: Option<Sort>, operand: Known) -> Option<usize>
+    ensures { result ≡ edge_if_taken at taken operand }
+{
+    match taken {
+        Some(sort) => edge(at, sort, operand),
+        None => None,
+    }
+}
+
+fn leaf_known(at: usize, leaf: Leaf) -> Known
+    ensures { result ≡ leaf_known_of at leaf }
+{
+    Known {
+        depth: 1,
+        sort: leaf_sort(&leaf),
+        at,
+        literal: is_literal(&leaf),
+        misfit: None,
+    }
+}
+
+/// One level deeper, counting up to 513.
+fn deepened(depth: u64) -> u64
+    ensures { result ≡ one_deeper depth }
+{
+    if depth < 513 { depth + 1 } else { depth }
+}
+
+fn unary_known(at: usize, unary: Unary, operand: Known) -> Known
+    ensures { result ≡ unary_known_of at unary operand }
+{
+    Known {
+        depth: deepened(operand.depth),
+        sort: given_by(unary),
+        at,
+        literal: false,
+        misfit: first(edge_at(at, taken_by(unary), operand), operand.misfit),
+    }
+}
+
+fn deeper(binary: Binary, depth: u64) -> u64
+    ensures { result ≡ deeper_of binary depth }
+{
+    match binary {
+        Binary::Comma => depth,
+        _ => deepened(depth),
+    }
+}
+
+fn binary_known(at: usize, binary: Binary, left: Known, right: Known) -> Known
+    ensures { result ≡ binary_known_of at binary left right }
+{
+    let taken = taken_by_binary(binary);
+    let edges = first(edge(at, taken, left), edge(at, taken, right));
+    Known {
+        depth: deeper(binary, left.depth.max(right.depth)),
+        sort: given_by_binary(binary),
+        at,
+        literal: false,
+        misfit: first(edges, first(left.misfit, right.misfit)),
+    }
+}
+
+fn if_known(at: usize, test: Known, one: Known, other: Known) -> Known
+    ensures { result ≡ if_known_of at test one other }
+{
+    let numbers = first(edge(at, Sort::Number, one), edge(at, Sort::Number, other));
+    let edges = first(edge(at, Sort::Truth, test), numbers);
+    let inside = first(test.misfit, first(one.misfit, other.misfit));
+    Known {
+        depth: deepened(test.depth.max(one.depth).max(other.depth)),
+        sort: Sort::Number,
+        at,
+        literal: false,
+        misfit: first(edges, inside),
+    }
+}
+
+fn take(stack: &mut Stack<Known>) -> Known
+    ensures top { result ≡ topmost stack.old }
+    ensures rest { stack.new ≡ below stack.old }
+{
+    match stack.pop() {
+        Some(known) => known,
+        None => Known {
+            depth: 0,
+            sort: Sort::Number,
+            at: 0,
+            literal: false,
+            misfit: None,
+        },
+    }
+}
+
+fn advance(stack: &mut Stack<Known>, text: &[u8], days: &[Uid], spot: Spot) -> Result<(), Memory>
+    ensures { OnOk result (stack.new ≡ known_after text.now days.now spot.at spot.node stack.old) }
+{
+    let known = match spot.node {
+        Node::Unary(unary) => {
+            let operand = take(stack);
+            unary_known(spot.at, unary, operand)
+        }
+        Node::Binary(binary) => {
+            let right = take(stack);
+            let left = take(stack);
+            binary_known(spot.at, binary, left, right)
+        }
+        Node::If => {
+            let other = take(stack);
+            let one = take(stack);
+            let test = take(stack);
+            if_known(spot.at, test, one, other)
+        }
+        _ => leaf_known(spot.at, leaf_at(text, days, spot.at, spot.node)),
+    };
+    stack.push(known)
+}
+
+/// What is known of the tree with these nodes.
+#[tactic(auto, unfolding(crate::specs::Survey::survey_of))]
+pub fn survey(alloc: Global, text: &[u8], days: &[Uid], nodes: &[Spot]) -> Result<Known, Memory>
+    ensures { IfOk result (λ known. known ≡ survey_of text.now days.now nodes.now) }
+{
+    let mut stack = Stack::new(alloc);
+    for spot in nodes {
+        advance(&mut stack, text, days, *spot)?;
+    }
+    Ok(take(&mut stack))
+}
+
+/// The first place that doesn't fit where the whole has to have a sort, or may have any.
+pub fn misfit_as(known: Known, wanted: Option<Sort>) -> Option<usize>
+    ensures { result ≡ misfit_of known wanted }
+{
+    match wanted {
+        None => known.misfit,
+        Some(sort) => {
+            if is_same(known.sort, sort) {
+                known.misfit
+            } else {
+                first(known.misfit, Some(known.at))
+            }
+        }
+    }
+}
