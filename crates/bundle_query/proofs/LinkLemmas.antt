@@ -6,7 +6,12 @@ use Rattle.uid_index.specs.Places.{place_of, repeat_of}
 use Rattle.uid_index.proofs.DistinctLemmas.{repeat_of-differ, place_of-below}
 use Rattle.org_tree.specs.Units.{UnitRow, id_at, HasOwnIds}
 use Rattle.json_forms.specs.declared.reference.Reference.{Reference}
-use Rattle.bundle_query.specs.Links.{unit_ids, row_of, rows_of}
+use Rattle.std.specs.List.{list_all}
+use Rattle.std.specs.Prelude.{nat_lt, is_none, ◌^◌, ◌&&◌}
+use Rattle.bundle_query.specs.Links.{unit_ids, element_ids, row_of, rows_of, names_one_of, set_is_linked, collected_by, is_collected}
+use Rattle.bundle_query.specs.Answer.{is_linked}
+use Rattle.bundle_query.specs.declared.file.Bundle.{Bundle}
+use Rattle.bundle_query.specs.declared.bundle.ValueEntry.{ValueEntry}
 use Rattle.bundle_query.specs.declared.bundle.UnitEntry.{UnitEntry}
 
 -- a row has its unit's identifier
@@ -72,3 +77,12 @@ rows_of_own_ids ids units rows is none = record {
 -- a place that was found is in a list of the same length
 pub place_of_in : (ids : List (List ℕ)) (id : List ℕ) (place : ℕ) → place_of ids id ≡ Some place → place < length ids
 place_of_in ids id place is = place_of-below ids id place is
+
+-- a bundle of too many elements doesn't hold together
+pub unlinked_many : (bundle : Bundle) (values : List ValueEntry) → nat_lt (length bundle.elements) (2 ^ 32) ≡ false → is_linked bundle values ≡ false
+unfolding is_linked
+unlinked_many bundle values many =
+    ap (λ t. t && is_none (repeat_of (element_ids bundle.elements))
+    && list_all (set_is_linked (element_ids bundle.elements) (unit_ids bundle.units)) bundle.sets
+    && list_all (names_one_of (unit_ids bundle.units)) bundle.user.units
+    && list_all (λ value. is_collected (map collected_by bundle.sets) value.element value.unit) values) many

@@ -46,7 +46,8 @@ sum_text sum = printed (fraction_of sum 1000000) 6
 -- the elements differ, what the data sets and the user name is there, and each value is collected by a data set
 unfoldable pub is_linked : Bundle → List ValueEntry → Bool
 is_linked bundle values =
-    is_none (repeat_of (element_ids bundle.elements))
+    nat_lt (length bundle.elements) (2 ^ 32)
+    && is_none (repeat_of (element_ids bundle.elements))
     && list_all (set_is_linked (element_ids bundle.elements) (unit_ids bundle.units)) bundle.sets
     && list_all (names_one_of (unit_ids bundle.units)) bundle.user.units
     && list_all (λ value. is_collected (map collected_by bundle.sets) value.element value.unit) values
