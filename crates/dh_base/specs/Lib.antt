@@ -1,3 +1,5 @@
 pub mod Codes
+pub mod Decimals
+pub mod Fractions
 pub mod Memory
 pub mod Uid

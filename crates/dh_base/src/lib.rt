@@ -3,7 +3,12 @@
 #![tactic(auto)]
 
 pub mod codes;
+pub mod decimal;
+pub mod frac;
 pub mod items;
 pub mod memory;
 pub mod plain;
+pub mod print;
+#[cfg(test)]
+mod tests;
 pub mod uid;
