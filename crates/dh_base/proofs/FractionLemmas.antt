@@ -161,7 +161,7 @@ flipped-IsFitting (negsuc n) d some fitting = record {
 
 -- ---- sums and orders over the least common denominator
 
-plus_times : (x y : ℤ) (k : ℕ) → (x +ℤ y) *ℤ pos k ≡ x *ℤ pos k +ℤ y *ℤ pos k
+pub plus_times : (x y : ℤ) (k : ℕ) → (x +ℤ y) *ℤ pos k ≡ x *ℤ pos k +ℤ y *ℤ pos k
 plus_times x y k =
     let e : (up (x +ℤ y) + down x + down y) * k ≡ (down (x +ℤ y) + up x + up y) * k = ap (λ n. n * k) (sum_is_lem x y) in
     omega (arith, ints)
@@ -186,7 +186,7 @@ shares b d positive = record {
 over_common_times : (n : ℤ) (d g : ℕ) → g * (d / g) ≡ d → over_common n d g *ℤ pos g ≡ n *ℤ pos d
 over_common_times n d g whole = times_times n (d / g) g ∙ ap (λ m. n *ℤ pos m) (mul_comm (d / g) g ∙ whole)
 
-positive_product : (a b : ℕ) → 0 < a → 0 < b → 0 < a * b
+pub positive_product : (a b : ℕ) → 0 < a → 0 < b → 0 < a * b
 positive_product a b p q = mul-pos p q
 
 positive_quotient : (g n : ℕ) → g * (n / g) ≡ n → 0 < n → 0 < n / g
@@ -223,7 +223,7 @@ match_map Less f g h p = f p
 match_map Equal f g h p = g p
 match_map Greater f g h p = h p
 
-order-times : (x y : ℤ) (k : ℕ) → 0 < k → int_cmp x y ≡ int_cmp (x *ℤ pos k) (y *ℤ pos k)
+pub order-times : (x y : ℤ) (k : ℕ) → 0 < k → int_cmp x y ≡ int_cmp (x *ℤ pos k) (y *ℤ pos k)
 order-times x y k some =
     int_cmp_is (x *ℤ pos k) (y *ℤ pos k) (int_cmp x y)
     (match_map (int_cmp x y) (lt_times x y k some) (λ e. ap (λ z. z *ℤ pos k) e) (lt_times y x k some) (int_ranks x y))

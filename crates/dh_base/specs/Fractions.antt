@@ -30,6 +30,10 @@ ratio n d = record { num = n; den = d }
 unfoldable pub fraction_of : ℤ → ℕ → Fraction
 fraction_of num den = let g = gcd (unsigned_abs num) den in ratio (int_div num (pos g)) (den / g)
 
+-- a whole number of millionths
+abbrev pub of_micros : ℤ → Fraction
+of_micros micros = fraction_of micros 1000000
+
 -- the fraction stands in lowest terms
 pub record IsReduced (f : Fraction) : Type 0 where
   pub positive : 0 < f.den
