@@ -1,8 +1,8 @@
 -- Counts of a combination's option combinations, and the first that is bad.
-use Rattle.std.proofs.Common.{◌≡◌, ◌⊎◌, ℕ, zero, suc, ◌+◌, ◌<◌, ◌≤◌, Bool, true, false, cond, ◌==◌, ◌&&◌, List, [], ◌∷◌, ◌++◌, map, length, get_or, take, set, Option, Some, None, refl, sym, ap, ◌∙◌, subst, inl, inr, arith, get_or-set_same, get_or-set_other}
+use Rattle.std.proofs.Common.{◌≡◌, ℕ, ◌+◌, ◌<◌, ◌≤◌, Bool, true, false, cond, ◌==◌, ◌&&◌, List, [], ◌∷◌, map, length, get_or, take, set, Option, Some, None, refl, sym, ap, ◌∙◌, subst, inl, inr, arith, get_or-set_same, get_or-set_other}
 use Rattle.std.specs.Prelude.{count_by, position, nat_lt}
 use Rattle.std.specs.List.{list_all, position_or_len}
-use Rattle.std.proofs.lemmas.Bool.{cases_eq, cases_Bool, cases_order, false≢true, eq-eqb, ne_eqb, lt-ltb, le-ltb}
+use Rattle.std.proofs.lemmas.Bool.{cases_eq, cases_Bool, eq-eqb, ne_eqb, lt-ltb, le-ltb}
 use Rattle.std.proofs.lemmas.List.{length-set, length-map, take_all}
 use Rattle.std.proofs.lemmas.List.Sums.{count_by_more_yes, count_by_more_no, position_or_len_is}
 use Rattle.std.specs.Prelude.{Vec}
@@ -38,11 +38,13 @@ Tells-yes ocs i combo Several h hit tells =
 
 -- and of another one
 Tells-no : (ocs : List (ℕ × List ℕ)) (i combo : ℕ) (single : Single) → i < length ocs → is_of combo (get_or ocs i (0, [])) ≡ false → Tells ocs i combo single → Tells ocs (i + 1) combo single
-Tells-no ocs i combo Absent h other tells =
-    (count_by_more_no (is_of combo) ocs i (0, []) h other ∙ tells.0,
-    λ k l. elim (cases_eq k i) [
-      inl last ↦ subst (λ (v : ℕ). is_of combo (get_or ocs v (0, [])) ≡ false) (sym last) other
-    | inr before ↦ tells.1 k (omega arith) ])
+Tells-no ocs i combo Absent h other tells = (
+  count_by_more_no (is_of combo) ocs i (0, []) h other ∙ tells.0,
+  λ k l. elim (cases_eq k i) [
+    | inl last ↦ subst (λ (v : ℕ). is_of combo (get_or ocs v (0, [])) ≡ false) (sym last) other
+    | inr before ↦ tells.1 k (omega arith)
+  ],
+)
 Tells-no ocs i combo (At place) h other tells =
     (count_by_more_no (is_of combo) ocs i (0, []) h other ∙ tells.0, (let l = tells.1 in omega arith), tells.2, tells.3)
 Tells-no ocs i combo Several h other tells =
@@ -52,18 +54,19 @@ pub AreSingles-more : (ocs : List (ℕ × List ℕ)) (count i combo : ℕ) (sing
 AreSingles-more ocs count i combo singles h at inside so_far = record {
   same_length = length-set singles combo (one_more (get_or singles combo Absent) i) ∙ so_far.same_length;
   each = λ c l.
-    elim (cases_eq c combo) [
-      inl same ↦
-        let hit : is_of combo (get_or ocs i (0, [])) ≡ true = eq-eqb (get_or ocs i (0, [])).0 combo (sym at) in
-        let now : Tells ocs (i + 1) combo (one_more (get_or singles combo Absent) i) = Tells-yes ocs i combo (get_or singles combo Absent) h hit (so_far.each combo inside) in
-        let read : get_or (set singles combo (one_more (get_or singles combo Absent) i)) combo Absent ≡ one_more (get_or singles combo Absent) i =
-          get_or-set_same singles combo (one_more (get_or singles combo Absent) i) Absent (let e = so_far.same_length in omega arith) in
-        subst (λ (v : ℕ). Tells ocs (i + 1) v (get_or (set singles combo (one_more (get_or singles combo Absent) i)) v Absent)) (sym same)
-        (subst (λ (s : Single). Tells ocs (i + 1) combo s) (sym read) now)
-    | inr other ↦
-        let no_match : is_of c (get_or ocs i (0, [])) ≡ false = ne_eqb (get_or ocs i (0, [])).0 c (λ e. other (sym (at ∙ e))) in
-        subst (λ (s : Single). Tells ocs (i + 1) c s) (sym (get_or-set_other singles combo c (one_more (get_or singles combo Absent) i) Absent other))
-        (Tells-no ocs i c (get_or singles c Absent) h no_match (so_far.each c l)) ]
+      elim (cases_eq c combo) [
+        | inl same ↦
+            let hit : is_of combo (get_or ocs i (0, [])) ≡ true = eq-eqb (get_or ocs i (0, [])).0 combo (sym at) in
+            let now : Tells ocs (i + 1) combo (one_more (get_or singles combo Absent) i) = Tells-yes ocs i combo (get_or singles combo Absent) h hit (so_far.each combo inside) in
+            let read : get_or (set singles combo (one_more (get_or singles combo Absent) i)) combo Absent ≡ one_more (get_or singles combo Absent) i =
+            get_or-set_same singles combo (one_more (get_or singles combo Absent) i) Absent (let e = so_far.same_length in omega arith) in
+            subst (λ (v : ℕ). Tells ocs (i + 1) v (get_or (set singles combo (one_more (get_or singles combo Absent) i)) v Absent)) (sym same)
+            (subst (λ (s : Single). Tells ocs (i + 1) combo s) (sym read) now)
+        | inr other ↦
+            let no_match : is_of c (get_or ocs i (0, [])) ≡ false = ne_eqb (get_or ocs i (0, [])).0 c (λ e. other (sym (at ∙ e))) in
+            subst (λ (s : Single). Tells ocs (i + 1) c s) (sym (get_or-set_other singles combo c (one_more (get_or singles combo Absent) i) Absent other))
+            (Tells-no ocs i c (get_or singles c Absent) h no_match (so_far.each c l))
+      ];
 }
 
 abbrev pub single_of : Single → Option ℕ
@@ -91,10 +94,11 @@ only_at ocs count combo singles single are h read =
 pub only_past : (ocs : List (ℕ × List ℕ)) (count combo : ℕ) → CombosBelow count ocs → count ≤ combo → only_of ocs combo ≡ None
 only_past ocs count combo below past =
     elim (cases_Bool (count_by (is_of combo) ocs == 1)) [
-      inl one ↦
-        ap (λ b. cond b (position (is_of combo) ocs) None) one
-        ∙ position_none (is_of combo) ocs (0, []) (λ k h. ne_eqb (get_or ocs k (0, [])).0 combo (λ e. (let l = below.below k h in omega arith)))
-    | inr other ↦ ap (λ b. cond b (position (is_of combo) ocs) None) other ]
+      | inl one ↦
+          ap (λ b. cond b (position (is_of combo) ocs) None) one
+          ∙ position_none (is_of combo) ocs (0, []) (λ k h. ne_eqb (get_or ocs k (0, [])).0 combo (λ e. (let l = below.below k h in omega arith)))
+      | inr other ↦ ap (λ b. cond b (position (is_of combo) ocs) None) other
+    ]
 
 -- a combination's lists, as they are shown, and as they are kept
 pub each_of_shown : (categories : List (Vec ℕ Global)) (options : List ℕ) → length options ≡ length categories → is_one_of_each (map (λ category. category.items) categories) options ≡ list_all (λ category. has_one_of options category.items) categories

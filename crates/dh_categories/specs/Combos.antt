@@ -1,9 +1,8 @@
 -- Category combinations and their option combinations. A category is the list of its options, a
 -- combination the list of its categories, and an option combination names its combination and its options.
-use Rattle.std.specs.Prelude.{◌≡◌, ℕ, ◌<◌, ◌==◌, Bool, true, false, not, ◌&&◌, List, length, map, count_by, position, slice_get, slice_index_or, Option, Some, None, cond, [], Vec}
+use Rattle.std.specs.Prelude.{ℕ, ◌==◌, Bool, not, ◌&&◌, List, length, map, count_by, position, slice_index_or, Option, None, cond, [], Vec}
 use Rattle.std.specs.declared.alloc.Global.{Global}
 use Rattle.std.specs.List.{list_any, list_all}
-use Rattle.std.specs.Option.{option_map_or}
 
 -- the option is one of the category's
 abbrev pub is_option_of : List ℕ → ℕ → Bool

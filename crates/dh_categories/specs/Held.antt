@@ -1,5 +1,5 @@
 -- What the option combinations keep beside them.
-use Rattle.std.specs.Prelude.{◌≡◌, ℕ, ◌<◌, ◌^◌, length}
+use Rattle.std.specs.Prelude.{length}
 use Rattle.dh_categories.specs.declared.combos.Combos.TheInside.{Inside}
 use Rattle.dh_categories.specs.Single.{AreSingles, CombosBelow}
 

@@ -1,5 +1,5 @@
 -- Which category combinations have exactly one option combination.
-use Rattle.std.specs.Prelude.{◌≡◌, ℕ, ◌+◌, ◌<◌, ◌≤◌, true, false, List, [], length, take, count_by, slice_index_or}
+use Rattle.std.specs.Prelude.{◌≡◌, ℕ, ◌<◌, ◌≤◌, true, false, List, [], length, take, count_by, slice_index_or}
 use Rattle.dh_categories.specs.Combos.{is_of}
 use Rattle.dh_categories.specs.declared.single.Single.{Single}
 use Rattle.dh_categories.specs.declared.single.Single.TheVariants.{Absent, At, Several}

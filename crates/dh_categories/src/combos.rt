@@ -34,7 +34,11 @@ impl Combos {
     /// Takes in the option combinations, which are fewer than 2^32. Each names its category combination
     /// by its place in the list of combinations, and each of these is the list of its categories, a
     /// category the list of its options.
-    pub fn build(alloc: Global, combos: &[Vec<Vec<u32>>], option_combos: &[(u32, Vec<u32>)]) -> Result<Combos, ComboFault>
+    pub fn build(
+        alloc: Global,
+        combos: &[Vec<Vec<u32>>],
+        option_combos: &[(u32, Vec<u32>)],
+    ) -> Result<Combos, ComboFault>
         requires few { length option_combos.now < 2 ^ 32 }
         requires in_range { CombosBelow (length combos.now) (shown_option_combos option_combos.now) }
         ensures held { IfOk result (λ held. held ≡ shown_option_combos option_combos.now) }
@@ -51,6 +55,13 @@ impl Combos {
             option_combos,
             singles,
         })
+    }
+
+    /// The number of option combinations.
+    pub fn count(&self) -> usize
+        ensures { result ≡ length self.now }
+    {
+        self.option_combos.len()
     }
 
     /// The category combination of an option combination.
@@ -84,7 +95,10 @@ impl Combos {
     }
 }
 
-fn copied(alloc: Global, option_combos: &[(u32, Vec<u32>)]) -> Result<Vec<(u32, Items<u32>)>, AllocError>
+fn copied(
+    alloc: Global,
+    option_combos: &[(u32, Vec<u32>)],
+) -> Result<Vec<(u32, Items<u32>)>, AllocError>
     ensures { IfOk result (λ copies. copies.items ≡ shown_option_combos option_combos.now) }
 {
     let mut copies = Vec::with_capacity(alloc, option_combos.len())?;

@@ -13,7 +13,9 @@ pub fn is_one_of_each(categories: &[Vec<u32>], options: &[u32]) -> bool
 fn each_has_one(categories: &[Vec<u32>], options: &[u32]) -> bool
     ensures { result ≡ list_all (λ category. has_one_of options.now category.items) categories.now }
 {
-    categories.iter().all(|category| has_one(options, category.as_slice()))
+    categories
+        .iter()
+        .all(|category| has_one(options, category.as_slice()))
 }
 
 fn has_one(options: &[u32], category: &[u32]) -> bool
@@ -25,5 +27,8 @@ fn has_one(options: &[u32], category: &[u32]) -> bool
 fn count_of(options: &[u32], category: &[u32]) -> usize
     ensures { result ≡ count_by (λ option. is_option_of category.now option) options.now }
 {
-    options.iter().filter(|option| category.contains(option)).count()
+    options
+        .iter()
+        .filter(|option| category.contains(option))
+        .count()
 }

@@ -14,7 +14,11 @@ pub enum Single {
 }
 
 /// Of each category combination, whether it has exactly one option combination.
-pub fn singles(alloc: Global, count: usize, option_combos: &[(u32, Items<u32>)]) -> Result<Vec<Single>, AllocError>
+pub fn singles(
+    alloc: Global,
+    count: usize,
+    option_combos: &[(u32, Items<u32>)],
+) -> Result<Vec<Single>, AllocError>
     requires few { length option_combos.now < 2 ^ 32 }
     requires in_range { CombosBelow count option_combos.now }
     ensures { IfOk result (λ singles. AreSingles option_combos.now count (length option_combos.now) singles.items) }

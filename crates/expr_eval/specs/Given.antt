@@ -1,5 +1,5 @@
 -- The items of an expression as they are given: one entry for each item of its list, in order.
-use Rattle.std.specs.Prelude.{ℕ, ◌^◌, ◌-◌, Bool, true, false, ◌&&◌, List, Option, Some, None, nat_eq, slice_get, position, unwrap_or}
+use Rattle.std.specs.Prelude.{ℕ, ◌+◌, ◌^◌, ◌-◌, Bool, true, false, ◌&&◌, List, [], ◌∷◌, Option, Some, None, nat_eq, slice_get, if◌then◌else◌}
 use Rattle.std.specs.Cmp.Lexicographic.{pointwise}
 use Rattle.dh_base.specs.declared.plain.Rate.{Rate}
 use Rattle.dh_base.specs.declared.plain.Rate.TheVariants as rates
@@ -38,9 +38,13 @@ same_item item.EnrollmentCount item.EnrollmentCount = true
 same_item item.EntityCount item.EntityCount = true
 same_item _ _ = false
 
--- the place of an item in a list, or a number past every list
+-- the place of an item in a list that begins at a place, or a number past every list
+abbrev pub index_from : ℕ → List Item → Item → ℕ
+index_from place [] i = 2 ^ 64 - 1
+index_from place (x ∷ xs) i = if same_item x i then place else index_from (place + 1) xs i
+
 unfoldable pub index_in : List Item → Item → ℕ
-index_in items i = unwrap_or (position (λ x. same_item x i) items) (2 ^ 64 - 1)
+index_in items i = index_from 0 items i
 
 abbrev pub entry_or_none : Option (Option Fraction) → Option Fraction
 entry_or_none (Some entry) = entry

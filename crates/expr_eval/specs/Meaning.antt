@@ -190,7 +190,8 @@ valued_two operator x y = then_with x (λ a. then_with y (λ b. applied_two oper
 abbrev pub joined : Values → Values → Values
 joined left right = record {
   one = Ok (cell.Number zero_fraction);
-  all = then_with left.all (λ cs. then_with right.one (λ c. Ok (cs ++ c ∷ []))) }
+  all = then_with left.all (λ cs. then_with right.one (λ c. Ok (cs ++ c ∷ [])));
+}
 
 -- `if` takes the value of the chosen branch alone
 abbrev pub chosen_value : Result Cell Value → Result Cell Value → Result Cell Value → Result Cell Value

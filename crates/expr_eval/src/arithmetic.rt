@@ -81,7 +81,11 @@ pub fn apply_one(unary: Unary, operand: &Cell) -> Result<Cell, Value>
         Unary::Power(exponent) => number_answer(number(operand).pow(exponent_of(exponent))),
         Unary::Zing => {
             let number = number(operand);
-            Ok(Cell::Number(if is_below_zero(number) { zero() } else { number }))
+            Ok(Cell::Number(if is_below_zero(number) {
+                zero()
+            } else {
+                number
+            }))
         }
         Unary::Oizp => {
             let number = number(operand);
@@ -164,7 +168,11 @@ pub fn choose(greatest: bool, best: Frac, next: Frac) -> Result<Frac, Value>
     match best.cmp(next) {
         Err(fault) => Err(fault_value(fault)),
         Ok(ordering) => {
-            let takes = if greatest { less(ordering) } else { greater(ordering) };
+            let takes = if greatest {
+                less(ordering)
+            } else {
+                greater(ordering)
+            };
             Ok(if takes { next } else { best })
         }
     }

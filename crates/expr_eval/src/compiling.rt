@@ -5,7 +5,7 @@ ghost use Rattle.expr_lang.specs.Expr.{items_in};
 ghost use Rattle.expr_lang.specs.Shape.{shape_of};
 ghost use Rattle.expr_eval.specs.Meaning.{can_miss, plain_leaf, hides_items, plain_items};
 ghost use Rattle.expr_eval.specs.Given.{same_uid, same_option, same_item, rate_number, index_in};
-ghost use Rattle.expr_eval.specs.Code.{leaf_code, asked_code, first_code, argument_count, code_in, codes_of};
+ghost use Rattle.expr_eval.specs.Code.{leaf_code, asked_instr, asked_code, first_code, argument_count, code_in, codes_of};
 ghost use Rattle.expr_eval.specs.Correct.{Means};
 
 use crate::arithmetic::{literal, zero};
@@ -103,7 +103,12 @@ fn is_same(a: &Item, b: &Item) -> bool
 fn index_of(items: &[Item], item: &Item) -> usize
     ensures { result ≡ index_in items.now item.now }
 {
-    items.iter().position(|x| is_same(x, item)).unwrap_or(usize::MAX)
+    for n in 0..items.len() {
+        if is_same(&items[n], item) {
+            return n;
+        }
+    }
+    usize::MAX
 }
 
 fn put(code: &mut Vec<Instr>, instr: Instr) -> Result<(), Memory>
@@ -134,7 +139,12 @@ fn put_asked(code: &mut Vec<Instr>, wanted: bool, index: usize) -> Result<(), Me
 }
 
 /// Whether an item is there, or is missing.
-fn emit_asked(code: &mut Vec<Instr>, items: &[Item], wanted: bool, operand: &Tree) -> Result<(), Memory>
+fn emit_asked(
+    code: &mut Vec<Instr>,
+    items: &[Item],
+    wanted: bool,
+    operand: &Tree,
+) -> Result<(), Memory>
     ensures { OnOk result (code.new.items ≡ code.old.items ++ asked_code (index_in items.now) wanted (shape_of operand.now)) }
 {
     match operand {
@@ -153,7 +163,10 @@ fn emit_first(code: &mut Vec<Instr>, items: &[Item], list: &Tree) -> Result<(), 
             emit_first(code, items, right)?;
             emit_first(code, items, left)
         }
-        Tree::Leaf(Leaf::Number(millionths)) => put(code, Instr::PreferNumber(literal(*millionths))),
+        Tree::Leaf(Leaf::Number(millionths)) => put(
+            code,
+            Instr::PreferNumber(literal(*millionths)),
+        ),
         Tree::Leaf(Leaf::Item(item)) => put(code, Instr::Prefer(index_of(items, item))),
         _ => Ok(()),
     }

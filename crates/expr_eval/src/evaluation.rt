@@ -1,6 +1,7 @@
 //! Running the postfix form.
 
 ghost use Rattle.std.specs.Prelude.{◌≡◌, ◌≤◌, ◌<◌, ◌∷◌, [], length, take, reverse, is_none, IfOk};
+ghost use Rattle.std.specs.List.{list_any, list_all};
 ghost use Rattle.expr_eval.specs.Meaning.{best_of, skips, value_of_cell};
 ghost use Rattle.expr_eval.specs.Given.{entry_at};
 ghost use Rattle.expr_eval.specs.Code.{Go, top_cell, under, put_on, act as step_of, Comes, run, top_value, next_best_of, passed_to};
@@ -24,6 +25,7 @@ pub enum Answer {
 
 /// The value of an expression for entries, one for each item, under a missing-value strategy. Its
 /// only memory is the one stack.
+#[tactic(auto, unfolding(crate::specs::Code::outcome))]
 pub fn eval(
     alloc: Global,
     form: &Postfix,
@@ -41,7 +43,11 @@ pub fn eval(
 fn entry(entries: &[Option<Frac>], index: usize) -> Option<Frac>
     ensures { result ≡ entry_at entries.now index }
 {
-    if index < entries.len() { entries[index] } else { None }
+    if index < entries.len() {
+        entries[index]
+    } else {
+        None
+    }
 }
 
 fn is_missing(entries: &[Option<Frac>], index: usize) -> bool
@@ -50,17 +56,24 @@ fn is_missing(entries: &[Option<Frac>], index: usize) -> bool
     entry(entries, index).is_none()
 }
 
+fn any_missing(entries: &[Option<Frac>], plain: &[usize]) -> bool
+    ensures { result ≡ list_any (λ n. is_none (entry_at entries.now n)) plain.now }
+{
+    plain.iter().any(|n| is_missing(entries, *n))
+}
+
+fn all_missing(entries: &[Option<Frac>], plain: &[usize]) -> bool
+    ensures { result ≡ list_all (λ n. is_none (entry_at entries.now n)) plain.now }
+{
+    plain.iter().all(|n| is_missing(entries, *n))
+}
+
 fn is_skipped(strategy: Strategy, entries: &[Option<Frac>], plain: &[usize]) -> bool
     ensures { result ≡ skips strategy (λ n. is_none (entry_at entries.now n)) plain.now }
 {
     match strategy {
-        Strategy::SkipIfAny => plain.iter().any(|n| is_missing(entries, *n)),
-        Strategy::SkipIfAll => {
-            if plain.is_empty() {
-                return false;
-            }
-            plain.iter().all(|n| is_missing(entries, *n))
-        }
+        Strategy::SkipIfAny => any_missing(entries, plain),
+        Strategy::SkipIfAll => plain.len() > 0 && all_missing(entries, plain),
         Strategy::Never => false,
     }
 }
@@ -103,7 +116,10 @@ fn best(stack: &Stack<Cell>, count: usize, greatest: bool) -> Result<Cell, Value
     while above > 0 {
         above -= 1;
         if let Some(cell) = stack.get(above) {
-            best = Some(next_best(best, number(&cell), greatest)?);
+            match next_best(best, number(&cell), greatest) {
+                Ok(number) => best = Some(number),
+                Err(value) => return Err(value),
+            }
         }
     }
     match best {
@@ -141,7 +157,11 @@ fn act(entries: &[Option<Frac>], instr: &Instr, stack: &mut Stack<Cell>) -> Resu
         }
         Instr::Prefer(n) => {
             let other = top(stack);
-            go(stack, Cell::Number(entry(entries, *n).unwrap_or(number(&other))), 0)
+            go(
+                stack,
+                Cell::Number(entry(entries, *n).unwrap_or(number(&other))),
+                0,
+            )
         }
         Instr::Unary(unary) => {
             let operand = top(stack);

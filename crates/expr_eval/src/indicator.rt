@@ -39,10 +39,7 @@ pub enum PiItem {
     /// A constant in millionths.
     Constant(i64),
     /// A data element of a program stage.
-    Element {
-        stage: u32,
-        element: u32,
-    },
+    Element { stage: u32, element: u32 },
     /// A tracked entity attribute.
     Attribute(u32),
     EventDate,

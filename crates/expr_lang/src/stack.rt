@@ -83,6 +83,7 @@ impl<T> Stack<T> {
         T: Drop,
         ensures { self.new ≡ drop count self.old }
     {
-        self.entries.truncate(self.entries.len().saturating_sub(count));
+        self.entries
+            .truncate(self.entries.len().saturating_sub(count));
     }
 }

@@ -1,4 +1,4 @@
-use Rattle.std.proofs.Common.{◌≡◌, ◌<◌, ℕ, List, [], true, length, get_or, sym, ap, ◌∙◌, subst, arith}
+use Rattle.std.proofs.Common.{◌≡◌, ℕ, List, [], true, get_or, sym, ◌∙◌, subst, arith}
 use Rattle.std.proofs.lemmas.List.{get_or_default}
 use Rattle.dh_categories.specs.Combos.{is_bad, shown_combos}
 use Rattle.dh_categories.proofs.ComboLemmas.{position_found, position_none}
@@ -10,9 +10,9 @@ returns-then-is_wrong c =
     let ocs = c.args.option_combos.now in
     let place = c.loop-place.place in
     let read : c.index-option_combos-place.result ≡ get_or ocs place (0, []) =
-      c.index-option_combos-place.is ∙ get_or_default ocs place c.index-option_combos-place.result (0, []) c.loop-place-test.true in
+    c.index-option_combos-place.is ∙ get_or_default ocs place c.index-option_combos-place.result (0, []) c.loop-place-test.true in
     sym (position_found (is_bad combos) ocs place (0, []) c.loop-place-test.true c.loop-place.invariant
-      (subst (λ (v : ℕ × List ℕ). is_bad combos v ≡ true) read (sym c.is_wrong.ensures ∙ c.if-is_wrong.true)))
+    (subst (λ (v : ℕ × List ℕ). is_bad combos v ≡ true) read (sym c.is_wrong.ensures ∙ c.if-is_wrong.true)))
 
 pub returns : goal.returns
 returns c =
