@@ -1,5 +1,5 @@
 -- What the program answers: its status, and the text that it writes.
-use Rattle.std.specs.Prelude.{ℕ, Bool, true, false, cond, List, [], ◌∷◌, ◌++◌, length, slice_get, unwrap_or, nat_lt, Option, Some, None, option_and_then, codes}
+use Rattle.std.specs.Prelude.{ℕ, Bool, true, false, cond, List, [], ◌∷◌, ◌++◌, length, zero, suc, unwrap_or, nat_lt, Option, Some, None, option_and_then, codes}
 use Rattle.std.specs.Option.{option_map_or}
 use Rattle.std.specs.Fmt.{decimal}
 use Rattle.std.specs.Str.{is_utf8}
@@ -41,21 +41,27 @@ most_bytes = 67108864
 -- the reply to a query over the bytes of a bundle
 unfoldable pub reply_to_query : List ℕ → List ℕ → List ℕ → Reply
 reply_to_query user query bytes =
-  cond (nat_lt most_bytes (length bytes)) (refused (codes "Limit bytes"))
-  (option_map_or (reply_to_document user query) (document_of bytes) (refused (codes "NotJson")))
+    cond (nat_lt most_bytes (length bytes)) (refused (codes "Limit bytes"))
+    (option_map_or (reply_to_document user query) (document_of bytes) (refused (codes "NotJson")))
 
+-- the word at a place, counted from 0
 abbrev pub word_at : List (List ℕ) → ℕ → List ℕ
-word_at words place = unwrap_or (slice_get words place) []
+word_at [] place = []
+word_at (word ∷ words) zero = word
+word_at (word ∷ words) (suc place) = word_at words place
 
 unfoldable pub usage_reply : ℕ → Reply
 usage_reply place = record { outcome = outcome.Usage; text = line (codes "dhis: usage: bad word " ++ decimal place) }
 
 unfoldable pub help_reply : Reply
-help_reply = record { outcome = outcome.Ok; text =
-  line (codes "usage: dhis query USER QUERY < BUNDLE")
-  ++ line (codes "       dhis --help")
-  ++ line (codes "       dhis --version")
-  ++ line (codes "query reads a bundle of metadata and values, and writes the analytics body of QUERY for USER.") }
+help_reply = record {
+  outcome = outcome.Ok;
+  text =
+      line (codes "usage: dhis query USER QUERY < BUNDLE")
+      ++ line (codes "       dhis --help")
+      ++ line (codes "       dhis --version")
+      ++ line (codes "query reads a bundle of metadata and values, and writes the analytics body of QUERY for USER.");
+}
 
 unfoldable pub version_reply : Reply
 version_reply = record { outcome = outcome.Ok; text = line (codes "dhis 0.1.0") }
@@ -70,4 +76,4 @@ reply_without_input (command.Bad place) = Some (usage_reply place)
 -- the reply to the words of the command line, over the bytes of the input
 unfoldable pub answer_of : List (List ℕ) → List ℕ → Reply
 answer_of words bytes =
-  unwrap_or (reply_without_input (command_of words)) (reply_to_query (word_at words 1) (word_at words 2) bytes)
+    unwrap_or (reply_without_input (command_of words)) (reply_to_query (word_at words 1) (word_at words 2) bytes)

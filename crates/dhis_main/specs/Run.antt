@@ -41,7 +41,7 @@ Prepares words told old new (Err fault.Memory) = ⊤
 -- what making a reply to a query answers
 abbrev pub RepliesToInput : List ℕ → List ℕ → Option (List ℕ) → ℕ → ℕ → Result Reply Fault → Type 0
 RepliesToInput user query told old new (Ok reply) =
-  (bytes : List ℕ) × (reply ≡ reply_to_query user query bytes) × IfSome told (λ all. reply_to_query user query all ≡ reply_to_query user query bytes)
+    (bytes : List ℕ) × (reply ≡ reply_to_query user query bytes) × IfSome told (λ all. reply_to_query user query all ≡ reply_to_query user query bytes)
 RepliesToInput user query told old new (Err fault.Read) = Rose old new
 RepliesToInput user query told old new (Err fault.Memory) = ⊤
 
@@ -64,16 +64,16 @@ WritesFront shown text = (count : ℕ) × (count ≤ length text) × Appends sho
 -- then nothing was written. Writing failed only where the output counted one, and then a front of the text was written.
 abbrev pub Runs : List (List ℕ) → Shown → Status → Type 0
 Runs words shown (status.Done outcome) =
-  (reply : Reply) × IsReplyTo words shown.told reply × (outcome ≡ reply.outcome) × Appends shown.written shown.written_after reply.text
+    (reply : Reply) × IsReplyTo words shown.told reply × (outcome ≡ reply.outcome) × Appends shown.written shown.written_after reply.text
 Runs words shown status.ReadFault = Rose shown.read_faults shown.read_faults_after × Keeps shown.written shown.written_after
 Runs words shown status.WriteFault =
-  Rose shown.write_faults shown.write_faults_after × ((reply : Reply) × IsReplyTo words shown.told reply × WritesFront shown reply.text)
+    Rose shown.write_faults shown.write_faults_after × ((reply : Reply) × IsReplyTo words shown.told reply × WritesFront shown reply.text)
 Runs words shown status.Memory = Keeps shown.written shown.written_after
 
 -- what a done run is over told bytes
 abbrev pub AnswersTold : List (List ℕ) → Shown → Status → Type 0
 AnswersTold words shown (status.Done outcome) = IfSome shown.told (λ bytes.
-  (outcome ≡ (answer_of words bytes).outcome) × Appends shown.written shown.written_after (answer_of words bytes).text)
+    (outcome ≡ (answer_of words bytes).outcome) × Appends shown.written shown.written_after (answer_of words bytes).text)
 AnswersTold words shown status.ReadFault = ⊤
 AnswersTold words shown status.WriteFault = ⊤
 AnswersTold words shown status.Memory = ⊤

@@ -25,9 +25,9 @@ query_words (user ∷ query ∷ other ∷ rest) = cond (fits_query query) (comma
 -- the words behind the first
 abbrev pub command_behind : List ℕ → List (List ℕ) → Command
 command_behind first rest =
-  cond (is_word first (codes "query")) (query_words rest)
-  (cond (is_word first (codes "--help") && is_last rest) command.Help
-  (cond (is_word first (codes "--version") && is_last rest) command.Version (command.Bad 1)))
+    cond (is_word first (codes "query")) (query_words rest)
+    (cond (is_word first (codes "--help") && is_last rest) command.Help
+    (cond (is_word first (codes "--version") && is_last rest) command.Version (command.Bad 1)))
 
 unfoldable pub command_of : List (List ℕ) → Command
 command_of [] = command.Bad 1

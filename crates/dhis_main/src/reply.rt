@@ -5,7 +5,7 @@ ghost use Rattle.dhis_main.specs.Words.{command_of};
 ghost use Rattle.dhis_main.specs.Outcome.{line, document_of, refused, not_built, body_reply, reply_to_document, reply_to_query, usage_reply, help_reply, version_reply, answer_of, reply_without_input, most_bytes};
 ghost use Rattle.std.specs.Prelude.{OnOk, ◌++◌};
 ghost use Rattle.std.specs.Option.{option_map};
-ghost use Rattle.dhis_main.specs.Run.{Prepares, RepliesToInput};
+ghost use Rattle.dhis_main.specs.Run.{Prepares, RepliesToInput, is_bad};
 ghost use Rattle.dhis_main.specs.declared.reply.Fault.TheVariants.{Memory as OutOfMemory};
 
 use crate::status::Outcome;
@@ -133,12 +133,7 @@ fn document(alloc: Global, bytes: &[u8]) -> Result<Option<Value>, Memory>
 }
 
 #[tactic(auto, unfolding(crate::specs::Outcome::reply_to_query))]
-fn reply_to_query(
-    alloc: Global,
-    user: &str,
-    query: &str,
-    bytes: &[u8],
-) -> Result<Reply, Memory>
+fn reply_to_query(alloc: Global, user: &str, query: &str, bytes: &[u8]) -> Result<Reply, Memory>
     requires { length bytes.now ≤ 67108864 }
     ensures { IfOk result (λ reply. reply ≡ reply_to_query user.now query.now bytes.now) }
 {
@@ -195,18 +190,6 @@ fn push_line(text: &mut Vec<u8>, added: &str) -> Result<(), Memory>
     Ok(())
 }
 
-// The reply to a command that reads no input.
-fn reply_without_input(alloc: Global, command: Command) -> Result<Option<Reply>, Memory>
-    ensures { IfOk result (λ reply. reply ≡ reply_without_input command) }
-{
-    match command {
-        Command::Help => Ok(Some(help_reply(alloc)?)),
-        Command::Version => Ok(Some(version_reply(alloc)?)),
-        Command::Query => Ok(None),
-        Command::Bad(place) => Ok(Some(usage_reply(alloc, place)?)),
-    }
-}
-
 // Reads the whole input and makes the reply to a query over it.
 fn reply_to_input<S: Source>(
     alloc: Global,
@@ -225,20 +208,15 @@ fn reply_to_input<S: Source>(
     }
 }
 
-/// The reply to the words of a command line, which reads the input where the command does.
-pub fn prepare<S: Source>(
-    alloc: Global,
-    words: &[&str],
-    input: &mut S,
-) -> Result<Reply, Fault>
-    ensures { Prepares (map (λ word. word.now) words.now) (S.left input.old) (S.source_faults input.old) (S.source_faults input.new) result }
+/// The reply to the words of a command line. The input is read where the command does.
+pub fn prepare<S: Source>(alloc: Global, words: &[&str], input: &mut S) -> Result<Reply, Fault>
+    ensures reply { Prepares (map (λ word. word.now) words.now) (S.left input.old) (S.source_faults input.old) (S.source_faults input.new) result }
+    ensures idle { IfErr result (λ fault. fault ≡ Fault.Read → is_bad (command_of (map (λ word. word.now) words.now)) ≡ false) }
 {
-    let command = read_words(words);
-    if let Some(reply) = reply_without_input(alloc, command)? {
-        return Ok(reply);
-    }
-    match words {
-        [_, user, query] => reply_to_input(alloc, user, query, input),
-        _ => Ok(usage_reply(alloc, 1)?),
+    match read_words(words) {
+        Command::Help => Ok(help_reply(alloc)?),
+        Command::Version => Ok(version_reply(alloc)?),
+        Command::Bad(place) => Ok(usage_reply(alloc, place)?),
+        Command::Query => reply_to_input(alloc, words[1], words[2], input),
     }
 }

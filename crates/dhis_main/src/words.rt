@@ -1,6 +1,5 @@
 ghost use Rattle.std.specs.Prelude.{◌≡◌, ◌≤◌, List, map, length};
 ghost use Rattle.dhis_main.specs.Words.{fits_query, query_words, command_behind, command_of};
-ghost use Rattle.dhis_main.specs.declared.words.Command.TheVariants.{Query};
 
 /// A command of the command line.
 #[derive(Clone, Copy, Debug, Drop, PartialEq, Eq)]
@@ -14,7 +13,8 @@ pub enum Command {
 }
 
 fn query_words(words: &[&str]) -> Command
-    ensures { result ≡ query_words (map (λ word. word.now) words.now) }
+    ensures two { result ≡ Command.Query → length words.now ≡ 2 }
+    ensures command { result ≡ query_words (map (λ word. word.now) words.now) }
 {
     match words {
         [] => Command::Bad(2),
@@ -39,7 +39,8 @@ fn query_words(words: &[&str]) -> Command
 /// Reads the words of the command line, behind the program's name.
 #[tactic(auto, unfolding(crate::specs::Words::command_of))]
 pub fn read_words(words: &[&str]) -> Command
-    ensures { result ≡ command_of (map (λ word. word.now) words.now) }
+    ensures command { result ≡ command_of (map (λ word. word.now) words.now) }
+    ensures three { result ≡ Command.Query → length words.now ≡ 3 }
 {
     match words {
         [] => Command::Bad(1),
@@ -48,7 +49,8 @@ pub fn read_words(words: &[&str]) -> Command
 }
 
 fn behind(first: &str, rest: &[&str]) -> Command
-    ensures { result ≡ command_behind first.now (map (λ word. word.now) rest.now) }
+    ensures two { result ≡ Command.Query → length rest.now ≡ 2 }
+    ensures command { result ≡ command_behind first.now (map (λ word. word.now) rest.now) }
 {
     if first == "query" {
         return query_words(rest);
