@@ -144,7 +144,7 @@ fn reply_to_query(alloc: Global, user: &str, query: &str, bytes: &[u8]) -> Resul
 }
 
 #[tactic(auto, unfolding(crate::specs::Outcome::usage_reply))]
-fn usage_reply(alloc: Global, place: usize) -> Result<Reply, Memory>
+pub fn usage_reply(alloc: Global, place: usize) -> Result<Reply, Memory>
     ensures { IfOk result (λ reply. reply ≡ usage_reply place) }
 {
     let text = format!(in alloc; "dhis: usage: bad word {place}")?;

@@ -2,8 +2,9 @@ ghost use Rattle.std.specs.Prelude.{List, map, None};
 ghost use Rattle.dhis_main.specs.Words.{command_of};
 ghost use Rattle.dhis_main.specs.Run.{Runs, AnswersTold, RefusesWords, Sends};
 
-use crate::reply::{Fault, Reply, prepare};
+use crate::reply::{Fault, Reply, prepare, usage_reply};
 use crate::status::Status;
+use crate::words::{Command, read_words};
 use dh_outside::{Clock, FileSet, Sink, Source, write_all};
 use std::alloc::Global;
 
@@ -41,5 +42,17 @@ pub fn run_offline<S: Source, O: Sink, F: FileSet, C: Clock>(
         Ok(reply) => send(&reply, output),
         Err(Fault::Read) => Status::ReadFault,
         Err(Fault::Memory) => Status::Memory,
+    }
+}
+
+/// Refuses a command line of which the word behind these isn't UTF-8, by the first word that doesn't fit.
+pub fn refuse_word<O: Sink>(alloc: Global, words: &[&str], output: &mut O) -> Status {
+    let place = match read_words(words) {
+        Command::Bad(place) => place.min(words.len() + 1),
+        _ => words.len() + 1,
+    };
+    match usage_reply(alloc, place) {
+        Ok(reply) => send(&reply, output),
+        Err(_) => Status::Memory,
     }
 }
