@@ -12,7 +12,13 @@ use Rattle.serde_json.specs.Read.{read}
 use Rattle.dh_outside.specs.Faults.{Rose}
 use Rattle.dhis_main.specs.Words.{command_of}
 use Rattle.dhis_main.specs.Outcome.{document_of, reply_without_input, reply_to_query, answer_of, word_at, most_bytes, refused, reply_to_document}
-use Rattle.dhis_main.specs.Run.{IsReplyTo, Prepares, RepliesToInput}
+use Rattle.dhis_main.specs.Run.{IsReplyTo, Prepares, RepliesToInput, Shown, Runs, AnswersTold, RefusesWords, is_usage, is_bad}
+use Rattle.dhis_main.specs.Outcome.{help_reply, version_reply, usage_reply, body_reply, not_built}
+use Rattle.bundle_query.specs.Answer as bundle
+use Rattle.std.specs.Io.KnownBytes.{Appends, Keeps}
+use Rattle.dhis_main.specs.declared.status.Outcome.{Outcome}
+use Rattle.dhis_main.specs.declared.status.Status.{Status}
+use Rattle.dhis_main.specs.declared.status.Status.TheVariants as status
 use Rattle.dhis_main.specs.declared.words.Command.{Command}
 use Rattle.dhis_main.specs.declared.words.Command.TheVariants as command
 use Rattle.dhis_main.specs.declared.reply.Reply.{Reply}
@@ -96,3 +102,44 @@ pub word_at-listed : (words : List (Bor (List ℕ))) (place : ℕ) (none : Bor (
 word_at-listed [] place none is = sym is
 word_at-listed (word ∷ words) zero none is = refl
 word_at-listed (word ∷ words) (suc place) none is = word_at-listed words place none is
+
+-- ---- what a run is, told in the words of the definitions alone
+
+-- a done run over told bytes has the outcome and the text of the answer to them
+pub answers_told : (words : List (List ℕ)) (shown : Shown) (result : Status) → Runs words shown result → AnswersTold words shown result
+answers_told words shown (status.Done outcome) run =
+    elim shown.told as (λ t. IfSome t (λ all. answer_of words all ≡ answer_of words run.1.bytes) → IfSome t (λ bytes.
+    (outcome ≡ (answer_of words bytes).outcome) × Appends shown.written shown.written_after (answer_of words bytes).text)) [
+      | None ↦ λ same. tt
+      | Some all ↦ λ same.
+          let is : run.0 ≡ answer_of words all = run.1.is ∙ sym same in
+          (run.2 ∙ ap (λ (r : Reply). r.outcome) is, subst (λ (r : Reply). Appends shown.written shown.written_after r.text) is run.3)
+    ] run.1.told_bytes
+answers_told words shown status.ReadFault run = tt
+answers_told words shown status.WriteFault run = tt
+answers_told words shown status.Memory run = tt
+
+query_outcome : (user query bytes : List ℕ) → is_usage (reply_to_query user query bytes).outcome ≡ false
+unfolding reply_to_query reply_to_document
+query_outcome user query bytes =
+    elim (nat_lt most_bytes (length bytes)) as (λ b. is_usage (cond b (refused (codes "Limit bytes"))
+    (option_map_or (reply_to_document user query) (document_of bytes) (refused (codes "NotJson")))).outcome ≡ false) [
+      | true ↦ refl
+      | false ↦ elim (document_of bytes) as (λ d. is_usage (option_map_or (reply_to_document user query) d (refused (codes "NotJson"))).outcome ≡ false) [
+        | None ↦ refl
+        | Some json ↦ elim (bundle.answer_of user query json) as (λ o. is_usage (option_map_or body_reply o not_built).outcome ≡ false) [ None ↦ refl | Some body ↦ refl ]
+      ]
+    ]
+
+-- the outcome is a refusal of the words exactly where these are not in the grammar
+usage_outcome : (words : List (List ℕ)) (bytes : List ℕ) → is_usage (answer_of words bytes).outcome ≡ is_bad (command_of words)
+unfolding answer_of help_reply version_reply usage_reply
+usage_outcome words bytes =
+    elim (command_of words) as (λ c. is_usage (unwrap_or (reply_without_input c) (reply_to_query (word_at words 1) (word_at words 2) bytes)).outcome ≡ is_bad c)
+    [ command.Help ↦ refl | command.Version ↦ refl | command.Query ↦ query_outcome (word_at words 1) (word_at words 2) bytes | command.Bad place ↦ refl ]
+
+pub refuses_words : (words : List (List ℕ)) (shown : Shown) (result : Status) → Runs words shown result → RefusesWords (command_of words) result
+refuses_words words shown (status.Done outcome) run = ap is_usage (run.2 ∙ ap (λ (r : Reply). r.outcome) run.1.is) ∙ usage_outcome words run.1.bytes
+refuses_words words shown status.ReadFault run = run.2
+refuses_words words shown status.WriteFault run = tt
+refuses_words words shown status.Memory run = tt

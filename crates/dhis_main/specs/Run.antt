@@ -2,6 +2,7 @@
 use Rattle.std.specs.Prelude.{◌≡◌, ◌≤◌, ℕ, Bool, true, false, List, length, take, Option, Some, None, IfSome, Result, Ok, Err, ⊤}
 use Rattle.std.specs.Io.KnownBytes.{Appends, Keeps}
 use Rattle.dh_outside.specs.Faults.{Rose}
+use Rattle.dhis_main.specs.Words.{command_of}
 use Rattle.dhis_main.specs.Outcome.{answer_of, reply_to_query}
 use Rattle.dhis_main.specs.declared.words.Command.{Command}
 use Rattle.dhis_main.specs.declared.words.Command.TheVariants as command
@@ -56,6 +57,17 @@ pub record Shown : Type 0 where
   pub write_faults : ℕ
   pub write_faults_after : ℕ
 
+abbrev pub shown : Option (List ℕ) → Option (List ℕ) → Option (List ℕ) → ℕ → ℕ → ℕ → ℕ → Shown
+shown told old new reads reads_after writes writes_after = record {
+  told = told;
+  written = old;
+  written_after = new;
+  read_faults = reads;
+  read_faults_after = reads_after;
+  write_faults = writes;
+  write_faults_after = writes_after;
+}
+
 -- a front of a text was written
 abbrev pub WritesFront : Shown → List ℕ → Type 0
 WritesFront shown text = (count : ℕ) × (count ≤ length text) × Appends shown.written shown.written_after (take count text)
@@ -65,7 +77,8 @@ WritesFront shown text = (count : ℕ) × (count ≤ length text) × Appends sho
 abbrev pub Runs : List (List ℕ) → Shown → Status → Type 0
 Runs words shown (status.Done outcome) =
     (reply : Reply) × IsReplyTo words shown.told reply × (outcome ≡ reply.outcome) × Appends shown.written shown.written_after reply.text
-Runs words shown status.ReadFault = Rose shown.read_faults shown.read_faults_after × Keeps shown.written shown.written_after
+Runs words shown status.ReadFault =
+    Rose shown.read_faults shown.read_faults_after × Keeps shown.written shown.written_after × (is_bad (command_of words) ≡ false)
 Runs words shown status.WriteFault =
     Rose shown.write_faults shown.write_faults_after × ((reply : Reply) × IsReplyTo words shown.told reply × WritesFront shown reply.text)
 Runs words shown status.Memory = Keeps shown.written shown.written_after

@@ -1,6 +1,6 @@
 ghost use Rattle.std.specs.Prelude.{List, map, None};
 ghost use Rattle.dhis_main.specs.Words.{command_of};
-ghost use Rattle.dhis_main.specs.Run.{Runs, AnswersTold, RefusesWords, Sends};
+ghost use Rattle.dhis_main.specs.Run.{Runs, AnswersTold, RefusesWords, Sends, shown};
 
 use crate::reply::{Fault, Reply, prepare, usage_reply};
 use crate::status::Status;
@@ -10,7 +10,7 @@ use std::alloc::Global;
 
 // Writes the text of a reply.
 fn send<O: Sink>(reply: &Reply, output: &mut O) -> Status
-    ensures { Sends reply.now (record { told = None; written = O.written output.old; written_after = O.written output.new; read_faults = 0; read_faults_after = 0; write_faults = O.sink_faults output.old; write_faults_after = O.sink_faults output.new }) result }
+    ensures { Sends reply.now (shown None (O.written output.old) (O.written output.new) 0 0 (O.sink_faults output.old) (O.sink_faults output.new)) result }
 {
     match write_all(output, reply.text.as_slice()) {
         Ok(()) => Status::Done(reply.outcome),
@@ -18,8 +18,26 @@ fn send<O: Sink>(reply: &Reply, output: &mut O) -> Status
     }
 }
 
-/// Carries out a command of the command line, as `main` gives it: reads the input where the command
-/// does, and writes the whole reply, or ends with the fault that it met.
+// Makes the reply and writes it.
+fn carry_out<S: Source, O: Sink>(
+    alloc: Global,
+    words: &[&str],
+    input: &mut S,
+    output: &mut O,
+) -> Status
+    ensures { Runs (map (λ word. word.now) words.now) (shown (S.left input.old) (O.written output.old) (O.written output.new)
+        (S.source_faults input.old) (S.source_faults input.new) (O.sink_faults output.old) (O.sink_faults output.new)) result }
+{
+    match prepare(alloc, words, input) {
+        Ok(reply) => send(&reply, output),
+        Err(Fault::Read) => Status::ReadFault,
+        Err(Fault::Memory) => Status::Memory,
+    }
+}
+
+/// Carries out a command of the command line: reads the input where the command does, and writes the
+/// whole reply, or ends with the fault that it met.
+#[tactic(auto, using(crate::proofs::RunLemmas::answers_told, crate::proofs::RunLemmas::refuses_words))]
 pub fn run_offline<S: Source, O: Sink, F: FileSet, C: Clock>(
     alloc: Global,
     words: &[&str],
@@ -28,21 +46,16 @@ pub fn run_offline<S: Source, O: Sink, F: FileSet, C: Clock>(
     _files: &mut F,
     _clock: &C,
 ) -> Status
-    ensures runs { Runs (map (λ word. word.now) words.now) (record {
-      told = S.left input.old;
-      written = O.written output.old;
-      written_after = O.written output.new;
-      read_faults = S.source_faults input.old;
-      read_faults_after = S.source_faults input.new;
-      write_faults = O.sink_faults output.old;
-      write_faults_after = O.sink_faults output.new;
-    }) result }
+    // each status has its cause, and what was written is the reply's text, a front of it, or nothing
+    ensures runs { Runs (map (λ word. word.now) words.now) (shown (S.left input.old) (O.written output.old) (O.written output.new)
+        (S.source_faults input.old) (S.source_faults input.new) (O.sink_faults output.old) (O.sink_faults output.new)) result }
+    // over told bytes a done run is the answer to them
+    ensures answers { AnswersTold (map (λ word. word.now) words.now) (shown (S.left input.old) (O.written output.old) (O.written output.new)
+        (S.source_faults input.old) (S.source_faults input.new) (O.sink_faults output.old) (O.sink_faults output.new)) result }
+    // the words are refused exactly where they are not in the grammar
+    ensures usage { RefusesWords (command_of (map (λ word. word.now) words.now)) result }
 {
-    match prepare(alloc, words, input) {
-        Ok(reply) => send(&reply, output),
-        Err(Fault::Read) => Status::ReadFault,
-        Err(Fault::Memory) => Status::Memory,
-    }
+    carry_out(alloc, words, input, output)
 }
 
 /// Refuses a command line of which the word behind these isn't UTF-8, by the first word that doesn't fit.
