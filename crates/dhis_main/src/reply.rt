@@ -93,11 +93,11 @@ fn not_built(alloc: Global) -> Result<Reply, Memory>
 fn body_reply(body: Vec<u8>) -> Result<Reply, Memory>
     ensures { IfOk result (λ reply. reply ≡ body_reply body.items) }
 {
-    let mut bytes = body;
-    bytes.push(b'\n')?;
+    let mut whole_line = body;
+    whole_line.push(b'\n')?;
     Ok(Reply {
         outcome: Outcome::Ok,
-        text: Items::from(bytes),
+        text: Items::from(whole_line),
     })
 }
 

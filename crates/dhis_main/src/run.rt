@@ -65,7 +65,7 @@ pub fn refuse_word<O: Sink>(alloc: Global, words: &[&str], output: &mut O) -> St
         _ => words.len() + 1,
     };
     match usage_reply(alloc, place) {
-        Ok(reply) => send(&reply, output),
+        Ok(refusal) => send(&refusal, output),
         Err(_) => Status::Memory,
     }
 }

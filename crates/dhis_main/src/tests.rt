@@ -100,3 +100,59 @@ fn each_refusal_has_its_line(rt: HostRuntime) -> Result<(), Fail> {
     assert_eq!(rt; sink.written(), b"dhis 0.1.0\n".as_slice());
     Ok(())
 }
+
+// Units, values and the status of the program, a bundle a line.
+const BUNDLES: &str =
+    r#"{"id":"OuCountry01"}|{"dataElement":"DeFormsRecv","period":"202401","orgUnit":"OuCountry01","value":"12"}|0
+{"id":"OuCountry01"}||0
+{"id":"OuCountry01"}|{"dataElement":"DeFormsRecv","period":"202401","orgUnit":"OuCountry01","value":"-0.000001"}|0
+{"id":"OuCountry01"}|{"dataElement":"DeFormsRecv","period":"202401","orgUnit":"OuCountry01","value":"999999999999.999999"}|0
+{"id":"OuCountry01"},{"id":"OuCountry01"}|{"dataElement":"DeFormsRecv","period":"202401","orgUnit":"OuCountry01","value":"12"}|15
+{"id":"OuCountry01"},{"id":"OuDistrictA"}|{"dataElement":"DeFormsRecv","period":"202401","orgUnit":"OuCountry01","value":"12"}|15
+{"id":"OuCountry01"},{"id":"OuDistrictA","parent":{"id":"OuNowhere01"}}|{"dataElement":"DeFormsRecv","period":"202401","orgUnit":"OuCountry01","value":"12"}|15
+{"id":"OuCountry01"},{"id":"OuDistrictA","parent":null}|{"dataElement":"DeFormsRecv","period":"202401","orgUnit":"OuCountry01","value":"12"}|15
+{"id":"OuCountry01"},{"id":"OuDistrictA","parent":{"id":"OuDistrictB"}},{"id":"OuDistrictB","parent":{"id":"OuDistrictA"}}|{"dataElement":"DeFormsRecv","period":"202401","orgUnit":"OuCountry01","value":"12"}|15
+{"id":"OuCountry01"},{"id":"OuLevel0002","parent":{"id":"OuCountry01"}},{"id":"OuLevel0003","parent":{"id":"OuLevel0002"}},{"id":"OuLevel0004","parent":{"id":"OuLevel0003"}},{"id":"OuLevel0005","parent":{"id":"OuLevel0004"}},{"id":"OuLevel0006","parent":{"id":"OuLevel0005"}},{"id":"OuLevel0007","parent":{"id":"OuLevel0006"}},{"id":"OuLevel0008","parent":{"id":"OuLevel0007"}},{"id":"OuLevel0009","parent":{"id":"OuLevel0008"}},{"id":"OuLevel0010","parent":{"id":"OuLevel0009"}},{"id":"OuLevel0011","parent":{"id":"OuLevel0010"}},{"id":"OuLevel0012","parent":{"id":"OuLevel0011"}},{"id":"OuLevel0013","parent":{"id":"OuLevel0012"}}|{"dataElement":"DeFormsRecv","period":"202401","orgUnit":"OuCountry01","value":"12"}|15
+{"id":"1Country01x"}|{"dataElement":"DeFormsRecv","period":"202401","orgUnit":"OuCountry01","value":"12"}|15
+7|{"dataElement":"DeFormsRecv","period":"202401","orgUnit":"OuCountry01","value":"12"}|15
+{"id":"OuCountry01"}|{"dataElement":"DeFormsRecv","period":"202401","orgUnit":"OuCountry01","value":"0"}|15
+{"id":"OuCountry01"}|{"dataElement":"DeFormsRecv","period":"202401","orgUnit":"OuCountry01","value":"+5"}|15
+{"id":"OuCountry01"}|{"dataElement":"DeFormsRecv","period":"202401","orgUnit":"OuCountry01","value":""}|15
+{"id":"OuCountry01"}|{"dataElement":"DeFormsRecv","period":"202401","orgUnit":"OuCountry01","value":"1000000000000"}|15
+{"id":"OuCountry01"}|{"dataElement":"DeFormsRecv","period":"202401","orgUnit":"OuCountry01","value":"1.0000001"}|15
+{"id":"OuCountry01"}|{"dataElement":"DeFormsRecv","period":"202401","orgUnit":"OuCountry01","value":12.5}|15
+{"id":"OuCountry01"}|{"dataElement":"DeFormsRecv","period":"2024Q1","orgUnit":"OuCountry01","value":"12"}|15
+{"id":"OuCountry01"}|{"dataElement":"DeFormsRecv","period":"202413","orgUnit":"OuCountry01","value":"12"}|15
+{"id":"OuCountry01"}|{"dataElement":"DeFormsSent","period":"202401","orgUnit":"OuCountry01","value":"12"}|15
+{"id":"OuCountry01"}|{"dataElement":"DeFormsRecv","period":"202401","orgUnit":"OuNowhere01","value":"12"}|15
+{"id":"OuCountry01"}|{"dataElement":"DeFormsRecv","period":"202401","orgUnit":"OuCountry01","value":"12","comment":"x"}|15
+{"id":"OuCountry01"}|{"dataElement":"DeFormsRecv","period":"202401","orgUnit":"OuCountry01"}|15
+{"id":"OuCountry01"}|null|15
+{"id":"OuCountry01"}|}|3
+{"id":"OuCountry01"}|{"dataElement":|3
+{"id":"OuCountry01"}|1e999|3"#;
+
+const BEFORE_UNITS: &str =
+    r#"{"dataElements":[{"id":"DeFormsRecv","valueType":"NUMBER"}],"dataSets":[{"id":"DsMonthly01","periodType":"Monthly","dataSetElements":[{"dataElement":{"id":"DeFormsRecv"}}],"organisationUnits":[{"id":"OuCountry01"}]}],"userRoles":[{"id":"RoSuperUser","authorities":["ALL"]}],"users":[{"id":"UsCountry01","organisationUnits":[{"id":"OuCountry01"}],"userRoles":[{"id":"RoSuperUser"}]}],"organisationUnits":["#;
+
+const BEFORE_VALUES: &str = r#"],"dataValues":["#;
+
+const COUNTRY: &str =
+    "dimension=dx:DeFormsRecv&dimension=pe:2024&dimension=ou:OuCountry01&skipMeta=true";
+
+#[test]
+fn each_bundle_has_its_status(rt: HostRuntime) -> Result<(), Fail> {
+    let alloc = rt.alloc();
+    for line in BUNDLES.lines() {
+        let mut parts = line.split('|');
+        let units = parts.next().unwrap_or("");
+        let values = parts.next().unwrap_or("");
+        let status = parts.next().unwrap_or("");
+        let bundle = format!(in alloc; "{BEFORE_UNITS}{units}{BEFORE_VALUES}{values}]}}")?;
+        let words = ["query", "UsCountry01", COUNTRY];
+        let (found, _) = run(alloc, &words, bundle.as_str(), false, false)?;
+        let found = format!(in alloc; "{}", found.code())?;
+        assert_eq!(rt; found.as_str(), status, "in {line}");
+    }
+    Ok(())
+}
