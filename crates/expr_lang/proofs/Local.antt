@@ -1,10 +1,11 @@
 -- What is read of a text depends on the bytes up to the place that is reached, and on one more.
-use Rattle.std.proofs.Common.{◌≡◌, ℕ, zero, suc, ◌+◌, ◌-◌, ◌*◌, ◌^◌, ◌<◌, ◌≤◌, Bool, true, false, cond, List, [], ◌∷◌, ◌++◌, length, take, drop, Option, Some, None, Result, Ok, Err, refl, sym, ap, subst, ◌∙◌, inl, inr, add-one, arith}
-use Rattle.std.specs.Prelude.{◌&&◌, ◌||◌, nat_eq, nat_lt, nat_le, slice_index}
+use Rattle.std.proofs.Common.{◌≡◌, ℕ, zero, suc, ◌+◌, ◌-◌, ◌*◌, ◌^◌, ◌<◌, ◌≤◌, Bool, true, false, cond, List, [], ◌∷◌, ◌++◌, length, take, drop, Option, Some, None, Result, Ok, Err, refl, sym, ap, subst, ◌⊎◌, ◌∙◌, inl, inr, add-one, arith}
+use Rattle.std.specs.Prelude.{◌&&◌, ◌||◌, nat_eq, nat_lt, nat_le, slice_index, IfErr}
 use Rattle.std.specs.Char.{is_ascii_digit}
 use Rattle.std.specs.Str.Parse.{digits_value}
+use Rattle.std.proofs.lemmas.Bool.{cases_lt}
 use Rattle.std.proofs.lemmas.Bool.Decides.{nat_tests}
-use Rattle.std.proofs.lemmas.List.{drop-drop, length-drop}
+use Rattle.std.proofs.lemmas.List.{drop-drop, length-drop, take_all, length-take}
 use Rattle.expr_lang.specs.declared.tree.Place.{Place}
 use Rattle.expr_lang.specs.declared.words.Symbol.{Symbol}
 use Rattle.expr_lang.specs.declared.token.Allowed.{Allowed}
@@ -15,10 +16,15 @@ use Rattle.expr_lang.specs.declared.reading.Expect.TheVariants as expect
 use Rattle.expr_lang.specs.declared.reading.Found.{Found}
 use Rattle.expr_lang.specs.declared.reading.Reader.{Reader}
 use Rattle.expr_lang.specs.declared.reading.Nodes.{Nodes}
-use Rattle.expr_lang.specs.Faults.{FaultsAtOnce}
+use Rattle.expr_lang.specs.declared.fault.ExprFault.{ExprFault}
+use Rattle.expr_lang.specs.declared.fault.ExprFault.TheVariants as fault
+use Rattle.expr_lang.specs.declared.tree.Sort.{Sort}
+use Rattle.expr_lang.specs.Faults.{FaultsAtOnce, IfSyntax}
+use Rattle.expr_lang.specs.Parse.{cut_short, nodes_of_text, brackets_judged, judged_text, accepted, Accepts}
+use Rattle.expr_lang.specs.Survey.{survey_of, misfit_of}
 use Rattle.expr_lang.specs.Words.{text_of}
 use Rattle.expr_lang.specs.Token.{is_allowed_of, fits_of, front_of, better_of, longest_from, no_front, longest_of, digit_count, digits_of_front, number_of, exponent_of}
-use Rattle.expr_lang.specs.Reading.{is_blank_of, blank_count, takes_number, words_for, allowed_for, number_found, exponent_found, word_found, token_from, with_token, ended, go_on, read_rest, read_text, new_reader}
+use Rattle.expr_lang.specs.Reading.{is_blank_of, blank_count, takes_number, words_for, allowed_for, number_found, exponent_found, word_found, token_from, with_token, ended, go_on, read_rest, most_words, read_text, new_reader}
 
 -- both texts have n bytes, and these are the same
 abbrev pub Agrees : ℕ → List ℕ → List ℕ → Type 0
@@ -307,7 +313,7 @@ blank_same (x ∷ xs) (y ∷ ys) n le h =
 abbrev step_in : Place → ℕ → Reader → ℕ → List ℕ → ℕ → Result Nodes ℕ
 step_in place n reader at bytes b =
     cond (nat_eq (length (drop b bytes)) 0) (ended reader (at + b))
-      (go_on (read_rest place n) reader (at + b) (drop b bytes) (token_from reader.expect reader.frames reader.quoted place (drop b bytes)))
+    (go_on (read_rest place n) reader (at + b) (drop b bytes) (token_from reader.expect reader.frames reader.quoted place (drop b bytes)))
 
 read_is : (place : Place) (n : ℕ) (reader : Reader) (at : ℕ) (bytes : List ℕ) → read_rest place (suc n) reader at bytes ≡ step_in place n reader at bytes (blank_count bytes)
 unfolding read_rest
@@ -370,9 +376,96 @@ same_fault place (suc n) reader at xs ys p e le lt h =
           ∙ go_same place n reader (at + b) (drop b xs) (drop b ys) p token (λ reader' at' xs' ys'. same_fault place n reader' at' xs' ys' p) f far (omega (arith, length-drop b xs, far)) behind
     ]) refl (sym (read_is place n reader at xs) ∙ e)
 
-pub faults_at_once : FaultsAtOnce
+-- a text that agrees up to the fault is at fault there
+read_fault : (place : Place) (xs ys : List ℕ) (at : ℕ) → at < length xs → read_text place xs ≡ Err at → Agrees (at + 1) xs ys → read_text place ys ≡ Err at
 unfolding read_text
-faults_at_once place text more at within e =
+read_fault place xs ys at within e h =
     let one : at + 1 ≡ suc (at - 0) = omega arith in
-    same_fault place 4097 new_reader 0 text (take (at + 1) text ++ more) at e (omega arith) (omega arith)
-      (subst (λ (k : ℕ). Agrees k text (take (at + 1) text ++ more)) one (agrees_taken (at + 1) text more (omega arith)))
+    same_fault place most_words new_reader 0 xs ys at e (omega arith) (omega arith) (subst (λ (k : ℕ). Agrees k xs ys) one h)
+
+-- a fault is within the text or at its end
+agrees_cut : (n k : ℕ) (xs ys : List ℕ) → n ≤ k → Agrees n xs ys → Agrees n (take k xs) (take k ys)
+agrees_cut zero k xs ys le h = tt
+agrees_cut (suc n) zero xs ys le h = absurd (omega arith)
+agrees_cut (suc n) (suc k) [] ys le h = absurd h
+agrees_cut (suc n) (suc k) (x ∷ xs) [] le h = absurd h
+agrees_cut (suc n) (suc k) (x ∷ xs) (y ∷ ys) le h = (h.0, agrees_cut n k xs ys (omega arith) h.1)
+
+agrees_long : (n : ℕ) (xs ys : List ℕ) → Agrees n xs ys → n ≤ length ys
+agrees_long zero xs ys h = omega arith
+agrees_long (suc n) [] ys h = absurd h
+agrees_long (suc n) (x ∷ xs) [] h = absurd h
+agrees_long (suc n) (x ∷ xs) (y ∷ ys) h = omega (arith, agrees_long n xs ys h.1)
+
+short_is : (place : Place) (text : List ℕ) → length text ≤ 4096 → nodes_of_text place text ≡ read_text place text
+unfolding nodes_of_text
+short_is place text le = let e : nat_le (length text) 4096 ≡ true = grind (arith, nat_tests) in rw e refl
+
+long_is : (place : Place) (text : List ℕ) → 4096 < length text → nodes_of_text place text ≡ cut_short (read_text place (take 4096 text))
+unfolding nodes_of_text
+long_is place text lt = let e : nat_le (length text) 4096 ≡ false = grind (arith, nat_tests) in rw e refl
+
+-- how far a text that is cut was read
+cut_cases : (r : Result Nodes ℕ) (at : ℕ) → cut_short r ≡ Err at → (r ≡ Err at) ⊎ (at ≡ 4096)
+cut_cases (Ok nodes) at e = inr (sym (err_is 4096 at e))
+cut_cases (Err k) at e = inl e
+
+-- a fault of a text that is cut or not, below its first 4,096 bytes
+front_fault : (place : Place) (ys : List ℕ) (at : ℕ) → read_text place (take 4096 ys) ≡ Err at → nodes_of_text place ys ≡ Err at
+front_fault place ys at e =
+    elim (cases_lt 4096 (length ys)) [
+      | inl long ↦ long_is place ys long ∙ ap cut_short e
+      | inr short ↦ short_is place ys short ∙ ap (read_text place) (sym (take_all 4096 ys short)) ∙ e
+    ]
+
+nodes_fault : (place : Place) (xs ys : List ℕ) (at : ℕ) → at < length xs → nodes_of_text place xs ≡ Err at → Agrees (at + 1) xs ys → nodes_of_text place ys ≡ Err at
+nodes_fault place xs ys at within e h =
+    elim (cases_lt 4096 (length xs)) [
+      | inl long ↦ elim (cases_lt at 4096) [ inl below ↦ in_front long below | inr past ↦ at_limit long past ]
+      | inr short ↦
+          front_fault place ys at (read_fault place xs (take 4096 ys) at within (sym (short_is place xs short) ∙ e) (subst (λ (l : List ℕ). Agrees (at + 1) l (take 4096 ys)) (take_all 4096 xs short) (agrees_cut (at + 1) 4096 xs ys (omega arith) h)))
+    ]
+  where
+    -- both texts are longer than 4,096 bytes, and their fronts are one
+    at_limit : 4096 < length xs → 4096 ≤ at → nodes_of_text place ys ≡ Err at
+    at_limit long past =
+        let more : 4096 < length ys = omega (arith, agrees_long (at + 1) xs ys h) in
+        long_is place ys more
+        ∙ ap (λ (l : List ℕ). cut_short (read_text place l)) (sym (agrees_take (at + 1) 4096 xs ys (omega arith) h))
+        ∙ sym (long_is place xs long) ∙ e
+
+    in_front : 4096 < length xs → at < 4096 → nodes_of_text place ys ≡ Err at
+    in_front long below =
+        elim (cut_cases (read_text place (take 4096 xs)) at (sym (long_is place xs long) ∙ e)) [
+          | inl cut ↦ front_fault place ys at (read_fault place (take 4096 xs) (take 4096 ys) at (omega (arith, length-take 4096 xs)) cut (agrees_cut (at + 1) 4096 xs ys (omega arith) h))
+          | inr last ↦ absurd (omega arith)
+        ]
+
+-- what is too deep or has other sorts is no fault of syntax
+no_syntax : (b : Bool) (crowded misfit : Option ℕ) (nodes : Nodes) (at : ℕ) → cond b (Err (fault.TooDeep 0)) (brackets_judged crowded misfit nodes) ≡ Err (fault.Syntax at) → ⊥
+no_syntax true crowded misfit nodes at e = cc
+no_syntax false (Some k) misfit nodes at e = cc
+no_syntax false None (Some k) nodes at e = cc
+no_syntax false None None nodes at e = cc
+
+syntax_is : (m n : ℕ) → ◌≡◌ {A = Result Nodes ExprFault} (Err (fault.Syntax m)) (Err (fault.Syntax n)) → m ≡ n
+syntax_is m n e = cc
+
+syntax_fault : (text : List ℕ) (days : List (List ℕ)) (wanted : Option Sort) (r : Result Nodes ℕ) (at : ℕ) → judged_text text days wanted r ≡ Err (fault.Syntax at) → r ≡ Err at
+syntax_fault text days wanted (Ok nodes) at e =
+    absurd (no_syntax (nat_lt 512 (survey_of text days nodes.nodes).depth) nodes.crowded (misfit_of (survey_of text days nodes.nodes) wanted) nodes at e)
+syntax_fault text days wanted (Err k) at e = ap (λ (n : ℕ). Err n) (syntax_is k at e)
+
+first_faults : (place : Place) (days : List (List ℕ)) (wanted : Option Sort) (text : List ℕ) (at : ℕ) → accepted place days wanted text ≡ Err (fault.Syntax at) → FaultsAtOnce place days wanted text at
+unfolding accepted
+first_faults place days wanted text at e within more =
+    ap (judged_text (take (at + 1) text ++ more) days wanted)
+    (nodes_fault place text (take (at + 1) text ++ more) at within (syntax_fault text days wanted (nodes_of_text place text) at e) (agrees_taken (at + 1) text more (omega arith)))
+
+-- so of each answer
+pub first_fault : {X : Type 0} (Is : X → Nodes → Type 0) (place : Place) (days : List (List ℕ)) (wanted : Option Sort) (text : List ℕ) (r : Result X ExprFault) → Accepts Is r (accepted place days wanted text) → IfErr r (λ f. IfSyntax f (FaultsAtOnce place days wanted text))
+first_fault Is place days wanted text (Ok x) h = tt
+first_fault Is place days wanted text (Err fault.Memory) h = tt
+first_fault Is place days wanted text (Err (fault.Syntax at)) h = first_faults place days wanted text at h
+first_fault Is place days wanted text (Err (fault.TooDeep at)) h = tt
+first_fault Is place days wanted text (Err (fault.Sort at)) h = tt
