@@ -3,3 +3,4 @@ pub mod Stacks
 pub mod Readings
 pub mod Decimals
 pub mod Listing
+pub mod Local

@@ -11,3 +11,4 @@ pub mod Items
 pub mod Print
 pub mod Parse
 pub mod Expr
+pub mod Faults

@@ -368,8 +368,12 @@ abbrev pub new_reader : Reader
 new_reader = record { expect = expect.Start; frames = []; nodes = []; opened = 0; crowded = None; quoted = false }
 
 -- the nodes of a text, or the first byte at which it can't go on
+-- a text of 4,096 bytes has no more words
+unfoldable pub most_words : ℕ
+most_words = 4097
+
 unfoldable pub read_text : Place → List ℕ → Result Nodes ℕ
-read_text place bytes = read_rest place (length bytes + 1) new_reader 0 bytes
+read_text place bytes = read_rest place most_words new_reader 0 bytes
 
 -- what a function returned is what reading gives, unless memory ran out
 abbrev pub Gives : Result Nodes ReadFault → Result Nodes ℕ → Type 0

@@ -1,7 +1,8 @@
 //! Reading expressions.
 
-ghost use Rattle.std.specs.Prelude.{◌≡◌, Some, None};
+ghost use Rattle.std.specs.Prelude.{◌≡◌, Some, None, IfErr};
 ghost use Rattle.expr_lang.specs.Expr.{IsOf};
+ghost use Rattle.expr_lang.specs.Faults.{FaultsAtOnce, IfSyntax};
 ghost use Rattle.expr_lang.specs.Parse.{nodes_of_text, judged, accepted, Accepts};
 ghost use Rattle.expr_lang.specs.Reading.{Gives};
 ghost use Rattle.expr_lang.specs.Survey.{survey_of};
@@ -87,7 +88,9 @@ fn whole(
 /// The expression that a text is, of any sort. `days` has the elements and attributes whose values
 /// are days.
 pub fn parse(alloc: Global, text: &[u8], place: Place, days: &[Uid]) -> Result<Expr, ExprFault>
-    ensures { Accepts (λ expr nodes. IsOf text.now days.now expr nodes) result (accepted place days.now None text.now) }
+    ensures accepted { Accepts (λ expr nodes. IsOf text.now days.now expr nodes) result (accepted place days.now None text.now) }
+    // A fault of syntax stands at the first byte with which no text goes on that is read.
+    ensures first { IfErr result (λ fault. IfSyntax fault (FaultsAtOnce place days.now None text.now)) }
 {
     whole(alloc, text, place, days, None)
 }
@@ -100,7 +103,8 @@ pub fn parse_sorted(
     days: &[Uid],
     wanted: Sort,
 ) -> Result<Expr, ExprFault>
-    ensures { Accepts (λ expr nodes. IsOf text.now days.now expr nodes) result (accepted place days.now (Some wanted) text.now) }
+    ensures accepted { Accepts (λ expr nodes. IsOf text.now days.now expr nodes) result (accepted place days.now (Some wanted) text.now) }
+    ensures first { IfErr result (λ fault. IfSyntax fault (FaultsAtOnce place days.now (Some wanted) text.now)) }
 {
     whole(alloc, text, place, days, Some(wanted))
 }

@@ -3,6 +3,7 @@
 ghost use Rattle.std.specs.Prelude.{◌≡◌, ◌≤◌, ◌<◌, ◌^◌, length, drop, List, OnOk, MatchResult};
 ghost use Rattle.expr_lang.specs.Reading.{level_of, node_level, enclosing_of, compares, least_arguments, most_arguments, allow, all_allowed, allowed_in, allowed_after, words_for, allowed_for, takes_number, token_from, binding_of, frames_reduced, nodes_reduced, after_leaf_of, is_count_of, with_leaf, with_sign, with_operator, first_argument, after_open_of, with_open, with_call, is_list_of, counted_of, joined, node_of_call, later_argument, with_comma, with_close, with_quote, with_word, with_exponent, with_token, is_blank_of, blank_count, may_end_in, new_reader, ended, Gives, read_text};
 ghost use Rattle.expr_lang.specs.Reading.{number_found as specs_number_found, exponent_found as specs_exponent_found, word_found as specs_word_found};
+ghost use Rattle.expr_lang.specs.Reading.{most_words as words_limit};
 ghost use Rattle.expr_lang.specs.Stack.{top_of};
 ghost use Rattle.expr_lang.specs.Token.{number_of, exponent_of};
 
@@ -660,6 +661,15 @@ pub fn rest(text: &[u8], at: usize) -> &[u8]
     }
 }
 
+/// How many words a text of 4,096 bytes has at most, and one more.
+#[tactic(auto, unfolding(crate::specs::Reading::most_words))]
+fn most_words() -> usize
+    ensures value { result ≡ words_limit }
+    ensures small { result < 2 ^ 63 }
+{
+    4097
+}
+
 /// Reads a whole text.
 #[tactic(auto, unfolding(crate::specs::Reading::read_text, crate::specs::Reading::read_rest))]
 pub fn read(alloc: Global, text: &[u8], place: Place) -> Result<Nodes, ReadFault>
@@ -667,7 +677,7 @@ pub fn read(alloc: Global, text: &[u8], place: Place) -> Result<Nodes, ReadFault
 {
     let mut reader = Reader::new(alloc);
     let mut at = 0;
-    let mut most = text.len() + 1;
+    let mut most = most_words();
     while most > 0 {
         most -= 1;
         at += blanks(rest(text, at));
