@@ -22,6 +22,10 @@ fn number(number: i32) -> Value {
     Value::Number(Frac::of(number as i128, 1))
 }
 
+fn two() -> Option<Frac> {
+    Some(Frac::of(2, 1))
+}
+
 #[test]
 fn operators(rt: HostRuntime) -> Result<(), Fail> {
     let rows = [
@@ -47,7 +51,6 @@ fn operators(rt: HostRuntime) -> Result<(), Fail> {
 
 #[test]
 fn missing_values(rt: HostRuntime) -> Result<(), Fail> {
-    let two = Some(Frac::of(2, 1));
     let sum = "#{DeFormsRecv}+#{DeFormsSent}";
     let first = "firstNonNull(#{DeFormsRecv},5)";
     let between = "d2:daysBetween(V{enrollment_date},V{event_date})";
@@ -55,21 +58,21 @@ fn missing_values(rt: HostRuntime) -> Result<(), Fail> {
         (
             sum,
             Place::Aggregate,
-            [two, None],
+            [two(), None],
             Strategy::SkipIfAny,
             Value::Missing,
         ),
         (
             sum,
             Place::Aggregate,
-            [two, None],
+            [two(), None],
             Strategy::SkipIfAll,
             number(2),
         ),
         (
             sum,
             Place::Aggregate,
-            [two, None],
+            [two(), None],
             Strategy::Never,
             number(2),
         ),
@@ -90,7 +93,7 @@ fn missing_values(rt: HostRuntime) -> Result<(), Fail> {
         (
             sum,
             Place::Aggregate,
-            [two, two],
+            [two(), two()],
             Strategy::SkipIfAny,
             number(4),
         ),
@@ -104,7 +107,7 @@ fn missing_values(rt: HostRuntime) -> Result<(), Fail> {
         (
             first,
             Place::Aggregate,
-            [two, None],
+            [two(), None],
             Strategy::SkipIfAny,
             number(2),
         ),
@@ -118,14 +121,14 @@ fn missing_values(rt: HostRuntime) -> Result<(), Fail> {
         (
             between,
             Place::Program,
-            [two, Some(Frac::of(9, 1))],
+            [two(), Some(Frac::of(9, 1))],
             Strategy::Never,
             number(7),
         ),
         (
             between,
             Place::Program,
-            [two, None],
+            [two(), None],
             Strategy::Never,
             Value::Missing,
         ),
