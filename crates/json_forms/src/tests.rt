@@ -6,6 +6,13 @@ use dh_base::uid::Uid;
 use serde_json::Value;
 use std::test::Fail;
 
+fn is_fault_at(read: &Result<Items<Reference>, FormFault>, path: &[u8]) -> bool {
+    match read {
+        Err(FormFault::At(found)) => found.as_slice() == path,
+        _ => false,
+    }
+}
+
 #[test]
 fn a_fault_has_the_path_to_its_place(rt: HostRuntime) -> Result<(), Fail> {
     let alloc = rt.alloc();
@@ -18,15 +25,9 @@ fn a_fault_has_the_path_to_its_place(rt: HostRuntime) -> Result<(), Fail> {
     assert!(rt; open);
     let absent: Option<Uid> = optional(alloc, &value, "uid")?;
     assert!(rt; absent.is_none());
-    let fault: Result<Items<Reference>, FormFault> = listed(alloc, &value, "units");
-    match fault {
-        Err(FormFault::At(path)) => assert_eq!(rt; path.as_slice(), b"units.2.id".as_slice()),
-        _ => assert!(rt; false),
-    }
-    let fault: Result<Items<Reference>, FormFault> = read_list(alloc, &value);
-    match fault {
-        Err(FormFault::At(path)) => assert!(rt; path.is_empty()),
-        _ => assert!(rt; false),
-    }
+    let units: Result<Items<Reference>, FormFault> = listed(alloc, &value, "units");
+    assert!(rt; is_fault_at(&units, b"units.2.id"));
+    let whole: Result<Items<Reference>, FormFault> = read_list(alloc, &value);
+    assert!(rt; is_fault_at(&whole, b""));
     Ok(())
 }
