@@ -1,0 +1,5 @@
+pub mod Fields
+pub mod Bytes
+pub mod Forms
+pub mod Reading
+pub mod Decoded
