@@ -3,8 +3,8 @@ use Rattle.std.specs.Prelude.{◌≡◌, ℕ, ◌+◌, ◌<◌, Bool, ◌||◌, 
 use Rattle.std.specs.Int.{w32, from_be_bytes}
 use Rattle.dh_base.specs.declared.memory.Memory.{Memory}
 use Rattle.dh_changes.specs.declared.change.Change.{Change}
-use Rattle.change_bytes.specs.declared.decode.Decoded.{Decoded}
-use Rattle.change_bytes.specs.declared.decode.Decoded.TheVariants.{Whole, Short, Bad}
+use Rattle.change_bytes.specs.declared.decoded.Decoded.{Decoded}
+use Rattle.change_bytes.specs.declared.decoded.Decoded.TheVariants.{Whole, Short, Bad}
 use Rattle.byte_codec.specs.Reading.{text_at}
 use Rattle.change_bytes.specs.Bytes.{change_bytes}
 use Rattle.change_bytes.specs.Forms.{IsChange}

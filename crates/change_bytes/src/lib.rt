@@ -1,14 +1,16 @@
 //! The bytes of a change of the log: how many they are, writing them and reading them back.
 #![tactic(auto)]
 
-pub mod decode;
 mod decode_body;
 mod decode_fields;
-pub mod encode;
+mod decoded;
+mod decoding;
 mod encode_fields;
+mod encoding;
 mod lengths;
 mod periods;
 
-pub use decode::{Decoded, decode};
-pub use encode::encode;
+pub use decoded::Decoded;
+pub use decoding::decode;
+pub use encoding::encode;
 pub use lengths::encoded_len;

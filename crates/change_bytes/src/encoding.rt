@@ -1,6 +1,7 @@
 ghost use Rattle.std.specs.Prelude.{◌≡◌, ◌++◌, ◌<◌, ◌^◌, ⊤, length, IfSome, IfOk, OnOk};
 ghost use Rattle.std.specs.List.{All, flat_map};
 ghost use Rattle.std.specs.Int.{w8, w16, w32, w64};
+ghost use Rattle.std.specs.Int.RustNames.{FitsSigned};
 ghost use Rattle.dh_changes.specs.declared.change.Write.TheVariants.{ValueSet, Complete};
 ghost use Rattle.byte_codec.specs.Writing.{number, text, listed, IsId};
 ghost use Rattle.change_bytes.specs.Fields.{value_key_bytes, approval_key_bytes, reg_key_bytes, event_bytes, enrollment_bytes, entity_bytes};
@@ -163,7 +164,8 @@ fn put_writes(alloc: Global, out: &mut Vec<u8>, writes: &[Write]) -> Result<(), 
 
 fn put_head(out: &mut Vec<u8>, change: &Change, number: u64) -> Result<(), Memory>
     ensures bytes { OnOk result (out.new.items ≡ out.old.items ++ head_bytes number change.now) }
-    ensures valid { OnOk result (IfSome change.now.user IsId) }
+    ensures user { OnOk result (IfSome change.now.user IsId) }
+    ensures moment { OnOk result (FitsSigned w64 change.now.moment) }
 {
     put_u64(out, number)?;
     put_optional_id(out, change.user)?;
@@ -176,6 +178,7 @@ fn put_body(alloc: Global, out: &mut Vec<u8>, change: &Change, number: u64) -> R
     requires each { All WriteFits change.now.writes }
     ensures bytes { OnOk result (out.new.items ≡ out.old.items ++ body_bytes number change.now) }
     ensures user { OnOk result (IfSome change.now.user IsId) }
+    ensures moment { OnOk result (FitsSigned w64 change.now.moment) }
     ensures writes { OnOk result (All IsWrite change.now.writes) }
 {
     put_head(out, change, number)?;

@@ -1,9 +1,4 @@
-use crate::decode_body::read_change;
-use byte_codec::fault::ReadFault;
-use byte_codec::read::read_long_text;
-use dh_base::memory::Memory;
 use dh_changes::change::Change;
-use std::alloc::Global;
 
 /// What the bytes of a log begin with.
 #[derive(Drop)]

@@ -1,0 +1,4 @@
+pub mod TextLengths
+pub mod Sizes
+pub mod Codecs
+pub mod Frames
