@@ -4,4 +4,6 @@
 
 pub mod fault;
 pub mod read;
+#[cfg(test)]
+mod tests;
 pub mod write;

@@ -1,6 +1,6 @@
 -- Each field that is read was written so, and what was written is read again.
-use Rattle.std.proofs.Common.{◌≡◌, ◌∙◌, ℕ, ◌+◌, ◌^◌, ◌<◌, ◌≤◌, Bool, true, false, cond, List, [], ◌∷◌, ◌++◌, length, Option, Some, None, refl, sym, ap, subst, arith, ℤ, pos, ◌≤ℤ◌, w8, w16, w32, w64, FitsSigned, append_assoc}
-use Rattle.std.specs.Prelude.{nat_lt, nat_eq, ◌==◌, bytes_eq, int_le, neg_ℤ, ◌&&◌, option_and_then, option_map, IfSome}
+use Rattle.std.proofs.Common.{◌≡◌, ◌∙◌, ℕ, ◌^◌, ◌<◌, Bool, true, false, cond, List, ◌++◌, length, Option, Some, None, refl, sym, ap, subst, arith, ℤ, pos, w8, w16, w32, w64, FitsSigned, append_assoc}
+use Rattle.std.specs.Prelude.{nat_lt, ◌==◌, bytes_eq, int_le, neg_ℤ, option_and_then, option_map, IfSome}
 use Rattle.std.specs.Ordering.{int_eq}
 use Rattle.std.specs.List.{flat_map, All}
 use Rattle.std.proofs.lemmas.Bool.{and_parts, eqb-true, eq-eqb, ltb-true, lt-ltb}
@@ -13,18 +13,17 @@ use borrow.Author.Differences.{le-true}
 use Rattle.dh_periods.specs.declared.kind.PeriodType.{PeriodType}
 use Rattle.dh_periods.specs.declared.kind.PeriodType.TheVariants.{Daily, Weekly, Monthly, BiMonthly, Quarterly, SixMonthly, SixMonthlyApril, Yearly, FinancialApril, FinancialJuly, FinancialOct}
 use Rattle.dh_periods.specs.declared.name.PeriodName.{PeriodName}
-use Rattle.dh_periods.specs.Days.{is_listed}
 use Rattle.dh_periods.specs.Texts.{period_text, period_of}
 use Rattle.dh_periods.proofs.TextLemmas.{period_of-is, period_of-printed}
 use Rattle.dh_changes.specs.declared.change.Write.{Write}
 use Rattle.dh_changes.specs.declared.change.Write.TheVariants.{ValueSet, ValueCleared, EventWritten, EventDeleted, EnrollmentWritten, EnrollmentDeleted, EntityWritten, EntityDeleted, Approve, Unapprove, Accept, Unaccept, Complete, Uncomplete}
 use Rattle.dh_changes.specs.declared.change.Change.{Change}
-use Rattle.byte_codec.specs.Reading.{Reads, ◌⊗◌, mapped, refined, number_at, signed_at, text_at, times_at}
-use Rattle.byte_codec.specs.Writing.{number, signed, text, listed, optional_id, id_text, IsId, IsIdText}
+use Rattle.byte_codec.specs.Reading.{Reads, ◌⊗◌, mapped, number_at, text_at, times_at}
+use Rattle.byte_codec.specs.Writing.{number, signed, text, listed, optional_id, IsId}
 use Rattle.byte_codec.proofs.Codecs.{IsBytes, Takes, Takes-then, IsCodec, and_then-some, map-some, both_codec, refined_codec, mapped_codec, wide8, wide16, wide32, wide64, number_codec, signed_codec, text_codec, times_takes, times_again, listed_codec, id_codec, optional_id_codec, id_text_codec}
 use Rattle.change_bytes.specs.Fields.{period_bytes, is_day, no_day, day_number, day_bytes, value_key_bytes, approval_key_bytes, reg_key_bytes, state_bytes, event_bytes, enrollment_bytes, entity_bytes}
-use Rattle.change_bytes.specs.Bytes.{write_bytes, head_bytes, body_bytes}
-use Rattle.change_bytes.specs.Forms.{IsDay, IsPeriod, IsValueKey, IsApprovalKey, IsRegKey, IsState, ArePairs, IsEvent, IsEnrollment, IsEntity, IsWrite, TextFits, event_statuses, enrollment_statuses}
+use Rattle.change_bytes.specs.Bytes.{write_bytes, body_bytes}
+use Rattle.change_bytes.specs.Forms.{IsDay, IsPeriod, IsValueKey, IsApprovalKey, IsRegKey, IsState, IsEvent, IsEnrollment, IsEntity, IsWrite, TextFits, event_statuses, enrollment_statuses}
 use Rattle.change_bytes.specs.Reading.{canonical_of, period_at, day_of, day_at, given_day_at, status_at, two_ids_at, three_ids_at, value_key_at, approval_key_at, reg_key_at, days_at, state_at, event_ids_at, event_at, enrollment_at, entity_at, value_set_at, complete_at, value_write_at, tracker_write_at, deletion_at, is_deletion, approval_at, registration_at, fields_at, write_at, writes_at, same_number_at, head_at, change_at}
 use Rattle.change_bytes.proofs.TextLengths.{length_as, text-length}
 
@@ -60,9 +59,10 @@ canonical-written : (p : PeriodName) → IsPeriod p → (canonical_of (period_te
 unfolding canonical_of
 canonical-written p h =
     let same : bytes_eq (period_text p) (period_text p) ≡ true = (bytes_eq-Decides (period_text p) (period_text p)).1 refl in
-    let said : period_of (period_text p) ≡ Some p = period_of-printed p h in
-    (ap (option_and_then (λ q. cond (bytes_eq (period_text p) (period_text q)) (Some q) None)) said ∙ ap (λ b. cond b (Some p) None) same,
-    subst (λ n. n < 2 ^ 8) (text-length p p.kind refl) (length_as-small p.kind p.number))
+    let said : period_of (period_text p) ≡ Some p = period_of-printed p h in (
+      ap (option_and_then (λ q. cond (bytes_eq (period_text p) (period_text q)) (Some q) None)) said ∙ ap (λ b. cond b (Some p) None) same,
+      subst (λ n. n < 2 ^ 8) (text-length p p.kind refl) (length_as-small p.kind p.number),
+    )
 
 pub period_codec : IsCodec period_bytes period_at IsPeriod
 unfolding period_bytes period_at
@@ -324,9 +324,10 @@ writes_codec = record {
       let front = (number_codec w32 (2 ^ 32) wide32).takes bytes n.0 n.1 fits first.1 in
       let counted = none-if (n.0 == 0) (times_at n.0 write_at n.1) (ws, rest) first.2 in
       let back = times_takes write_codec n.0 n.1 ws rest front.0.rest_fits counted.1 in
-      let whole = Takes-then bytes (number w32 n.0) n.1 (flat_map write_bytes ws) rest front.0 back.0 in
-      (subst (λ k. Takes bytes (number w32 k ++ flat_map write_bytes ws) rest) (sym back.1) whole,
-      (subst (λ k. 0 < k) (sym back.1) (not-zero n.0 counted.0), (subst (λ k. k < 2 ^ 32) (sym back.1) front.1, All-from_recursion IsWrite ws back.2)));
+      let whole = Takes-then bytes (number w32 n.0) n.1 (flat_map write_bytes ws) rest front.0 back.0 in (
+        subst (λ k. Takes bytes (number w32 k ++ flat_map write_bytes ws) rest) (sym back.1) whole,
+        (subst (λ k. 0 < k) (sym back.1) (not-zero n.0 counted.0), (subst (λ k. k < 2 ^ 32) (sym back.1) front.1, All-from_recursion IsWrite ws back.2)),
+      );
   again = λ ws rest g.
       ap writes_at (append_assoc (number w32 (length ws)) (flat_map write_bytes ws) rest)
       ∙ ap (option_and_then (λ (n : ℕ × List ℕ). cond (n.0 == 0) None (times_at n.0 write_at n.1))) ((number_codec w32 (2 ^ 32) wide32).again (length ws) (flat_map write_bytes ws ++ rest) g.1.0)

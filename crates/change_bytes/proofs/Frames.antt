@@ -1,20 +1,20 @@
 -- What stands behind the length of a change.
-use Rattle.std.proofs.Common.{◌≡◌, ◌∙◌, ℕ, ◌+◌, ◌-◌, ◌^◌, ◌<◌, ◌≤◌, Bool, true, false, cond, List, [], ◌∷◌, ◌++◌, length, take, drop, Option, Some, None, Result, Ok, Err, refl, sym, ap, subst, arith, w32, inl, inr}
-use Rattle.std.specs.Prelude.{nat_lt, nat_eq, ◌==◌, ◌||◌, option_and_then, option_map, IfOk, IsTrue}
+use Rattle.std.proofs.Common.{◌≡◌, ◌∙◌, ℕ, ◌+◌, ◌-◌, ◌^◌, ◌<◌, ◌≤◌, Bool, true, false, cond, List, [], ◌++◌, length, take, drop, Option, Some, None, Result, Ok, Err, refl, sym, ap, subst, arith, w32, inl, inr}
+use Rattle.std.specs.Prelude.{nat_lt, ◌==◌, ◌||◌, option_and_then, option_map, IfOk}
 use Rattle.std.specs.Int.{from_be_bytes}
-use Rattle.std.proofs.lemmas.Bool.{eqb-true, cases_lt, lt-ltb, le-ltb, ltb-true, ltb-false}
-use Rattle.std.proofs.lemmas.List.{append-nil, get_or-append-add, length-append, length-drop, nil_from_length}
+use Rattle.std.proofs.lemmas.Bool.{eqb-true, cases_lt, lt-ltb, le-ltb, ltb-false}
+use Rattle.std.proofs.lemmas.List.{append-nil, get_or-append-add, length-append, length-drop, length-take-le, take-take, take_at, nil_from_length}
 use Rattle.dh_base.specs.declared.memory.Memory.{Memory}
 use Rattle.dh_changes.specs.declared.change.Change.{Change}
 use Rattle.byte_codec.specs.Reading.{bytes_at, number_at, text_at}
 use Rattle.byte_codec.specs.Writing.{number, text}
-use Rattle.byte_codec.proofs.Codecs.{IsBytes, IsBytes-front, Takes, IsCodec, and_then-some, wide32, text_codec}
+use Rattle.byte_codec.proofs.Codecs.{IsBytes, IsBytes-front, and_then-some, wide32, text_codec}
 use Rattle.change_bytes.specs.declared.decoded.Decoded.{Decoded}
 use Rattle.change_bytes.specs.declared.decoded.Decoded.TheVariants.{Whole, Short, Bad}
 use Rattle.change_bytes.specs.Bytes.{body_bytes, change_bytes}
 use Rattle.change_bytes.specs.Forms.{IsChange}
 use Rattle.change_bytes.specs.Reading.{change_at, change_of}
-use Rattle.change_bytes.specs.Decoded.{is_short, Begins, Decodes, read_as, framed_as, decoded_of}
+use Rattle.change_bytes.specs.Decoded.{is_short, Decodes, read_as, framed_as, decoded_of}
 use Rattle.change_bytes.proofs.Codecs.{change_codec, IsRead}
 
 some-if : {A : Type 0} (b : Bool) (x z : A) → cond b (Some x) None ≡ Some z → (b ≡ true) × (x ≡ z)
@@ -134,13 +134,14 @@ whole-decodes n bytes body rest c fits framed found =
     ((rest, is-change n c is.1 small, taken.0.parts ∙ ap (λ t. text w32 t ++ rest) is.0), ap (λ t. 4 + length t) is.0 ∙ change-length n c)
 
 bad-decodes : (n : ℕ) (bytes body rest : List ℕ) → text_at w32 bytes ≡ Some (body, rest) → change_of n body ≡ None → Decodes n bytes (Ok Bad)
-bad-decodes n bytes body rest framed none =
-    (λ short. (let long = framed-some bytes (body, rest) framed in absurd (cc)),
-    λ c begins.
-        let again = framed-again n bytes c begins.0 begins.1 begins.2 in
-        let same : (body, rest) ≡ (body_bytes n c, begins.0) = some-same (body, rest) (body_bytes n c, begins.0) (sym framed ∙ again) in
-        let read : change_of n body ≡ Some c = ap (λ (x : List ℕ × List ℕ). change_of n x.0) same ∙ of-written n c (is-read n c begins.1) in
-        absurd (cc))
+bad-decodes n bytes body rest framed none = (
+  λ short. (let long = framed-some bytes (body, rest) framed in absurd (cc)),
+  λ c begins.
+      let again = framed-again n bytes c begins.0 begins.1 begins.2 in
+      let same : (body, rest) ≡ (body_bytes n c, begins.0) = some-same (body, rest) (body_bytes n c, begins.0) (sym framed ∙ again) in
+      let read : change_of n body ≡ Some c = ap (λ (x : List ℕ × List ℕ). change_of n x.0) same ∙ of-written n c (is-read n c begins.1) in
+      absurd (cc),
+)
 
 decoded-is : (n : ℕ) (bytes : List ℕ) → IsBytes bytes → Decodes n bytes (Ok (decoded_of n bytes))
 unfolding decoded_of
@@ -161,3 +162,24 @@ decodes n bytes (Err m) fits e = tt
 pub answers : (n : ℕ) (bytes : List ℕ) (r : Result Decoded Memory) (d : Decoded) → IfOk r (λ x. x ≡ decoded_of n bytes) → decoded_of n bytes ≡ d → IfOk r (λ x. x ≡ d)
 answers n bytes (Ok x) d e same = e ∙ same
 answers n bytes (Err m) d e same = tt
+
+-- ---- a change that is cut off
+
+or-right : (a b : Bool) → b ≡ true → (a || b) ≡ true
+or-right true b e = refl
+or-right false b e = e
+
+pub cut-short : (n : ℕ) (c : Change) (k : ℕ) → IsChange n c → k < length (change_bytes n c) → is_short (take k (change_bytes n c)) ≡ true
+unfolding change_bytes
+cut-short n c k good lt =
+    let body : List ℕ = body_bytes n c in
+    let whole : List ℕ = number w32 (length body) ++ body in
+    let size : length whole ≡ 4 + length body = length-append (number w32 (length body)) body in
+    let long : length (take k whole) ≡ k = length-take-le k whole (omega arith) in
+    elim (cases_lt k 4) [
+      | inl few ↦ ap (λ b. b || nat_lt (length (take k whole)) (4 + said (take k whole))) (lt-ltb (length (take k whole)) 4 (omega arith))
+      | inr four ↦
+          let front : take 4 (take k whole) ≡ number w32 (length body) = take-take 4 k whole four ∙ take_at (number w32 (length body)) body 4 refl in
+          let told : said (take k whole) ≡ length body = ap (from_be_bytes w32) front ∙ wide32.again (length body) good.size in
+          or-right (nat_lt (length (take k whole)) 4) (nat_lt (length (take k whole)) (4 + said (take k whole))) (lt-ltb (length (take k whole)) (4 + said (take k whole)) (omega arith))
+    ]

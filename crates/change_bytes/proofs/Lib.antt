@@ -2,3 +2,4 @@ pub mod TextLengths
 pub mod Sizes
 pub mod Codecs
 pub mod Frames
+pub mod Fits

@@ -1,13 +1,13 @@
 -- How long the text of a period is, and when a text is a period's own.
-use Rattle.std.proofs.Common.{◌≡◌, ◌∙◌, ℕ, ◌+◌, ◌-◌, ◌*◌, ◌/◌, ◌<◌, ◌≤◌, Bool, true, false, cond, List, ◌++◌, length, Option, Some, None, refl, sym, ap, subst, arith, ℤ, pos, ◌+ℤ◌, ◌≤ℤ◌, ◌<ℤ◌, w32, of_z, to_z, to_z-of_z, FitsSigned, inl, inr, length-append}
-use Rattle.std.specs.Prelude.{int_lt, neg_ℤ, nat_lt, nat_eq, bytes_eq, int_le, ◌-ℤ◌, nat_le, option_and_then, codes, if◌then◌else◌}
-use Rattle.std.proofs.lemmas.Bool.{le-leb, and_from, eq-eqb, eqb-true, ltb-true, ltb-false, cases_lt, le-ltb, lt-ltb}
+use Rattle.std.proofs.Common.{◌≡◌, ◌∙◌, ℕ, ◌+◌, ◌-◌, ◌*◌, ◌/◌, ◌<◌, ◌≤◌, true, false, cond, List, ◌++◌, length, Some, None, refl, sym, ap, subst, arith, ℤ, pos, ◌+ℤ◌, ◌≤ℤ◌, ◌<ℤ◌, w32, of_z, to_z, to_z-of_z, FitsSigned, inl, inr}
+use Rattle.std.specs.Prelude.{int_lt, nat_lt, nat_eq, bytes_eq, ◌-ℤ◌, option_and_then, codes, if◌then◌else◌}
+use Rattle.std.proofs.lemmas.Bool.{eq-eqb, eqb-true, cases_lt, le-ltb, lt-ltb}
 use Rattle.std.proofs.lemmas.Slice.Eq.{bytes_eq-Decides}
 use Rattle.jiff_core.proofs.SignedLemmas.{signed_arith}
 use Rattle.dh_periods.specs.declared.kind.PeriodType.{PeriodType}
 use Rattle.dh_periods.specs.declared.kind.PeriodType.TheVariants.{Daily, Weekly, Monthly, BiMonthly, Quarterly, SixMonthly, SixMonthlyApril, Yearly, FinancialApril, FinancialJuly, FinancialOct}
 use Rattle.dh_periods.specs.declared.name.PeriodName.{PeriodName}
-use Rattle.dh_periods.specs.Calendar.{days_before_month, day_place, first_week, weeks_in_year, unix_day}
+use Rattle.dh_periods.specs.Calendar.{days_before_month, first_week, weeks_in_year, unix_day}
 use Rattle.dh_periods.specs.Types.{shape_of}
 use Rattle.dh_periods.specs.Days.{is_in_year_as, is_listed, first_place_as, first_place, end_place, first_day, last_day}
 use Rattle.dh_periods.specs.Places.{containing_of, Has}

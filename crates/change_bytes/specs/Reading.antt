@@ -1,5 +1,5 @@
 -- Reading a change, field for field as it is written.
-use Rattle.std.specs.Prelude.{ℕ, List, length, Bool, nat_lt, ◌==◌, ◌||◌, bytes_eq, if◌then◌else◌, Option, None, Some, option_map, option_and_then, ℤ}
+use Rattle.std.specs.Prelude.{ℕ, List, length, Bool, nat_lt, ◌==◌, ◌||◌, bytes_eq, if◌then◌else◌, Option, None, Some, option_and_then, ℤ}
 use Rattle.std.specs.Ordering.{int_eq}
 use Rattle.std.specs.Int.{w8, w16, w32, w64}
 use Rattle.dh_periods.specs.declared.name.PeriodName.{PeriodName}

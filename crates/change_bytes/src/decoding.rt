@@ -1,4 +1,4 @@
-ghost use Rattle.std.specs.Prelude.{◌≡◌, ℕ, List, ◌++◌, length, IsTrue, IfOk};
+ghost use Rattle.std.specs.Prelude.{◌≡◌, ℕ, List, ◌++◌, ◌<◌, length, take, IsTrue, IfOk};
 ghost use Rattle.dh_changes.specs.declared.change.Change.{Change};
 ghost use Rattle.change_bytes.specs.declared.decoded.Decoded.TheVariants.{Whole, Short};
 ghost use Rattle.change_bytes.specs.Bytes.{change_bytes};
@@ -64,6 +64,10 @@ pub fn decode(alloc: Global, bytes: &[u8], number: u64) -> Result<Decoded, Memor
         → bytes.now ≡ change_bytes number change ++ rest
         → IfOk result (λ found. found ≡ Whole change (length (change_bytes number change))) }
     ensures short { IsTrue (is_short bytes.now) → IfOk result (λ found. found ≡ Short) }
+    ensures cut { (change : Change) (len : ℕ) → IsChange number change
+        → len < length (change_bytes number change)
+        → bytes.now ≡ take len (change_bytes number change)
+        → IfOk result (λ found. found ≡ Short) }
 {
     decode_framed(alloc, bytes, number)
 }

@@ -9,6 +9,8 @@ mod encode_fields;
 mod encoding;
 mod lengths;
 mod periods;
+#[cfg(test)]
+mod tests;
 
 pub use decoded::Decoded;
 pub use decoding::decode;

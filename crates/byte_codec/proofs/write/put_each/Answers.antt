@@ -1,4 +1,4 @@
-use Rattle.std.proofs.Common.{◌≡◌, subst, List, ℕ, length, ◌<◌}
+use Rattle.std.proofs.Common.{subst}
 use Rattle.std.proofs.lemmas.List.Elements.{All-more}
 use Rattle.byte_codec.specs.Writing.{id_text, IsIdText}
 use Rattle.byte_codec.proofs.Growing.{grown}

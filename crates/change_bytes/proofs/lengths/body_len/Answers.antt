@@ -1,4 +1,4 @@
-use Rattle.std.proofs.Common.{◌≡◌, ◌∙◌, ap, ℕ, List, length}
+use Rattle.std.proofs.Common.{◌∙◌, ap, length}
 use Rattle.byte_codec.specs.Writing.{listed, capped}
 use Rattle.std.specs.Int.{w32}
 use Rattle.change_bytes.specs.Bytes.{write_bytes}
