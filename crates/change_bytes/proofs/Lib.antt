@@ -3,3 +3,5 @@ pub mod Sizes
 pub mod Codecs
 pub mod Frames
 pub mod Fits
+pub mod Logs
+pub mod Calendar

@@ -3,3 +3,4 @@ pub mod Bytes
 pub mod Forms
 pub mod Reading
 pub mod Decoded
+pub mod Log

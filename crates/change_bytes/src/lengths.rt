@@ -1,5 +1,5 @@
 //! How many bytes a change takes.
-ghost use Rattle.std.specs.Prelude.{◌≡◌, ◌≤◌, ◌+◌, ◌++◌, ℕ, length};
+ghost use Rattle.std.specs.Prelude.{◌≡◌, ◌≤◌, ◌<◌, ◌+◌, ◌^◌, ◌++◌, ℕ, length};
 ghost use Rattle.std.specs.List.{flat_map};
 ghost use Rattle.std.specs.Int.{w8, w16, w32, w64};
 ghost use Rattle.byte_codec.specs.Writing.{number, text, listed, optional_id, capped};
@@ -152,7 +152,8 @@ pub(crate) fn body_len(change: &Change) -> u64
 /// length that fits no number of eight bytes is told as the largest one.
 #[tactic(auto, unfolding(crate::specs::Bytes::change_bytes))]
 pub fn encoded_len(change: &Change) -> u64
-    ensures { (number : ℕ) → result ≡ capped (length (change_bytes number change.now)) }
+    ensures value { (number : ℕ) → result ≡ capped (length (change_bytes number change.now)) }
+    ensures size { (number : ℕ) → result < 2 ^ 32 + 4 → length (body_bytes number change.now) < 2 ^ 32 }
 {
     body_len(change).saturating_add(4)
 }

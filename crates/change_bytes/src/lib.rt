@@ -7,6 +7,7 @@ mod decoded;
 mod decoding;
 mod encode_fields;
 mod encoding;
+mod laws;
 mod lengths;
 mod periods;
 #[cfg(test)]
@@ -15,4 +16,5 @@ mod tests;
 pub use decoded::Decoded;
 pub use decoding::decode;
 pub use encoding::encode;
+pub use laws::{days_are_of_the_years, log_grows};
 pub use lengths::encoded_len;
