@@ -1,0 +1,4 @@
+pub mod RiseLemmas
+pub mod SumLemmas
+pub mod StoreLemmas
+pub mod OrderLemmas

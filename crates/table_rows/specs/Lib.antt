@@ -1,0 +1,6 @@
+pub mod Rows
+pub mod Order
+pub mod Groups
+pub mod Sums
+pub mod Events
+pub mod Store
