@@ -1,5 +1,5 @@
 -- The groups that have a row.
-use Rattle.std.specs.Prelude.{ℕ, ◌-◌, Bool, true, not, List, [], ◌∷◌, map, length, Option, Some, None, slice_get}
+use Rattle.std.specs.Prelude.{ℕ, ◌-◌, Bool, true, not, List, [], ◌∷◌, map, length, cond, ◌&&◌, ◌++◌, Option, Some, None, slice_get}
 use Rattle.std.specs.List.{filter}
 use Rattle.table_rows.specs.declared.row.Row.{Row}
 use Rattle.table_rows.specs.declared.row.Group.{Group}
@@ -21,3 +21,7 @@ differs_from (Some last) group = not (same_group group last)
 -- the group isn't the last of these
 abbrev pub differs_from_last : List Group → Group → Bool
 differs_from_last groups group = differs_from (slice_get groups (length groups - 1)) group
+
+-- a group more, where it is asked for and isn't the last
+abbrev pub with_group : Bool → List Group → Group → List Group
+with_group asked groups group = cond (asked && differs_from_last groups group) (groups ++ group ∷ []) groups

@@ -4,3 +4,4 @@ pub mod Groups
 pub mod Sums
 pub mod Events
 pub mod Store
+pub mod Cells

@@ -1,7 +1,7 @@
 //! What a store answers, from the lists that it stands for.
-ghost use Rattle.std.specs.Prelude.{◌≡◌, ◌≤◌, ◌<◌, ◌+◌, ◌*◌, ◌^◌, ◌∷◌, [], true, cond, length, unsigned_abs, IfOk};
+ghost use Rattle.std.specs.Prelude.{◌≡◌, ◌≤◌, ◌<◌, ◌+◌, ◌*◌, ◌^◌, ◌∷◌, [], true, cond, length, unsigned_abs, IfOk, OnOk};
 ghost use Rattle.table_rows.specs.Events.{events_of, regs_of};
-ghost use Rattle.table_rows.specs.Groups.{groups_of, differs_from_last};
+ghost use Rattle.table_rows.specs.Groups.{groups_of, differs_from_last, with_group};
 ghost use Rattle.table_rows.specs.Rows.{group_of, wanted_rows};
 ghost use Rattle.table_rows.specs.Sums.{sum_of_rows, sum_of_row, sum_over, joined, IsSized};
 ghost use Rattle.table_rows.specs.Order.{row_cmp};
@@ -16,21 +16,26 @@ use dh_base::plain::Need;
 use std::alloc::Global;
 
 // The groups of an element. Rows in their order have those of one group side by side.
-pub(crate) fn groups(
-    alloc: Global,
-    rows: &[Row],
-    element: u32,
-) -> Result<Items<Group>, Memory>
+#[tactic(auto, unfolding(crate::specs::Groups::groups_of))]
+pub(crate) fn groups(alloc: Global, rows: &[Row], element: u32) -> Result<Items<Group>, Memory>
     requires { rises row_cmp rows.now ≡ true }
     ensures { IfOk result (λ groups. groups ≡ groups_of element rows.now) }
 {
     let mut groups: Vec<Group> = Vec::new(alloc);
     for row in rows {
-        if row.element == element && differs_from_last(&groups, row) {
-            groups.push(row.group())?;
-        }
+        add_group(&mut groups, row, row.element == element)?;
     }
     Ok(Items::from(groups))
+}
+
+// Adds the group of a row that is asked for, where it isn't the last.
+fn add_group(groups: &mut Vec<Group>, row: &Row, asked: bool) -> Result<(), Memory>
+    ensures { OnOk result (groups.new.items ≡ with_group asked groups.old.items (group_of row.now)) }
+{
+    if asked && differs_from_last(groups, row) {
+        groups.push(row.group())?;
+    }
+    Ok(())
 }
 
 // Whether the row is in another group than the last.
