@@ -1,18 +1,17 @@
 -- The rows of a cell, found group by group.
-use Rattle.std.proofs.Common.{◌≡◌, ◌∙◌, ℕ, zero, suc, ◌+◌, ◌<◌, ◌≤◌, Bool, true, false, not, cond, ◌&&◌, ◌||◌, List, [], ◌∷◌, ◌++◌, length, map, get_or, inl, inr, refl, sym, ap, subst, arith}
-use Rattle.std.specs.Prelude.{All, Contains, nat_eq}
-use Rattle.std.specs.List.{filter, list_any, AllByRecursion}
-use Rattle.std.proofs.lemmas.Bool.{cases_Bool, false≢true, and_parts, eqb-true, eq-eqb}
-use Rattle.std.proofs.lemmas.List.Elements.{recursion_from_All}
+use Rattle.std.proofs.Common.{◌≡◌, ◌∙◌, ℕ, zero, suc, ◌+◌, ◌<◌, Bool, true, false, not, cond, ◌&&◌, ◌||◌, List, [], ◌∷◌, length, map, get_or, inl, inr, refl, sym, ap, arith}
+use Rattle.std.specs.Prelude.{All, nat_eq}
+use Rattle.std.specs.List.{filter, list_any}
+use Rattle.std.proofs.lemmas.Bool.{cases_Bool, false≢true}
 use Rattle.table_rows.specs.declared.row.Row.{Row}
 use Rattle.table_rows.specs.declared.row.Group.{Group}
 use Rattle.table_rows.specs.declared.sum.Sum.{Sum}
 use Rattle.table_rows.specs.Rows.{group_of, same_group, is_of_element, is_in_group, is_wanted, wanted_rows}
 use Rattle.table_rows.specs.Groups.{each_once, groups_of}
-use Rattle.table_rows.specs.Sums.{no_sum, joined, sum_over, sum_of_row, sum_of_rows}
-use Rattle.table_rows.specs.Cells.{times, how_many, Part, is_in_part, is_of_cell, cell_rows, part_sum, sum_of_parts}
+use Rattle.table_rows.specs.Sums.{no_sum, sum_over, sum_of_row, sum_of_rows}
+use Rattle.table_rows.specs.Cells.{times, how_many, Part, is_in_part, is_of_cell, cell_rows, sum_of_parts}
 use Rattle.table_rows.proofs.OrderLemmas.{same_group-true, same_group-self}
-use Rattle.table_rows.proofs.SumLemmas.{sum_over-same, sum_over-none, none-joined}
+use Rattle.table_rows.proofs.SumLemmas.{sum_over-same}
 use Rattle.table_rows.proofs.SplitLemmas.{sum_over-parts, sum_over-filter}
 
 -- ---- how often a group stands among those without repeats

@@ -1,19 +1,19 @@
 -- Of rows in their order those of one group stand side by side.
-use Rattle.std.proofs.Common.{◌≡◌, ◌∙◌, ℕ, zero, suc, ◌+◌, ◌-◌, ◌<◌, ◌≤◌, Bool, true, false, not, cond, ◌&&◌, ◌||◌, List, [], ◌∷◌, ◌++◌, length, map, take, get_or, Option, Some, None, inl, inr, refl, sym, ap, subst, arith, length-append}
+use Rattle.std.proofs.Common.{◌≡◌, ◌∙◌, ℕ, ◌+◌, ◌-◌, ◌<◌, Bool, true, false, not, cond, ◌||◌, List, [], ◌∷◌, ◌++◌, length, map, take, get_or, Option, Some, None, inl, inr, refl, sym, ap, subst, arith, length-append}
 use Rattle.std.specs.Prelude.{All, Contains, nat_eq, slice_get}
 use Rattle.std.specs.List.{filter, list_any}
 use Rattle.std.specs.Ordering.{is_gt}
 use Rattle.std.proofs.Math.Seq.{get_or-append_seam}
 use Rattle.std.proofs.lemmas.Bool.{cases_Bool, false≢true}
 use Rattle.std.proofs.lemmas.List.{append-nil, map-append, length-take, get_or-take}
-use Rattle.std.proofs.lemmas.List.Elements.{All-push, All-map, All-filter, All-nil, Contains-push, Contains-append_left, filter-append, filter_more}
+use Rattle.std.proofs.lemmas.List.Elements.{All-push, All-map, All-filter, Contains-push, Contains-append_left, filter-append, filter_more}
 use Rattle.std.proofs.lemmas.List.Folds.{list_any_at, list_any_none}
 use Rattle.std.proofs.lemmas.Option.{slice_get-get_or}
 use Rattle.table_rows.specs.declared.row.Row.{Row}
 use Rattle.table_rows.specs.declared.row.Group.{Group}
 use Rattle.table_rows.specs.Rows.{group_of, same_group, is_of_element}
 use Rattle.table_rows.specs.Order.{group_cmp, row_cmp}
-use Rattle.table_rows.specs.Groups.{each_once, differs_from, differs_from_last, with_group}
+use Rattle.table_rows.specs.Groups.{each_once, differs_from, with_group}
 use Rattle.table_rows.specs.Store.{rises}
 use Rattle.table_rows.proofs.OrderLemmas.{row_total, same_group-true, same_group-self, same_group-tie, group_cmp-self, group_upto}
 use Rattle.table_rows.proofs.RiseLemmas.{sorted_from_rises, sorted-far}
@@ -36,6 +36,7 @@ each_once-push same (y ∷ ys) x =
   where
     kept_all : (y ∷ filter (λ z. not (same y z)) (each_once same ys ++ [])) ≡ (y ∷ filter (λ z. not (same y z)) (each_once same ys)) ++ []
     kept_all = ap (λ zs. y ∷ filter (λ z. not (same y z)) zs) (append-nil (each_once same ys)) ∙ sym (append-nil (y ∷ filter (λ z. not (same y z)) (each_once same ys)))
+
     by_rest : (any here : Bool) → same y x ≡ here
         → (y ∷ filter (λ z. not (same y z)) (each_once same ys ++ cond any [] (x ∷ []))) ≡ (y ∷ filter (λ z. not (same y z)) (each_once same ys)) ++ cond (here || any) [] (x ∷ [])
     by_rest true true is = kept_all
@@ -63,15 +64,15 @@ none_same : (hs : List Group) (top g : Group) → IsTop (Some top) hs → All (�
     → list_any (λ h. same_group h g) hs ≡ false
 none_same hs top g is_top upto differs =
     list_any_none (λ h. same_group h g) hs (λ k d within.
-        elim (cases_Bool (same_group (get_or hs k d) g)) [
-          | inl same ↦
-              let is : get_or hs k d ≡ g = same_group-true (get_or hs k d) g same in
-              let below : is_gt (group_cmp g top) ≡ false = subst (λ (v : Group). is_gt (group_cmp v top) ≡ false) is (is_top.1 k d within) in
-              let there = is_top.0 in
-              let top_upto : is_gt (group_cmp top g) ≡ false = subst (λ (v : Group). is_gt (group_cmp v g) ≡ false) there.2 (upto there.0 top there.1) in
-              absurd (false≢true (sym differs ∙ same_group-tie g top below top_upto))
-          | inr other ↦ other
-        ])
+    elim (cases_Bool (same_group (get_or hs k d) g)) [
+      | inl same ↦
+          let is : get_or hs k d ≡ g = same_group-true (get_or hs k d) g same in
+          let below : is_gt (group_cmp g top) ≡ false = subst (λ (v : Group). is_gt (group_cmp v top) ≡ false) is (is_top.1 k d within) in
+          let there = is_top.0 in
+          let top_upto : is_gt (group_cmp top g) ≡ false = subst (λ (v : Group). is_gt (group_cmp v g) ≡ false) there.2 (upto there.0 top there.1) in
+          absurd (false≢true (sym differs ∙ same_group-tie g top below top_upto))
+      | inr other ↦ other
+    ])
 
 some_same : (hs : List Group) (top g : Group) → Contains hs top → g ≡ top → list_any (λ h. same_group h g) hs ≡ true
 some_same hs top g there is =
@@ -137,10 +138,10 @@ earlier_upto element rows i x up within at =
     All-map (λ h. is_gt (group_cmp h (group_of x)) ≡ false) group_of (filter (is_of_element element) (take i rows))
     (All-filter (is_of_element element) (λ (r : Row). is_gt (group_cmp (group_of r) (group_of x)) ≡ false) (take i rows)
     (λ k d short.
-        let len = length-take i rows in
-        let less : row_cmp (get_or rows k d) (get_or rows i x) ≡ _ = sorted-far row_cmp rows k i d x sorted (omega arith) within in
-        let front : get_or (take i rows) k d ≡ get_or rows k d = get_or-take i rows k d (omega arith) in
-        ap (λ r. is_gt (group_cmp (group_of r) (group_of x))) front ∙ group_upto (get_or rows k d) x (ap (row_cmp (get_or rows k d)) at ∙ less)))
+    let len = length-take i rows in
+    let less : row_cmp (get_or rows k d) (get_or rows i x) ≡ _ = sorted-far row_cmp rows k i d x sorted (omega arith) within in
+    let front : get_or (take i rows) k d ≡ get_or rows k d = get_or-take i rows k d (omega arith) in
+    ap (λ r. is_gt (group_cmp (group_of r) (group_of x))) front ∙ group_upto (get_or rows k d) x (ap (row_cmp (get_or rows k d)) at ∙ less)))
 
 more_groups : (element : ℕ) (rows : List Row) (i : ℕ) (x : Row) → i < length rows → x ≡ get_or rows i x
     → groups_upto element rows (i + 1) ≡ groups_upto element rows i ++ map group_of (cond (is_of_element element x) (x ∷ []) [])

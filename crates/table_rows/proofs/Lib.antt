@@ -5,3 +5,5 @@ pub mod OrderLemmas
 pub mod GroupLemmas
 pub mod SplitLemmas
 pub mod CellLemmas
+pub mod RunLemmas
+pub mod GatherLemmas

@@ -1,5 +1,5 @@
 -- The orders of groups, rows, events and registrations are total, and groups that compare as equal are one.
-use Rattle.std.proofs.Common.{◌≡◌, ◌∙◌, Bool, true, false, ◌&&◌, refl, sym, ap, subst, Ordering, Less, Equal, Greater}
+use Rattle.std.proofs.Common.{◌≡◌, ◌∙◌, true, false, ◌&&◌, refl, sym, ap, Ordering, Less, Equal, Greater}
 use Rattle.std.specs.Prelude.{nat_eq}
 use Rattle.std.specs.Cmp.{IsTotalOrder}
 use Rattle.std.specs.Ordering.{is_gt, is_eq, ordering_then, ordering_reverse}

@@ -1,5 +1,5 @@
 -- A sum over a filtered list is the sum of the sums over the parts into which the filter splits.
-use Rattle.std.proofs.Common.{◌≡◌, ◌∙◌, ℕ, zero, suc, ◌+◌, ◌<◌, ◌≤◌, Bool, true, false, cond, ◌&&◌, List, [], ◌∷◌, length, map, refl, sym, ap, arith, zero-add}
+use Rattle.std.proofs.Common.{◌≡◌, ◌∙◌, ◌+◌, Bool, true, false, cond, List, [], ◌∷◌, refl, sym, ap, arith, zero-add}
 use Rattle.std.specs.Prelude.{All}
 use Rattle.std.specs.List.{filter, AllByRecursion}
 use Rattle.std.proofs.lemmas.List.Elements.{recursion_from_All}

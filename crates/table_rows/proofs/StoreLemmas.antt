@@ -1,6 +1,5 @@
 -- What the lists of a store keep to.
-use Rattle.std.proofs.Common.{◌≡◌, ◌≤◌, ℕ, Bool, true, false, refl, IsTrue, ◌&&◌, ℤ, List, length}
-use Rattle.std.specs.Prelude.{nat_le}
+use Rattle.std.proofs.Common.{◌≡◌, Bool, true, IsTrue, ℤ, List}
 use Rattle.std.specs.List.{list_all}
 use Rattle.std.specs.Ordering.{int_cmp}
 use Rattle.std.proofs.lemmas.Bool.{and_parts}

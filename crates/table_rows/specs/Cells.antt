@@ -1,11 +1,11 @@
 -- A cell of an answer takes rows of one element. They are found group by group, in parts of a need and a range of orders.
-use Rattle.std.specs.Prelude.{ℕ, ◌+◌, Bool, ◌&&◌, List, [], ◌∷◌, cond}
+use Rattle.std.specs.Prelude.{ℕ, ◌+◌, Bool, ◌&&◌, List, [], ◌∷◌, ◌++◌, cond}
 use Rattle.std.specs.List.{filter}
 use Rattle.dh_base.specs.declared.plain.Need.{Need}
 use Rattle.table_rows.specs.declared.row.Row.{Row}
 use Rattle.table_rows.specs.declared.row.Group.{Group}
 use Rattle.table_rows.specs.declared.sum.Sum.{Sum}
-use Rattle.table_rows.specs.Rows.{group_of, is_of_element, meets, in_range, wanted_rows}
+use Rattle.table_rows.specs.Rows.{group_of, is_of_element, is_in_group, meets, in_range, wanted_rows}
 use Rattle.table_rows.specs.Groups.{groups_of}
 use Rattle.table_rows.specs.Sums.{sum_over, sum_of_rows}
 
@@ -43,3 +43,12 @@ times b = cond b 1 0
 abbrev pub how_many : {A : Type 0} → (A → Bool) → List A → ℕ
 how_many t [] = 0
 how_many t (a ∷ rest) = times (t a) + how_many t rest
+
+-- the lists that f gives of the members, one behind the other
+abbrev pub gathered : {A B : Type 0} → (A → List B) → List A → List B
+gathered f [] = []
+gathered f (a ∷ rest) = f a ++ gathered f rest
+
+-- the rows of a group that pass
+abbrev pub group_rows : (Row → Bool) → List Row → Group → List Row
+group_rows of_row rows group = filter (λ row. is_in_group group row && of_row row) rows

@@ -1,5 +1,5 @@
 -- The lists that a store stands for.
-use Rattle.std.specs.Prelude.{ℕ, Bool, true, ◌&&◌, nat_le, ℤ, List, [], ◌∷◌, length}
+use Rattle.std.specs.Prelude.{Bool, true, ◌&&◌, nat_le, ℤ, List, [], ◌∷◌, length}
 use Rattle.std.specs.List.{list_all}
 use Rattle.std.specs.Ordering.{int_cmp, is_lt}
 use Rattle.std.specs.declared.cmp.Ordering.{Ordering}

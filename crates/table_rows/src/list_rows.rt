@@ -37,12 +37,7 @@ impl ListRows {
     ghost use Rattle.table_rows.specs.Store.{Listed};
 
     /// The store of these lists, of which `is_store` says whether they are those of a store.
-    pub fn of(
-        rows: Vec<Row>,
-        events: Vec<EventRow>,
-        regs: Vec<RegRow>,
-        years: Vec<i32>,
-    ) -> ListRows
+    pub fn of(rows: Vec<Row>, events: Vec<EventRow>, regs: Vec<RegRow>, years: Vec<i32>) -> ListRows
         requires { IsTrue (is_store rows.items events.items regs.items years.items) }
         ensures rows { result.rows ≡ rows.items }
         ensures events { result.events ≡ events.items }

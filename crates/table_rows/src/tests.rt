@@ -139,7 +139,11 @@ fn sums_of_ranges(rt: HostRuntime) -> Result<(), Fail> {
         assert!(rt; place < groups.len());
         let group = &groups.as_slice()[place];
         let sum = store.range_sum(*group, need, from, to);
-        assert_eq!(rt; (sum.micros, sum.count, sum.plain), (micros, count, plain), "{line}");
+        assert_eq!(rt;
+            (sum.micros, sum.count, sum.plain),
+            (micros, count, plain),
+            "{line}"
+        );
         let found = store.rows_of(alloc, *group, need, from, to)?;
         assert_eq!(rt; found.len() as u64, count, "{line}");
     }
@@ -155,7 +159,10 @@ fn parts_of_the_lists(rt: HostRuntime) -> Result<(), Fail> {
         printed.extend_from_slice(name(alloc, group)?.as_slice())?;
         printed.push(b' ')?;
     }
-    assert_eq!(rt; printed.as_slice(), b"202401 2024Q1 202403 2024W1 2023 ".as_slice());
+    assert_eq!(rt;
+        printed.as_slice(),
+        b"202401 2024Q1 202403 2024W1 2023 ".as_slice()
+    );
     assert_eq!(rt; store.groups(alloc, 3)?.len(), 0);
     assert_eq!(rt; store.events_of(alloc, 1, 101, 102)?.len(), 2);
     assert_eq!(rt; store.events_of(alloc, 1, 0, 1000)?.len(), 4);

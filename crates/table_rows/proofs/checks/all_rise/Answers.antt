@@ -1,4 +1,4 @@
-use Rattle.std.proofs.Common.{◌≡◌, ◌∙◌, sym, ap}
+use Rattle.std.proofs.Common.{◌∙◌, sym, ap}
 use Rattle.std.specs.Ordering.{is_lt}
 use Rattle.table_rows.proofs.RiseLemmas.{rises-kept, rises-done}
 use Rattle.table_rows.proofs.checks.all_rise.Goals as goal

@@ -1,4 +1,4 @@
-use Rattle.std.proofs.Common.{◌≡◌, ◌∙◌, sym}
+use Rattle.std.proofs.Common.{◌∙◌, sym}
 use Rattle.table_rows.specs.Events.{reg_cmp}
 use Rattle.table_rows.proofs.RiseLemmas.{rises-kept, rises-done}
 use Rattle.table_rows.proofs.checks.regs_rise.Goals as goal
