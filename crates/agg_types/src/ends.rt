@@ -1,5 +1,5 @@
 //! Of each series the sample of the last or the first period.
-ghost use Rattle.std.specs.Prelude.{◌≡◌, ◌≤◌, ◌<◌, ◌+◌, ◌*◌, ◌^◌, pos, IsTrue, OnSome, IfSome, unsigned_abs, length, get_or, is_some};
+ghost use Rattle.std.specs.Prelude.{◌≡◌, ◌≤◌, ◌<◌, ◌+◌, ◌*◌, ◌^◌, pos, ◌+ℤ◌, ◌-ℤ◌, IsTrue, OnSome, IfSome, unsigned_abs, length, get_or, is_some};
 ghost use Rattle.std.specs.Ordering.{is_gt};
 ghost use Rattle.agg_types.specs.Samples.{in_series_order, numbered, number_of, total, outermost, series_of, goes_beyond, same_series};
 ghost use Rattle.agg_types.specs.Ends.{order_of, next_run, found_if_any};
@@ -48,12 +48,26 @@ fn number(sample: &Sample) -> i128
     }
 }
 
+// A sum in which one number stands in the place of another.
+fn moved(sum: i128, old: i128, new: i128) -> i128
+    requires sum { unsigned_abs sum ≤ 2 ^ 90 }
+    requires old { unsigned_abs old ≤ 2 ^ 63 }
+    requires new { unsigned_abs new ≤ 2 ^ 63 }
+    ensures sum { result ≡ (sum -ℤ old) +ℤ new }
+    ensures size { unsigned_abs result ≤ unsigned_abs sum + 2 ^ 64 }
+{
+    sum - old + new
+}
+
 // The next sample, where `best` is the one that counts in the last series so far.
 fn with_sample(run: &Run, best: &Sample, sample: &Sample, at: usize, end: End) -> Run
     requires size { unsigned_abs run.now.micros ≤ 2 ^ 90 }
     requires few { run.now.series < 2 ^ 32 }
+    requires earlier { run.now.best ≤ at }
     ensures run { result ≡ next_run (order_of end) run.now best.now sample.now at }
     ensures size { unsigned_abs result.micros ≤ unsigned_abs run.now.micros + 2 ^ 64 }
+    ensures few { result.series ≤ run.now.series + 1 }
+    ensures best { result.best ≤ at }
 {
     if sample.micros.is_none() {
         return *run;
@@ -67,7 +81,7 @@ fn with_sample(run: &Run, best: &Sample, sample: &Sample, at: usize, end: End) -
     }
     if goes_beyond(end, sample, best) {
         return Run {
-            micros: run.micros - number(best) + number(sample),
+            micros: moved(run.micros, number(best), number(sample)),
             series: run.series,
             best: at,
         };

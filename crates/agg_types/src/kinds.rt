@@ -66,6 +66,28 @@ pub fn value_of_sum(kind: AggType, sum: &Sum) -> Option<Frac>
     }
 }
 
+fn total_value(samples: &[Sample]) -> Option<Frac>
+    requires { length samples.now ≤ 4_194_304 }
+    ensures { result ≡ if_any (numbered samples.now) (of_micros (total number_of (numbered samples.now))) }
+{
+    value_of_sum(AggType::Sum, &sum_of(samples))
+}
+
+fn mean_value(samples: &[Sample]) -> Option<Frac>
+    requires { length samples.now ≤ 4_194_304 }
+    ensures { result ≡ if_any (numbered samples.now)
+        (mean (total number_of (numbered samples.now)) (length (numbered samples.now))) }
+{
+    value_of_sum(AggType::Average, &sum_of(samples))
+}
+
+fn count_value(samples: &[Sample]) -> Option<Frac>
+    requires { length samples.now ≤ 4_194_304 }
+    ensures { result ≡ if_any samples.now (fraction_of (pos (length samples.now)) 1) }
+{
+    value_of_sum(AggType::Count, &sum_of(samples))
+}
+
 fn over_days(samples: &[Sample], days: u32) -> Option<Frac>
     requires few { length samples.now ≤ 4_194_304 }
     requires days { 0 < days }
@@ -140,14 +162,14 @@ pub fn aggregate(kind: AggType, samples: &[Sample], days: u32) -> Option<Frac>
     ensures { result ≡ value_by kind samples.now days }
 {
     match kind {
-        AggType::Sum => value_of_sum(AggType::Sum, &sum_of(samples)),
-        AggType::Average => value_of_sum(AggType::Average, &sum_of(samples)),
+        AggType::Sum => total_value(samples),
+        AggType::Average => mean_value(samples),
         AggType::AverageSumOrgUnit => over_days(samples, days),
         AggType::Last => last_sum(samples),
         AggType::First => first_sum(samples),
         AggType::LastAverageOrgUnit => last_mean(samples),
         AggType::FirstAverageOrgUnit => first_mean(samples),
-        AggType::Count => value_of_sum(AggType::Count, &sum_of(samples)),
+        AggType::Count => count_value(samples),
         AggType::Min => least_value(samples),
         AggType::Max => greatest_value(samples),
         AggType::None => None,
