@@ -70,7 +70,7 @@ reverse_eq Less = refl
 reverse_eq Equal = refl
 reverse_eq Greater = refl
 
-same_turned : (a b : Series) → same_series a b ≡ same_series b a
+pub same_turned : (a b : Series) → same_series a b ≡ same_series b a
 same_turned a b = series_ties a b ∙ ap is_eq (series_total.antisymm a b) ∙ reverse_eq (series_cmp b a) ∙ sym (series_ties b a)
 
 -- s upto b, b before x: s isn't x
@@ -147,7 +147,7 @@ filter_both p q (x ∷ xs) = by_test (p x) (filter_both p q xs)
     by_test true is = ap (λ v. cond (q x) (x ∷ v) v) is
     by_test false is = is
 
-filter_same : {X : Type 0} (p q : X → Bool) (xs : List X) → ((x : X) → p x ≡ q x) → filter p xs ≡ filter q xs
+pub filter_same : {X : Type 0} (p q : X → Bool) (xs : List X) → ((x : X) → p x ≡ q x) → filter p xs ≡ filter q xs
 filter_same p q [] same = refl
 filter_same p q (x ∷ xs) same = ap (λ b. cond b (x ∷ filter p xs) (filter p xs)) (same x) ∙ ap (λ ys. cond (q x) (x ∷ ys) ys) (filter_same p q xs same)
 

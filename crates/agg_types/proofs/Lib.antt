@@ -1,3 +1,5 @@
 pub mod TotalLemmas
 pub mod EndLemmas
 pub mod SumValueLemmas
+pub mod ShuffleLemmas
+pub mod OrderFreeLemmas
