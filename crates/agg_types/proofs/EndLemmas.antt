@@ -1,9 +1,9 @@
 -- Of samples in series order the one that counts in each series, found in one pass.
-use Rattle.std.proofs.Common.{◌≡◌, ◌∙◌, ℕ, zero, suc, ◌+◌, ◌<◌, ◌≤◌, Bool, true, false, not, cond, ◌&&◌, ◌||◌, List, [], ◌∷◌, ◌++◌, length, map, take, get_or, ℤ, pos, ◌+ℤ◌, ◌-ℤ◌, Option, Some, None, inl, inr, refl, sym, ap, subst, arith, append_assoc, length-append, Ordering, Less, Equal, Greater}
-use Rattle.std.specs.Prelude.{nat_eq, if◌then◌else◌}
+use Rattle.std.proofs.Common.{◌≡◌, ◌∙◌, ℕ, zero, suc, ◌+◌, ◌<◌, ◌≤◌, Bool, true, false, not, cond, ◌&&◌, ◌||◌, List, [], ◌∷◌, ◌++◌, length, map, take, get_or, ℤ, pos, ◌+ℤ◌, ◌-ℤ◌, Some, None, inl, inr, refl, sym, ap, subst, arith, length-append, Ordering, Less, Equal, Greater}
+use Rattle.std.specs.Prelude.{nat_eq}
 use Rattle.std.specs.Cmp.{IsTotalOrder}
 use Rattle.std.specs.List.{filter, list_any, list_all, AllByRecursion}
-use Rattle.std.specs.Ordering.{is_gt, is_le, is_eq, is_lt, ordering_reverse}
+use Rattle.std.specs.Ordering.{is_gt, is_le, is_eq, ordering_reverse}
 use Rattle.std.proofs.lemmas.Bool.{cases_Bool, false≢true, and_parts, ne_eqb, eq-eqb}
 use Rattle.std.proofs.lemmas.List.{append-nil, map-append, get_or_default, take_all}
 use Rattle.std.proofs.lemmas.List.Elements.{filter-append}
@@ -86,7 +86,7 @@ apart_later s b x upto less =
 
 -- ---- lists
 
-every_same : {X : Type 0} (P Q : X → Type 0) (xs : List X) → ((x : X) → P x → Q x) → AllByRecursion P xs → AllByRecursion Q xs
+pub every_same : {X : Type 0} (P Q : X → Type 0) (xs : List X) → ((x : X) → P x → Q x) → AllByRecursion P xs → AllByRecursion Q xs
 every_same P Q [] to all = tt
 every_same P Q (x ∷ xs) to all = (to x all.0, every_same P Q xs to all.1)
 
@@ -98,7 +98,7 @@ every_filter P p (x ∷ xs) all = by_test (p x) (every_filter P p xs all.1)
     by_test true rest = (all.0, rest)
     by_test false rest = rest
 
-every_kept : {X : Type 0} (p : X → Bool) (xs : List X) → AllByRecursion (λ x. p x ≡ true) (filter p xs)
+pub every_kept : {X : Type 0} (p : X → Bool) (xs : List X) → AllByRecursion (λ x. p x ≡ true) (filter p xs)
 every_kept p [] = tt
 every_kept p (x ∷ xs) = by_test (p x) refl (every_kept p xs)
   where

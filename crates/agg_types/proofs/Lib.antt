@@ -3,3 +3,4 @@ pub mod EndLemmas
 pub mod SumValueLemmas
 pub mod ShuffleLemmas
 pub mod OrderFreeLemmas
+pub mod CellValueLemmas

@@ -1,12 +1,9 @@
 -- The value of samples is the same in every order.
-use Rattle.std.proofs.Common.{◌≡◌, ◌∙◌, ℕ, Bool, true, false, not, cond, ◌&&◌, List, [], ◌∷◌, length, map, ℤ, pos, ◌+ℤ◌, Option, Some, None, refl, sym, ap, subst}
+use Rattle.std.proofs.Common.{◌≡◌, ◌∙◌, ℕ, Bool, true, not, ◌&&◌, List, [], ◌∷◌, length, map, ℤ, pos, refl, sym, ap}
 use Rattle.std.specs.Prelude.{IsPermutation, option_map, nat_eq}
 use Rattle.std.specs.List.{filter, list_any}
-use Rattle.std.specs.Ordering.{is_eq}
 use Rattle.std.specs.declared.cmp.Ordering.{Ordering}
-use Rattle.std.proofs.Math.IntN.{+ℤ_idl}
 use Rattle.std.proofs.lemmas.Bool.{and_parts, eqb-true}
-use Rattle.std.proofs.lemmas.List.Sorted.{list_any-IsPermutation}
 use Rattle.dh_base.specs.declared.plain.AggType.{AggType}
 use Rattle.dh_base.specs.declared.plain.AggType.TheVariants as kind
 use Rattle.dh_base.specs.Fractions.{Fraction, fraction_of, of_micros}
@@ -15,7 +12,7 @@ use Rattle.table_rows.specs.Order.{period_cmp}
 use Rattle.agg_types.specs.declared.sample.Sample.{Sample}
 use Rattle.agg_types.specs.declared.sample.Series.{Series}
 use Rattle.agg_types.specs.Samples.{numbered, number_of, has_number, weighted, total, outermost, goes_beyond, backwards, lasts, firsts, series_of, same_series}
-use Rattle.agg_types.specs.Values.{mean, if_any, least, greatest, lesser, greater, left_of, value_over, value_by}
+use Rattle.agg_types.specs.Values.{mean, if_any, lesser, greater, left_of, value_by}
 use Rattle.agg_types.proofs.EndLemmas.{filter_same, same_turned}
 use Rattle.agg_types.proofs.ShuffleLemmas.{closed-permutation, closed-filter, closed-map, closed-total, closed-length, closed-once, closed-left, closed-any, length_counts, lesser-choice, greater-choice, IsChoice, Tells}
 use Rattle.table_rows.specs.Cells.{how_many}

@@ -1,10 +1,10 @@
 -- The value of samples doesn't depend on the order in which they stand.
-use Rattle.std.proofs.Common.{◌≡◌, ◌∙◌, ℕ, zero, suc, ◌+◌, ◌<◌, ◌≤◌, Bool, true, false, not, cond, ◌&&◌, ◌||◌, List, [], ◌∷◌, ◌++◌, length, map, get_or, set, ℤ, pos, ◌+ℤ◌, ◌≤ℤ◌, ◌<ℤ◌, ◌⊎◌, Option, Some, None, inl, inr, refl, sym, ap, subst, arith}
+use Rattle.std.proofs.Common.{◌≡◌, ◌∙◌, ℕ, zero, suc, ◌+◌, ◌<◌, Bool, true, false, not, cond, ◌&&◌, ◌||◌, List, [], ◌∷◌, length, map, get_or, set, ℤ, ◌+ℤ◌, ◌≤ℤ◌, ◌<ℤ◌, ◌⊎◌, Option, Some, None, inl, inr, refl, sym, ap, subst, arith}
 use Rattle.std.specs.Prelude.{IsPermutation, int_le, if◌then◌else◌}
 use Rattle.std.specs.List.{filter, list_any, swap}
-use Rattle.std.proofs.Math.Nat.{add_comm, add_left_comm}
-use Rattle.std.proofs.Math.IntN.{+ℤ_comm, +ℤ_assoc, +ℤ_idl}
-use Rattle.std.proofs.lemmas.List.Sorted.{IsPermutation-keeps, list_any-IsPermutation}
+use Rattle.std.proofs.Math.Nat.{add_left_comm}
+use Rattle.std.proofs.Math.IntN.{+ℤ_comm, +ℤ_assoc}
+use Rattle.std.proofs.lemmas.List.Sorted.{IsPermutation-keeps}
 use Rattle.std.proofs.lemmas.Bool.{cases_Bool}
 use Rattle.std.proofs.lemmas.Int.{ints}
 use borrow.Author.Differences.{le-false}
@@ -13,7 +13,7 @@ use Rattle.table_rows.specs.Cells.{times, how_many}
 use Rattle.table_rows.specs.Groups.{each_once}
 use Rattle.agg_types.specs.declared.sample.Sample.{Sample}
 use Rattle.agg_types.specs.Values.{left_from, left_of, lesser, greater}
-use Rattle.agg_types.specs.Samples.{numbered, number_of, has_number, total, outermost, goes_beyond}
+use Rattle.agg_types.specs.Samples.{total}
 
 -- ---- what holds between a list and one in another order
 
@@ -58,6 +58,7 @@ closed-filter {X = X} t R r = record {
     one : (b : Bool) (x : X) (xs ys : List X) → R (filter t xs) (filter t ys) → R (cond b (x ∷ filter t xs) (filter t xs)) (cond b (x ∷ filter t ys) (filter t ys))
     one true x xs ys h = r.behind x (filter t xs) (filter t ys) h
     one false x xs ys h = h
+
     two : (a b : Bool) (x y : X) (xs : List X)
         → R (cond a (x ∷ cond b (y ∷ filter t xs) (filter t xs)) (cond b (y ∷ filter t xs) (filter t xs))) (cond b (y ∷ cond a (x ∷ filter t xs) (filter t xs)) (cond a (x ∷ filter t xs) (filter t xs)))
     two true true x y xs = r.turned x y (filter t xs)
@@ -144,10 +145,12 @@ closed-once {X = X} same tells = record {
     tail x y xs p =
         filter_counts p (λ z. not (same x z)) (filter (λ z. not (same y z)) (each_once same xs))
         ∙ filter_counts (λ z. not (same x z) && p z) (λ z. not (same y z)) (each_once same xs)
+
     and_swap : (a b c : Bool) → (a && (b && c)) ≡ (b && (a && c))
     and_swap true b c = refl
     and_swap false true c = refl
     and_swap false false c = refl
+
     two : (x y : X) (xs : List X) (p : X → Bool) (b : Bool) → same x y ≡ b
         → how_many p (x ∷ filter (λ z. not (same x z)) (y ∷ filter (λ z. not (same y z)) (each_once same xs)))
         ≡ how_many p (y ∷ filter (λ z. not (same y z)) (x ∷ filter (λ z. not (same x z)) (each_once same xs)))

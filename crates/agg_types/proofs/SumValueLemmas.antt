@@ -1,6 +1,6 @@
 -- The value of samples from their sum, and what order samples have.
-use Rattle.std.proofs.Common.{◌≡◌, ◌∙◌, ℕ, zero, suc, ◌+◌, ◌*◌, Bool, true, false, not, cond, ◌&&◌, List, [], ◌∷◌, length, ℤ, pos, Option, Some, None, refl, sym, ap, arith, Ordering, Less, Equal, Greater}
-use Rattle.std.specs.Prelude.{nat_eq, if◌then◌else◌}
+use Rattle.std.proofs.Common.{◌≡◌, ◌∙◌, ℕ, suc, Bool, true, false, not, ◌&&◌, List, [], ◌∷◌, length, pos, Some, None, refl, sym, ap, arith, Ordering, Less, Equal, Greater}
+use Rattle.std.specs.Prelude.{if◌then◌else◌}
 use Rattle.std.specs.Cmp.{IsTotalOrder}
 use Rattle.std.specs.List.{list_all, AllByRecursion}
 use Rattle.std.specs.List.Sorted.{IsStrictlySortedBy}
@@ -14,12 +14,10 @@ use Rattle.dh_periods.specs.contracts.period.PeriodOrd.TheImpl.Laws as period
 use Rattle.table_rows.specs.Order.{period_cmp}
 use Rattle.table_rows.specs.Store.{rises}
 use Rattle.table_rows.proofs.RiseLemmas.{sorted_from_rises}
-use Rattle.agg_types.specs.contracts.sample.SampleKeyOrd.TheImpl.Laws as key
 use Rattle.agg_types.specs.contracts.sample.SeriesOrd.TheImpl.Laws as series
 use Rattle.agg_types.specs.declared.sample.Sample.{Sample}
-use Rattle.agg_types.specs.declared.sample.Series.{Series}
 use Rattle.agg_types.specs.Samples.{series_cmp, same_series, sample_cmp, may_precede, in_series_order, numbered, number_of, total}
-use Rattle.agg_types.specs.Values.{mean, if_any, unless_none, value_of_sum, value_over, value_by, sum_of_samples}
+use Rattle.agg_types.specs.Values.{mean, if_any, unless_none, value_of_sum, value_by, sum_of_samples}
 use Rattle.agg_types.proofs.TotalLemmas.{sum-micros, sum-count, sum-plain}
 
 unless-any : (xs : List Sample) (value : Fraction) → unless_none (length xs) value ≡ if_any xs value

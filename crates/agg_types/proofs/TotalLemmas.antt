@@ -1,17 +1,16 @@
 -- Totals of samples that come one by one.
-use Rattle.std.proofs.Common.{◌≡◌, ◌∙◌, ℕ, zero, suc, ◌+◌, ◌<◌, ◌≤◌, Bool, true, false, not, cond, ◌&&◌, ◌||◌, List, [], ◌∷◌, ◌++◌, length, map, take, get_or, ℤ, pos, ◌+ℤ◌, ◌*ℤ◌, Option, Some, None, is_some, refl, sym, ap, arith}
-use Rattle.std.specs.Prelude.{nat_eq, if◌then◌else◌}
-use Rattle.std.specs.List.{filter, list_any}
-use Rattle.std.proofs.Math.IntN.{+ℤ_comm, +ℤ_assoc, +ℤ_idr, +ℤ_idl, zero-*ℤ}
+use Rattle.std.proofs.Common.{◌≡◌, ◌∙◌, ℕ, suc, ◌+◌, ◌<◌, Bool, true, false, cond, ◌||◌, List, [], ◌∷◌, ◌++◌, length, map, take, get_or, ℤ, pos, unsigned_abs, ◌+ℤ◌, ◌*ℤ◌, Option, Some, None, is_some, refl, sym, ap, arith}
+use Rattle.std.specs.List.{list_any}
+use Rattle.std.proofs.Math.IntN.{+ℤ_assoc, +ℤ_idr, +ℤ_idl, zero-*ℤ}
 use Rattle.std.proofs.lemmas.List.{take_more, map-append, append-nil}
 use Rattle.std.proofs.lemmas.List.Elements.{filter_more}
 use Rattle.dh_base.specs.Fractions.{Fraction}
 use Rattle.table_rows.specs.declared.sum.Sum.{Sum}
-use Rattle.table_rows.specs.Sums.{joined, sum_over, sum_of_number}
+use Rattle.table_rows.specs.Sums.{joined, sum_of_number}
 use Rattle.table_rows.proofs.SumLemmas.{sum_over-push}
 use Rattle.agg_types.specs.declared.sample.Sample.{Sample}
 use Rattle.agg_types.specs.Samples.{has_number, numbered, number_of, number_in, weighted, total}
-use Rattle.agg_types.specs.Values.{if_any, left_from, left_of, with_choice, sum_of_sample, sum_of_samples, unless_none}
+use Rattle.agg_types.specs.Values.{if_any, left_from, left_of, with_choice, sum_of_sample, sum_of_samples}
 
 -- a loop's step: one sample more
 pub sums-more : (samples : List Sample) (i : ℕ) (x : Sample) (old new : Sum) → i < length samples → x ≡ get_or samples i x
@@ -128,3 +127,8 @@ pub sum-plain : (samples : List Sample) → (sum_of_samples samples).plain ≡ l
 sum-plain [] = refl
 sum-plain (x ∷ xs) =
     ap (λ n. (sum_of_sample x).plain + n) (sum-plain xs) ∙ one_plain x.micros (length (numbered xs)) ∙ sym (length_cond (has_number x) x (numbered xs))
+
+pub days-told : (n : ℕ) (z : ℤ) → pos n ≡ z → n ≡ unsigned_abs z
+days-told n z is = ap unsigned_abs is
+
+pub ruleset days_told = (days-told)

@@ -1,5 +1,5 @@
 -- Samples, their series and their order.
-use Rattle.std.specs.Prelude.{ℕ, Bool, true, not, ◌&&◌, nat_eq, is_some, ℤ, pos, ◌+ℤ◌, ◌-ℤ◌, ◌*ℤ◌, List, [], ◌∷◌, map, Option, Some, None}
+use Rattle.std.specs.Prelude.{ℕ, Bool, true, not, ◌&&◌, nat_eq, is_some, ℤ, pos, ◌+ℤ◌, ◌-ℤ◌, ◌*ℤ◌, unsigned_abs, List, [], ◌∷◌, map, Option, Some, None}
 use Rattle.std.specs.List.{filter, list_any, list_all}
 use Rattle.std.specs.Ordering.{ordering_then, nat_cmp, is_gt, is_le}
 use Rattle.std.specs.declared.cmp.Ordering.{Ordering}
@@ -50,14 +50,18 @@ number_in (Some micros) = micros
 abbrev pub number_of : Sample → ℤ
 number_of sample = number_in sample.micros
 
+-- how many days a period has
+unfoldable pub days_of : PeriodName → ℕ
+days_of period = unsigned_abs ((last_day period -ℤ first_day period) +ℤ pos 1)
+
 -- the number times the days of the period
 abbrev pub weighted : Sample → ℤ
-weighted sample = number_of sample *ℤ ((last_day sample.period -ℤ first_day sample.period) +ℤ pos 1)
+weighted sample = number_of sample *ℤ pos (days_of sample.period)
 
--- the sum of what f gives of each sample
-abbrev pub total : (Sample → ℤ) → List Sample → ℤ
+-- the sum of what f gives of each member
+abbrev pub total : {X : Type 0} → (X → ℤ) → List X → ℤ
 total f [] = pos 0
-total f (sample ∷ samples) = f sample +ℤ total f samples
+total f (x ∷ xs) = f x +ℤ total f xs
 
 -- ---- series
 

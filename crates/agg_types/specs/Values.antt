@@ -1,5 +1,5 @@
 -- The value of some samples by an aggregation type.
-use Rattle.std.specs.Prelude.{ℕ, ◌*◌, Bool, nat_eq, if◌then◌else◌, ℤ, pos, int_le, List, [], ◌∷◌, length, map, Option, Some, None, option_map}
+use Rattle.std.specs.Prelude.{ℕ, ◌*◌, nat_eq, if◌then◌else◌, ℤ, pos, int_le, List, [], ◌∷◌, length, map, Option, Some, None, option_map}
 use Rattle.dh_base.specs.declared.plain.AggType.{AggType}
 use Rattle.dh_base.specs.declared.plain.AggType.TheVariants as kind
 use Rattle.dh_base.specs.Fractions.{Fraction, fraction_of, of_micros}

@@ -2,9 +2,11 @@
 ghost use Rattle.std.specs.Prelude.{◌≡◌, true, IsTrue};
 ghost use Rattle.std.specs.Ordering.{is_lt};
 ghost use Rattle.table_rows.specs.Store.{rises};
+ghost use Rattle.agg_types.specs.RowSamples.{sample_of};
 ghost use Rattle.agg_types.specs.Samples.{sample_cmp, in_series_order};
 
 use dh_periods::Period;
+use table_rows::Row;
 
 /// What samples of several periods belong to: a data element, its option combination, an attribute
 /// combination and a unit. Series are ordered by these fields.
@@ -23,6 +25,24 @@ pub struct Sample {
     pub period: Period,
     /// Its number in millionths, where it has one.
     pub micros: Option<i64>,
+}
+
+impl Sample {
+    /// The sample of a row, whose unit is told by its order.
+    pub fn of(row: &Row) -> Sample
+        ensures { result ≡ sample_of row.now }
+    {
+        Sample {
+            series: Series {
+                element: row.element,
+                combo: row.combo,
+                attribute: row.attribute,
+                unit: row.order,
+            },
+            period: row.period,
+            micros: row.micros,
+        }
+    }
 }
 
 #[derive(Clone, Copy, PartialEq, Eq, PartialOrd, Ord)]

@@ -2,10 +2,11 @@
 ghost use Rattle.std.specs.Prelude.{◌≡◌, ◌≤◌, ◌<◌, ◌+◌, ◌*◌, ◌^◌, ◌+ℤ◌, ◌*ℤ◌, pos, unsigned_abs, length, map};
 ghost use Rattle.std.specs.List.{list_any};
 ghost use Rattle.table_rows.specs.Sums.{joined};
-ghost use Rattle.agg_types.specs.Samples.{has_number, numbered, number_of, weighted, total};
+ghost use Rattle.agg_types.specs.Samples.{days_of, has_number, numbered, number_of, weighted, total};
 ghost use Rattle.agg_types.specs.Values.{sum_of_sample, sum_of_samples, least, greatest, lesser, greater, with_choice};
 
 use crate::sample::Sample;
+use dh_periods::Period;
 use table_rows::Sum;
 
 /// Whether a sample has a number.
@@ -69,9 +70,16 @@ fn weight(sample: &Sample) -> i128
     ensures size { unsigned_abs result ≤ 2 ^ 95 }
 {
     match sample.micros {
-        Some(micros) => times_days(micros, sample.period.days()),
+        Some(micros) => times_days(micros, days_of(&sample.period)),
         None => 0,
     }
+}
+
+#[tactic(auto, using(crate::proofs::TotalLemmas::days_told), unfolding(crate::specs::Samples::days_of))]
+fn days_of(period: &Period) -> u32
+    ensures { result ≡ days_of period.now }
+{
+    period.days()
 }
 
 fn times_days(micros: i64, days: u32) -> i128

@@ -1,4 +1,4 @@
-use Rattle.std.proofs.Common.{◌≡◌, ◌≤◌, ◌<◌, ◌∙◌, Some, ap, arith, length, of_z, to_z, to_z-of_z, FitsSigned, rules}
+use Rattle.std.proofs.Common.{◌<◌, ◌∙◌, Some, ap, arith, length, to_z-of_z, FitsSigned, rules}
 use Rattle.std.specs.Int.{w128}
 use Rattle.agg_types.specs.Ends.{order_of}
 use Rattle.agg_types.proofs.EndLemmas.{run-more, order_of-is, run-none, run-some}

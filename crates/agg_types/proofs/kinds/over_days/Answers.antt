@@ -1,4 +1,4 @@
-use Rattle.std.proofs.Common.{◌≡◌, ◌∙◌, cond, Option, Some, None, sym, ap, of_z, to_z, to_z-of_z, FitsSigned, rules}
+use Rattle.std.proofs.Common.{◌≡◌, ◌∙◌, cond, Some, None, sym, ap, to_z-of_z, FitsSigned, rules}
 use Rattle.std.specs.Int.{w128}
 use Rattle.agg_types.specs.Samples.{numbered, total, weighted}
 use Rattle.agg_types.specs.Values.{mean}

@@ -1,4 +1,4 @@
-use Rattle.std.proofs.Common.{◌≡◌, ◌∙◌, sym}
+use Rattle.std.proofs.Common.{◌∙◌, sym}
 use Rattle.table_rows.proofs.RiseLemmas.{rises-kept, rises-done}
 use Rattle.agg_types.specs.Samples.{sample_cmp}
 use Rattle.agg_types.proofs.sample.samples_rise.Goals as goal
