@@ -1,0 +1,4 @@
+pub mod Said
+pub mod Maps
+pub mod Index
+pub mod Holds
