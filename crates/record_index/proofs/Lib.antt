@@ -1,1 +1,3 @@
 pub mod MapLemmas
+pub mod IndexLemmas
+pub mod HangingLemmas

@@ -1,4 +1,5 @@
 pub mod Said
 pub mod Maps
-pub mod Index
 pub mod Holds
+pub mod Index
+pub mod World

@@ -2,6 +2,7 @@
 #![tactic(auto)]
 
 mod children;
+mod hanging;
 mod held;
 pub mod index;
 pub mod outcome;

@@ -1,0 +1,16 @@
+use Rattle.std.proofs.Common.{◌≡◌, ◌∙◌, [], ap}
+use Rattle.record_index.specs.Said.{same_id}
+use Rattle.record_index.specs.Maps.{held}
+use Rattle.record_index.specs.Holds.{contents, event_held}
+use Rattle.record_index.specs.Index.{event_parent}
+use Rattle.record_index.specs.World.{hangs_on}
+use Rattle.record_index.proofs.HangingLemmas.{filter-more}
+use Rattle.record_index.proofs.hanging.live_events.Goals as goal
+
+pub loop-id-preserved : goal.loop-id-preserved
+loop-id-preserved c =
+    filter-more (λ id. hangs_on (event_parent (event_held (contents c.args.index.now) id)) c.args.enrollment) (held same_id [] c.args.index.now.events_of c.args.enrollment)
+    c.loop-id.found.items c.keep_if.new.found.items c.loop-id.id-index c.id-item.result c.hangs_on-hangs.result
+    ? ? c.loop-id.invariant
+    (c.hangs_on-hangs.ensures ∙ ap (λ p. hangs_on p c.args.enrollment) (c.parent_of_event.ensures ∙ ap event_parent c.look.ensures))
+    ?
