@@ -1,6 +1,6 @@
 -- An index that takes in what was said of its keys.
 use Rattle.std.proofs.Common.{◌≡◌, ◌∙◌, ℕ, ℤ, Bool, true, false, cond, List, [], ◌∷◌, ◌++◌, Option, Some, None, refl, sym, ap, subst, reverse, map}
-use Rattle.std.proofs.lemmas.List.{map-append, reverse-append}
+use Rattle.std.proofs.lemmas.List.{reverse-append}
 use Rattle.std.specs.Option.{unwrap_or, is_some, option_or}
 use Rattle.std.specs.HashMap.{HashMap, get, Updates}
 use Rattle.std.specs.Cmp.Lexicographic.{same_text}
@@ -8,11 +8,10 @@ use Rattle.record_index.specs.declared.said.ApprovalState.TheVariants as state
 use Rattle.record_index.specs.declared.said.Said.{Said}
 use Rattle.record_index.specs.declared.said.Said.TheVariants as said
 use Rattle.record_index.specs.declared.index.Index.{Index}
-use Rattle.record_index.specs.Said.{same_id, last_said, said_by, of_value, of_event, of_enrollment, of_entity, of_approval, of_registration}
+use Rattle.record_index.specs.Said.{same_id, last_said, of_value, of_event, of_enrollment, of_entity, of_approval, of_registration}
 use Rattle.dh_changes.specs.Keys.{same_value_key, same_approval_key, same_reg_key}
-use Rattle.dh_changes.specs.declared.change.Write.{Write}
 use Rattle.record_index.specs.Maps.{held, is_noted}
-use Rattle.record_index.specs.Holds.{Held, contents, Holds, HoldSame, IsAfter, value_held, entity_held, approval_held, registration_held, event_held, enrollment_held}
+use Rattle.record_index.specs.Holds.{Held, contents, HoldSame, IsAfter, value_held, entity_held, approval_held, registration_held, event_held, enrollment_held}
 use Rattle.record_index.specs.Index.{event_parent, enrollment_parent, is_linked, IsLinked, IsReady, AllReady, Keeps, Puts}
 
 -- ---- one map
@@ -256,35 +255,6 @@ same-through a xs b ys c zs one two = record {
   entity = λ q. one.entity q ∙ two.entity q;
   approval = λ q. one.approval q ∙ two.approval q;
   registration = λ q. one.registration q ∙ two.registration q;
-}
-
--- ---- after a list of writes
-
-last_said-append : {A : Type 0} (of : Said → Option A) (xs ys : List Said) → last_said of (xs ++ ys) ≡ option_or (last_said of ys) (last_said of xs)
-last_said-append of [] ys = elim (last_said of ys) as (λ o. o ≡ option_or o None) [ Some v ↦ refl | None ↦ refl ]
-last_said-append of (x ∷ xs) ys =
-    ap (λ o. option_or o (of x)) (last_said-append of xs ys)
-    ∙ elim (last_said of ys) as (λ o. option_or (option_or o (last_said of xs)) (of x) ≡ option_or o (option_or (last_said of xs) (of x))) [ Some v ↦ refl | None ↦ refl ]
-
-unwrap-either : {V : Type 0} (a b : Option V) (d : V) → unwrap_or a (unwrap_or b d) ≡ unwrap_or (option_or a b) d
-unwrap-either (Some v) b d = refl
-unwrap-either None b d = refl
-
-more_said : {V : Type 0} (of : Said → Option V) (log writes : List Write) (nothing before after : V)
-    → after ≡ unwrap_or (last_said of (map said_by writes)) before → before ≡ unwrap_or (last_said of (map said_by log)) nothing
-    → after ≡ unwrap_or (last_said of (map said_by (log ++ writes))) nothing
-more_said of log writes nothing before after is was =
-    is ∙ ap (unwrap_or (last_said of (map said_by writes))) was ∙ unwrap-either (last_said of (map said_by writes)) (last_said of (map said_by log)) nothing
-    ∙ ap (λ o. unwrap_or o nothing) (sym (last_said-append of (map said_by log) (map said_by writes)) ∙ sym (ap (last_said of) (map-append said_by log writes)))
-
-pub holds-after : (old : Held) (log writes : List Write) (new : Held) → IsAfter old (map said_by writes) new → Holds old log → Holds new (log ++ writes)
-holds-after old log writes new after was = record {
-  value = λ q. more_said (of_value q) log writes None (value_held old q) (value_held new q) (after.value q) (was.value q);
-  event = λ q. more_said (of_event q) log writes None (event_held old q) (event_held new q) (after.event q) (was.event q);
-  enrollment = λ q. more_said (of_enrollment q) log writes None (enrollment_held old q) (enrollment_held new q) (after.enrollment q) (was.enrollment q);
-  entity = λ q. more_said (of_entity q) log writes None (entity_held old q) (entity_held new q) (after.entity q) (was.entity q);
-  approval = λ q. more_said (of_approval q) log writes state.None (approval_held old q) (approval_held new q) (after.approval q) (was.approval q);
-  registration = λ q. more_said (of_registration q) log writes None (registration_held old q) (registration_held new q) (after.registration q) (was.registration q);
 }
 
 -- ---- the last of what waits, which stands first once the list is turned

@@ -1,3 +1,4 @@
 pub mod MapLemmas
 pub mod IndexLemmas
 pub mod HangingLemmas
+pub mod FactsLemmas

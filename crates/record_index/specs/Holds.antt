@@ -1,8 +1,7 @@
--- What is held under each key, and what is after a list of writes.
-use Rattle.std.specs.Prelude.{◌≡◌, ℕ, ℤ, Bool, true, false, List, [], Option, None, Some, map}
+-- What a list of entries holds under each key.
+use Rattle.std.specs.Prelude.{◌≡◌, ℕ, ℤ, List, [], Option, None, Some}
 use Rattle.std.specs.Option.{unwrap_or}
 use Rattle.dh_changes.specs.Keys.{same_value_key, same_approval_key, same_reg_key}
-use Rattle.dh_changes.specs.declared.change.Write.{Write}
 use Rattle.dh_changes.specs.declared.keys.ValueKey.{ValueKey}
 use Rattle.dh_changes.specs.declared.keys.ApprovalKey.{ApprovalKey}
 use Rattle.dh_changes.specs.declared.keys.RegKey.{RegKey}
@@ -13,7 +12,7 @@ use Rattle.record_index.specs.declared.said.ApprovalState.{ApprovalState}
 use Rattle.record_index.specs.declared.said.ApprovalState.TheVariants as state
 use Rattle.record_index.specs.declared.said.Said.{Said}
 use Rattle.record_index.specs.declared.index.Index.{Index}
-use Rattle.record_index.specs.Said.{same_id, said_by, last_said, of_value, of_event, of_enrollment, of_entity, of_approval, of_registration}
+use Rattle.record_index.specs.Said.{same_id, last_said, of_value, of_event, of_enrollment, of_entity, of_approval, of_registration}
 use Rattle.std.specs.Map.{lookup}
 
 -- keys with what each holds; a key that holds nothing may stand too
@@ -35,6 +34,16 @@ contents index = record {
   registrations = index.registrations.entries;
 }
 
+abbrev pub empty : Held
+empty = record {
+  values = [];
+  events = [];
+  enrollments = [];
+  entities = [];
+  approvals = [];
+  registrations = [];
+}
+
 abbrev pub value_held : Held → ValueKey → Option (List ℕ)
 value_held held key = unwrap_or (lookup (same_value_key key) held.values) None
 
@@ -52,35 +61,6 @@ approval_held held key = unwrap_or (lookup (same_approval_key key) held.approval
 
 abbrev pub registration_held : Held → RegKey → Option ℤ
 registration_held held key = unwrap_or (lookup (same_reg_key key) held.registrations) None
-
--- what the last write of a list that names a key says, and nothing where none names it
-
-abbrev pub value_in : List Write → ValueKey → Option (List ℕ)
-value_in writes key = unwrap_or (last_said (of_value key) (map said_by writes)) None
-
-abbrev pub event_in : List Write → List ℕ → Option Event
-event_in writes id = unwrap_or (last_said (of_event id) (map said_by writes)) None
-
-abbrev pub enrollment_in : List Write → List ℕ → Option Enrollment
-enrollment_in writes id = unwrap_or (last_said (of_enrollment id) (map said_by writes)) None
-
-abbrev pub entity_in : List Write → List ℕ → Option Entity
-entity_in writes id = unwrap_or (last_said (of_entity id) (map said_by writes)) None
-
-abbrev pub approval_in : List Write → ApprovalKey → ApprovalState
-approval_in writes key = unwrap_or (last_said (of_approval key) (map said_by writes)) state.None
-
-abbrev pub registration_in : List Write → RegKey → Option ℤ
-registration_in writes key = unwrap_or (last_said (of_registration key) (map said_by writes)) None
-
--- each key holds what the writes say
-pub record Holds (held : Held) (writes : List Write) : Type 0 where
-  pub value : (key : ValueKey) → value_held held key ≡ value_in writes key
-  pub event : (id : List ℕ) → event_held held id ≡ event_in writes id
-  pub enrollment : (id : List ℕ) → enrollment_held held id ≡ enrollment_in writes id
-  pub entity : (id : List ℕ) → entity_held held id ≡ entity_in writes id
-  pub approval : (key : ApprovalKey) → approval_held held key ≡ approval_in writes key
-  pub registration : (key : RegKey) → registration_held held key ≡ registration_in writes key
 
 -- each key holds the same on the left, once `more` is said, as on the right, once `others` are said
 pub record HoldSame (left : Held) (more : List Said) (right : Held) (others : List Said) : Type 0 where

@@ -7,11 +7,16 @@ use Rattle.std.specs.Ordering.{nat_cmp}
 use Rattle.record_index.specs.declared.said.Said.{Said}
 use Rattle.record_index.specs.Said.{same_id}
 use Rattle.record_index.specs.Holds.{Held}
+use Rattle.record_index.specs.Facts.{Facts, facts_of}
 
 pub record Shown : Type 0 where
   pub held : Held
   -- what the writes say for which there is room
   pub reserved : List Said
+
+-- what the world holds
+unfoldable pub facts : Shown → Facts
+facts shown = facts_of shown.held
 
 -- the parent is this one
 abbrev pub hangs_on : Option (List ℕ) → List ℕ → Bool

@@ -2,9 +2,10 @@ ghost use Rattle.std.specs.Prelude.{◌≡◌, ◌++◌, ◌∷◌, [], List, ma
 ghost use Rattle.std.specs.Option.{option_copied};
 ghost use Rattle.dh_changes.specs.declared.change.Write.{Write};
 ghost use Rattle.record_index.specs.Said as says;
-ghost use Rattle.record_index.specs.Holds.{contents, Holds, HoldSame, IsAfter, value_held, event_held, enrollment_held, entity_held, approval_held, registration_held};
+ghost use Rattle.record_index.specs.Holds.{contents, empty, HoldSame, IsAfter};
 ghost use Rattle.record_index.specs.Index.{IsLinked, AllReady, event_parent, enrollment_parent};
-ghost use Rattle.record_index.specs.World.{hangs_on, Lists};
+ghost use Rattle.record_index.specs.Facts as known;
+ghost use Rattle.record_index.specs.World.{facts, hangs_on, Lists};
 
 use crate::hanging::{live_enrollments, live_events, put_in_order};
 use crate::held::look;
@@ -42,7 +43,7 @@ impl Model for World {
 }
 
 fn empty_index(alloc: Global) -> Index
-    ensures nothing { Holds (contents result) [] }
+    ensures nothing { HoldSame (contents result) [] empty [] }
     ensures linked { IsLinked result }
 {
     Index {
@@ -122,8 +123,9 @@ fn take_in_all(index: &mut Index, waiting: &mut Vec<Said>)
 
 impl World {
     /// A world that holds nothing. It takes no memory.
+    #[tactic(auto, unfolding(crate::specs::World::facts))]
     pub fn new(alloc: Global) -> World
-        ensures nothing { Holds result.held [] }
+        ensures nothing { facts result ≡ known.nothing }
         ensures reserved { result.reserved ≡ [] }
     {
         World {
@@ -134,8 +136,9 @@ impl World {
 
     /// Makes room for these writes and copies what they say, in place of those before. What each
     /// key holds stays as it was, also where memory is wanting.
+    #[tactic(auto, unfolding(crate::specs::World::facts))]
     pub fn reserve(&mut self, alloc: Global, writes: &[Write]) -> Result<(), Memory>
-        ensures same { HoldSame self.new.held [] self.old.held [] }
+        ensures same { facts self.new ≡ facts self.old }
         ensures ok { OnOk result (self.new.reserved ≡ map says.said_by writes.now) }
         ensures err { OnErr result (self.new.reserved ≡ []) }
     {
@@ -143,10 +146,11 @@ impl World {
     }
 
     /// Has each key hold what the change's last write of it says. It takes no memory.
+    #[tactic(auto, unfolding(crate::specs::World::facts))]
     pub fn apply(&mut self, change: &Change)
         requires { self.old.reserved ≡ map says.said_by change.now.writes }
-        ensures after { IsAfter self.old.held (map says.said_by change.now.writes) self.new.held }
-        ensures log { (log : List Write) → Holds self.old.held log → Holds self.new.held (log ++ change.now.writes) }
+        ensures after { facts self.new ≡ known.after change.now.writes (facts self.old) }
+        ensures log { (log : List Write) → facts self.old ≡ known.facts_in log → facts self.new ≡ known.facts_in (log ++ change.now.writes) }
         ensures reserved { self.new.reserved ≡ [] }
     {
         let _change = change;
@@ -154,8 +158,9 @@ impl World {
     }
 
     /// The text of a data value.
+    #[tactic(auto, unfolding(crate::specs::World::facts))]
     pub fn value(&self, key: &ValueKey) -> Option<&[u8]>
-        ensures { option_copied result ≡ value_held self.now.held key.now }
+        ensures { option_copied result ≡ (facts self.now).value key.now }
     {
         match look(&self.index.values, key) {
             Some(text) => Some(text.as_slice()),
@@ -164,29 +169,33 @@ impl World {
     }
 
     /// The event of this identifier.
+    #[tactic(auto, unfolding(crate::specs::World::facts))]
     pub fn event(&self, id: Uid) -> Option<&Event>
-        ensures { option_copied result ≡ event_held self.now.held id }
+        ensures { option_copied result ≡ (facts self.now).event id }
     {
         look(&self.index.events, &id)
     }
 
     /// The enrollment of this identifier.
+    #[tactic(auto, unfolding(crate::specs::World::facts))]
     pub fn enrollment(&self, id: Uid) -> Option<&Enrollment>
-        ensures { option_copied result ≡ enrollment_held self.now.held id }
+        ensures { option_copied result ≡ (facts self.now).enrollment id }
     {
         look(&self.index.enrollments, &id)
     }
 
     /// The tracked entity of this identifier.
+    #[tactic(auto, unfolding(crate::specs::World::facts))]
     pub fn entity(&self, id: Uid) -> Option<&Entity>
-        ensures { option_copied result ≡ entity_held self.now.held id }
+        ensures { option_copied result ≡ (facts self.now).entity id }
     {
         look(&self.index.entities, &id)
     }
 
     /// How far the approval under this key has come.
+    #[tactic(auto, unfolding(crate::specs::World::facts))]
     pub fn approval(&self, key: &ApprovalKey) -> ApprovalState
-        ensures { result ≡ approval_held self.now.held key.now }
+        ensures { result ≡ (facts self.now).approval key.now }
     {
         match self.index.approvals.get(key) {
             Some(state) => *state,
@@ -195,16 +204,18 @@ impl World {
     }
 
     /// The day of a complete data set registration, counted from 1 January 1970.
+    #[tactic(auto, unfolding(crate::specs::World::facts))]
     pub fn registration(&self, key: &RegKey) -> Option<i32>
-        ensures { result ≡ registration_held self.now.held key.now }
+        ensures { result ≡ (facts self.now).registration key.now }
     {
         look(&self.index.registrations, key).copied()
     }
 
     /// The enrollments that hang on an entity, ascending by identifier. It looks at the enrollments
     /// that were ever written for the entity, and at no others.
+    #[tactic(auto, unfolding(crate::specs::World::facts))]
     pub fn enrollments_of(&self, alloc: Global, entity: Uid) -> Result<Items<Uid>, Memory>
-        ensures { IfOk result (Lists (λ id. hangs_on (enrollment_parent (enrollment_held self.now.held id)) entity)) }
+        ensures { IfOk result (Lists (λ id. hangs_on (enrollment_parent ((facts self.now).enrollment id)) entity)) }
     {
         let found = live_enrollments(alloc, &self.index, entity)?;
         Ok(put_in_order(found))
@@ -212,8 +223,9 @@ impl World {
 
     /// The events that hang on an enrollment, ascending by identifier. It looks at the events that
     /// were ever written for the enrollment, and at no others.
+    #[tactic(auto, unfolding(crate::specs::World::facts))]
     pub fn events_of(&self, alloc: Global, enrollment: Uid) -> Result<Items<Uid>, Memory>
-        ensures { IfOk result (Lists (λ id. hangs_on (event_parent (event_held self.now.held id)) enrollment)) }
+        ensures { IfOk result (Lists (λ id. hangs_on (event_parent ((facts self.now).event id)) enrollment)) }
     {
         let found = live_events(alloc, &self.index, enrollment)?;
         Ok(put_in_order(found))

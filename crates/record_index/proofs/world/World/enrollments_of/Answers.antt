@@ -9,6 +9,7 @@ use Rattle.record_index.proofs.HangingLemmas.{any-hanging}
 use Rattle.record_index.proofs.world.World.enrollments_of.Goals as goal
 
 pub returns : goal.returns
+unfolding Rattle.record_index.specs.World.facts
 returns c =
     let index = c.self.inside.index in
     subst (λ h. Lists (λ id. hangs_on (enrollment_parent (enrollment_held h id)) c.args.entity) c.put_in_order.result) (ap (λ w. w.held) c.self.view_is) (record {

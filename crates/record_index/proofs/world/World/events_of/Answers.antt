@@ -9,6 +9,7 @@ use Rattle.record_index.proofs.HangingLemmas.{any-hanging}
 use Rattle.record_index.proofs.world.World.events_of.Goals as goal
 
 pub returns : goal.returns
+unfolding Rattle.record_index.specs.World.facts
 returns c =
     let index = c.self.inside.index in
     subst (λ h. Lists (λ id. hangs_on (event_parent (event_held h id)) c.args.enrollment) c.put_in_order.result) (ap (λ w. w.held) c.self.view_is) (record {
