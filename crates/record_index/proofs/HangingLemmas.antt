@@ -8,7 +8,7 @@ use Rattle.std.specs.Cmp.Lexicographic.{same_text, nat_list_eq_equiv}
 use Rattle.record_index.specs.Said.{same_id}
 use Rattle.record_index.specs.Maps.{is_noted}
 use Rattle.record_index.specs.Index.{is_linked}
-use Rattle.record_index.specs.World.{hangs_on}
+use Rattle.record_index.specs.Hanging.{hangs_on}
 
 filter-end : {X : Type 0} (p : X → Bool) (xs : List X) (x : X) → filter p (xs ++ x ∷ []) ≡ filter p xs ++ cond (p x) (x ∷ []) []
 filter-end p [] x = refl
@@ -45,7 +45,7 @@ any-dedup id [] = refl
 any-dedup id (x ∷ xs) = any-dedup_from id x xs
 
 -- an identifier is among those that pass the test where it passes and is in the list
-any-filter : (test : List ℕ → Bool) (id : List ℕ) (xs : List (List ℕ))
+pub any-filter : (test : List ℕ → Bool) (id : List ℕ) (xs : List (List ℕ))
     → list_any (λ other. same_id id other) (filter test xs) ≡ cond (test id) (list_any (λ other. same_id id other) xs) false
 any-filter test id [] = elim (test id) as (λ b. false ≡ cond b false false) [ true ↦ refl | false ↦ refl ]
 any-filter test id (x ∷ xs) =

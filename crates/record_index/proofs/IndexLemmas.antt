@@ -12,7 +12,8 @@ use Rattle.record_index.specs.Said.{same_id, last_said, of_value, of_event, of_e
 use Rattle.dh_changes.specs.Keys.{same_value_key, same_approval_key, same_reg_key}
 use Rattle.record_index.specs.Maps.{held, is_noted}
 use Rattle.record_index.specs.Holds.{Held, contents, HoldSame, IsAfter, value_held, entity_held, approval_held, registration_held, event_held, enrollment_held}
-use Rattle.record_index.specs.Index.{event_parent, enrollment_parent, is_linked, IsLinked, IsReady, AllReady, Keeps, Puts}
+use Rattle.record_index.specs.Hanging.{event_parent, enrollment_parent}
+use Rattle.record_index.specs.Index.{is_linked, IsLinked, IsReady, AllReady, Keeps, Puts}
 
 -- ---- one map
 

@@ -13,17 +13,8 @@ use Rattle.record_index.specs.declared.said.Said.TheVariants as said
 use Rattle.record_index.specs.declared.index.Index.{Index}
 use Rattle.record_index.specs.Said.{same_id}
 use Rattle.record_index.specs.Maps.{is_noted}
+use Rattle.record_index.specs.Hanging.{event_parent, enrollment_parent}
 use Rattle.record_index.specs.Holds.{contents, event_held, enrollment_held}
-
--- the enrollment that an event hangs on
-abbrev pub event_parent : Option Event → Option (List ℕ)
-event_parent None = None
-event_parent (Some event) = event.enrollment
-
--- the entity that an enrollment hangs on
-abbrev pub enrollment_parent : Option Enrollment → Option (List ℕ)
-enrollment_parent None = None
-enrollment_parent (Some enrollment) = Some enrollment.entity
 
 -- the child is noted under its parent, if it has one
 abbrev pub is_linked : {S : Type 0} → HashMap (List ℕ) (List (List ℕ)) S → Option (List ℕ) → List ℕ → Bool

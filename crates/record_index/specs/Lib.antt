@@ -1,4 +1,5 @@
 pub mod Said
+pub mod Hanging
 pub mod Maps
 pub mod Holds
 pub mod Facts

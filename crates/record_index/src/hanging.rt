@@ -6,8 +6,8 @@ ghost use Rattle.std.specs.Ordering.{nat_cmp};
 ghost use Rattle.record_index.specs.Said.{same_id};
 ghost use Rattle.record_index.specs.Maps as maps;
 ghost use Rattle.record_index.specs.Holds.{contents, event_held, enrollment_held};
-ghost use Rattle.record_index.specs.Index.{event_parent, enrollment_parent};
-ghost use Rattle.record_index.specs.World as world;
+ghost use Rattle.record_index.specs.Hanging.{event_parent, enrollment_parent};
+ghost use Rattle.record_index.specs.Hanging as hang;
 
 use crate::held::look;
 use crate::index::{Index, parent_of_enrollment, parent_of_event};
@@ -27,7 +27,7 @@ fn children_of<'a>(children: &'a HashMap<Uid, Items<Uid>>, parent: &Uid) -> &'a 
 }
 
 fn hangs_on(parent: Option<Uid>, asked: Uid) -> bool
-    ensures { result ≡ world.hangs_on parent asked }
+    ensures { result ≡ hang.hangs_on parent asked }
 {
     match parent {
         Some(parent) => parent == asked,
@@ -46,7 +46,7 @@ fn keep_if(found: &mut Vec<Uid>, id: Uid, keep: bool) -> Result<(), Memory>
 
 /// Those noted under the enrollment that are there and hang on it.
 pub fn live_events(alloc: Global, index: &Index, enrollment: Uid) -> Result<Vec<Uid>, Memory>
-    ensures { IfOk result (λ found. found.items ≡ filter (λ id. world.hangs_on (event_parent (event_held (contents index.now) id)) enrollment) (maps.held same_id [] index.now.events_of enrollment)) }
+    ensures { IfOk result (λ found. found.items ≡ filter (λ id. hang.hangs_on (event_parent (event_held (contents index.now) id)) enrollment) (maps.held same_id [] index.now.events_of enrollment)) }
 {
     let mut found = Vec::new(alloc);
     for id in children_of(&index.events_of, &enrollment) {
@@ -58,7 +58,7 @@ pub fn live_events(alloc: Global, index: &Index, enrollment: Uid) -> Result<Vec<
 
 /// Those noted under the entity that are there and hang on it.
 pub fn live_enrollments(alloc: Global, index: &Index, entity: Uid) -> Result<Vec<Uid>, Memory>
-    ensures { IfOk result (λ found. found.items ≡ filter (λ id. world.hangs_on (enrollment_parent (enrollment_held (contents index.now) id)) entity) (maps.held same_id [] index.now.enrollments_of entity)) }
+    ensures { IfOk result (λ found. found.items ≡ filter (λ id. hang.hangs_on (enrollment_parent (enrollment_held (contents index.now) id)) entity) (maps.held same_id [] index.now.enrollments_of entity)) }
 {
     let mut found = Vec::new(alloc);
     for id in children_of(&index.enrollments_of, &entity) {

@@ -4,7 +4,8 @@ ghost use Rattle.std.specs.HashMap.{get};
 ghost use Rattle.record_index.specs.Said.{same_id};
 ghost use Rattle.record_index.specs.Maps.{Grows, is_noted};
 ghost use Rattle.record_index.specs.Holds.{contents, HoldSame};
-ghost use Rattle.record_index.specs.Index.{event_parent, enrollment_parent, is_linked, IsLinked, IsReady, Keeps, Puts};
+ghost use Rattle.record_index.specs.Hanging.{event_parent, enrollment_parent};
+ghost use Rattle.record_index.specs.Index.{is_linked, IsLinked, IsReady, Keeps, Puts};
 
 use crate::children::note;
 use crate::held::{enter, look, put};

@@ -3,9 +3,9 @@ ghost use Rattle.std.specs.Option.{option_copied};
 ghost use Rattle.dh_changes.specs.declared.change.Write.{Write};
 ghost use Rattle.record_index.specs.Said as says;
 ghost use Rattle.record_index.specs.Holds.{contents, empty, HoldSame, IsAfter};
-ghost use Rattle.record_index.specs.Index.{IsLinked, AllReady, event_parent, enrollment_parent};
+ghost use Rattle.record_index.specs.Index.{IsLinked, AllReady};
 ghost use Rattle.record_index.specs.Facts as known;
-ghost use Rattle.record_index.specs.World.{facts, hangs_on, Lists};
+ghost use Rattle.record_index.specs.World.{facts};
 
 use crate::hanging::{live_enrollments, live_events, put_in_order};
 use crate::held::look;
@@ -125,7 +125,7 @@ impl World {
     /// A world that holds nothing. It takes no memory.
     #[tactic(auto, unfolding(crate::specs::World::facts))]
     pub fn new(alloc: Global) -> World
-        ensures nothing { facts result ≡ known.nothing }
+        ensures nothing { facts result ≡ known.facts_in [] }
         ensures reserved { result.reserved ≡ [] }
     {
         World {
@@ -149,7 +149,7 @@ impl World {
     #[tactic(auto, unfolding(crate::specs::World::facts))]
     pub fn apply(&mut self, change: &Change)
         requires { self.old.reserved ≡ map says.said_by change.now.writes }
-        ensures after { facts self.new ≡ known.after change.now.writes (facts self.old) }
+        ensures after { IsAfter self.old.held (map says.said_by change.now.writes) self.new.held }
         ensures log { (log : List Write) → facts self.old ≡ known.facts_in log → facts self.new ≡ known.facts_in (log ++ change.now.writes) }
         ensures reserved { self.new.reserved ≡ [] }
     {
@@ -215,7 +215,7 @@ impl World {
     /// that were ever written for the entity, and at no others.
     #[tactic(auto, unfolding(crate::specs::World::facts))]
     pub fn enrollments_of(&self, alloc: Global, entity: Uid) -> Result<Items<Uid>, Memory>
-        ensures { IfOk result (Lists (λ id. hangs_on (enrollment_parent ((facts self.now).enrollment id)) entity)) }
+        ensures { IfOk result (λ ids. ids ≡ (facts self.now).enrollments_of entity) }
     {
         let found = live_enrollments(alloc, &self.index, entity)?;
         Ok(put_in_order(found))
@@ -225,7 +225,7 @@ impl World {
     /// were ever written for the enrollment, and at no others.
     #[tactic(auto, unfolding(crate::specs::World::facts))]
     pub fn events_of(&self, alloc: Global, enrollment: Uid) -> Result<Items<Uid>, Memory>
-        ensures { IfOk result (Lists (λ id. hangs_on (event_parent ((facts self.now).event id)) enrollment)) }
+        ensures { IfOk result (λ ids. ids ≡ (facts self.now).events_of enrollment) }
     {
         let found = live_events(alloc, &self.index, enrollment)?;
         Ok(put_in_order(found))

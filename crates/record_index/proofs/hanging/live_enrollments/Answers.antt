@@ -2,8 +2,7 @@ use Rattle.std.proofs.Common.{◌≡◌, ◌∙◌, ◌<◌, [], ap, subst, leng
 use Rattle.record_index.specs.Said.{same_id}
 use Rattle.record_index.specs.Maps.{held}
 use Rattle.record_index.specs.Holds.{contents, enrollment_held}
-use Rattle.record_index.specs.Index.{enrollment_parent}
-use Rattle.record_index.specs.World.{hangs_on}
+use Rattle.record_index.specs.Hanging.{enrollment_parent, hangs_on}
 use Rattle.record_index.proofs.HangingLemmas.{filter-more}
 use Rattle.record_index.proofs.hanging.live_enrollments.Goals as goal
 

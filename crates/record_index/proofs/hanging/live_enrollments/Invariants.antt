@@ -3,8 +3,7 @@ use Rattle.std.specs.List.{filter}
 use Rattle.record_index.specs.Said.{same_id}
 use Rattle.record_index.specs.Maps.{held}
 use Rattle.record_index.specs.Holds.{contents, enrollment_held}
-use Rattle.record_index.specs.Index.{enrollment_parent}
-use Rattle.record_index.specs.World.{hangs_on}
+use Rattle.record_index.specs.Hanging.{enrollment_parent, hangs_on}
 use Rattle.record_index.proofs.hanging.live_enrollments.Given as goal
 
 abbrev pub invariant-loop-id : goal.invariant-loop-id

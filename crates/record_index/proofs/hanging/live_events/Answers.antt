@@ -2,8 +2,7 @@ use Rattle.std.proofs.Common.{◌≡◌, ◌∙◌, ◌<◌, [], ap, subst, leng
 use Rattle.record_index.specs.Said.{same_id}
 use Rattle.record_index.specs.Maps.{held}
 use Rattle.record_index.specs.Holds.{contents, event_held}
-use Rattle.record_index.specs.Index.{event_parent}
-use Rattle.record_index.specs.World.{hangs_on}
+use Rattle.record_index.specs.Hanging.{event_parent, hangs_on}
 use Rattle.record_index.proofs.HangingLemmas.{filter-more}
 use Rattle.record_index.proofs.hanging.live_events.Goals as goal
 

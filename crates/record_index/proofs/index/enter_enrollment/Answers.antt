@@ -1,5 +1,6 @@
 use Rattle.std.proofs.Common.{◌≡◌, ◌∙◌, ap}
-use Rattle.record_index.specs.Index.{enrollment_parent, is_linked}
+use Rattle.record_index.specs.Index.{is_linked}
+use Rattle.record_index.specs.Hanging.{enrollment_parent}
 use Rattle.record_index.proofs.index.enter_enrollment.Goals as goal
 
 pub link-requires : goal.link-requires
