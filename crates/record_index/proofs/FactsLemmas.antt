@@ -1,6 +1,6 @@
 -- What is held is a function of the writes.
 use mathlib.Core.Path.{fun_ext}
-use Rattle.std.proofs.Common.{◌≡◌, ◌∙◌, ℕ, ℤ, Bool, true, false, cond, ◌||◌, List, [], ◌∷◌, ◌++◌, Option, Some, None, refl, sym, ap, map}
+use Rattle.std.proofs.Common.{◌≡◌, ◌∙◌, ℕ, true, false, cond, ◌||◌, List, [], ◌∷◌, ◌++◌, Option, Some, None, refl, sym, ap, map}
 use Rattle.std.proofs.lemmas.List.{map-append}
 use Rattle.std.specs.Option.{unwrap_or, option_or, option_to_list, is_some}
 use Rattle.std.specs.List.{list_any}
@@ -15,7 +15,7 @@ use Rattle.record_index.specs.Said.{same_id, said_by, last_said, of_value, of_ev
 use Rattle.record_index.specs.Holds.{Held, HoldSame, IsAfter, empty, value_held, event_held, enrollment_held, entity_held, approval_held, registration_held}
 use Rattle.record_index.specs.declared.said.Said.TheVariants as said
 use Rattle.record_index.specs.declared.said.ApprovalState.TheVariants as state
-use Rattle.record_index.specs.Hanging.{event_parent, enrollment_parent, hanging}
+use Rattle.record_index.specs.Hanging.{event_parent, enrollment_parent}
 use Rattle.record_index.specs.Facts.{Facts, facts_in, facts_of, all_named, event_named, enrollment_named, value_in, event_in, enrollment_in, entity_in, approval_in, registration_in}
 use Rattle.record_index.proofs.OrderLemmas.{Covers, hanging-same, covers-entries, covers-named}
 

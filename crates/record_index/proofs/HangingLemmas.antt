@@ -1,10 +1,9 @@
 -- Identifiers that hang on another, found among those noted under it.
 use Rattle.std.proofs.Common.{◌≡◌, ◌∙◌, ◌+◌, ◌<◌, ℕ, Bool, true, false, cond, List, [], ◌∷◌, ◌++◌, ◌||◌, Option, Some, None, length, take, get_or, refl, sym, ap}
 use Rattle.std.proofs.lemmas.List.{take_more}
-use Rattle.std.proofs.lemmas.Result.{IfOk-at_ok}
 use Rattle.std.specs.List.{filter, list_any, dedup, dedup_from}
 use Rattle.std.specs.HashMap.{HashMap}
-use Rattle.std.specs.Cmp.Lexicographic.{same_text, nat_list_eq_equiv}
+use Rattle.std.specs.Cmp.Lexicographic.{same_text}
 use Rattle.record_index.specs.Said.{same_id}
 use Rattle.record_index.specs.Maps.{is_noted}
 use Rattle.record_index.specs.Index.{is_linked}

@@ -1,8 +1,8 @@
 -- An index that takes in what was said of its keys.
-use Rattle.std.proofs.Common.{◌≡◌, ◌∙◌, ℕ, ℤ, Bool, true, false, cond, List, [], ◌∷◌, ◌++◌, Option, Some, None, refl, sym, ap, subst, reverse, map}
+use Rattle.std.proofs.Common.{◌≡◌, ◌∙◌, ℕ, Bool, true, false, cond, List, [], ◌∷◌, ◌++◌, Option, Some, None, refl, sym, ap, subst, reverse}
 use Rattle.std.proofs.lemmas.List.{reverse-append}
 use Rattle.std.specs.Option.{unwrap_or, is_some, option_or}
-use Rattle.std.specs.HashMap.{HashMap, get, Updates}
+use Rattle.std.specs.HashMap.{HashMap, get}
 use Rattle.std.specs.Cmp.Lexicographic.{same_text}
 use Rattle.record_index.specs.declared.said.ApprovalState.TheVariants as state
 use Rattle.record_index.specs.declared.said.Said.{Said}
@@ -10,7 +10,7 @@ use Rattle.record_index.specs.declared.said.Said.TheVariants as said
 use Rattle.record_index.specs.declared.index.Index.{Index}
 use Rattle.record_index.specs.Said.{same_id, last_said, of_value, of_event, of_enrollment, of_entity, of_approval, of_registration}
 use Rattle.dh_changes.specs.Keys.{same_value_key, same_approval_key, same_reg_key}
-use Rattle.record_index.specs.Maps.{held, is_noted}
+use Rattle.record_index.specs.Maps.{is_noted}
 use Rattle.record_index.specs.Holds.{Held, contents, HoldSame, IsAfter, value_held, entity_held, approval_held, registration_held, event_held, enrollment_held}
 use Rattle.record_index.specs.Hanging.{event_parent, enrollment_parent}
 use Rattle.record_index.specs.Index.{is_linked, IsLinked, IsReady, AllReady, Keeps, Puts}
@@ -269,10 +269,11 @@ pub turn : (old : Index) (waiting rest : List Said) (s : Said) (new : Index) (ri
     → HoldSame (contents new) (reverse rest) right others × IsLinked new × AllReady new (reverse rest)
 turn old waiting rest s new right others is puts same linked ready =
     let first : reverse waiting ≡ s ∷ reverse rest = popped waiting rest s is in
-    let all : AllReady old (s ∷ reverse rest) = subst (AllReady old) first ready in
-    (same-step (contents old) (contents new) s (reverse rest) right others (after-put old s new puts) (subst (λ xs. HoldSame (contents old) xs right others) first same),
-    linked-put old s new puts all.0 linked,
-    all_ready-stays old new (keeps-put old s new puts) (reverse rest) all.1)
+    let all : AllReady old (s ∷ reverse rest) = subst (AllReady old) first ready in (
+      same-step (contents old) (contents new) s (reverse rest) right others (after-put old s new puts) (subst (λ xs. HoldSame (contents old) xs right others) first same),
+      linked-put old s new puts all.0 linked,
+      all_ready-stays old new (keeps-put old s new puts) (reverse rest) all.1,
+    )
 
 pub ready-first : (old : Index) (waiting rest : List Said) (s : Said) → waiting ≡ rest ++ s ∷ [] → AllReady old (reverse waiting) → IsReady old s
 ready-first old waiting rest s is ready = (subst (AllReady old) (popped waiting rest s is) ready).0

@@ -1,5 +1,5 @@
 -- Children noted under a parent, in a map that grows.
-use Rattle.std.proofs.Common.{◌≡◌, ◌∙◌, ℕ, Bool, true, false, cond, List, [], ◌∷◌, ◌++◌, ◌||◌, Option, Some, None, Result, Ok, Err, OnOk, OnErr, refl, sym, ap}
+use Rattle.std.proofs.Common.{◌≡◌, ◌∙◌, ℕ, Bool, true, false, cond, List, [], ◌∷◌, ◌++◌, ◌||◌, Option, Some, Result, Ok, Err, OnOk, OnErr, refl, sym, ap}
 use Rattle.std.proofs.lemmas.List.Folds.{list_any-append}
 use Rattle.std.specs.Option.{unwrap_or}
 use Rattle.std.specs.List.{list_any}
@@ -34,7 +34,7 @@ module _ (old new : List ℕ → Option (List (List ℕ))) (parent : List ℕ) (
         | true ↦ λ same.
             let equal : parent ≡ p = same_text parent p (sym same) in
             let was : list_any (λ other. same_id c other) list ≡ true =
-                ap (λ o. list_any (λ other. same_id c other) (unwrap_or o [])) (sym at ∙ ap old equal) ∙ noted in
+            ap (λ o. list_any (λ other. same_id c other) (unwrap_or o [])) (sym at ∙ ap old equal) ∙ noted in
             ap (λ o. list_any (λ other. same_id c other) (unwrap_or o [])) (update p ∙ ap (λ b. cond b (Some more) (old p)) same)
             ∙ keeps (λ other. same_id c other) was
         | false ↦ λ apart.

@@ -1,5 +1,5 @@
 -- What a list of entries holds under each key.
-use Rattle.std.specs.Prelude.{◌≡◌, ℕ, ℤ, List, [], Option, None, Some}
+use Rattle.std.specs.Prelude.{◌≡◌, ℕ, ℤ, List, [], Option, None}
 use Rattle.std.specs.Option.{unwrap_or}
 use Rattle.dh_changes.specs.Keys.{same_value_key, same_approval_key, same_reg_key}
 use Rattle.dh_changes.specs.declared.keys.ValueKey.{ValueKey}

@@ -6,8 +6,6 @@ use Rattle.dh_changes.specs.Keys.{same_value_key, same_approval_key, same_reg_ke
 use Rattle.dh_changes.specs.declared.keys.ValueKey.{ValueKey}
 use Rattle.dh_changes.specs.declared.keys.ApprovalKey.{ApprovalKey}
 use Rattle.dh_changes.specs.declared.keys.RegKey.{RegKey}
-use Rattle.dh_changes.specs.declared.tracker.Event.{Event}
-use Rattle.dh_changes.specs.declared.tracker.Enrollment.{Enrollment}
 use Rattle.record_index.specs.declared.said.Said.{Said}
 use Rattle.record_index.specs.declared.said.Said.TheVariants as said
 use Rattle.record_index.specs.declared.index.Index.{Index}

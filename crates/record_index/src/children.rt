@@ -12,7 +12,12 @@ use std::alloc::Global;
 use std::collections::HashMap;
 
 /// Notes an identifier as a child of a parent.
-pub fn note(alloc: Global, children: &mut HashMap<Uid, Items<Uid>>, parent: &Uid, child: Uid) -> Result<(), Memory>
+pub fn note(
+    alloc: Global,
+    children: &mut HashMap<Uid, Items<Uid>>,
+    parent: &Uid,
+    child: Uid,
+) -> Result<(), Memory>
     ensures noted { OnOk result (is_noted children.new parent.now child ≡ true) }
     ensures stays { (p c : List ℕ) → is_noted children.old p c ≡ true → is_noted children.new p c ≡ true }
 {

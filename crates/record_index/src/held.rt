@@ -9,7 +9,11 @@ use std::collections::HashMap;
 use std::hash::Hash;
 
 /// Enters a key, which holds nothing unless it is there already.
-pub fn enter<K: Eq + Hash + Copy, V: Drop>(map: &mut HashMap<K, V>, key: &K, nothing: V) -> Result<(), Memory>
+pub fn enter<K: Eq + Hash + Copy, V: Drop>(
+    map: &mut HashMap<K, V>,
+    key: &K,
+    nothing: V,
+) -> Result<(), Memory>
     ensures grows { Grows K.eq nothing map.old map.new }
     ensures there { OnOk result (is_some (get K.eq map.new key.now) ≡ true) }
 {

@@ -54,7 +54,13 @@ pub fn parent_of_enrollment(enrollment: Option<&Enrollment>) -> Option<Uid>
 }
 
 // Notes a child under its parent, unless it is noted there as what it was before.
-fn link(alloc: Global, children: &mut HashMap<Uid, Items<Uid>>, before: Option<Uid>, parent: Option<Uid>, child: Uid) -> Result<(), Memory>
+fn link(
+    alloc: Global,
+    children: &mut HashMap<Uid, Items<Uid>>,
+    before: Option<Uid>,
+    parent: Option<Uid>,
+    child: Uid,
+) -> Result<(), Memory>
     requires { is_linked children.old before child ≡ true }
     ensures linked { OnOk result (is_linked children.new parent child ≡ true) }
     ensures stays { (p c : List ℕ) → is_noted children.old p c ≡ true → is_noted children.new p c ≡ true }
@@ -68,7 +74,12 @@ fn link(alloc: Global, children: &mut HashMap<Uid, Items<Uid>>, before: Option<U
     }
 }
 
-fn enter_event(alloc: Global, index: &mut Index, id: Uid, event: Option<&Event>) -> Result<(), Memory>
+fn enter_event(
+    alloc: Global,
+    index: &mut Index,
+    id: Uid,
+    event: Option<&Event>,
+) -> Result<(), Memory>
     requires { IsLinked index.old }
     ensures same { HoldSame (contents index.new) [] (contents index.old) [] }
     ensures keeps { Keeps index.old index.new }
@@ -76,11 +87,22 @@ fn enter_event(alloc: Global, index: &mut Index, id: Uid, event: Option<&Event>)
     ensures linked { OnOk result (is_linked index.new.events_of (event_parent (option_copied event.entry)) id ≡ true) }
 {
     let before = parent_of_event(look(&index.events, &id));
-    link(alloc, &mut index.events_of, before, parent_of_event(event), id)?;
+    link(
+        alloc,
+        &mut index.events_of,
+        before,
+        parent_of_event(event),
+        id,
+    )?;
     enter(&mut index.events, &id, None)
 }
 
-fn enter_enrollment(alloc: Global, index: &mut Index, id: Uid, enrollment: Option<&Enrollment>) -> Result<(), Memory>
+fn enter_enrollment(
+    alloc: Global,
+    index: &mut Index,
+    id: Uid,
+    enrollment: Option<&Enrollment>,
+) -> Result<(), Memory>
     requires { IsLinked index.old }
     ensures same { HoldSame (contents index.new) [] (contents index.old) [] }
     ensures keeps { Keeps index.old index.new }
@@ -88,7 +110,13 @@ fn enter_enrollment(alloc: Global, index: &mut Index, id: Uid, enrollment: Optio
     ensures linked { OnOk result (is_linked index.new.enrollments_of (enrollment_parent (option_copied enrollment.entry)) id ≡ true) }
 {
     let before = parent_of_enrollment(look(&index.enrollments, &id));
-    link(alloc, &mut index.enrollments_of, before, parent_of_enrollment(enrollment), id)?;
+    link(
+        alloc,
+        &mut index.enrollments_of,
+        before,
+        parent_of_enrollment(enrollment),
+        id,
+    )?;
     enter(&mut index.enrollments, &id, None)
 }
 
@@ -102,7 +130,12 @@ pub fn make_ready(alloc: Global, index: &mut Index, said: &Said) -> Result<(), M
     match said {
         Said::Value { key, .. } => enter(&mut index.values, key, None),
         Said::Event { id, event } => enter_event(alloc, index, *id, event.as_ref()),
-        Said::Enrollment { id, enrollment } => enter_enrollment(alloc, index, *id, enrollment.as_ref()),
+        Said::Enrollment { id, enrollment } => enter_enrollment(
+            alloc,
+            index,
+            *id,
+            enrollment.as_ref(),
+        ),
         Said::Entity { id, .. } => enter(&mut index.entities, id, None),
         Said::Approval { key, .. } => enter(&mut index.approvals, key, ApprovalState::None),
         Said::Registration { key, .. } => enter(&mut index.registrations, key, None),

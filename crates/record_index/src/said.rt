@@ -20,12 +20,30 @@ pub enum ApprovalState {
 /// What a write says of the one key that it names. `None` says that nothing is held.
 #[derive(Drop)]
 pub enum Said {
-    Value { key: ValueKey, value: Option<Items<u8>> },
-    Event { id: Uid, event: Option<Event> },
-    Enrollment { id: Uid, enrollment: Option<Enrollment> },
-    Entity { id: Uid, entity: Option<Entity> },
-    Approval { key: ApprovalKey, state: ApprovalState },
-    Registration { key: RegKey, day: Option<i32> },
+    Value {
+        key: ValueKey,
+        value: Option<Items<u8>>,
+    },
+    Event {
+        id: Uid,
+        event: Option<Event>,
+    },
+    Enrollment {
+        id: Uid,
+        enrollment: Option<Enrollment>,
+    },
+    Entity {
+        id: Uid,
+        entity: Option<Entity>,
+    },
+    Approval {
+        key: ApprovalKey,
+        state: ApprovalState,
+    },
+    Registration {
+        key: RegKey,
+        day: Option<i32>,
+    },
 }
 
 /// What a write says, with copies of its texts.
@@ -37,28 +55,58 @@ pub fn said_by(alloc: Global, write: &Write) -> Result<Said, Memory>
             key: *key,
             value: Some(copy_text(alloc, value.as_slice())?),
         },
-        Write::ValueCleared { key } => Said::Value { key: *key, value: None },
+        Write::ValueCleared { key } => Said::Value {
+            key: *key,
+            value: None,
+        },
         Write::EventWritten(event) => Said::Event {
             id: event.id,
             event: Some(copy_event(alloc, event)?),
         },
-        Write::EventDeleted(id) => Said::Event { id: *id, event: None },
+        Write::EventDeleted(id) => Said::Event {
+            id: *id,
+            event: None,
+        },
         Write::EnrollmentWritten(enrollment) => Said::Enrollment {
             id: enrollment.id,
             enrollment: Some(copy_enrollment(enrollment)),
         },
-        Write::EnrollmentDeleted(id) => Said::Enrollment { id: *id, enrollment: None },
+        Write::EnrollmentDeleted(id) => Said::Enrollment {
+            id: *id,
+            enrollment: None,
+        },
         Write::EntityWritten(entity) => Said::Entity {
             id: entity.id,
             entity: Some(copy_entity(alloc, entity)?),
         },
-        Write::EntityDeleted(id) => Said::Entity { id: *id, entity: None },
-        Write::Approve(key) => Said::Approval { key: *key, state: ApprovalState::Approved },
-        Write::Unapprove(key) => Said::Approval { key: *key, state: ApprovalState::None },
-        Write::Accept(key) => Said::Approval { key: *key, state: ApprovalState::Accepted },
-        Write::Unaccept(key) => Said::Approval { key: *key, state: ApprovalState::Approved },
-        Write::Complete { key, day } => Said::Registration { key: *key, day: Some(*day) },
-        Write::Uncomplete { key } => Said::Registration { key: *key, day: None },
+        Write::EntityDeleted(id) => Said::Entity {
+            id: *id,
+            entity: None,
+        },
+        Write::Approve(key) => Said::Approval {
+            key: *key,
+            state: ApprovalState::Approved,
+        },
+        Write::Unapprove(key) => Said::Approval {
+            key: *key,
+            state: ApprovalState::None,
+        },
+        Write::Accept(key) => Said::Approval {
+            key: *key,
+            state: ApprovalState::Accepted,
+        },
+        Write::Unaccept(key) => Said::Approval {
+            key: *key,
+            state: ApprovalState::Approved,
+        },
+        Write::Complete { key, day } => Said::Registration {
+            key: *key,
+            day: Some(*day),
+        },
+        Write::Uncomplete { key } => Said::Registration {
+            key: *key,
+            day: None,
+        },
     })
 }
 

@@ -108,7 +108,11 @@ fn approvals_and_registrations_follow_their_writes(rt: HostRuntime) -> Result<()
         ("unaccept", ApprovalState::Approved),
         ("unapprove", ApprovalState::None),
     ] {
-        take(alloc, &mut world, vec![in alloc; approval_write(key, verb)?]?)?;
+        take(
+            alloc,
+            &mut world,
+            vec![in alloc; approval_write(key, verb)?]?,
+        )?;
         assert_eq!(rt; world.approval(&key), state, "{verb}");
     }
     let key = RegKey {
@@ -117,17 +121,27 @@ fn approvals_and_registrations_follow_their_writes(rt: HostRuntime) -> Result<()
         unit: uid(b"GenFacil000")?,
         attribute: uid(b"HllvX50cXC0")?,
     };
-    let twice = vec![in alloc; Write::Complete { key, day: 19_800 }, Write::Complete { key, day: 19_801 }]?;
+    let twice = vec![in alloc;
+        Write::Complete { key, day: 19_800 },
+        Write::Complete { key, day: 19_801 },
+    ]?;
     take(alloc, &mut world, twice)?;
     assert_eq!(rt; world.registration(&key), Some(19_801));
-    take(alloc, &mut world, vec![in alloc; Write::Uncomplete { key }]?)?;
+    take(
+        alloc,
+        &mut world,
+        vec![in alloc; Write::Uncomplete { key }]?,
+    )?;
     assert_eq!(rt; world.registration(&key), None);
     Ok(())
 }
 
 fn event(alloc: Global, id: &[u8], enrollment: &[u8]) -> Result<Write, Fail> {
     let mut values = Items::new(alloc);
-    values.push((uid(b"GenElement1")?, Items::from(Vec::from_slice(alloc, b"3")?)))?;
+    values.push((
+        uid(b"GenElement1")?,
+        Items::from(Vec::from_slice(alloc, b"3")?),
+    ))?;
     Ok(Write::EventWritten(Event {
         id: uid(id)?,
         enrollment: Some(uid(enrollment)?),
@@ -159,7 +173,12 @@ fn what_hangs_on_an_object_is_listed_while_it_is_live(rt: HostRuntime) -> Result
     let person = uid(b"EntityXXXX1")?;
     let mut world = World::new(alloc);
     let first = vec![in alloc;
-        Write::EntityWritten(Entity { id: person, kind: uid(b"TypeXXXXXX1")?, unit: uid(b"GenFacil000")?, attributes: Items::new(alloc) }),
+        Write::EntityWritten(Entity {
+            id: person,
+            kind: uid(b"TypeXXXXXX1")?,
+            unit: uid(b"GenFacil000")?,
+            attributes: Items::new(alloc)
+        }),
         enrollment(b"EnrollmentB", b"EntityXXXX1")?,
         enrollment(b"EnrollmentA", b"EntityXXXX1")?,
         event(alloc, b"EventXXXXXB", b"EnrollmentA")?,
@@ -170,9 +189,20 @@ fn what_hangs_on_an_object_is_listed_while_it_is_live(rt: HostRuntime) -> Result
     let a = uid(b"EnrollmentA")?;
     let b = uid(b"EnrollmentB")?;
     assert!(rt; world.entity(person).is_some());
-    assert_eq!(rt; world.event(uid(b"EventXXXXXB")?).map_or(0, |event| event.values.len()), 1);
-    assert_eq!(rt; world.enrollments_of(alloc, person)?.as_slice(), [a, b].as_slice());
-    assert_eq!(rt; world.events_of(alloc, a)?.as_slice(), [uid(b"EventXXXXXA")?, uid(b"EventXXXXXB")?].as_slice());
+    assert_eq!(rt;
+        world
+            .event(uid(b"EventXXXXXB")?)
+            .map_or(0, |event| event.values.len()),
+        1
+    );
+    assert_eq!(rt;
+        world.enrollments_of(alloc, person)?.as_slice(),
+        [a, b].as_slice()
+    );
+    assert_eq!(rt;
+        world.events_of(alloc, a)?.as_slice(),
+        [uid(b"EventXXXXXA")?, uid(b"EventXXXXXB")?].as_slice()
+    );
     let second = vec![in alloc;
         event(alloc, b"EventXXXXXB", b"EnrollmentB")?,
         event(alloc, b"EventXXXXXC", b"EnrollmentB")?,
@@ -181,13 +211,20 @@ fn what_hangs_on_an_object_is_listed_while_it_is_live(rt: HostRuntime) -> Result
     ]?;
     take(alloc, &mut world, second)?;
     assert!(rt; world.enrollment(a).is_none());
-    assert_eq!(rt; world.enrollments_of(alloc, person)?.as_slice(), [b].as_slice());
+    assert_eq!(rt;
+        world.enrollments_of(alloc, person)?.as_slice(),
+        [b].as_slice()
+    );
     assert!(rt; world.events_of(alloc, a)?.is_empty());
-    assert_eq!(rt; world.events_of(alloc, b)?.as_slice(), [uid(b"EventXXXXXB")?, uid(b"EventXXXXXC")?].as_slice());
+    assert_eq!(rt;
+        world.events_of(alloc, b)?.as_slice(),
+        [uid(b"EventXXXXXB")?, uid(b"EventXXXXXC")?].as_slice()
+    );
     Ok(())
 }
 
 const FACILITIES: u32 = 100;
+
 const DAYS_OF_A_CHANGE: u32 = 10;
 /// 1 January 2000.
 const FIRST_DAY: i32 = 10_957;

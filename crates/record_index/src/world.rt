@@ -59,7 +59,12 @@ fn empty_index(alloc: Global) -> Index
 }
 
 // Makes room for one more write.
-fn prepare(alloc: Global, index: &mut Index, waiting: &mut Vec<Said>, write: &Write) -> Result<(), Memory>
+fn prepare(
+    alloc: Global,
+    index: &mut Index,
+    waiting: &mut Vec<Said>,
+    write: &Write,
+) -> Result<(), Memory>
     requires linked { IsLinked index.old }
     requires ready { AllReady index.old waiting.old.items }
     ensures same { HoldSame (contents index.new) [] (contents index.old) [] }
@@ -73,7 +78,12 @@ fn prepare(alloc: Global, index: &mut Index, waiting: &mut Vec<Said>, write: &Wr
     Ok(())
 }
 
-fn prepare_all(alloc: Global, index: &mut Index, waiting: &mut Vec<Said>, writes: &[Write]) -> Result<(), Memory>
+fn prepare_all(
+    alloc: Global,
+    index: &mut Index,
+    waiting: &mut Vec<Said>,
+    writes: &[Write],
+) -> Result<(), Memory>
     requires linked { IsLinked index.old }
     requires empty { waiting.old.items ≡ [] }
     ensures same { HoldSame (contents index.new) [] (contents index.old) [] }
@@ -87,7 +97,12 @@ fn prepare_all(alloc: Global, index: &mut Index, waiting: &mut Vec<Said>, writes
     Ok(())
 }
 
-fn reserve_in(alloc: Global, index: &mut Index, waiting: &mut Vec<Said>, writes: &[Write]) -> Result<(), Memory>
+fn reserve_in(
+    alloc: Global,
+    index: &mut Index,
+    waiting: &mut Vec<Said>,
+    writes: &[Write],
+) -> Result<(), Memory>
     requires linked { IsLinked index.old }
     ensures same { HoldSame (contents index.new) [] (contents index.old) [] }
     ensures linked { IsLinked index.new }

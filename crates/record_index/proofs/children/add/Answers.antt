@@ -1,4 +1,4 @@
-use Rattle.std.proofs.Common.{◌≡◌, sym}
+use Rattle.std.proofs.Common.{sym}
 use Rattle.std.specs.HashMap.{get}
 use Rattle.record_index.specs.Said.{same_id}
 use Rattle.record_index.proofs.MapLemmas.{noted-stays, noted-new, pushed-keeps}

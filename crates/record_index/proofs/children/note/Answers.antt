@@ -1,4 +1,3 @@
-use Rattle.std.proofs.Common.{◌≡◌}
 use Rattle.std.specs.HashMap.{get}
 use Rattle.record_index.specs.Said.{same_id}
 use Rattle.record_index.proofs.MapLemmas.{noted-same}

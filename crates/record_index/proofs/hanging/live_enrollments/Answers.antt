@@ -1,4 +1,4 @@
-use Rattle.std.proofs.Common.{◌≡◌, ◌∙◌, ◌<◌, [], ap, subst, length, get_or}
+use Rattle.std.proofs.Common.{◌∙◌, ◌<◌, [], ap, subst, length, get_or}
 use Rattle.record_index.specs.Said.{same_id}
 use Rattle.record_index.specs.Maps.{held}
 use Rattle.record_index.specs.Holds.{contents, enrollment_held}

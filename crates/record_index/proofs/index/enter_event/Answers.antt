@@ -1,4 +1,4 @@
-use Rattle.std.proofs.Common.{◌≡◌, ◌∙◌, ap}
+use Rattle.std.proofs.Common.{◌∙◌, ap}
 use Rattle.record_index.specs.Index.{is_linked}
 use Rattle.record_index.specs.Hanging.{event_parent}
 use Rattle.record_index.proofs.index.enter_event.Goals as goal

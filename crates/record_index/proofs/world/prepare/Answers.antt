@@ -1,4 +1,4 @@
-use Rattle.std.proofs.Common.{◌≡◌, sym, subst}
+use Rattle.std.proofs.Common.{sym, subst}
 use Rattle.record_index.specs.Index.{AllReady}
 use Rattle.record_index.proofs.IndexLemmas.{linked-same, all_ready-stays, all_ready-more}
 use Rattle.record_index.proofs.world.prepare.Goals as goal

@@ -1,4 +1,4 @@
-use Rattle.std.proofs.Common.{◌≡◌, [], reverse}
+use Rattle.std.proofs.Common.{reverse}
 use Rattle.std.specs.Prelude.{vec_len}
 use Rattle.record_index.specs.Holds.{contents, HoldSame}
 use Rattle.record_index.specs.Index.{IsLinked, AllReady}

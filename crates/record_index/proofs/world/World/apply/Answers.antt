@@ -1,4 +1,4 @@
-use Rattle.std.proofs.Common.{◌≡◌, ◌∙◌, ap, subst, map}
+use Rattle.std.proofs.Common.{◌∙◌, ap, subst, map}
 use Rattle.record_index.specs.Said.{said_by}
 use Rattle.record_index.specs.Holds.{contents, IsAfter}
 use Rattle.record_index.proofs.FactsLemmas.{facts-from_after}

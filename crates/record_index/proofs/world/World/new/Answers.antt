@@ -1,4 +1,3 @@
-use Rattle.std.proofs.Common.{◌≡◌}
 use Rattle.record_index.specs.Holds.{contents}
 use Rattle.record_index.proofs.FactsLemmas.{facts-from_empty}
 use Rattle.record_index.proofs.world.World.new.Goals as goal

@@ -1,4 +1,4 @@
-use Rattle.std.proofs.Common.{◌≡◌, ◌∙◌, ap}
+use Rattle.std.proofs.Common.{◌∙◌, ap}
 use Rattle.record_index.specs.Holds.{contents}
 use Rattle.record_index.specs.Facts.{facts_of}
 use Rattle.record_index.proofs.FactsLemmas.{facts-from_same}
