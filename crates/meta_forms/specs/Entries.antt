@@ -1,5 +1,5 @@
 -- What stands inside the objects of a metadata file, and beside them.
-use Rattle.std.specs.Prelude.{ℕ, ℤ, Bool, false, ◌&&◌, List, [], length, Option, Some, None, option_map, option_and_then, nat_le, cond, codes, map, Result, Ok, Err}
+use Rattle.std.specs.Prelude.{ℕ, ℤ, Bool, false, ◌&&◌, List, length, Option, Some, None, option_and_then, nat_le, cond, codes, map, Ok}
 use Rattle.std.specs.Fmt.{signed_decimal}
 use Rattle.std.specs.List.{list_all}
 use Rattle.serde_json.specs.Data.{Data, null, boolean, number, string, array, object}

@@ -1,11 +1,10 @@
 -- The fields of the objects of a metadata file.
-use Rattle.std.specs.Prelude.{ℕ, ℤ, List, Option, Some, None, option_map, option_and_then, cond, ◌&&◌, codes, map, int_le, Result, Ok, Err}
+use Rattle.std.specs.Prelude.{ℕ, ℤ, List, Option, Some, None, option_map, option_and_then, cond, ◌&&◌, codes, map, int_le, Ok}
 use Rattle.std.specs.Option.{unwrap_or}
 use Rattle.serde_json.specs.Data.{Data}
 use Rattle.serde_json.specs.Find.{as_str, as_number, as_i64}
 use Rattle.json_forms.specs.Forms.{Formed, and_then, or_fault, text_of, field_of, field_or_of, optional_of, listed_of}
 use Rattle.json_forms.specs.Reference.{reference_of}
-use Rattle.json_forms.specs.declared.reference.Reference.{Reference}
 
 -- the name of an object, by default its identifier
 unfoldable pub name_of : List ℕ → Data → Formed (List ℕ)

@@ -1,5 +1,5 @@
 -- All that a metadata file says: its keys in their order, an absent one without objects.
-use Rattle.std.specs.Prelude.{ℕ, Bool, List, codes, Result, Ok, Err}
+use Rattle.std.specs.Prelude.{codes, Ok}
 use Rattle.serde_json.specs.Data.{Data}
 use Rattle.json_forms.specs.Forms.{Formed, and_then, object_of}
 use Rattle.meta_parts.specs.declared.parts.MetaParts.{MetaParts}

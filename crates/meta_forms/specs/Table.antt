@@ -1,5 +1,5 @@
 -- The objects of a metadata file: which fields are read of each kind, in their order, and with which defaults.
-use Rattle.std.specs.Prelude.{ℕ, ℤ, pos, negsuc, true, false, List, Option, codes, Result, Ok, Err}
+use Rattle.std.specs.Prelude.{ℕ, pos, negsuc, false, List, codes, Ok}
 use Rattle.serde_json.specs.Data.{Data}
 use Rattle.dh_base.specs.declared.plain.AggType.TheVariants as aggregation
 use Rattle.dh_periods.specs.Types.{type_named}

@@ -313,81 +313,71 @@ fn is_base(read: &Result<MetaParts, FormFault>, has_workflow: bool) -> bool {
     }
 }
 
+fn last_rule_never_skips(parts: &MetaParts) -> bool {
+    match parts.validation_rules.as_slice().last() {
+        Some(rule) => {
+            rule.left_side.0.as_slice() == b"#{DeFormsRecv}".as_slice()
+                && rule.right_side.1 == Strategy::Never
+        }
+        None => false,
+    }
+}
+
 fn counts(alloc: Global, read: &Result<MetaParts, FormFault>) -> Result<String, Fail> {
     let line = match read {
-        Ok(parts) => format!(in alloc;
-            "{} {} {} {} {} {} {}",
-            parts.data_approval_levels.len(),
-            parts.data_approval_workflows.len(),
-            parts.indicator_types.len(),
-            parts.indicators.len(),
-            parts.validation_rules.len(),
-            parts.programs.len(),
-            parts.program_indicators.len()
-        )?,
+        Ok(parts) => {
+            let skips = if last_rule_never_skips(parts) {
+                "yes"
+            } else {
+                "no"
+            };
+            format!(in alloc;
+                "{} {} {} {} {} {} {} {skips}",
+                parts.data_approval_levels.len(),
+                parts.data_approval_workflows.len(),
+                parts.indicator_types.len(),
+                parts.indicators.len(),
+                parts.validation_rules.len(),
+                parts.programs.len(),
+                parts.program_indicators.len()
+            )?
+        }
         Err(_) => String::new(alloc),
     };
     Ok(line)
 }
 
-fn last_rule_never_skips(read: &Result<MetaParts, FormFault>) -> bool {
-    match read {
-        Ok(parts) => match parts.validation_rules.as_slice().last() {
-            Some(rule) => {
-                rule.left_side.0.as_slice() == b"#{DeFormsRecv}".as_slice()
-                    && rule.right_side.1 == Strategy::Never
-            }
-            None => false,
-        },
-        Err(_) => false,
-    }
+fn approved_forms(alloc: Global) -> Result<String, Fail> {
+    let text = with(alloc, APPROVAL)?;
+    Ok(text.replace(
+        alloc,
+        r#""periodType":"Monthly"}],"#,
+        r#""periodType":"Monthly","workflow":{"id":"WfForms0001"}}],"#,
+    )?)
+}
+
+fn check_file(
+    rt: &(impl Abort + AllocGlobal),
+    text: &str,
+    has_workflow: bool,
+    counted: &str,
+) -> Result<(), Fail> {
+    let alloc = rt.alloc();
+    let read = read_parts(alloc, &Value::from_str(alloc, text)?);
+    assert!(rt; is_base(&read, has_workflow));
+    let found = counts(alloc, &read)?;
+    assert_eq!(rt; found.as_str(), counted);
+    Ok(())
 }
 
 #[test]
 fn the_forms(rt: HostRuntime) -> Result<(), Fail> {
     let alloc = rt.alloc();
-    let read = read_parts(alloc, &Value::from_str(alloc, FORMS)?);
-    assert!(rt; is_base(&read, false));
-    let counted = counts(alloc, &read)?;
-    assert_eq!(rt; counted.as_str(), "0 0 0 0 0 0 0");
-    Ok(())
-}
-
-#[test]
-fn the_forms_with_approval(rt: HostRuntime) -> Result<(), Fail> {
-    let alloc = rt.alloc();
-    let text = with(alloc, APPROVAL)?;
-    let text = text.replace(
-        alloc,
-        r#""periodType":"Monthly"}],"#,
-        r#""periodType":"Monthly","workflow":{"id":"WfForms0001"}}],"#,
-    )?;
-    let read = read_parts(alloc, &Value::from_str(alloc, &text)?);
-    assert!(rt; is_base(&read, true));
-    let counted = counts(alloc, &read)?;
-    assert_eq!(rt; counted.as_str(), "2 1 0 0 0 0 0");
-    Ok(())
-}
-
-#[test]
-fn the_forms_with_rules(rt: HostRuntime) -> Result<(), Fail> {
-    let alloc = rt.alloc();
-    let text = with(alloc, RULES)?;
-    let read = read_parts(alloc, &Value::from_str(alloc, &text)?);
-    assert!(rt; is_base(&read, false));
-    assert!(rt; last_rule_never_skips(&read));
-    let counted = counts(alloc, &read)?;
-    assert_eq!(rt; counted.as_str(), "0 0 1 3 6 0 0");
-    Ok(())
-}
-
-#[test]
-fn the_forms_with_a_program(rt: HostRuntime) -> Result<(), Fail> {
-    let alloc = rt.alloc();
-    let text = with(alloc, VISITS)?;
-    let read = read_parts(alloc, &Value::from_str(alloc, &text)?);
-    assert!(rt; is_base(&read, false));
-    let counted = counts(alloc, &read)?;
-    assert_eq!(rt; counted.as_str(), "0 0 0 0 0 1 1");
-    Ok(())
+    check_file(&rt, FORMS, false, "0 0 0 0 0 0 0 no")?;
+    let approved = approved_forms(alloc)?;
+    check_file(&rt, &approved, true, "2 1 0 0 0 0 0 no")?;
+    let ruled = with(alloc, RULES)?;
+    check_file(&rt, &ruled, false, "0 0 1 3 6 0 0 yes")?;
+    let visited = with(alloc, VISITS)?;
+    check_file(&rt, &visited, false, "0 0 0 0 0 1 1 no")
 }
