@@ -7,3 +7,4 @@ pub mod Levels
 pub mod Ordered
 pub mod Overrides
 pub mod Limits
+pub mod Held

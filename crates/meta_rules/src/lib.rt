@@ -4,6 +4,7 @@
 
 pub mod combos;
 pub mod fault;
+pub mod held;
 pub mod levels;
 pub mod limits;
 pub mod overrides;
