@@ -76,20 +76,40 @@ pub enum AnalyticsType {
 pub fn value_type_named(name: &[u8]) -> Option<ValueType>
     ensures { result ≡ value_type_named name.now }
 {
-    match name {
-        b"NUMBER" => Some(ValueType::Number),
-        b"INTEGER" => Some(ValueType::Integer),
-        b"INTEGER_POSITIVE" => Some(ValueType::IntegerPositive),
-        b"INTEGER_NEGATIVE" => Some(ValueType::IntegerNegative),
-        b"INTEGER_ZERO_OR_POSITIVE" => Some(ValueType::IntegerZeroOrPositive),
-        b"PERCENTAGE" => Some(ValueType::Percentage),
-        b"UNIT_INTERVAL" => Some(ValueType::UnitInterval),
-        b"BOOLEAN" => Some(ValueType::Boolean),
-        b"TRUE_ONLY" => Some(ValueType::TrueOnly),
-        b"DATE" => Some(ValueType::Date),
-        b"TEXT" => Some(ValueType::Text),
-        _ => None,
+    if b"NUMBER".as_slice() == name {
+        return Some(ValueType::Number);
     }
+    if b"INTEGER".as_slice() == name {
+        return Some(ValueType::Integer);
+    }
+    if b"INTEGER_POSITIVE".as_slice() == name {
+        return Some(ValueType::IntegerPositive);
+    }
+    if b"INTEGER_NEGATIVE".as_slice() == name {
+        return Some(ValueType::IntegerNegative);
+    }
+    if b"INTEGER_ZERO_OR_POSITIVE".as_slice() == name {
+        return Some(ValueType::IntegerZeroOrPositive);
+    }
+    if b"PERCENTAGE".as_slice() == name {
+        return Some(ValueType::Percentage);
+    }
+    if b"UNIT_INTERVAL".as_slice() == name {
+        return Some(ValueType::UnitInterval);
+    }
+    if b"BOOLEAN".as_slice() == name {
+        return Some(ValueType::Boolean);
+    }
+    if b"TRUE_ONLY".as_slice() == name {
+        return Some(ValueType::TrueOnly);
+    }
+    if b"DATE".as_slice() == name {
+        return Some(ValueType::Date);
+    }
+    if b"TEXT".as_slice() == name {
+        return Some(ValueType::Text);
+    }
+    None
 }
 
 /// The operator of that name, or `None` where no one has it.
@@ -97,17 +117,31 @@ pub fn value_type_named(name: &[u8]) -> Option<ValueType>
 pub fn operator_named(name: &[u8]) -> Option<Operator>
     ensures { result ≡ operator_named name.now }
 {
-    match name {
-        b"equal_to" => Some(Operator::EqualTo),
-        b"not_equal_to" => Some(Operator::NotEqualTo),
-        b"greater_than" => Some(Operator::GreaterThan),
-        b"greater_than_or_equal_to" => Some(Operator::GreaterThanOrEqualTo),
-        b"less_than" => Some(Operator::LessThan),
-        b"less_than_or_equal_to" => Some(Operator::LessThanOrEqualTo),
-        b"compulsory_pair" => Some(Operator::CompulsoryPair),
-        b"exclusive_pair" => Some(Operator::ExclusivePair),
-        _ => None,
+    if b"equal_to".as_slice() == name {
+        return Some(Operator::EqualTo);
     }
+    if b"not_equal_to".as_slice() == name {
+        return Some(Operator::NotEqualTo);
+    }
+    if b"greater_than".as_slice() == name {
+        return Some(Operator::GreaterThan);
+    }
+    if b"greater_than_or_equal_to".as_slice() == name {
+        return Some(Operator::GreaterThanOrEqualTo);
+    }
+    if b"less_than".as_slice() == name {
+        return Some(Operator::LessThan);
+    }
+    if b"less_than_or_equal_to".as_slice() == name {
+        return Some(Operator::LessThanOrEqualTo);
+    }
+    if b"compulsory_pair".as_slice() == name {
+        return Some(Operator::CompulsoryPair);
+    }
+    if b"exclusive_pair".as_slice() == name {
+        return Some(Operator::ExclusivePair);
+    }
+    None
 }
 
 /// The program type of that name, or `None` where no one has it.
@@ -139,20 +173,40 @@ pub fn analytics_type_named(name: &[u8]) -> Option<AnalyticsType>
 pub fn aggregation_named(name: &[u8]) -> Option<AggType>
     ensures { result ≡ aggregation_named name.now }
 {
-    match name {
-        b"SUM" => Some(AggType::Sum),
-        b"AVERAGE" => Some(AggType::Average),
-        b"AVERAGE_SUM_ORG_UNIT" => Some(AggType::AverageSumOrgUnit),
-        b"LAST" => Some(AggType::Last),
-        b"FIRST" => Some(AggType::First),
-        b"LAST_AVERAGE_ORG_UNIT" => Some(AggType::LastAverageOrgUnit),
-        b"FIRST_AVERAGE_ORG_UNIT" => Some(AggType::FirstAverageOrgUnit),
-        b"COUNT" => Some(AggType::Count),
-        b"MIN" => Some(AggType::Min),
-        b"MAX" => Some(AggType::Max),
-        b"NONE" => Some(AggType::None),
-        _ => None,
+    if b"SUM".as_slice() == name {
+        return Some(AggType::Sum);
     }
+    if b"AVERAGE".as_slice() == name {
+        return Some(AggType::Average);
+    }
+    if b"AVERAGE_SUM_ORG_UNIT".as_slice() == name {
+        return Some(AggType::AverageSumOrgUnit);
+    }
+    if b"LAST".as_slice() == name {
+        return Some(AggType::Last);
+    }
+    if b"FIRST".as_slice() == name {
+        return Some(AggType::First);
+    }
+    if b"LAST_AVERAGE_ORG_UNIT".as_slice() == name {
+        return Some(AggType::LastAverageOrgUnit);
+    }
+    if b"FIRST_AVERAGE_ORG_UNIT".as_slice() == name {
+        return Some(AggType::FirstAverageOrgUnit);
+    }
+    if b"COUNT".as_slice() == name {
+        return Some(AggType::Count);
+    }
+    if b"MIN".as_slice() == name {
+        return Some(AggType::Min);
+    }
+    if b"MAX".as_slice() == name {
+        return Some(AggType::Max);
+    }
+    if b"NONE".as_slice() == name {
+        return Some(AggType::None);
+    }
+    None
 }
 
 /// The missing-value strategy of that name, or `None` where no one has it.
@@ -160,10 +214,14 @@ pub fn aggregation_named(name: &[u8]) -> Option<AggType>
 pub fn strategy_named(name: &[u8]) -> Option<Strategy>
     ensures { result ≡ strategy_named name.now }
 {
-    match name {
-        b"SKIP_IF_ANY_VALUE_MISSING" => Some(Strategy::SkipIfAny),
-        b"SKIP_IF_ALL_VALUES_MISSING" => Some(Strategy::SkipIfAll),
-        b"NEVER_SKIP" => Some(Strategy::Never),
-        _ => None,
+    if b"SKIP_IF_ANY_VALUE_MISSING".as_slice() == name {
+        return Some(Strategy::SkipIfAny);
     }
+    if b"SKIP_IF_ALL_VALUES_MISSING".as_slice() == name {
+        return Some(Strategy::SkipIfAll);
+    }
+    if b"NEVER_SKIP".as_slice() == name {
+        return Some(Strategy::Never);
+    }
+    None
 }
