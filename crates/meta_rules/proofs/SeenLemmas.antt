@@ -59,13 +59,13 @@ TakesEntries-more old mid new elements i w x within at inside is so_far = record
   each = λ e below.
       let long : length mid ≡ length old = so_far.same_length in
       let more : list_any (λ o. o == e) (take (i + 1) elements) ≡ (list_any (λ o. o == e) (take i elements) || (x == e)) =
-          list_any_more (λ o. o == e) elements i x within ∙ ap (λ y. list_any (λ o. o == e) (take i elements) || (y == e)) (sym at) in
+      list_any_more (λ o. o == e) elements i x within ∙ ap (λ y. list_any (λ o. o == e) (take i elements) || (y == e)) (sym at) in
       elim (cases_eq e x) [
         | inl same ↦
             let hit : (x == e) ≡ true = eq-eqb x e (sym same) in
             let new_here : seen_at new e ≡ met (seen_at mid e) w =
-                ap (λ l. seen_at l e) is ∙ ap (λ n. seen_at (set mid x (met (seen_at mid x) w)) n) same
-                ∙ get_or-set_same mid x (met (seen_at mid x) w) Nothing (omega arith) ∙ ap (λ n. met (seen_at mid n) w) (sym same) in
+            ap (λ l. seen_at l e) is ∙ ap (λ n. seen_at (set mid x (met (seen_at mid x) w)) n) same
+            ∙ get_or-set_same mid x (met (seen_at mid x) w) Nothing (omega arith) ∙ ap (λ n. met (seen_at mid n) w) (sym same) in
             new_here ∙ ap (λ s. met s w) (so_far.each e below)
             ∙ here (list_any (λ o. o == e) (take i elements)) (seen_at old e)
             ∙ sym (ap (λ b. cond b (met (seen_at old e) w) (seen_at old e)) (more ∙ ap (λ b. list_any (λ o. o == e) (take i elements) || b) hit ∙ or-true (list_any (λ o. o == e) (take i elements))))
@@ -80,9 +80,11 @@ TakesEntries-more old mid new elements i w x within at inside is so_far = record
     here : (b : Bool) (s : Seen) → met (cond b (met s w) s) w ≡ met s w
     here true s = met-again s w
     here false s = refl
+
     or-true : (b : Bool) → (b || true) ≡ true
     or-true true = refl
     or-true false = refl
+
     or-false : (b : Bool) → (b || false) ≡ b
     or-false true = refl
     or-false false = refl

@@ -24,11 +24,7 @@ fn options(alloc: Global, categories: &[Category], place: u32) -> Result<Vec<u32
 }
 
 /// The options of each category of a combination.
-fn lists(
-    alloc: Global,
-    categories: &[Category],
-    combo: &[u32],
-) -> Result<Vec<Vec<u32>>, Memory>
+fn lists(alloc: Global, categories: &[Category], combo: &[u32]) -> Result<Vec<Vec<u32>>, Memory>
     ensures { IfOk result (λ lists. shown_combo lists ≡ map (options_of categories.now) combo.now) }
 {
     let mut lists = Vec::with_capacity(alloc, combo.len())?;

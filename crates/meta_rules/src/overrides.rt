@@ -40,11 +40,7 @@ fn entry_overrides(
 }
 
 #[tactic(auto, using(org_tree::proofs::CountLemmas::searches))]
-fn overrides(
-    elements: &[RawElement],
-    numbers: &[u32],
-    entries: &[(Uid, Option<Uid>)],
-) -> bool
+fn overrides(elements: &[RawElement], numbers: &[u32], entries: &[(Uid, Option<Uid>)]) -> bool
     ensures { result ≡ is_some (first_below (entry_overrides elements.now numbers.now entries.now) (length entries.now)) }
 {
     for place in 0..entries.len() {

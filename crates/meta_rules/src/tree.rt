@@ -12,10 +12,13 @@ use org_tree::fault::TreeFault;
 use org_tree::tree::Tree;
 use std::alloc::{AllocError, Global};
 
-fn rows(alloc: Global, units: &[Unit]) -> Result<Vec<(Uid, Option<u32>)>, AllocError>
+pub(crate) fn rows(alloc: Global, units: &[Unit]) -> Result<Vec<(Uid, Option<u32>)>, AllocError>
     ensures { IfOk result (λ rows. rows.items ≡ tree_rows units.now) }
 {
-    units.iter().map(|unit| (unit.id, unit.parent)).collect(alloc)
+    units
+        .iter()
+        .map(|unit| (unit.id, unit.parent))
+        .collect(alloc)
 }
 
 fn id_at(units: &[Unit], unit: u32) -> Option<Uid>

@@ -24,6 +24,7 @@ returns c =
     let count : ℕ = length c.args.elements.now in
     let seen : List Seen = c.in_ok-seen.seen.items in
     let same : first_below (several_at seen) (length seen) ≡ first_below (is_torn sets) count = torn-seen sets count seen c.in_ok-seen.ensures in
-    let none : first_below (is_torn sets) count ≡ None = sym same ∙ ap (λ l. first_below (several_at l) (length l)) (sym c.deref.ensures.value) ∙ sym c.in-None.ensures in
-    (ap (option_map (torn_fault c.args.elements.now)) none,
-    subst (AreWorkflows sets count) (sym (c.in_ok-listed-in-None.ensures ∙ ap (map one_seen) c.deref-in-None.ensures.value)) (AreWorkflows-seen sets count seen c.in_ok-seen.ensures none))
+    let none : first_below (is_torn sets) count ≡ None = sym same ∙ ap (λ l. first_below (several_at l) (length l)) (sym c.deref.ensures.value) ∙ sym c.in-None.ensures in (
+      ap (option_map (torn_fault c.args.elements.now)) none,
+      subst (AreWorkflows sets count) (sym (c.in_ok-listed-in-None.ensures ∙ ap (map one_seen) c.deref-in-None.ensures.value)) (AreWorkflows-seen sets count seen c.in_ok-seen.ensures none),
+    )
