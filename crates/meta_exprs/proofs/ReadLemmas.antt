@@ -8,7 +8,10 @@ use Rattle.expr_lang.specs.declared.reading.Nodes.{Nodes}
 use Rattle.expr_lang.specs.Items.{Occurrence, occurrences, ListsFrom, Lists}
 use Rattle.expr_lang.specs.Expr.{items_in, places_in, IsOf}
 use Rattle.meta_exprs.specs.Names.{KindIds, is_missing}
-use Rattle.meta_exprs.specs.Read.{first_missing, missing_place}
+use Rattle.std.specs.Prelude.{Result, Ok, Err}
+use Rattle.expr_lang.specs.declared.fault.ExprFault.{ExprFault}
+use Rattle.expr_lang.specs.Parse.{Accepts}
+use Rattle.meta_exprs.specs.Read.{first_missing, missing_place, wrong_at, IsAccepted}
 
 or-assoc : (a b c : Option ℕ) → option_or (option_or a b) c ≡ option_or a (option_or b c)
 or-assoc None b c = refl
@@ -86,10 +89,30 @@ pub IsOf-missing : (ids : KindIds) (text : List ℕ) (days : List (List ℕ)) (e
 unfolding Lists
 IsOf-missing ids text days expr nodes is = listed ids (occurrences text days nodes.nodes) [] [] (items_in expr) (places_in expr) is.items refl
 
+step_behind : (test : Item → Bool) (items : List Item) (places : List ℕ) (n : ℕ) (x : Item) → n < length items → length items ≡ length places
+    → missing_place test (drop n items) (drop n places) ≡ cond (test (get_or items n x)) (Some (get_or places n 0)) (missing_place test (drop (suc n) items) (drop (suc n) places))
+step_behind test [] places n x within same = absurd (omega arith)
+step_behind test (y ∷ items) [] n x within same = absurd (omega arith)
+step_behind test (y ∷ items) (q ∷ places) zero x within same = refl
+step_behind test (y ∷ items) (q ∷ places) (suc n) x within same = step_behind test items places n x (omega arith) (omega arith)
+
 -- the search goes on behind an item
 pub missing_place-step : (test : Item → Bool) (items : List Item) (places : List ℕ) (n : ℕ) (x : Item) → n < length items → length items ≡ length places
     → missing_place test (drop n items) (drop n places) ≡ cond (test (get_or items n x)) (Some (get_or places n 0)) (missing_place test (drop (n + 1) items) (drop (n + 1) places))
-missing_place-step test [] places n x within same = absurd (omega arith)
-missing_place-step test (y ∷ items) [] n x within same = absurd (omega arith)
-missing_place-step test (y ∷ items) (q ∷ places) zero x within same = refl
-missing_place-step test (y ∷ items) (q ∷ places) (suc n) x within same = missing_place-step test items places n x (omega arith) (omega arith)
+missing_place-step test items places n x within same = rw add-one (step_behind test items places n x within same)
+
+-- an expression that was accepted is wrong exactly at its first item that isn't there
+pub wrong_at-accepted : (ids : KindIds) (days : List (List ℕ)) (text : List ℕ) (answer : Result Nodes ExprFault) (expr : Expr)
+    → Accepts (λ e nodes. IsOf text days e nodes) (Ok expr) answer → wrong_at ids days text answer ≡ missing_place (is_missing ids) (items_in expr) (places_in expr)
+wrong_at-accepted ids days text (Ok nodes) expr is = sym (IsOf-missing ids text days expr nodes is)
+wrong_at-accepted ids days text (Err fault) expr is = absurd is
+
+pub IsAccepted-of : (days : List (List ℕ)) (text : List ℕ) (answer : Result Nodes ExprFault) (expr : Expr)
+    → Accepts (λ e nodes. IsOf text days e nodes) (Ok expr) answer → IsAccepted days text answer expr
+IsAccepted-of days text (Ok nodes) expr is = is
+IsAccepted-of days text (Err fault) expr is = absurd is
+
+pub accepted-paired : (days : List (List ℕ)) (text : List ℕ) (answer : Result Nodes ExprFault) (expr : Expr)
+    → Accepts (λ e nodes. IsOf text days e nodes) (Ok expr) answer → length (items_in expr) ≡ length (places_in expr)
+accepted-paired days text (Ok nodes) expr is = IsOf-paired text days expr nodes is
+accepted-paired days text (Err fault) expr is = absurd is

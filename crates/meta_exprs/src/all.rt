@@ -36,7 +36,7 @@ pub struct Expressions {
 }
 
 /// Reads all expressions of a file. `links` has the references of each object.
-pub fn expressions(
+pub fn read_all(
     alloc: Global,
     ids: &Ids,
     parts: &MetaParts,
