@@ -47,7 +47,8 @@ pub fn is_missing(ids: &Ids, item: &Item) -> bool
         Item::Group(id) => is_absent(ids, Kind::OrganisationUnitGroup, *id),
         Item::Rate { set, rate: _ } => is_absent(ids, Kind::DataSet, *set),
         Item::StageElement { stage, element } => {
-            is_absent(ids, Kind::ProgramStage, *stage) || is_absent(ids, Kind::DataElement, *element)
+            is_absent(ids, Kind::ProgramStage, *stage)
+                || is_absent(ids, Kind::DataElement, *element)
         }
         Item::Attribute(id) => is_absent(ids, Kind::TrackedEntityAttribute, *id),
         Item::Days => false,

@@ -8,9 +8,9 @@ use crate::object::{copied, read_number};
 use crate::waiting::{next, waiting};
 use dh_base::items::Items;
 use dh_base::uid::Uid;
+use dh_sharing::rule::Sharing;
 use meta_ids::ids::Ids;
 use meta_parts::raw::RawRule;
-use dh_sharing::rule::Sharing;
 use meta_parts::records::Rule;
 use std::alloc::Global;
 

@@ -14,6 +14,6 @@ pub returns-in-None : goal.returns-in-None
 unfolding unread_at
 returns-in-None c = (
   wrong_at-accepted c.args.ids.now c.args.days.now c.args.text.now (accepted c.args.place c.args.days.now (Some c.args.wanted) c.args.text.now) c.in-Ok.expr c.in-Ok.ensures.accepted
-  ∙ sym c.in-None.ensures,
+      ∙ sym c.in-None.ensures,
   IsAccepted-of c.args.days.now c.args.text.now (accepted c.args.place c.args.days.now (Some c.args.wanted) c.args.text.now) c.in-Ok.expr c.in-Ok.ensures.accepted,
 )
