@@ -1,8 +1,8 @@
 -- Lists cut out of one list that grows at its end.
-use Rattle.std.proofs.Common.{◌≡◌, ◌∙◌, ℕ, ◌+◌, ◌-◌, ◌≤◌, ◌<◌, List, [], ◌∷◌, ◌++◌, length, get_or, take, drop, refl, sym, ap, subst, arith, append_assoc, length-append, zero, suc}
+use Rattle.std.proofs.Common.{◌≡◌, ◌∙◌, ℕ, ◌+◌, ◌-◌, ◌≤◌, ◌<◌, ◌^◌, List, [], ◌∷◌, ◌++◌, length, get_or, take, drop, refl, sym, ap, subst, arith, append_assoc, length-append, zero, suc}
 use Rattle.std.proofs.lemmas.List.{take-append-le, drop-append-le, drop_at, drop_all, drop-drop, take-append-drop, take_all, length-drop, length-take-le}
 use Rattle.std.specs.List.{flat_map}
-use Rattle.meta_ids.specs.Cut.{piece, cut, AreEnds}
+use Rattle.meta_ids.specs.Cut.{piece, cut, AreEnds, AreKinds}
 
 -- places that don't fall are at most the last
 pub ends-below : (from : ℕ) (ends : List ℕ) (last : ℕ) → AreEnds from ends last → from ≤ last
@@ -74,3 +74,25 @@ pub ends_more : {A : Type 0} (ends more : List ℕ) (xs ys all : List A) → Are
 ends_more ends more xs ys all are is longer =
     let long : length all ≡ length xs + length ys = ap length is ∙ length-append xs ys in
     subst (λ es. AreEnds 0 es (length all)) (sym longer) (ends-add 0 ends (length xs) (length all) are (omega arith))
+
+-- the pieces of a list one behind the other are the list
+pub joined_is : {A : Type 0} (ends : List ℕ) (xs : List A) → AreEnds 0 ends (length xs) → flat_map (λ (piece : List A). piece) (cut 0 ends xs) ≡ xs
+joined_is ends xs are = cut-joined 0 ends xs are
+
+-- as many pieces as places
+pub length_cut : {A : Type 0} (from : ℕ) (ends : List ℕ) (xs : List A) → length (cut from ends xs) ≡ length ends
+length_cut from [] xs = refl
+length_cut from (end ∷ ends) xs = ap suc (length_cut end ends xs)
+
+-- the size of the list at a place
+pub size_at : (ends : List ℕ) (ids : List (List ℕ)) (at : ℕ) → AreKinds ends ids → at < 22
+    → (get_or (0 ∷ ends) at 0 ≤ get_or ends at 0) × (get_or ends at 0 - get_or (0 ∷ ends) at 0 < 2 ^ 32)
+    × (length (get_or (cut 0 ends ids) at []) ≡ get_or ends at 0 - get_or (0 ∷ ends) at 0)
+size_at ends ids at are within =
+    let number = are.number in
+    let inside : at < length ends = omega arith in
+    let between = ends-at 0 ends (length ids) at are.joined inside in
+    let least = between.0 in
+    let most = between.1 in
+    let small = are.numbered in
+    (least, omega arith, ap length (cut-at 0 ends ids at inside) ∙ length-piece (get_or (0 ∷ ends) at 0) (get_or ends at 0) ids least most)

@@ -1,13 +1,16 @@
 -- Where an identifier stands in a piece of a list of identifiers that differ.
-use Rattle.std.proofs.Common.{◌≡◌, ◌∙◌, ℕ, ◌+◌, ◌-◌, ◌≤◌, ◌<◌, ◌&&◌, ◌⊎◌, inl, inr, Bool, true, false, cond, List, [], ◌∷◌, length, get_or, take, drop, Option, Some, None, refl, sym, ap, arith, zero, suc}
+use Rattle.std.proofs.Common.{◌≡◌, ◌∙◌, ℕ, ◌+◌, ◌-◌, ◌≤◌, ◌<◌, ◌&&◌, ◌⊎◌, inl, inr, Bool, true, false, cond, List, [], ◌∷◌, ◌++◌, length, length-append, get_or, take, drop, Option, Some, None, refl, sym, ap, arith, zero, suc}
 use Rattle.std.specs.Prelude.{nat_le, nat_lt}
-use Rattle.std.specs.List.{position_from}
+use Rattle.std.specs.List.{position_from, list_any}
 use Rattle.std.specs.Cmp.Lexicographic.{same_text}
 use Rattle.std.proofs.lemmas.Bool.{cases_lt, lt-leb, le-leb, lt-ltb, le-ltb, and_from, and_right}
 use Rattle.std.proofs.lemmas.List.{get_or-drop, length-drop}
-use Rattle.uid_index.specs.Places.{same_id, place_of, repeat_of}
+use Rattle.uid_index.specs.Places.{same_id, place_of, repeat_of, repeat_behind}
 use Rattle.uid_index.proofs.DistinctLemmas.{repeat_of-differ, position_from-below}
-use Rattle.meta_ids.specs.Cut.{piece, in_piece}
+use Rattle.meta_ids.specs.Cut.{piece, cut, in_piece, AreKinds}
+use Rattle.meta_parts.specs.declared.parts.MetaParts.{MetaParts}
+use Rattle.meta_ids.specs.Ids.{ids_of}
+use Rattle.meta_ids.proofs.CutLemmas.{cut-at}
 
 -- what was found is not before the place that counting began with
 position_from-first : {K : Type 0} (t : K → Bool) (first : ℕ) (xs : List K) (place : ℕ) → position_from t first xs ≡ Some place → first ≤ place
@@ -80,7 +83,7 @@ pub place_of-at : (ids : List (List ℕ)) (id : List ℕ) (place : ℕ) → plac
 place_of-at ids id place at =
     let none : place - 0 ≡ place = omega arith in
     let passes : same_id id (get_or ids place []) ≡ true =
-      ap (λ n. same_id id (get_or ids n [])) (sym none) ∙ position_from-passes (λ other. same_id id other) 0 ids place [] at in
+    ap (λ n. same_id id (get_or ids n [])) (sym none) ∙ position_from-passes (λ other. same_id id other) 0 ids place [] at in
     sym (same_text id (get_or ids place []) (sym passes))
 
 -- what has no place has none behind the front either
@@ -144,5 +147,31 @@ piece_place ids id from end differ =
                   (λ q found. (let e : q ≡ place - from = cc in omega arith))
                   ∙ sym (ap (λ b. cond b (Some (place - from)) None) (and_right (nat_le from place) (nat_lt place end) (le-ltb place end after)))
             ])
-        ]
+      ]
     ] refl
+
+-- where an identifier stands in the list at a place
+pub found_at : (ends : List ℕ) (ids : List (List ℕ)) (at : ℕ) (id : List ℕ) → AreKinds ends ids → at < 22
+    → place_of (get_or (cut 0 ends ids) at []) id ≡ in_piece (get_or (0 ∷ ends) at 0) (get_or ends at 0) (place_of ids id)
+found_at ends ids at id are within =
+    let number = are.number in
+    ap (λ list. place_of list id) (cut-at 0 ends ids at (omega arith)) ∙ piece_place ids id (get_or (0 ∷ ends) at 0) (get_or ends at 0) are.differ
+
+repeat_behind-below : (before ids : List (List ℕ)) (place : ℕ) → repeat_behind before ids ≡ Some place → place < length before + length ids
+repeat_behind-below before [] place at = absurd (cc)
+repeat_behind-below before (id ∷ ids) place at =
+    elim (list_any (λ other. same_id id other) before) as (λ b. cond b (Some (length before)) (repeat_behind (before ++ id ∷ []) ids) ≡ Some place → place < length before + length (id ∷ ids)) [
+      | true ↦ λ here. (let e : length before ≡ place = cc in omega arith)
+      | false ↦ λ later.
+          (let below = repeat_behind-below (before ++ id ∷ []) ids place later in
+          let longer : length (before ++ id ∷ []) ≡ length before + 1 = length-append before (id ∷ []) in omega arith)
+    ] at
+
+-- the first that repeats is in the list
+pub repeat_below : (ids : List (List ℕ)) (place : ℕ) → repeat_of ids ≡ Some place → place < length ids
+repeat_below ids place at = let below = repeat_behind-below [] ids place at in omega arith
+
+-- there are as many lists as kinds
+pub length_ids_of : (parts : MetaParts) → length (ids_of parts) ≡ 22
+unfolding ids_of
+length_ids_of parts = refl

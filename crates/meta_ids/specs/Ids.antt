@@ -1,8 +1,8 @@
 -- The identifiers of the objects of a metadata file.
-use Rattle.std.specs.Prelude.{ℕ, List, [], ◌∷◌, map, get_or, Option, option_map}
+use Rattle.std.specs.Prelude.{ℕ, List, [], ◌∷◌, ◌++◌, cond, map, get_or, Option, None, Some, option_map}
 use Rattle.std.specs.Option.{option_or}
 use Rattle.std.specs.List.{flat_map}
-use Rattle.uid_index.specs.Places.{repeat_of}
+use Rattle.uid_index.specs.Places.{repeat_of, is_one_of}
 use Rattle.meta_parts.specs.BuiltIn.{default_combo, default_option_combo}
 use Rattle.meta_parts.specs.declared.parts.MetaParts.{MetaParts}
 use Rattle.meta_parts.specs.declared.kind.Kind.{Kind}
@@ -70,18 +70,25 @@ ids_of parts = map (ids_in parts) kinds
 abbrev pub ids_at : List (List (List ℕ)) → Kind → List (List ℕ)
 ids_at ids kind = get_or ids (kind_place kind) []
 
--- the identifiers of all kinds, one kind behind the other
+-- all of them, one kind behind the other
+abbrev pub joined : List (List (List ℕ)) → List (List ℕ)
+joined ids = flat_map (λ of_kind. of_kind) ids
+
 unfoldable pub all_ids : MetaParts → List (List ℕ)
-all_ids parts = flat_map (ids_in parts) kinds
+all_ids parts = joined (ids_of parts)
 
 -- the first identifier that stands earlier in the list too
 abbrev pub repeated : List (List ℕ) → Option (List ℕ)
 repeated ids = option_map (λ place. get_or ids place []) (repeat_of ids)
 
+-- the user of the first token, behind others, that is one of those before it
+abbrev pub user_behind : List (List ℕ) → List (List ℕ × List ℕ) → Option (List ℕ)
+user_behind before [] = None
+user_behind before (token ∷ tokens) = cond (is_one_of before token.0) (Some token.1) (user_behind (before ++ token.0 ∷ []) tokens)
+
 -- the user of the first token that stands earlier in the list too
-abbrev pub user_of_repeated : List (List ℕ × List ℕ) → Option (List ℕ)
-user_of_repeated tokens =
-    option_map (λ place. get_or (map (λ token. token.1) tokens) place []) (repeat_of (map (λ token. token.0) tokens))
+unfoldable pub user_of_repeated : List (List ℕ × List ℕ) → Option (List ℕ)
+user_of_repeated tokens = user_behind [] tokens
 
 -- the identifier that is told where something stands twice: of the first object, of whatever kind, that has the identifier
 -- of one before it, else of the user of the first token that is one of those before it

@@ -7,4 +7,6 @@ mod gather;
 pub mod has_id;
 pub mod ids;
 mod lists;
+#[cfg(test)]
+mod tests;
 mod tokens;

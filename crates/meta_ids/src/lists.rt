@@ -1,4 +1,4 @@
-ghost use Rattle.std.specs.Prelude.{◌≡◌, ◌≤◌, ◌++◌, ◌∷◌, [], IfOk, map, length};
+ghost use Rattle.std.specs.Prelude.{◌≡◌, ◌≤◌, ◌++◌, ◌∷◌, [], ◌<◌, IfOk, map, length, get_or};
 
 use crate::has_id::HasId;
 use dh_base::memory::Memory;
@@ -26,6 +26,8 @@ impl Model for Lists {
 }
 
 impl Lists {
+    ghost use Rattle.meta_ids.specs.Ids.{joined};
+
     /// No lists.
     pub fn new(alloc: Global) -> Lists
         ensures { result ≡ [] }
@@ -44,6 +46,15 @@ impl Lists {
         let ids = grown(self.ids, built_in, objects)?;
         let ends = ended(self.ends, ids.len())?;
         Ok(Lists { ids, ends })
+    }
+
+    /// The identifier at a place of all the lists together.
+    #[tactic(auto, using(crate::proofs::CutLemmas::joined_is))]
+    pub fn at(&self, place: usize) -> Uid
+        requires { place < length (joined self.now) }
+        ensures { result ≡ get_or (joined self.now) place [] }
+    {
+        item(&self.ids, place)
     }
 }
 
@@ -64,4 +75,11 @@ fn ended(ends: Vec<usize>, end: usize) -> Result<Vec<usize>, Memory>
     let mut all = ends;
     all.push(end)?;
     Ok(all)
+}
+
+fn item(ids: &[Uid], place: usize) -> Uid
+    requires { place < length ids.now }
+    ensures { result ≡ get_or ids.now place [] }
+{
+    ids[place]
 }

@@ -8,12 +8,14 @@ use std::alloc::Global;
 use std::collections::HashSet;
 
 /// The user of the first token that is one of those before it.
+#[tactic(auto, unfolding(crate::specs::Ids::user_of_repeated))]
 pub fn user_of_repeated(alloc: Global, tokens: &[(Items<u8>, Uid)]) -> Result<Option<Uid>, Memory>
     ensures { IfOk result (λ user. user ≡ user_of_repeated tokens.now) }
 {
     let mut seen = HashSet::new(alloc);
     for token in tokens {
-        if !seen.insert(copy_of(alloc, &token.0)?)? {
+        let copy = copy_of(alloc, &token.0)?;
+        if !seen.insert(copy)? {
             return Ok(Some(token.1));
         }
     }
