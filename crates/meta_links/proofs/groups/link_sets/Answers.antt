@@ -1,0 +1,8 @@
+use Rattle.std.proofs.Common.{rules}
+use Rattle.meta_links.specs.Groups.{sets_references}
+use Rattle.meta_links.proofs.UnknownLemmas.{after_append}
+use Rattle.meta_links.proofs.groups.link_sets.Goals as goal
+
+pub returns-clause-told : goal.returns-clause-told
+unfolding sets_references
+returns-clause-told c = search (rules, after_append)
