@@ -136,7 +136,7 @@ pub fn optional(
 
 /// The numbers of the objects that a list names.
 #[tactic(auto, using(crate::proofs::UnknownLemmas::parts), unfolding(crate::specs::Reference::several))]
-pub fn several(
+fn several_of(
     alloc: Global,
     ids: &Ids,
     unknown: &mut Unknown,
@@ -158,7 +158,7 @@ pub fn several(
 
 /// The numbers of the objects that a field of each entry of a list names.
 #[tactic(auto, using(crate::proofs::UnknownLemmas::parts), unfolding(crate::specs::Reference::several_in))]
-pub fn several_in(
+fn several_in_of(
     alloc: Global,
     ids: &Ids,
     unknown: &mut Unknown,
@@ -231,7 +231,7 @@ fn set_element(
 
 /// The numbers of the elements of a data set.
 #[tactic(auto, using(crate::proofs::UnknownLemmas::parts), unfolding(crate::specs::Table::set_elements))]
-pub fn set_elements(
+fn set_elements_of(
     alloc: Global,
     ids: &Ids,
     unknown: &mut Unknown,
@@ -248,4 +248,49 @@ pub fn set_elements(
         place += 1;
     }
     Ok(Items::from(numbers))
+}
+
+/// The same of a list.
+pub fn several(
+    alloc: Global,
+    ids: &Ids,
+    unknown: &mut Unknown,
+    field: Field<'_>,
+    kind: Kind,
+    uids: &Items<Uid>,
+) -> Result<Items<u32>, Memory>
+    ensures numbers { IfOk result (λ numbers. numbers ≡ map (number_of ids.now kind) uids.now) }
+    ensures told { OnOk result (unknown.new ≡ after ids.now unknown.old (several (field_path field.entry.kind field.entry.place field.entry.name.now) kind uids.now)) }
+{
+    several_of(alloc, ids, unknown, field, kind, uids.as_slice())
+}
+
+/// The same of a list.
+pub fn several_in(
+    alloc: Global,
+    ids: &Ids,
+    unknown: &mut Unknown,
+    field: Field<'_>,
+    name: &str,
+    kind: Kind,
+    uids: &Items<Uid>,
+) -> Result<Items<u32>, Memory>
+    ensures numbers { IfOk result (λ numbers. numbers ≡ map (number_of ids.now kind) uids.now) }
+    ensures told { OnOk result (unknown.new ≡ after ids.now unknown.old (several_in (field_path field.entry.kind field.entry.place field.entry.name.now) name.now kind uids.now)) }
+{
+    several_in_of(alloc, ids, unknown, field, name, kind, uids.as_slice())
+}
+
+/// The same of a list.
+pub fn set_elements(
+    alloc: Global,
+    ids: &Ids,
+    unknown: &mut Unknown,
+    field: Field<'_>,
+    elements: &Items<(Uid, Option<Uid>)>,
+) -> Result<Items<u32>, Memory>
+    ensures numbers { IfOk result (λ numbers. numbers ≡ map (λ element. number_of ids.now kind.DataElement element.0) elements.now) }
+    ensures told { OnOk result (unknown.new ≡ after ids.now unknown.old (set_elements (field_path field.entry.kind field.entry.place field.entry.name.now) elements.now)) }
+{
+    set_elements_of(alloc, ids, unknown, field, elements.as_slice())
 }

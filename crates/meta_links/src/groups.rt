@@ -3,7 +3,7 @@ ghost use Rattle.meta_links.specs.Groups.{units_references, units_held, combos_r
 ghost use Rattle.meta_links.specs.Told.{after};
 
 use crate::built_in::{built_in_combo, built_in_option_combo};
-use crate::link_each::link_each;
+use crate::link_each::link_all;
 use crate::unknown::Unknown;
 use dh_base::items::Items;
 use dh_base::memory::Memory;
@@ -36,14 +36,14 @@ pub fn link_units(
     ensures held { IfOk result (λ held. held ≡ units_held ids.now parts.now) }
     ensures told { OnOk result (unknown.new ≡ after ids.now unknown.old (units_references parts.now)) }
 {
-    let list = parts.organisation_units.as_slice();
-    let organisation_units = link_each(alloc, ids, unknown, Vec::new(alloc), list)?;
-    let list = parts.organisation_unit_groups.as_slice();
-    let organisation_unit_groups = link_each(alloc, ids, unknown, Vec::new(alloc), list)?;
-    let list = parts.category_options.as_slice();
-    let category_options = link_each(alloc, ids, unknown, Vec::new(alloc), list)?;
-    let list = parts.categories.as_slice();
-    let categories = link_each(alloc, ids, unknown, Vec::new(alloc), list)?;
+    let list = &parts.organisation_units;
+    let organisation_units = link_all(alloc, ids, unknown, Vec::new(alloc), list)?;
+    let list = &parts.organisation_unit_groups;
+    let organisation_unit_groups = link_all(alloc, ids, unknown, Vec::new(alloc), list)?;
+    let list = &parts.category_options;
+    let category_options = link_all(alloc, ids, unknown, Vec::new(alloc), list)?;
+    let list = &parts.categories;
+    let categories = link_all(alloc, ids, unknown, Vec::new(alloc), list)?;
     Ok(UnitLinks {
         organisation_units,
         organisation_unit_groups,
@@ -72,15 +72,15 @@ pub fn link_combos(
     ensures told { OnOk result (unknown.new ≡ after ids.now unknown.old (combos_references parts.now)) }
 {
     let built_in = built_in_combo(alloc)?;
-    let list = parts.category_combos.as_slice();
-    let category_combos = link_each(alloc, ids, unknown, built_in, list)?;
+    let list = &parts.category_combos;
+    let category_combos = link_all(alloc, ids, unknown, built_in, list)?;
     let built_in = built_in_option_combo(alloc)?;
-    let list = parts.category_option_combos.as_slice();
-    let category_option_combos = link_each(alloc, ids, unknown, built_in, list)?;
-    let list = parts.data_elements.as_slice();
-    let data_elements = link_each(alloc, ids, unknown, Vec::new(alloc), list)?;
-    let list = parts.data_approval_levels.as_slice();
-    let data_approval_levels = link_each(alloc, ids, unknown, Vec::new(alloc), list)?;
+    let list = &parts.category_option_combos;
+    let category_option_combos = link_all(alloc, ids, unknown, built_in, list)?;
+    let list = &parts.data_elements;
+    let data_elements = link_all(alloc, ids, unknown, Vec::new(alloc), list)?;
+    let list = &parts.data_approval_levels;
+    let data_approval_levels = link_all(alloc, ids, unknown, Vec::new(alloc), list)?;
     Ok(ComboLinks {
         category_combos,
         category_option_combos,
@@ -108,14 +108,14 @@ pub fn link_sets(
     ensures held { IfOk result (λ held. held ≡ sets_held ids.now parts.now) }
     ensures told { OnOk result (unknown.new ≡ after ids.now unknown.old (sets_references parts.now)) }
 {
-    let list = parts.data_approval_workflows.as_slice();
-    let data_approval_workflows = link_each(alloc, ids, unknown, Vec::new(alloc), list)?;
-    let list = parts.data_sets.as_slice();
-    let data_sets = link_each(alloc, ids, unknown, Vec::new(alloc), list)?;
-    let list = parts.constants.as_slice();
-    let constants = link_each(alloc, ids, unknown, Vec::new(alloc), list)?;
-    let list = parts.indicator_types.as_slice();
-    let indicator_types = link_each(alloc, ids, unknown, Vec::new(alloc), list)?;
+    let list = &parts.data_approval_workflows;
+    let data_approval_workflows = link_all(alloc, ids, unknown, Vec::new(alloc), list)?;
+    let list = &parts.data_sets;
+    let data_sets = link_all(alloc, ids, unknown, Vec::new(alloc), list)?;
+    let list = &parts.constants;
+    let constants = link_all(alloc, ids, unknown, Vec::new(alloc), list)?;
+    let list = &parts.indicator_types;
+    let indicator_types = link_all(alloc, ids, unknown, Vec::new(alloc), list)?;
     Ok(SetLinks {
         data_approval_workflows,
         data_sets,
@@ -143,14 +143,14 @@ pub fn link_rules(
     ensures held { IfOk result (λ held. held ≡ rules_held ids.now parts.now) }
     ensures told { OnOk result (unknown.new ≡ after ids.now unknown.old (rules_references parts.now)) }
 {
-    let list = parts.indicators.as_slice();
-    let indicators = link_each(alloc, ids, unknown, Vec::new(alloc), list)?;
-    let list = parts.validation_rules.as_slice();
-    let validation_rules = link_each(alloc, ids, unknown, Vec::new(alloc), list)?;
-    let list = parts.tracked_entity_types.as_slice();
-    let tracked_entity_types = link_each(alloc, ids, unknown, Vec::new(alloc), list)?;
-    let list = parts.tracked_entity_attributes.as_slice();
-    let tracked_entity_attributes = link_each(alloc, ids, unknown, Vec::new(alloc), list)?;
+    let list = &parts.indicators;
+    let indicators = link_all(alloc, ids, unknown, Vec::new(alloc), list)?;
+    let list = &parts.validation_rules;
+    let validation_rules = link_all(alloc, ids, unknown, Vec::new(alloc), list)?;
+    let list = &parts.tracked_entity_types;
+    let tracked_entity_types = link_all(alloc, ids, unknown, Vec::new(alloc), list)?;
+    let list = &parts.tracked_entity_attributes;
+    let tracked_entity_attributes = link_all(alloc, ids, unknown, Vec::new(alloc), list)?;
     Ok(RuleLinks {
         indicators,
         validation_rules,
@@ -177,12 +177,12 @@ pub fn link_programs(
     ensures held { IfOk result (λ held. held ≡ programs_held ids.now parts.now) }
     ensures told { OnOk result (unknown.new ≡ after ids.now unknown.old (programs_references parts.now)) }
 {
-    let list = parts.programs.as_slice();
-    let programs = link_each(alloc, ids, unknown, Vec::new(alloc), list)?;
-    let list = parts.program_stages.as_slice();
-    let program_stages = link_each(alloc, ids, unknown, Vec::new(alloc), list)?;
-    let list = parts.program_indicators.as_slice();
-    let program_indicators = link_each(alloc, ids, unknown, Vec::new(alloc), list)?;
+    let list = &parts.programs;
+    let programs = link_all(alloc, ids, unknown, Vec::new(alloc), list)?;
+    let list = &parts.program_stages;
+    let program_stages = link_all(alloc, ids, unknown, Vec::new(alloc), list)?;
+    let list = &parts.program_indicators;
+    let program_indicators = link_all(alloc, ids, unknown, Vec::new(alloc), list)?;
     Ok(ProgramLinks {
         programs,
         program_stages,
@@ -208,12 +208,12 @@ pub fn link_users(
     ensures held { IfOk result (λ held. held ≡ users_held ids.now parts.now) }
     ensures told { OnOk result (unknown.new ≡ after ids.now unknown.old (users_references parts.now)) }
 {
-    let list = parts.user_roles.as_slice();
-    let user_roles = link_each(alloc, ids, unknown, Vec::new(alloc), list)?;
-    let list = parts.users.as_slice();
-    let users = link_each(alloc, ids, unknown, Vec::new(alloc), list)?;
-    let list = parts.user_groups.as_slice();
-    let user_groups = link_each(alloc, ids, unknown, Vec::new(alloc), list)?;
+    let list = &parts.user_roles;
+    let user_roles = link_all(alloc, ids, unknown, Vec::new(alloc), list)?;
+    let list = &parts.users;
+    let users = link_all(alloc, ids, unknown, Vec::new(alloc), list)?;
+    let list = &parts.user_groups;
+    let user_groups = link_all(alloc, ids, unknown, Vec::new(alloc), list)?;
     Ok(UserLinks {
         user_roles,
         users,

@@ -27,7 +27,7 @@ pub trait Link: Drop {
 }
 
 /// Objects as they are held, behind some that are built in.
-pub fn link_each<T: Link>(
+fn link_each<T: Link>(
     alloc: Global,
     ids: &Ids,
     unknown: &mut Unknown,
@@ -42,4 +42,18 @@ pub fn link_each<T: Link>(
         all.push(object.link(alloc, ids, unknown)?)?;
     }
     Ok(Items::from(all))
+}
+
+/// The same of a list.
+pub fn link_all<T: Link>(
+    alloc: Global,
+    ids: &Ids,
+    unknown: &mut Unknown,
+    built_in: Vec<T::Held>,
+    objects: &Items<T>,
+) -> Result<Items<T::Held>, Memory>
+    ensures held { IfOk result (λ all. all ≡ built_in.items ++ map (T.held ids.now) objects.now) }
+    ensures told { OnOk result (unknown.new ≡ after ids.now unknown.old (flat_map T.references objects.now)) }
+{
+    link_each(alloc, ids, unknown, built_in, objects.as_slice())
 }

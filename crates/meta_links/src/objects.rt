@@ -76,7 +76,7 @@ impl Link for RawUnitGroup {
             unknown,
             field,
             Kind::OrganisationUnit,
-            self.organisation_units.as_slice(),
+            &self.organisation_units,
         )?;
         let name = copy_of(alloc, &self.name)?;
         Ok(UnitGroup {
@@ -138,7 +138,7 @@ impl Link for RawCategory {
             unknown,
             field,
             Kind::CategoryOption,
-            self.category_options.as_slice(),
+            &self.category_options,
         )?;
         let name = copy_of(alloc, &self.name)?;
         Ok(Category {
@@ -168,14 +168,7 @@ impl Link for RawCategoryCombo {
             place: self.place,
             name: "categories",
         };
-        let categories = several(
-            alloc,
-            ids,
-            unknown,
-            field,
-            Kind::Category,
-            self.categories.as_slice(),
-        )?;
+        let categories = several(alloc, ids, unknown, field, Kind::Category, &self.categories)?;
         let name = copy_of(alloc, &self.name)?;
         Ok(CategoryCombo {
             id: self.id,
@@ -218,7 +211,7 @@ impl Link for RawOptionCombo {
             unknown,
             field,
             Kind::CategoryOption,
-            self.category_options.as_slice(),
+            &self.category_options,
         )?;
         let name = copy_of(alloc, &self.name)?;
         Ok(OptionCombo {
@@ -317,7 +310,7 @@ impl Link for RawWorkflow {
             unknown,
             field,
             Kind::ApprovalLevel,
-            self.data_approval_levels.as_slice(),
+            &self.data_approval_levels,
         )?;
         let name = copy_of(alloc, &self.name)?;
         Ok(Workflow {
@@ -343,13 +336,7 @@ impl Link for RawDataSet {
             place: self.place,
             name: "dataSetElements",
         };
-        let data_set_elements = set_elements(
-            alloc,
-            ids,
-            unknown,
-            field,
-            self.data_set_elements.as_slice(),
-        )?;
+        let data_set_elements = set_elements(alloc, ids, unknown, field, &self.data_set_elements)?;
         let field = Field {
             kind: Kind::DataSet,
             place: self.place,
@@ -361,7 +348,7 @@ impl Link for RawDataSet {
             unknown,
             field,
             Kind::OrganisationUnit,
-            self.organisation_units.as_slice(),
+            &self.organisation_units,
         )?;
         let field = Field {
             kind: Kind::DataSet,
@@ -588,7 +575,7 @@ impl Link for RawProgram {
             field,
             "trackedEntityAttribute",
             Kind::TrackedEntityAttribute,
-            self.program_tracked_entity_attributes.as_slice(),
+            &self.program_tracked_entity_attributes,
         )?;
         let sharing = sharing(
             alloc,
@@ -637,7 +624,7 @@ impl Link for RawStage {
             field,
             "dataElement",
             Kind::DataElement,
-            self.program_stage_data_elements.as_slice(),
+            &self.program_stage_data_elements,
         )?;
         let name = copy_of(alloc, &self.name)?;
         Ok(Stage {
@@ -720,7 +707,7 @@ impl Link for RawUser {
             unknown,
             field,
             Kind::OrganisationUnit,
-            self.organisation_units.as_slice(),
+            &self.organisation_units,
         )?;
         let field = Field {
             kind: Kind::User,
@@ -733,21 +720,14 @@ impl Link for RawUser {
             unknown,
             field,
             Kind::OrganisationUnit,
-            self.data_view_organisation_units.as_slice(),
+            &self.data_view_organisation_units,
         )?;
         let field = Field {
             kind: Kind::User,
             place: self.place,
             name: "userRoles",
         };
-        let user_roles = several(
-            alloc,
-            ids,
-            unknown,
-            field,
-            Kind::UserRole,
-            self.user_roles.as_slice(),
-        )?;
+        let user_roles = several(alloc, ids, unknown, field, Kind::UserRole, &self.user_roles)?;
         let name = copy_of(alloc, &self.name)?;
         Ok(User {
             id: self.id,
@@ -773,14 +753,7 @@ impl Link for RawUserGroup {
             place: self.place,
             name: "users",
         };
-        let users = several(
-            alloc,
-            ids,
-            unknown,
-            field,
-            Kind::User,
-            self.users.as_slice(),
-        )?;
+        let users = several(alloc, ids, unknown, field, Kind::User, &self.users)?;
         let name = copy_of(alloc, &self.name)?;
         Ok(UserGroup {
             id: self.id,

@@ -35,24 +35,10 @@ pub fn sharing(
     let owner = optional(alloc, ids, unknown, field, Kind::User, sharing.owner)?;
     let name = "sharing.users";
     let field = Field { kind, place, name };
-    let users = entries(
-        alloc,
-        ids,
-        unknown,
-        field,
-        Kind::User,
-        sharing.users.as_slice(),
-    )?;
+    let users = entries(alloc, ids, unknown, field, Kind::User, &sharing.users)?;
     let name = "sharing.userGroups";
     let field = Field { kind, place, name };
-    let groups = entries(
-        alloc,
-        ids,
-        unknown,
-        field,
-        Kind::UserGroup,
-        sharing.groups.as_slice(),
-    )?;
+    let groups = entries(alloc, ids, unknown, field, Kind::UserGroup, &sharing.groups)?;
     Ok(Sharing {
         owner,
         public: sharing.public,
@@ -63,7 +49,7 @@ pub fn sharing(
 
 // The users or user groups of some entries, with what each may do.
 #[tactic(auto, using(crate::proofs::UnknownLemmas::parts), unfolding(crate::specs::Table::entries))]
-fn entries(
+fn entries_of(
     alloc: Global,
     ids: &Ids,
     unknown: &mut Unknown,
@@ -81,4 +67,18 @@ fn entries(
         all.push((number, entry.2))?;
     }
     Ok(Items::from(all))
+}
+
+fn entries(
+    alloc: Global,
+    ids: &Ids,
+    unknown: &mut Unknown,
+    field: Field<'_>,
+    kind: Kind,
+    listed: &Items<(Items<u8>, Uid, Access)>,
+) -> Result<Items<(u32, Access)>, Memory>
+    ensures held { IfOk result (λ held. held ≡ shared_with ids.now kind listed.now) }
+    ensures told { OnOk result (unknown.new ≡ after ids.now unknown.old (entries (field_path field.entry.kind field.entry.place field.entry.name.now) kind listed.now)) }
+{
+    entries_of(alloc, ids, unknown, field, kind, listed.as_slice())
 }

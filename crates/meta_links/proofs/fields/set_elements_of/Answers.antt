@@ -8,7 +8,7 @@ use Rattle.meta_links.specs.Reference.{step, field_path, one, each, several, sev
 use Rattle.meta_links.specs.Table.{set_element, set_elements, entries}
 use Rattle.meta_links.specs.Told.{after}
 use Rattle.meta_links.proofs.UnknownLemmas.{after_none, each_more, flat_more}
-use Rattle.meta_links.proofs.fields.set_elements.Goals as goal
+use Rattle.meta_links.proofs.fields.set_elements_of.Goals as goal
 
 pub loop-element-preserved : goal.loop-element-preserved
 loop-element-preserved c =

@@ -8,7 +8,7 @@ use Rattle.meta_links.specs.Reference.{step, field_path, one, each, several, sev
 use Rattle.meta_links.specs.Table.{set_element, set_elements, entries}
 use Rattle.meta_links.specs.Told.{after}
 use Rattle.meta_links.proofs.UnknownLemmas.{after_none, each_more, flat_more}
-use Rattle.meta_links.proofs.fields.several_in.Goals as goal
+use Rattle.meta_links.proofs.fields.several_in_of.Goals as goal
 
 pub loop-uid-preserved : goal.loop-uid-preserved
 loop-uid-preserved c =

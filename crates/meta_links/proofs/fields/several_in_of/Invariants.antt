@@ -6,7 +6,7 @@ use Rattle.meta_links.specs.Reference.{step, field_path, one, each, number_of}
 use Rattle.meta_links.specs.Table.{set_element}
 use Rattle.meta_links.specs.Held.{shared_with}
 use Rattle.meta_links.specs.Told.{after}
-use Rattle.meta_links.proofs.fields.several_in.Given as goal
+use Rattle.meta_links.proofs.fields.several_in_of.Given as goal
 
 -- what was looked up so far, and what is left
 abbrev pub invariant-loop-uid : goal.invariant-loop-uid
