@@ -2,6 +2,7 @@
 use Rattle.std.specs.Prelude.{ℕ, List, [], ◌∷◌, ◌++◌, map}
 use Rattle.std.specs.List.{flat_map}
 use Rattle.meta_parts.specs.declared.parts.MetaParts.{MetaParts}
+use Rattle.meta_parts.specs.declared.held.Links.{Links}
 use Rattle.meta_links.specs.Reference.{Reference}
 use Rattle.meta_links.specs.Table.{unit_references, unit_group_references, category_option_references, category_references, category_combo_references, option_combo_references, element_references, approval_level_references, workflow_references, data_set_references, constant_references, indicator_type_references, indicator_references, rule_references, entity_type_references, attribute_references, program_references, stage_references, program_indicator_references, role_references, user_references, user_group_references}
 use Rattle.meta_links.specs.Held.{unit_held, unit_group_held, category_option_held, category_held, category_combo_held, option_combo_held, element_held, approval_level_held, workflow_held, data_set_held, constant_held, indicator_type_held, indicator_held, rule_held, entity_type_held, attribute_held, program_held, stage_held, program_indicator_held, role_held, user_held, user_group_held, built_in_combo, built_in_option_combo}
@@ -74,4 +75,32 @@ users_held ids parts = record {
   user_roles = map (role_held ids) parts.user_roles;
   users = map (user_held ids) parts.users;
   user_groups = map (user_group_held ids) parts.user_groups;
+}
+
+-- all objects, from their groups
+abbrev pub assembled : UnitLinks → ComboLinks → SetLinks → RuleLinks → ProgramLinks → UserLinks → List (List ℕ × ℕ) → Links
+assembled units combos sets rules programs users tokens = record {
+  organisation_units = units.organisation_units;
+  organisation_unit_groups = units.organisation_unit_groups;
+  category_options = units.category_options;
+  categories = units.categories;
+  category_combos = combos.category_combos;
+  category_option_combos = combos.category_option_combos;
+  data_elements = combos.data_elements;
+  data_approval_levels = combos.data_approval_levels;
+  data_approval_workflows = sets.data_approval_workflows;
+  data_sets = sets.data_sets;
+  constants = sets.constants;
+  indicator_types = sets.indicator_types;
+  indicators = rules.indicators;
+  validation_rules = rules.validation_rules;
+  tracked_entity_types = rules.tracked_entity_types;
+  tracked_entity_attributes = rules.tracked_entity_attributes;
+  programs = programs.programs;
+  program_stages = programs.program_stages;
+  program_indicators = programs.program_indicators;
+  user_roles = users.user_roles;
+  users = users.users;
+  user_groups = users.user_groups;
+  api_tokens = tokens;
 }

@@ -97,7 +97,7 @@ pub fn keyed(
     ids: &Ids,
     unknown: &mut Unknown,
     field: Field<'_>,
-    key: &[u8],
+    key: &Items<u8>,
     kind: Kind,
     uid: Uid,
 ) -> Result<u32, Memory>
@@ -108,7 +108,7 @@ pub fn keyed(
         Some(number) => Ok(number),
         None => {
             if !unknown.is_met() {
-                unknown.meet(uid, key_path(alloc, field, key)?);
+                unknown.meet(uid, key_path(alloc, field, key.as_slice())?);
             }
             Ok(0)
         }

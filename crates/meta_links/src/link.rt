@@ -12,12 +12,13 @@ use meta_parts::parts::MetaParts;
 use std::alloc::Global;
 
 /// All objects with their references as numbers, a built-in object before those of its kind.
+#[tactic(auto, using(crate::proofs::UnknownLemmas::after_nothing))]
 pub fn link(alloc: Global, ids: &Ids, parts: &MetaParts) -> Result<Links, LinkFault>
     ensures { Gives ids.now parts.now result }
 {
     let mut unknown = Unknown::new();
     let links = look_up(alloc, ids, &mut unknown, parts)?;
-    match unknown.first {
+    match unknown.into_first() {
         None => Ok(links),
         Some((uid, path)) => Err(LinkFault::Unknown { uid, path }),
     }
@@ -27,7 +28,6 @@ ghost use Rattle.meta_links.specs.Held.{links_of};
 ghost use Rattle.meta_links.specs.Table.{references};
 ghost use Rattle.meta_links.specs.Told.{after};
 
-#[tactic(auto, unfolding(crate::specs::Held::links_of, crate::specs::Groups::units_held, crate::specs::Groups::combos_held, crate::specs::Groups::sets_held, crate::specs::Groups::rules_held, crate::specs::Groups::programs_held, crate::specs::Groups::users_held))]
 fn look_up(
     alloc: Global,
     ids: &Ids,
@@ -43,7 +43,7 @@ fn look_up(
     let rules = link_rules(alloc, ids, unknown, parts)?;
     let programs = link_programs(alloc, ids, unknown, parts)?;
     let users = link_users(alloc, ids, unknown, parts)?;
-    let api_tokens = link_tokens(alloc, ids, unknown, parts.api_tokens.as_slice())?;
+    let api_tokens = link_tokens(alloc, ids, unknown, &parts.api_tokens)?;
     Ok(Links {
         organisation_units: units.organisation_units,
         organisation_unit_groups: units.organisation_unit_groups,

@@ -62,8 +62,7 @@ fn entries_of(
 {
     let mut all = Vec::new(alloc);
     for entry in listed {
-        let key = entry.0.as_slice();
-        let number = keyed(alloc, ids, unknown, field, key, kind, entry.1)?;
+        let number = keyed(alloc, ids, unknown, field, &entry.0, kind, entry.1)?;
         all.push((number, entry.2))?;
     }
     Ok(Items::from(all))

@@ -38,9 +38,9 @@ fn user(
     }
 }
 
-/// Tokens, each with the number of its user.
+// Tokens, each with the number of its user.
 #[tactic(auto, using(crate::proofs::UnknownLemmas::parts), unfolding(crate::specs::Table::token_references))]
-pub fn link_tokens(
+fn link_tokens_of(
     alloc: Global,
     ids: &Ids,
     unknown: &mut Unknown,
@@ -58,4 +58,17 @@ pub fn link_tokens(
         place += 1;
     }
     Ok(Items::from(all))
+}
+
+/// Tokens, each with the number of its user.
+pub fn link_tokens(
+    alloc: Global,
+    ids: &Ids,
+    unknown: &mut Unknown,
+    tokens: &Items<(Items<u8>, Uid)>,
+) -> Result<Items<(Items<u8>, u32)>, Memory>
+    ensures held { IfOk result (λ held. held ≡ map (λ token. (token.0, number_of ids.now kind.User token.1)) tokens.now) }
+    ensures told { OnOk result (unknown.new ≡ after ids.now unknown.old (token_references tokens.now)) }
+{
+    link_tokens_of(alloc, ids, unknown, tokens.as_slice())
 }

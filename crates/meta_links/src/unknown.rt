@@ -39,4 +39,11 @@ impl Unknown {
     {
         self.first = Some((uid, Items::from(path)));
     }
+
+    /// What was met.
+    pub fn into_first(self) -> Option<(Uid, Items<u8>)>
+        ensures { result ≡ self }
+    {
+        self.first
+    }
 }

@@ -4,7 +4,7 @@ use lib.Chars.{codes}
 use Rattle.meta_parts.specs.declared.kind.Kind.TheVariants as kind
 use Rattle.meta_links.specs.Reference.{step, one, each, number_of}
 use Rattle.meta_links.specs.Told.{after}
-use Rattle.meta_links.proofs.tokens.link_tokens.Given as goal
+use Rattle.meta_links.proofs.tokens.link_tokens_of.Given as goal
 
 -- what was looked up so far, and what is left
 abbrev pub invariant-loop-token : goal.invariant-loop-token
