@@ -12,5 +12,7 @@ mod link_each;
 mod objects;
 mod path;
 mod sharing;
+#[cfg(test)]
+mod tests;
 mod tokens;
 mod unknown;
