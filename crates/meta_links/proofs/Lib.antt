@@ -1,0 +1,2 @@
+pub mod UnknownLemmas
+pub mod GroupLemmas

@@ -1,0 +1,16 @@
+use Rattle.std.proofs.Common.{◌≡◌, ◌∙◌, ◌++◌, sym, ap}
+use lib.Chars.{codes}
+use Rattle.std.specs.List.{flat_map}
+use Rattle.meta_parts.specs.declared.kind.Kind.TheVariants as kind
+use Rattle.meta_links.specs.Reference.{field_path, one, optional, several, several_in}
+use Rattle.meta_links.specs.Table.{set_elements, sharing_references, option_combo_references}
+use Rattle.meta_links.specs.Told.{after}
+use Rattle.meta_links.proofs.UnknownLemmas.{after_append}
+use Rattle.meta_links.proofs.objects.RawOptionComboLink.link.Goals as goal
+
+pub returns-clause-told : goal.returns-clause-told
+unfolding option_combo_references
+returns-clause-told c =
+    (c.in_ok-category_options.ensures.told
+    ∙ ap (λ m. after c.args.ids.now m (several (field_path kind.CategoryOptionCombo c.args.self.now.place (codes "categoryOptions")) kind.CategoryOption c.args.self.now.category_options)) c.in_ok-category_combo.ensures.told
+    ∙ sym (after_append c.args.ids.now c.args.unknown.now (one (field_path kind.CategoryOptionCombo c.args.self.now.place (codes "categoryCombo")) kind.CategoryCombo c.args.self.now.category_combo) (several (field_path kind.CategoryOptionCombo c.args.self.now.place (codes "categoryOptions")) kind.CategoryOption c.args.self.now.category_options)))

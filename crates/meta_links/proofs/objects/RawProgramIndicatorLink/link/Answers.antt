@@ -1,0 +1,16 @@
+use Rattle.std.proofs.Common.{◌≡◌, ◌∙◌, ◌++◌, sym, ap}
+use lib.Chars.{codes}
+use Rattle.std.specs.List.{flat_map}
+use Rattle.meta_parts.specs.declared.kind.Kind.TheVariants as kind
+use Rattle.meta_links.specs.Reference.{field_path, one, optional, several, several_in}
+use Rattle.meta_links.specs.Table.{set_elements, sharing_references, program_indicator_references}
+use Rattle.meta_links.specs.Told.{after}
+use Rattle.meta_links.proofs.UnknownLemmas.{after_append}
+use Rattle.meta_links.proofs.objects.RawProgramIndicatorLink.link.Goals as goal
+
+pub returns-clause-told : goal.returns-clause-told
+unfolding program_indicator_references
+returns-clause-told c =
+    (c.in_ok-sharing.ensures.told
+    ∙ ap (λ m. after c.args.ids.now m (sharing_references kind.ProgramIndicator c.args.self.now.place c.args.self.now.sharing)) c.in_ok-program.ensures.told
+    ∙ sym (after_append c.args.ids.now c.args.unknown.now (one (field_path kind.ProgramIndicator c.args.self.now.place (codes "program")) kind.Program c.args.self.now.program) (sharing_references kind.ProgramIndicator c.args.self.now.place c.args.self.now.sharing)))

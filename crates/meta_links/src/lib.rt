@@ -1,0 +1,18 @@
+//! The references of metadata objects: each is looked up among the identifiers of its kind, and the
+//! first that names no object is told with its path in the file.
+#![tactic(auto)]
+
+mod built_in;
+mod copies;
+pub mod fault;
+mod fields;
+mod groups;
+pub mod link;
+mod link_each;
+mod objects;
+mod path;
+mod sharing;
+#[cfg(test)]
+mod tests;
+mod tokens;
+mod unknown;

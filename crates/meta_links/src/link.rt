@@ -1,0 +1,72 @@
+ghost use Rattle.std.specs.Prelude.{◌≡◌, ◌++◌, IfOk, OnOk};
+ghost use Rattle.meta_links.specs.Told.{Gives};
+
+use crate::fault::LinkFault;
+use crate::groups::{link_combos, link_programs, link_rules, link_sets, link_units, link_users};
+use crate::tokens::link_tokens;
+use crate::unknown::Unknown;
+use dh_base::memory::Memory;
+use meta_ids::ids::Ids;
+use meta_parts::held::Links;
+use meta_parts::parts::MetaParts;
+use std::alloc::Global;
+
+/// All objects with their references as numbers, a built-in object before those of its kind.
+#[tactic(auto, using(crate::proofs::UnknownLemmas::after_nothing))]
+pub fn link(alloc: Global, ids: &Ids, parts: &MetaParts) -> Result<Links, LinkFault>
+    ensures { Gives ids.now parts.now result }
+{
+    let mut unknown = Unknown::new();
+    let links = look_up(alloc, ids, &mut unknown, parts)?;
+    match unknown.into_first() {
+        None => Ok(links),
+        Some((uid, path)) => Err(LinkFault::Unknown { uid, path }),
+    }
+}
+
+ghost use Rattle.meta_links.specs.Held.{links_of};
+ghost use Rattle.meta_links.specs.Table.{references};
+ghost use Rattle.meta_links.specs.Told.{after};
+
+fn look_up(
+    alloc: Global,
+    ids: &Ids,
+    unknown: &mut Unknown,
+    parts: &MetaParts,
+) -> Result<Links, Memory>
+    ensures held { IfOk result (λ links. links ≡ links_of ids.now parts.now) }
+    ensures told { OnOk result (unknown.new ≡ after ids.now unknown.old (references parts.now)) }
+{
+    let units = link_units(alloc, ids, unknown, parts)?;
+    let combos = link_combos(alloc, ids, unknown, parts)?;
+    let sets = link_sets(alloc, ids, unknown, parts)?;
+    let rules = link_rules(alloc, ids, unknown, parts)?;
+    let programs = link_programs(alloc, ids, unknown, parts)?;
+    let users = link_users(alloc, ids, unknown, parts)?;
+    let api_tokens = link_tokens(alloc, ids, unknown, &parts.api_tokens)?;
+    Ok(Links {
+        organisation_units: units.organisation_units,
+        organisation_unit_groups: units.organisation_unit_groups,
+        category_options: units.category_options,
+        categories: units.categories,
+        category_combos: combos.category_combos,
+        category_option_combos: combos.category_option_combos,
+        data_elements: combos.data_elements,
+        data_approval_levels: combos.data_approval_levels,
+        data_approval_workflows: sets.data_approval_workflows,
+        data_sets: sets.data_sets,
+        constants: sets.constants,
+        indicator_types: sets.indicator_types,
+        indicators: rules.indicators,
+        validation_rules: rules.validation_rules,
+        tracked_entity_types: rules.tracked_entity_types,
+        tracked_entity_attributes: rules.tracked_entity_attributes,
+        programs: programs.programs,
+        program_stages: programs.program_stages,
+        program_indicators: programs.program_indicators,
+        user_roles: users.user_roles,
+        users: users.users,
+        user_groups: users.user_groups,
+        api_tokens,
+    })
+}

@@ -1,0 +1,59 @@
+ghost use Rattle.std.specs.Prelude.{◌≡◌, ℕ, List, ◌++◌, IfOk, OnOk, map};
+ghost use Rattle.std.specs.List.{flat_map};
+ghost use Rattle.meta_links.specs.Reference.{Reference};
+ghost use Rattle.meta_links.specs.Told.{after};
+
+use crate::unknown::Unknown;
+use dh_base::items::Items;
+use dh_base::memory::Memory;
+use meta_ids::ids::Ids;
+use std::alloc::Global;
+
+/// An object whose references are looked up.
+pub trait Link: Drop {
+    /// The object as it is held.
+    type Held: Drop;
+
+    /// Its references, in the order of its fields.
+    ghost references: { Self → List Reference };
+
+    /// The object as it is held, by the identifiers of each kind.
+    ghost held: { List (List (List ℕ)) → Self → Self.Held };
+
+    /// Looks up the references.
+    fn link(&self, alloc: Global, ids: &Ids, unknown: &mut Unknown) -> Result<Self::Held, Memory>
+        ensures held { IfOk result (λ object. object ≡ held ids.now self.now) }
+        ensures told { OnOk result (unknown.new ≡ after ids.now unknown.old (references self.now)) };
+}
+
+/// Objects as they are held, behind some that are built in.
+fn link_each<T: Link>(
+    alloc: Global,
+    ids: &Ids,
+    unknown: &mut Unknown,
+    built_in: Vec<T::Held>,
+    objects: &[T],
+) -> Result<Items<T::Held>, Memory>
+    ensures held { IfOk result (λ all. all ≡ built_in.items ++ map (T.held ids.now) objects.now) }
+    ensures told { OnOk result (unknown.new ≡ after ids.now unknown.old (flat_map T.references objects.now)) }
+{
+    let mut all = built_in;
+    for object in objects {
+        all.push(object.link(alloc, ids, unknown)?)?;
+    }
+    Ok(Items::from(all))
+}
+
+/// The same of a list.
+pub fn link_all<T: Link>(
+    alloc: Global,
+    ids: &Ids,
+    unknown: &mut Unknown,
+    built_in: Vec<T::Held>,
+    objects: &Items<T>,
+) -> Result<Items<T::Held>, Memory>
+    ensures held { IfOk result (λ all. all ≡ built_in.items ++ map (T.held ids.now) objects.now) }
+    ensures told { OnOk result (unknown.new ≡ after ids.now unknown.old (flat_map T.references objects.now)) }
+{
+    link_each(alloc, ids, unknown, built_in, objects.as_slice())
+}
