@@ -1,9 +1,9 @@
 -- What users may do, and where.
-use Rattle.std.specs.Prelude.{◌≡◌, ℕ, ◌<◌, Bool, false, ◌||◌, ◌==◌, cond, List, [], ◌∷◌, length, map, find, bytes_eq, slice_get, Option, Some, option_map, Vec}
+use Rattle.std.specs.Prelude.{◌≡◌, ℕ, ◌<◌, Bool, false, ◌||◌, ◌==◌, cond, List, [], ◌∷◌, length, map, find, bytes_eq, slice_get, Option, Some, None, option_map, Vec}
 use Rattle.std.specs.HashMap.{get_by, HashMap}
 use Rattle.std.specs.declared.alloc.Global.{Global}
 use Rattle.std.specs.List.{list_any, range_with_len}
-use Rattle.std.specs.Option.{option_map_or}
+use Rattle.std.specs.Option.{option_map_or, option_or}
 use lib.Chars.{codes}
 use Rattle.dh_sharing.specs.declared.access.Right.{Right}
 use Rattle.dh_sharing.specs.declared.rule.UserFacts.{UserFacts}
@@ -72,7 +72,17 @@ user_of r token = user_in r.api_tokens token
 abbrev pub AreTokens : {S : Type 0} → List (List ℕ × ℕ) → HashMap (Vec ℕ Global) ℕ S → Type 0
 AreTokens tokens users = (token : List ℕ) → get_by (λ key. same_id token key.items) users ≡ user_in tokens token
 
+-- one token more, unless it is there
+abbrev pub TakesToken : {S : Type 0} → List ℕ → ℕ → HashMap (Vec ℕ Global) ℕ S → HashMap (Vec ℕ Global) ℕ S → Type 0
+TakesToken token user old new =
+    (other : List ℕ) → get_by (λ key. same_id other key.items) new
+    ≡ option_or (get_by (λ key. same_id other key.items) old) (cond (same_id other token) (Some user) None)
+
+-- for each user below the count what the rule of sharing asks
+pub record AreFactsUpto (r : Records) (count : ℕ) (facts : List UserFacts) : Type 0 where
+  pub same_length : length facts ≡ count
+  pub each : (user : ℕ) → user < count → slice_get facts user ≡ Some (facts_of r user)
+
 -- for each user what the rule of sharing asks
-pub record AreFacts (r : Records) (facts : List UserFacts) : Type 0 where
-  pub same_length : length facts ≡ length r.users
-  pub each : (user : ℕ) → user < length r.users → slice_get facts user ≡ Some (facts_of r user)
+abbrev pub AreFacts : Records → List UserFacts → Type 0
+AreFacts r facts = AreFactsUpto r (length r.users) facts

@@ -29,9 +29,5 @@ pub fn by_id(alloc: Global, sets: &[DataSet]) -> Result<Vec<u32>, Memory>
     ensures { IfOk result (λ order. order.items ≡ by_id (set_ids sets.now)) }
 {
     let map = by_id_map(alloc, sets)?;
-    let mut order = Vec::new(alloc);
-    for number in map.values() {
-        order.push(*number)?;
-    }
-    Ok(order)
+    Ok(map.values().copied().collect(alloc)?)
 }

@@ -3,7 +3,7 @@
 ghost use Rattle.std.specs.Prelude.{◌≡◌, ◌<◌, ◌^◌, length, slice_index_or, [], IfOk};
 ghost use Rattle.std.specs.List.{range_with_len};
 ghost use Rattle.meta_model.specs.Members.{AreHolders};
-ghost use Rattle.meta_model.specs.Users.{all_authority, is_granted, user_lists, AreFacts};
+ghost use Rattle.meta_model.specs.Users.{all_authority, is_granted, user_lists, facts_of, AreFacts};
 
 use crate::authorities::is_granted;
 use crate::holders::holders;
@@ -40,7 +40,27 @@ fn groups_of(alloc: Global, groups: &[UserGroup], count: usize) -> Result<Vec<It
 {
     let order = numbers(alloc, groups.len())?;
     let lists = group_users(alloc, groups)?;
-    holders(alloc, &lists, &order, count)
+    let all = holders(alloc, &lists, &order, count)?;
+    Ok(all)
+}
+
+fn fact_of(
+    alloc: Global,
+    records: &Records,
+    lists: &[Items<u32>],
+    number: u32,
+) -> Result<UserFacts, Memory>
+    requires user { number < length records.now.users }
+    requires lists { AreHolders (user_lists records.now.user_groups) (range_with_len 0 (length records.now.user_groups)) (length records.now.users) lists.now }
+    ensures { IfOk result (λ fact. fact ≡ facts_of records.now number) }
+{
+    let groups = Vec::from_slice(alloc, lists[number as usize].as_slice())?;
+    let user = &records.users.as_slice()[number as usize];
+    Ok(UserFacts {
+        number,
+        groups: Items::from(groups),
+        all: has_all(records.user_roles.as_slice(), user),
+    })
 }
 
 /// What the rule of sharing asks of each user.
@@ -49,17 +69,11 @@ pub fn facts(alloc: Global, records: &Records) -> Result<Vec<UserFacts>, Memory>
     requires groups { length records.now.user_groups < 2 ^ 32 }
     ensures { IfOk result (λ facts. AreFacts records.now facts.items) }
 {
-    let users = records.users.as_slice();
-    let lists = groups_of(alloc, records.user_groups.as_slice(), users.len())?;
-    let mut facts = Vec::with_capacity(alloc, users.len())?;
-    let mut number = 0u32;
-    for groups in lists {
-        facts.push(UserFacts {
-            number,
-            groups,
-            all: has_all(records.user_roles.as_slice(), &users[number as usize]),
-        })?;
-        number += 1;
+    let count = records.users.as_slice().len();
+    let lists = groups_of(alloc, records.user_groups.as_slice(), count)?;
+    let mut facts = Vec::with_capacity(alloc, count)?;
+    for number in 0..count as u32 {
+        facts.push(fact_of(alloc, records, &lists, number)?)?;
     }
     Ok(facts)
 }

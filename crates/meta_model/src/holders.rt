@@ -8,22 +8,33 @@ use dh_base::items::Items;
 use dh_base::memory::Memory;
 use std::alloc::Global;
 
-fn put_one(all: &mut [Items<u32>], number: u32, place: u32) -> Result<(), Memory>
-    requires { number < length all.old }
-    ensures { OnOk result (all.new ≡ slice_set all.old number (slice_index_or all.old number [] ++ place ∷ [])) }
+fn put_one(all: &mut Vec<Items<u32>>, number: u32, place: u32) -> Result<(), Memory>
+    ensures { OnOk result (all.new.items ≡ slice_set all.old.items number (slice_index_or all.old.items number [] ++ place ∷ [])) }
 {
-    all[number as usize].push(place)
+    if (number as usize) < all.len() {
+        return all[number as usize].push(place);
+    }
+    Ok(())
 }
 
 /// Puts the place at the end of the lists with these numbers.
-fn put_at(all: &mut [Items<u32>], numbers: &[u32], place: u32) -> Result<(), Memory>
+fn put_at(all: &mut Vec<Items<u32>>, numbers: &[u32], place: u32) -> Result<(), Memory>
     requires { IsStrictlyIncreasing numbers.now }
-    ensures { OnOk result (IsPutAt place numbers.now all.old all.new) }
+    ensures { OnOk result (IsPutAt place numbers.now all.old.items all.new.items) }
 {
     for number in numbers {
-        if (*number as usize) < all.len() {
-            put_one(all, *number, place)?;
-        }
+        put_one(all, *number, place)?;
+    }
+    Ok(())
+}
+
+/// Puts the place at the end of the lists of the numbers that stand there.
+fn put_place(all: &mut Vec<Items<u32>>, lists: &[Items<u32>], place: u32) -> Result<(), Memory>
+    requires { EachAscends lists.now }
+    ensures { OnOk result (IsPutAt place (slice_index_or lists.now place []) all.old.items all.new.items) }
+{
+    if (place as usize) < lists.len() {
+        return put_at(all, lists[place as usize].as_slice(), place);
     }
     Ok(())
 }
@@ -50,9 +61,7 @@ pub fn holders(
 {
     let mut all = empty_lists(alloc, count)?;
     for place in order {
-        if (*place as usize) < lists.len() {
-            put_at(&mut all, lists[*place as usize].as_slice(), *place)?;
-        }
+        put_place(&mut all, lists, *place)?;
     }
     Ok(all)
 }

@@ -1,4 +1,4 @@
-ghost use Rattle.std.specs.Prelude.{◌≡◌, ◌<◌, ◌≤◌, ◌^◌, Some, length, map, true, slice_get, IfOk, IfSome};
+ghost use Rattle.std.specs.Prelude.{◌≡◌, ◌<◌, ◌≤◌, ◌^◌, Some, None, [], length, map, true, slice_get, slice_index_or, IfOk, IfSome};
 ghost use Rattle.meta_model.specs.Approval.{unit_rows, option_combo_rows, levels_at, need_of};
 ghost use Rattle.meta_model.specs.Levels.{positions_of};
 ghost use Rattle.meta_model.specs.Linked.{Each, AreBelow, IsBelow, IsLinked, IsLinkedUnit, IsLinkedUnitGroup, IsLinkedOption, IsLinkedCategory, IsLinkedCombo, IsLinkedOptionCombo, IsLinkedElement, IsLinkedWorkflow, IsLinkedDataSet, IsLinkedIndicator, IsLinkedRule, IsLinkedEntityType, IsLinkedProgram, IsLinkedStage, IsLinkedProgramIndicator, IsLinkedUser, IsLinkedUserGroup};
@@ -72,7 +72,7 @@ impl Metadata {
         ensures value { slice_get self.now.organisation_units n ≡ Some result.now }
         ensures linked { IsLinkedUnit self.now result.now }
     {
-        &self.records.organisation_units.items[n as usize]
+        object_at(self.records.organisation_units.as_slice(), n)
     }
 
     /// The group of organisation units with that number.
@@ -81,7 +81,7 @@ impl Metadata {
         ensures value { slice_get self.now.organisation_unit_groups n ≡ Some result.now }
         ensures linked { IsLinkedUnitGroup self.now result.now }
     {
-        &self.records.organisation_unit_groups.items[n as usize]
+        object_at(self.records.organisation_unit_groups.as_slice(), n)
     }
 
     /// The category option with that number.
@@ -90,7 +90,7 @@ impl Metadata {
         ensures value { slice_get self.now.category_options n ≡ Some result.now }
         ensures linked { IsLinkedOption self.now result.now }
     {
-        &self.records.category_options.items[n as usize]
+        object_at(self.records.category_options.as_slice(), n)
     }
 
     /// The category with that number.
@@ -99,7 +99,7 @@ impl Metadata {
         ensures value { slice_get self.now.categories n ≡ Some result.now }
         ensures linked { IsLinkedCategory self.now result.now }
     {
-        &self.records.categories.items[n as usize]
+        object_at(self.records.categories.as_slice(), n)
     }
 
     /// The category combination with that number.
@@ -108,7 +108,7 @@ impl Metadata {
         ensures value { slice_get self.now.category_combos n ≡ Some result.now }
         ensures linked { IsLinkedCombo self.now result.now }
     {
-        &self.records.category_combos.items[n as usize]
+        object_at(self.records.category_combos.as_slice(), n)
     }
 
     /// The category option combination with that number.
@@ -117,7 +117,7 @@ impl Metadata {
         ensures value { slice_get self.now.category_option_combos n ≡ Some result.now }
         ensures linked { IsLinkedOptionCombo self.now result.now }
     {
-        &self.records.category_option_combos.items[n as usize]
+        object_at(self.records.category_option_combos.as_slice(), n)
     }
 
     /// The data element with that number.
@@ -126,7 +126,7 @@ impl Metadata {
         ensures value { slice_get self.now.data_elements n ≡ Some result.now }
         ensures linked { IsLinkedElement self.now result.now }
     {
-        &self.records.data_elements.items[n as usize]
+        object_at(self.records.data_elements.as_slice(), n)
     }
 
     /// The approval level with that number.
@@ -134,7 +134,7 @@ impl Metadata {
         requires { n < length self.now.data_approval_levels }
         ensures { slice_get self.now.data_approval_levels n ≡ Some result.now }
     {
-        &self.records.data_approval_levels.items[n as usize]
+        object_at(self.records.data_approval_levels.as_slice(), n)
     }
 
     /// The approval workflow with that number.
@@ -143,7 +143,7 @@ impl Metadata {
         ensures value { slice_get self.now.data_approval_workflows n ≡ Some result.now }
         ensures linked { IsLinkedWorkflow self.now result.now }
     {
-        &self.records.data_approval_workflows.items[n as usize]
+        object_at(self.records.data_approval_workflows.as_slice(), n)
     }
 
     /// The data set with that number.
@@ -152,7 +152,7 @@ impl Metadata {
         ensures value { slice_get self.now.data_sets n ≡ Some result.now }
         ensures linked { IsLinkedDataSet self.now result.now }
     {
-        &self.records.data_sets.items[n as usize]
+        object_at(self.records.data_sets.as_slice(), n)
     }
 
     /// The constant with that number.
@@ -160,7 +160,7 @@ impl Metadata {
         requires { n < length self.now.constants }
         ensures { slice_get self.now.constants n ≡ Some result.now }
     {
-        &self.records.constants.items[n as usize]
+        object_at(self.records.constants.as_slice(), n)
     }
 
     /// The indicator type with that number.
@@ -168,7 +168,7 @@ impl Metadata {
         requires { n < length self.now.indicator_types }
         ensures { slice_get self.now.indicator_types n ≡ Some result.now }
     {
-        &self.records.indicator_types.items[n as usize]
+        object_at(self.records.indicator_types.as_slice(), n)
     }
 
     /// The indicator with that number.
@@ -177,7 +177,7 @@ impl Metadata {
         ensures value { slice_get self.now.indicators n ≡ Some result.now }
         ensures linked { IsLinkedIndicator self.now result.now }
     {
-        &self.records.indicators.items[n as usize]
+        object_at(self.records.indicators.as_slice(), n)
     }
 
     /// The validation rule with that number.
@@ -186,7 +186,7 @@ impl Metadata {
         ensures value { slice_get self.now.validation_rules n ≡ Some result.now }
         ensures linked { IsLinkedRule self.now result.now }
     {
-        &self.records.validation_rules.items[n as usize]
+        object_at(self.records.validation_rules.as_slice(), n)
     }
 
     /// The type of tracked entities with that number.
@@ -195,7 +195,7 @@ impl Metadata {
         ensures value { slice_get self.now.tracked_entity_types n ≡ Some result.now }
         ensures linked { IsLinkedEntityType self.now result.now }
     {
-        &self.records.tracked_entity_types.items[n as usize]
+        object_at(self.records.tracked_entity_types.as_slice(), n)
     }
 
     /// The attribute of tracked entities with that number.
@@ -203,7 +203,7 @@ impl Metadata {
         requires { n < length self.now.tracked_entity_attributes }
         ensures { slice_get self.now.tracked_entity_attributes n ≡ Some result.now }
     {
-        &self.records.tracked_entity_attributes.items[n as usize]
+        object_at(self.records.tracked_entity_attributes.as_slice(), n)
     }
 
     /// The program with that number.
@@ -212,7 +212,7 @@ impl Metadata {
         ensures value { slice_get self.now.programs n ≡ Some result.now }
         ensures linked { IsLinkedProgram self.now result.now }
     {
-        &self.records.programs.items[n as usize]
+        object_at(self.records.programs.as_slice(), n)
     }
 
     /// The program stage with that number.
@@ -221,7 +221,7 @@ impl Metadata {
         ensures value { slice_get self.now.program_stages n ≡ Some result.now }
         ensures linked { IsLinkedStage self.now result.now }
     {
-        &self.records.program_stages.items[n as usize]
+        object_at(self.records.program_stages.as_slice(), n)
     }
 
     /// The program indicator with that number.
@@ -230,7 +230,7 @@ impl Metadata {
         ensures value { slice_get self.now.program_indicators n ≡ Some result.now }
         ensures linked { IsLinkedProgramIndicator self.now result.now }
     {
-        &self.records.program_indicators.items[n as usize]
+        object_at(self.records.program_indicators.as_slice(), n)
     }
 
     /// The user role with that number.
@@ -238,7 +238,7 @@ impl Metadata {
         requires { n < length self.now.user_roles }
         ensures { slice_get self.now.user_roles n ≡ Some result.now }
     {
-        &self.records.user_roles.items[n as usize]
+        object_at(self.records.user_roles.as_slice(), n)
     }
 
     /// The user with that number.
@@ -247,7 +247,7 @@ impl Metadata {
         ensures value { slice_get self.now.users n ≡ Some result.now }
         ensures linked { IsLinkedUser self.now result.now }
     {
-        &self.records.users.items[n as usize]
+        object_at(self.records.users.as_slice(), n)
     }
 
     /// The user group with that number.
@@ -256,7 +256,7 @@ impl Metadata {
         ensures value { slice_get self.now.user_groups n ≡ Some result.now }
         ensures linked { IsLinkedUserGroup self.now result.now }
     {
-        &self.records.user_groups.items[n as usize]
+        object_at(self.records.user_groups.as_slice(), n)
     }
 
     /// The tree of the organisation units.
@@ -286,7 +286,7 @@ impl Metadata {
         ensures value { result ≡ workflow_of self.now.data_sets element }
         ensures in_range { IsBelow (length self.now.data_approval_workflows) result }
     {
-        self.workflows[element as usize]
+        workflow_at(self.workflows.as_slice(), element)
     }
 
     /// The tree levels of a workflow's levels in ascending number. A position is a place in this list.
@@ -303,7 +303,7 @@ impl Metadata {
         requires { set < length self.now.data_sets }
         ensures { result ≡ has_element self.now set element }
     {
-        has(self.set_elements[set as usize].as_slice(), element)
+        has(list_at(self.set_elements.as_slice(), set), element)
     }
 
     /// Whether the unit is assigned to the data set.
@@ -311,7 +311,7 @@ impl Metadata {
         requires { set < length self.now.data_sets }
         ensures { result ≡ is_assigned self.now set unit }
     {
-        has(self.set_units[set as usize].as_slice(), unit)
+        has(list_at(self.set_units.as_slice(), set), unit)
     }
 
     /// The data sets with the element, in the order of the bytes of their identifiers.
@@ -320,7 +320,7 @@ impl Metadata {
         ensures value { result.now ≡ sets_with self.now element }
         ensures in_range { AreBelow (length self.now.data_sets) result.now }
     {
-        self.sets_with[element as usize].as_slice()
+        list_at(self.sets_with.as_slice(), element)
     }
 
     /// What the rule of sharing asks of the user.
@@ -408,4 +408,25 @@ impl Metadata {
         let least = least_level(&self.tree, self.view_units(user));
         need_from(self.positions(workflow), least)
     }
+}
+
+fn object_at<T>(objects: &[T], n: u32) -> &T
+    requires { n < length objects.now }
+    ensures { slice_get objects.now n ≡ Some result.now }
+{
+    &objects[n as usize]
+}
+
+fn list_at(lists: &[Items<u32>], n: u32) -> &[u32]
+    requires { n < length lists.now }
+    ensures { result.now ≡ slice_index_or lists.now n [] }
+{
+    lists[n as usize].as_slice()
+}
+
+fn workflow_at(workflows: &[Option<u32>], n: u32) -> Option<u32>
+    requires { n < length workflows.now }
+    ensures { result ≡ slice_index_or workflows.now n None }
+{
+    workflows[n as usize]
 }
