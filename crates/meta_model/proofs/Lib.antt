@@ -3,3 +3,5 @@ pub mod MemberLemmas
 pub mod HolderLemmas
 pub mod SetLemmas
 pub mod UserLemmas
+pub mod IdLemmas
+pub mod LevelLemmas

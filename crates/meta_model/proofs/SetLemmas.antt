@@ -63,7 +63,7 @@ pub copies_more : {A : Type 0} (field : A → List ℕ) (sets : List A) (i : ℕ
     → AreSortedCopies (map field (take i sets)) all → IsSortedCopy (field x) copy → AreSortedCopies (map field (take (i + 1) sets)) (all ++ copy ∷ [])
 copies_more field sets i x all copy within is copies one =
     let next : map field (take (i + 1) sets) ≡ map field (take i sets) ++ field x ∷ [] =
-        ap (map field) (take_more sets i x within ∙ ap (λ y. take i sets ++ y ∷ []) (sym is)) ∙ map-append field (take i sets) (x ∷ []) in
+    ap (map field) (take_more sets i x within ∙ ap (λ y. take i sets ++ y ∷ []) (sym is)) ∙ map-append field (take i sets) (x ∷ []) in
     subst (λ l. AreSortedCopies l (all ++ copy ∷ [])) (sym next) (copies_push (map field (take i sets)) all (field x) copy copies one)
 
 pub no_copies : AreSortedCopies [] []

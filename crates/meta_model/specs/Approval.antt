@@ -6,19 +6,19 @@ use Rattle.dh_base.specs.declared.plain.Need.{Need}
 use Rattle.dh_base.specs.declared.plain.Need.TheVariants.{All, Upto}
 use Rattle.org_tree.specs.Units.{UnitRow, level_of}
 use Rattle.meta_parts.specs.declared.held.Records.{Records}
-use Rattle.meta_parts.specs.declared.records.Unit.{Unit}
-use Rattle.meta_parts.specs.declared.records.OptionCombo.{OptionCombo}
 use Rattle.meta_parts.specs.declared.records.Workflow.{Workflow}
 use Rattle.meta_model.specs.Users.{has_authority, view_units_of}
-use Rattle.meta_model.specs.Levels.{positions_of}
+use Rattle.meta_rules.specs.Trees.{tree_rows}
+use Rattle.meta_rules.specs.Categories as rules
+use Rattle.meta_rules.specs.Levels.{positions_of}
 
 -- a unit's identifier and its parent
 abbrev pub unit_rows : Records → List UnitRow
-unit_rows r = map (λ (unit : Unit). (unit.id, unit.parent)) r.organisation_units
+unit_rows r = tree_rows r.organisation_units
 
 -- an option combination's category combination and its options
 abbrev pub option_combo_rows : Records → List (ℕ × List ℕ)
-option_combo_rows r = map (λ (combo : OptionCombo). (combo.category_combo, combo.category_options)) r.category_option_combos
+option_combo_rows r = rules.option_combo_rows r.category_option_combos
 
 -- a level of the tree as a small number; those of a metadata file are from 1 to 12
 abbrev pub tree_level : ℤ → ℕ

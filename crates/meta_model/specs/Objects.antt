@@ -1,6 +1,7 @@
 -- Objects by number and by identifier.
-use Rattle.std.specs.Prelude.{ℕ, Bool, true, false, List, [], length, map, slice_get, Option, None, option_map}
+use Rattle.std.specs.Prelude.{◌≡◌, ℕ, Bool, true, false, List, [], length, map, slice_get, Option, None, option_map}
 use Rattle.uid_index.specs.Places.{place_of}
+use Rattle.meta_ids.specs.Ids.{ids_at}
 use Rattle.dh_sharing.specs.declared.rule.Sharing.{Sharing}
 use Rattle.meta_parts.specs.declared.held.Records.{Records}
 use Rattle.meta_parts.specs.declared.kind.Kind.{Kind}
@@ -30,6 +31,10 @@ ids_of r ProgramIndicator = map (λ object. object.id) r.program_indicators
 ids_of r UserRole = map (λ object. object.id) r.user_roles
 ids_of r User = map (λ object. object.id) r.users
 ids_of r UserGroup = map (λ object. object.id) r.user_groups
+
+-- these are the identifiers of each kind
+abbrev pub HaveIds : Records → List (List (List ℕ)) → Type 0
+HaveIds r ids = (kind : Kind) → ids_at ids kind ≡ ids_of r kind
 
 -- how many objects of a kind there are
 abbrev pub count_of : Records → Kind → ℕ

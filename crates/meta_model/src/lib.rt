@@ -10,4 +10,7 @@ mod levels;
 mod members;
 pub mod metadata;
 mod needs;
+pub mod sets;
+#[cfg(test)]
+mod tests;
 mod tokens;

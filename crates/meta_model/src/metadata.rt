@@ -1,26 +1,27 @@
 ghost use Rattle.std.specs.Prelude.{◌≡◌, ◌<◌, ◌≤◌, ◌^◌, Some, None, [], length, map, true, slice_get, slice_index_or, IfOk, IfSome};
 ghost use Rattle.meta_model.specs.Approval.{unit_rows, option_combo_rows, levels_at, need_of};
-ghost use Rattle.meta_model.specs.Levels.{positions_of};
+ghost use Rattle.meta_model.specs.Known.{AreFew, HaveRules};
 ghost use Rattle.meta_model.specs.Linked.{Each, AreBelow, IsBelow, IsLinked, IsLinkedUnit, IsLinkedUnitGroup, IsLinkedOption, IsLinkedCategory, IsLinkedCombo, IsLinkedOptionCombo, IsLinkedElement, IsLinkedWorkflow, IsLinkedDataSet, IsLinkedIndicator, IsLinkedRule, IsLinkedEntityType, IsLinkedProgram, IsLinkedStage, IsLinkedProgramIndicator, IsLinkedUser, IsLinkedUserGroup};
-ghost use Rattle.meta_model.specs.Objects.{count_of, is_shared, sharing_of};
+ghost use Rattle.meta_model.specs.Objects.{count_of, find_of, is_shared, sharing_of, HaveIds};
 ghost use Rattle.meta_model.specs.Sets.{has_element, is_assigned, sets_with};
 ghost use Rattle.meta_model.specs.Users.{facts_of, has_authority, may_of, user_of, view_units_of};
-ghost use Rattle.meta_model.specs.Workflows.{workflow_of, AreWorkflows};
+ghost use Rattle.meta_rules.specs.Workflows.{workflow_of};
 
 use crate::authorities::is_granted;
-use crate::by_id::by_id;
 use crate::facts::facts;
-use crate::holders::holders;
 use crate::levels::all_tree_levels;
-use crate::members::{has, set_elements, set_units};
+use crate::members::has;
 use crate::needs::{least_level, need_from};
+use crate::sets::set_lists;
 use crate::tokens::token_users;
 use dh_base::items::Items;
 use dh_base::memory::Memory;
 use dh_base::plain::Need;
+use dh_base::uid::Uid;
 use dh_categories::combos::Combos;
 use dh_sharing::access::Right;
 use dh_sharing::rule::{Sharing, UserFacts, may};
+use meta_ids::ids::Ids;
 use meta_parts::held::Records;
 use meta_parts::kind::Kind;
 use meta_parts::records::{
@@ -28,6 +29,7 @@ use meta_parts::records::{
     EntityType, Indicator, IndicatorType, OptionCombo, Program, ProgramIndicator, Role, Rule,
     Stage, Unit, UnitGroup, User, UserGroup, Workflow,
 };
+use meta_rules::held::Held;
 use org_tree::tree::Tree;
 use std::alloc::Global;
 use std::collections::HashMap;
@@ -38,6 +40,7 @@ use std::marker::Model;
 #[derive(Drop)]
 pub struct Metadata {
     records: Records,
+    ids: Ids,
     tree: Tree,
     combos: Combos,
     workflows: Vec<Option<u32>>,
@@ -66,6 +69,48 @@ impl Model for Metadata {
 }
 
 impl Metadata {
+    /// Metadata of these records, where the rules between them are kept.
+    pub fn of(alloc: Global, records: Records, ids: Ids, held: Held) -> Result<Metadata, Memory>
+        requires few { AreFew records }
+        requires linked { IsLinked records }
+        requires ids { HaveIds records ids }
+        requires held { HaveRules records held }
+        ensures { IfOk result (λ meta. meta ≡ records) }
+    {
+        let levels = all_tree_levels(alloc, &held.positions)?;
+        let lists = set_lists(alloc, &records)?;
+        let facts = facts(alloc, &records)?;
+        let tokens = token_users(alloc, records.api_tokens.as_slice())?;
+        Ok(Metadata {
+            records,
+            ids,
+            tree: held.tree,
+            combos: held.combos,
+            workflows: held.workflows,
+            levels,
+            set_elements: lists.elements,
+            set_units: lists.units,
+            sets_with: lists.having,
+            facts,
+            tokens,
+        })
+    }
+
+    /// The number of the object of a kind that has the identifier, `None` where none has it.
+    pub fn find(&self, kind: Kind, id: Uid) -> Option<u32>
+        ensures value { result ≡ find_of self.now kind id }
+        ensures in_range { IsBelow (count_of self.now kind) result }
+    {
+        self.ids.find(kind, id)
+    }
+
+    /// The number of objects of a kind.
+    pub fn count(&self, kind: Kind) -> u32
+        ensures { result ≡ count_of self.now kind }
+    {
+        self.ids.count(kind)
+    }
+
     /// The organisation unit with that number.
     pub fn unit(&self, n: u32) -> &Unit
         requires { n < length self.now.organisation_units }

@@ -9,7 +9,12 @@ use std::alloc::Global;
 use std::collections::HashMap;
 
 /// Takes in the user of a token, unless the token is there.
-fn add_user(alloc: Global, users: &mut HashMap<Vec<u8>, u32>, token: &[u8], user: u32) -> Result<(), Memory>
+fn add_user(
+    alloc: Global,
+    users: &mut HashMap<Vec<u8>, u32>,
+    token: &[u8],
+    user: u32,
+) -> Result<(), Memory>
     ensures { OnOk result (TakesToken token.now user users.old users.new) }
 {
     if users.get(token).is_none() {
@@ -19,7 +24,10 @@ fn add_user(alloc: Global, users: &mut HashMap<Vec<u8>, u32>, token: &[u8], user
 }
 
 /// For each token its user.
-pub fn token_users(alloc: Global, tokens: &[(Items<u8>, u32)]) -> Result<HashMap<Vec<u8>, u32>, Memory>
+pub fn token_users(
+    alloc: Global,
+    tokens: &[(Items<u8>, u32)],
+) -> Result<HashMap<Vec<u8>, u32>, Memory>
     ensures { IfOk result (λ users. AreTokens tokens.now users) }
 {
     let mut users = HashMap::new(alloc);

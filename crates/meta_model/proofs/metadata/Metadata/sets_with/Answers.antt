@@ -11,7 +11,7 @@ returns-clause-in_range c =
     let r = c.self.inside.records in
     let within : c.args.element < length r.data_elements = subst (λ s. c.args.element < length s.data_elements) (sym c.self.view_is) c.requires in
     let value : c.list_at.result.now ≡ sets_with r c.args.element =
-        c.list_at.ensures ∙ ap (λ l. get_or l c.args.element []) c.as_slice.ensures.value ∙ c.self.invariant.sets_with.each c.args.element within in
+    c.list_at.ensures ∙ ap (λ l. get_or l c.args.element []) c.as_slice.ensures.value ∙ c.self.invariant.sets_with.each c.args.element within in
     subst (λ s. AreBelow (length s.data_sets) c.list_at.result.now) c.self.view_is
     (subst (λ l. AreBelow (length r.data_sets) l) (sym value)
     (subst (λ n. AreBelow n (sets_with r c.args.element)) (length-map r.data_sets (λ (set : DataSet). set.data_set_elements))

@@ -1,5 +1,5 @@
 use Rattle.std.proofs.Common.{◌≡◌, ◌∙◌, ◌<◌, None, length, subst, ap, sym, get_or, arith}
-use Rattle.meta_model.specs.Workflows.{workflow_of}
+use Rattle.meta_rules.specs.Workflows.{workflow_of}
 use Rattle.meta_model.specs.Linked.{IsBelow}
 use Rattle.meta_model.proofs.LinkLemmas.{workflow_below}
 use Rattle.meta_model.proofs.metadata.Metadata.workflow_of.Goals as goal
@@ -20,7 +20,7 @@ returns-clause-in_range c =
     let r = c.self.inside.records in
     let within : c.args.element < length r.data_elements = subst (λ s. c.args.element < length s.data_elements) (sym c.self.view_is) c.requires in
     let value : c.workflow_at.result ≡ workflow_of r.data_sets c.args.element =
-        c.workflow_at.ensures ∙ ap (λ l. get_or l c.args.element None) c.as_slice.ensures.value ∙ c.self.invariant.workflows.each c.args.element within in
+    c.workflow_at.ensures ∙ ap (λ l. get_or l c.args.element None) c.as_slice.ensures.value ∙ c.self.invariant.workflows.each c.args.element within in
     subst (λ s. IsBelow (length s.data_approval_workflows) c.workflow_at.result) c.self.view_is
     (subst (λ w. IsBelow (length r.data_approval_workflows) w) (sym value)
     (workflow_below (length r.data_approval_workflows) r.data_sets c.args.element (λ n set at. (c.self.invariant.linked.data_sets n set at).workflow)))
