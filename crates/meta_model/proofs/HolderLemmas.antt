@@ -1,6 +1,6 @@
 -- Places put at the end of lists.
-use Rattle.std.proofs.Common.{◌≡◌, ◌∙◌, ◌+◌, ◌<◌, ◌≤◌, ◌++◌, ◌∷◌, [], ◌||◌, ℕ, zero, suc, Bool, true, false, List, Option, None, Some, cond, length, get_or, set, map, refl, sym, ap, subst, eqb, ltb, take, arith}
-use Rattle.std.specs.List.{list_any, filter, slice_get}
+use Rattle.std.proofs.Common.{◌≡◌, ◌∙◌, ◌+◌, ◌<◌, ◌≤◌, ◌++◌, ◌∷◌, [], ◌||◌, ℕ, zero, suc, Bool, true, false, List, cond, length, get_or, set, refl, sym, ap, subst, eqb, ltb, take, arith}
+use Rattle.std.specs.List.{filter}
 use Rattle.std.specs.Option.{option_map_or}
 use Rattle.std.specs.List.Sorted.{IsStrictlyIncreasing}
 use Rattle.std.proofs.lemmas.Bool.{eqb-true, eqb-false, eq-eqb, ne_eqb, ltb-true, ltb-false, true≢false}
@@ -8,7 +8,7 @@ use Rattle.std.proofs.lemmas.List.{get_or_default, get_or-take, take_more, lengt
 use Rattle.std.proofs.lemmas.List.Kept.{AllPairs-from_increasing}
 use Rattle.std.proofs.lemmas.List.Elements.{filter-append, filter_passes}
 use Rattle.std.proofs.lemmas.List.Folds.{list_any_none, list_any_more}
-use Rattle.std.proofs.lemmas.Option.{slice_get-get_or, slice_get_past}
+use Rattle.std.proofs.lemmas.Option.{slice_get_past}
 use Rattle.meta_model.specs.Linked.{AreBelow}
 use Rattle.meta_model.specs.Members.{has, has_at, holders, IsPutAt, AreHolders}
 

@@ -1,6 +1,5 @@
 -- The levels of workflows as small numbers.
-use Rattle.std.proofs.Common.{◌≡◌, ◌≤◌, ◌∷◌, [], ℕ, ℤ, zero, suc, List, Some, length, map, refl, sym, ap, subst}
-use Rattle.std.specs.List.{slice_get}
+use Rattle.std.proofs.Common.{◌≡◌, ◌≤◌, ◌∷◌, [], ℤ, zero, suc, List, length, map, refl, sym, ap, subst}
 use Rattle.std.proofs.lemmas.List.{length-map}
 use Rattle.meta_model.specs.Approval.{tree_level}
 use Rattle.meta_model.specs.Linked.{Each}

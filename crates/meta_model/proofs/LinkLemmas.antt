@@ -1,7 +1,6 @@
 -- References of an object that is lent.
-use Rattle.std.proofs.Common.{◌≡◌, ◌∙◌, ◌<◌, ◌≤◌, ◌++◌, ◌∷◌, [], ℕ, Bool, true, false, List, Option, None, Some, cond, length, get_or, map, refl, sym, ap, subst, IfSome, zero, suc, slice_get}
+use Rattle.std.proofs.Common.{◌≡◌, ◌<◌, ◌++◌, ◌∷◌, [], ℕ, Bool, true, false, List, Option, None, Some, cond, length, get_or, refl, subst, IfSome, suc, slice_get}
 use Rattle.std.proofs.lemmas.Option.{slice_get_read}
-use Rattle.std.specs.List.{list_any}
 use Rattle.std.specs.Option.{option_to_list}
 use Rattle.meta_parts.specs.declared.held.Records.{Records}
 use Rattle.meta_parts.specs.declared.records.DataSet.{DataSet}

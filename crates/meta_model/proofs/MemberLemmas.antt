@@ -1,11 +1,11 @@
 -- Lists of numbers in ascending order.
-use Rattle.std.proofs.Common.{◌≡◌, ◌∙◌, ◌+◌, ◌<◌, ◌≤◌, ◌++◌, ◌∷◌, [], ◌||◌, ◌==◌, ℕ, Bool, true, false, List, Result, Ok, Err, cond, length, get_or, map, refl, sym, ap, subst, is_ok, eqb, ltb, take, arith, ◌⊎◌}
-use Rattle.std.specs.List.{list_any, dedup, dedup_from, filter, slice_get}
+use Rattle.std.proofs.Common.{◌≡◌, ◌∙◌, ◌<◌, ◌≤◌, ◌∷◌, [], ◌||◌, ℕ, Bool, true, false, List, Result, Ok, Err, cond, length, get_or, refl, sym, ap, subst, is_ok, eqb, ltb, arith}
+use Rattle.std.specs.List.{dedup, dedup_from, filter}
 use Rattle.std.specs.Option.{option_map_or}
 use Rattle.std.specs.List.Sorted.{IsStrictlyIncreasing, IsBinarySearchResult, IsPermutation, IsSorted}
 use Rattle.std.specs.Ordering.{nat_cmp}
 use Rattle.std.proofs.lemmas.Bool.{eqb-true, eq-eqb, ne_eqb, ltb-true, ltb-false}
-use Rattle.std.proofs.lemmas.List.{get_or_default, get_or-map, length-map}
+use Rattle.std.proofs.lemmas.List.{get_or_default}
 use Rattle.std.proofs.lemmas.List.Kept.{AllPairs-from_increasing}
 use Rattle.std.proofs.lemmas.List.Folds.{list_any_at, list_any_none}
 use Rattle.std.proofs.lemmas.List.Sorted.{searched, list_any-IsPermutation}

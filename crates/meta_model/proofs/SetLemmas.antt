@@ -1,12 +1,12 @@
 -- The elements and units of data sets, by their copies.
-use Rattle.std.proofs.Common.{◌≡◌, ◌∙◌, ◌+◌, ◌<◌, ◌≤◌, ◌++◌, ◌∷◌, [], ℕ, zero, suc, Bool, true, false, List, length, get_or, map, refl, sym, ap, subst, take, drop, ltb, arith}
+use Rattle.std.proofs.Common.{◌≡◌, ◌∙◌, ◌+◌, ◌<◌, ◌++◌, ◌∷◌, [], ℕ, zero, suc, true, false, List, length, get_or, map, refl, sym, ap, subst, take, ltb, arith}
 use Rattle.std.specs.List.{slice_get, range_with_len}
 use Rattle.std.specs.Option.{option_map_or}
 use Rattle.std.specs.List.Sorted.{IsStrictlyIncreasing}
 use Rattle.std.proofs.lemmas.Bool.{ltb-true, ltb-false}
-use Rattle.std.proofs.lemmas.List.{take_more, length-map, map-append, length-append, length-take}
+use Rattle.std.proofs.lemmas.List.{take_more, length-map, map-append, length-append}
 use Rattle.meta_model.specs.Members.{has, has_at, IsSortedCopy, AreSortedCopies}
-use Rattle.meta_model.proofs.MemberLemmas.{ascends, held_has}
+use Rattle.meta_model.proofs.MemberLemmas.{held_has}
 
 has_at_map : {A : Type 0} (field : A → List ℕ) (sets : List A) (n place : ℕ) → has_at (map field sets) n place ≡ option_map_or (λ set. has (field set) n) (slice_get sets place) false
 has_at_map field [] n place = refl

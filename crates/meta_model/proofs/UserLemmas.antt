@@ -1,6 +1,6 @@
 -- Users by token, and the places in a list of holders.
-use Rattle.std.proofs.Common.{◌≡◌, ◌∙◌, ◌+◌, ◌<◌, ◌≤◌, ◌++◌, ◌∷◌, [], ℕ, Bool, true, false, List, Option, None, Some, cond, length, get_or, map, refl, sym, ap, subst, take, arith, find, IfSome, option_map, is_some, Vec, zero, suc, ltb}
-use Rattle.std.specs.List.{filter, slice_get}
+use Rattle.std.proofs.Common.{◌≡◌, ◌∙◌, ◌+◌, ◌<◌, ◌++◌, ◌∷◌, [], ℕ, Bool, true, false, List, Option, None, Some, cond, length, get_or, map, refl, sym, ap, subst, take, arith, find, IfSome, option_map, is_some, Vec, zero, suc, ltb}
+use Rattle.std.specs.List.{slice_get}
 use Rattle.std.specs.Option.{option_or, option_copied}
 use denote.Ref.{Bor}
 use Rattle.std.specs.HashMap as hash
@@ -12,7 +12,6 @@ use Rattle.std.proofs.lemmas.List.{take_more, length-append}
 use Rattle.std.proofs.lemmas.Bool.{ltb-true, ltb-false}
 use Rattle.uid_index.specs.Places.{same_id}
 use Rattle.meta_model.specs.Linked.{AreBelow, IsBelow}
-use Rattle.meta_model.specs.Members.{has, has_at, holders}
 use Rattle.dh_sharing.specs.declared.rule.UserFacts.{UserFacts}
 use Rattle.meta_parts.specs.declared.held.Records.{Records}
 use Rattle.meta_model.specs.Users.{user_in, facts_of, AreTokens, TakesToken, AreFactsUpto}

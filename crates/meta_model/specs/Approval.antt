@@ -1,5 +1,5 @@
 -- Approval: workflows, their positions, and what a user needs to see approved.
-use Rattle.std.specs.Prelude.{◌≡◌, ℕ, ℤ, ◌+◌, ◌<◌, nat_le, nat_eq, min, unsigned_abs, Bool, cond, List, [], ◌∷◌, map, length, position, slice_get, slice_index_or, Option, None, Some}
+use Rattle.std.specs.Prelude.{ℕ, ℤ, ◌+◌, nat_le, nat_eq, min, unsigned_abs, cond, List, [], ◌∷◌, map, length, position, slice_get, Option, None, Some}
 use Rattle.std.specs.Option.{option_map_or}
 use lib.Chars.{codes}
 use Rattle.dh_base.specs.declared.plain.Need.{Need}

@@ -1,7 +1,5 @@
 -- What metadata keeps beside its records.
-use Rattle.std.specs.Prelude.{◌≡◌, ℕ, ◌<◌, ◌≤◌, ◌^◌, List, [], length, map, slice_index_or}
-use Rattle.meta_parts.specs.declared.held.Records.{Records}
-use Rattle.meta_parts.specs.declared.records.DataSet.{DataSet}
+use Rattle.std.specs.Prelude.{◌≡◌, ◌≤◌, length, map}
 use Rattle.meta_model.specs.declared.metadata.Metadata.TheInside.{Inside}
 use Rattle.meta_model.specs.Approval.{unit_rows, option_combo_rows, levels_in}
 use Rattle.meta_model.specs.Linked.{Each, IsLinked}

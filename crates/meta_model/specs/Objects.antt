@@ -1,5 +1,5 @@
 -- Objects by number and by identifier.
-use Rattle.std.specs.Prelude.{◌≡◌, ℕ, Bool, true, false, List, [], length, map, slice_get, Option, None, option_map}
+use Rattle.std.specs.Prelude.{◌≡◌, ℕ, Bool, true, false, List, length, map, slice_get, Option, None, option_map}
 use Rattle.uid_index.specs.Places.{place_of}
 use Rattle.meta_ids.specs.Ids.{ids_at}
 use Rattle.dh_sharing.specs.declared.rule.Sharing.{Sharing}

@@ -1,5 +1,5 @@
 -- What users may do, and where.
-use Rattle.std.specs.Prelude.{◌≡◌, ℕ, ◌<◌, Bool, false, ◌||◌, ◌==◌, cond, List, [], ◌∷◌, length, map, find, bytes_eq, slice_get, Option, Some, None, option_map, Vec}
+use Rattle.std.specs.Prelude.{◌≡◌, ℕ, ◌<◌, Bool, false, ◌||◌, ◌==◌, cond, List, [], length, map, find, bytes_eq, slice_get, Option, Some, None, option_map, Vec}
 use Rattle.std.specs.HashMap.{get_by, HashMap}
 use Rattle.std.specs.declared.alloc.Global.{Global}
 use Rattle.std.specs.List.{list_any, range_with_len}

@@ -1,4 +1,4 @@
-use Rattle.std.proofs.Common.{◌≡◌, ◌∙◌, subst, sym, length}
+use Rattle.std.proofs.Common.{◌∙◌, subst, sym, length}
 use Rattle.std.specs.List.{range_with_len}
 use Rattle.meta_model.specs.Members.{AreHolders, EachAscends}
 use Rattle.meta_model.specs.Users.{user_lists}

@@ -1,4 +1,4 @@
-use Rattle.std.proofs.Common.{◌≡◌, ◌+◌, ◌++◌, ◌∷◌, [], subst, sym, ap, ◌∙◌}
+use Rattle.std.proofs.Common.{◌+◌, ◌++◌, ◌∷◌, [], subst, sym, ap, ◌∙◌}
 use Rattle.meta_model.specs.Members.{AreHolders}
 use Rattle.meta_model.proofs.HolderLemmas.{empty_more}
 use Rattle.meta_model.proofs.holders.empty_lists.Goals as goal

@@ -1,4 +1,4 @@
-use Rattle.std.proofs.Common.{◌≡◌, ◌∙◌}
+use Rattle.std.proofs.Common.{◌∙◌}
 use Rattle.meta_model.proofs.MemberLemmas.{search_finds}
 use Rattle.meta_model.proofs.members.has.Goals as goal
 

@@ -1,4 +1,4 @@
-use Rattle.std.proofs.Common.{◌≡◌, ◌+◌, map, take, subst, sym}
+use Rattle.std.proofs.Common.{◌+◌, map, take, subst, sym}
 use Rattle.meta_parts.specs.declared.records.DataSet.{DataSet}
 use Rattle.meta_model.specs.Members.{IsSortedCopy, AreSortedCopies}
 use Rattle.meta_model.proofs.SetLemmas.{copies_more}

@@ -1,4 +1,4 @@
-use Rattle.std.proofs.Common.{◌≡◌, ◌∙◌, eqb, subst}
+use Rattle.std.proofs.Common.{◌∙◌, eqb, subst}
 use Rattle.std.specs.List.Sorted.{IsPermutation}
 use Rattle.std.proofs.lemmas.List.Filters.{dedup_is}
 use Rattle.meta_model.proofs.MemberLemmas.{copy_sorted}

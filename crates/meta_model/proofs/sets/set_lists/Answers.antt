@@ -1,4 +1,4 @@
-use Rattle.std.proofs.Common.{◌≡◌, ◌∙◌, length, subst, sym, ap}
+use Rattle.std.proofs.Common.{◌∙◌, length, subst, sym, ap}
 use Rattle.meta_model.specs.Members.{AreHolders, AreSortedCopies, EachAscends}
 use Rattle.meta_model.specs.Sets.{element_lists, unit_lists, set_ids, by_id}
 use Rattle.meta_model.proofs.MemberLemmas.{ascends, raw_holders}
@@ -13,9 +13,9 @@ pub returns : goal.returns
 returns c =
     let sets = c.args.records.now.data_sets in
     let elements : AreSortedCopies (element_lists sets) c.in_ok-elements.elements.items =
-        subst (λ s. AreSortedCopies (element_lists s) c.in_ok-elements.elements.items) c.as_slice-sets.ensures c.in_ok-elements.ensures in
+    subst (λ s. AreSortedCopies (element_lists s) c.in_ok-elements.elements.items) c.as_slice-sets.ensures c.in_ok-elements.ensures in
     let units : AreSortedCopies (unit_lists sets) c.in_ok-units.units.items =
-        subst (λ s. AreSortedCopies (unit_lists s) c.in_ok-units.units.items) c.as_slice-sets.ensures c.in_ok-units.ensures in
+    subst (λ s. AreSortedCopies (unit_lists s) c.in_ok-units.units.items) c.as_slice-sets.ensures c.in_ok-units.ensures in
     record {
       elements = elements;
       units = units;

@@ -1,4 +1,4 @@
-use Rattle.std.proofs.Common.{◌≡◌, ◌∙◌, length, ap}
+use Rattle.std.proofs.Common.{◌∙◌, length, ap}
 use Rattle.meta_model.specs.Objects.{count_of}
 use Rattle.meta_model.proofs.IdLemmas.{ids_count}
 use Rattle.meta_model.proofs.metadata.Metadata.count.Goals as goal

@@ -1,4 +1,4 @@
-use Rattle.std.proofs.Common.{◌≡◌, ◌∙◌, ◌<◌, [], length, subst, ap, sym, get_or}
+use Rattle.std.proofs.Common.{◌∙◌, ◌<◌, [], length, subst, ap, sym, get_or}
 use Rattle.meta_parts.specs.declared.records.DataSet.{DataSet}
 use Rattle.meta_model.specs.Sets.{has_element}
 use Rattle.meta_model.proofs.SetLemmas.{searched_list, searched_has}

@@ -20,7 +20,7 @@ pub invariant_of-result : goal.invariant_of-result
 invariant_of-result c =
     let r = c.args.records in
     let small : c.in_ok-levels.levels.items ≡ map (map tree_level) c.args.held.positions.items =
-        c.in_ok-levels.ensures ∙ ap (map (map tree_level)) c.deref.ensures.value in
+    c.in_ok-levels.ensures ∙ ap (map (map tree_level)) c.deref.ensures.value in
     record {
       linked = c.requires.linked;
       ids = c.requires.ids;

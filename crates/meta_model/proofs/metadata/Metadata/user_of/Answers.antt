@@ -1,4 +1,4 @@
-use Rattle.std.proofs.Common.{◌≡◌, ◌∙◌, ◌<◌, length, subst, sym, rules}
+use Rattle.std.proofs.Common.{◌≡◌, ◌∙◌, length, subst, sym}
 use Rattle.meta_model.specs.Linked.{IsBelow}
 use Rattle.meta_model.specs.Users.{user_in}
 use Rattle.meta_model.proofs.UserLemmas.{user_below}
