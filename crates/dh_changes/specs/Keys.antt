@@ -1,5 +1,5 @@
 -- Equality of keys, as the comparison of their fields computes it.
-use Rattle.std.specs.Prelude.{ℕ, Bool, ◌&&◌, List, nat_eq}
+use Rattle.std.specs.Prelude.{Bool, ◌&&◌, nat_eq}
 use Rattle.std.specs.Cmp.Lexicographic.{pointwise}
 use Rattle.dh_periods.specs.Keys.{same_period}
 use Rattle.dh_changes.specs.declared.keys.ValueKey.{ValueKey}

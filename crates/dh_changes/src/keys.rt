@@ -1,3 +1,10 @@
+ghost use Rattle.std.specs.Prelude.{◌≡◌};
+ghost use Rattle.std.specs.Bool.{Decides};
+ghost use Rattle.dh_changes.specs.Keys.{same_value_key, same_approval_key, same_reg_key};
+ghost use Rattle.dh_changes.specs.declared.keys.ValueKey.{ValueKey};
+ghost use Rattle.dh_changes.specs.declared.keys.ApprovalKey.{ApprovalKey};
+ghost use Rattle.dh_changes.specs.declared.keys.RegKey.{RegKey};
+
 use dh_base::uid::Uid;
 use dh_periods::Period;
 
@@ -37,3 +44,10 @@ pub struct RegKey {
     /// The attribute option combination.
     pub attribute: Uid,
 }
+
+/// Equality of the three kinds of keys decides whether they are one key.
+pub fn keys_are_told_apart()
+    ensures values { (a : ValueKey) → (b : ValueKey) → Decides (same_value_key a b) (a ≡ b) }
+    ensures approvals { (a : ApprovalKey) → (b : ApprovalKey) → Decides (same_approval_key a b) (a ≡ b) }
+    ensures registrations { (a : RegKey) → (b : RegKey) → Decides (same_reg_key a b) (a ≡ b) }
+{}
