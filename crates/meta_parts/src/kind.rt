@@ -32,6 +32,7 @@ ghost use Rattle.meta_parts.specs.Keys.{key_of};
 
 impl Kind {
     /// The key of the metadata file under which the objects of this kind stand.
+    #[tactic(auto, unfolding(crate::specs::Keys::key_of))]
     pub fn key(self) -> &'static str
         ensures { result.now ≡ key_of self }
     {

@@ -1,7 +1,7 @@
 //! The names of values in a metadata file.
 
-ghost use Rattle.std.specs.Prelude.{◌≡◌, ◌≢◌, IfSome, IfNone};
-ghost use Rattle.meta_parts.specs.Names.{value_type_named, operator_named, program_type_named, analytics_type_named, aggregation_named, strategy_named};
+ghost use Rattle.std.specs.Prelude.{◌≡◌};
+ghost use Rattle.meta_parts.specs.Names.{value_type_name, value_type_named, operator_name, operator_named, program_type_name, program_type_named, analytics_type_name, analytics_type_named, aggregation_name, aggregation_named, strategy_name, strategy_named};
 
 use dh_base::plain::{AggType, Strategy};
 
@@ -71,24 +71,74 @@ pub enum AnalyticsType {
     Enrollment,
 }
 
+const ALL_VALUE_TYPES: [ValueType; 11] = [
+    ValueType::Number,
+    ValueType::Integer,
+    ValueType::IntegerPositive,
+    ValueType::IntegerNegative,
+    ValueType::IntegerZeroOrPositive,
+    ValueType::Percentage,
+    ValueType::UnitInterval,
+    ValueType::Boolean,
+    ValueType::TrueOnly,
+    ValueType::Date,
+    ValueType::Text,
+];
+
+/// The name of the value type.
+pub fn value_type_name(value: ValueType) -> &'static [u8]
+    ensures { result.now ≡ value_type_name value }
+{
+    match value {
+        ValueType::Number => b"NUMBER",
+        ValueType::Integer => b"INTEGER",
+        ValueType::IntegerPositive => b"INTEGER_POSITIVE",
+        ValueType::IntegerNegative => b"INTEGER_NEGATIVE",
+        ValueType::IntegerZeroOrPositive => b"INTEGER_ZERO_OR_POSITIVE",
+        ValueType::Percentage => b"PERCENTAGE",
+        ValueType::UnitInterval => b"UNIT_INTERVAL",
+        ValueType::Boolean => b"BOOLEAN",
+        ValueType::TrueOnly => b"TRUE_ONLY",
+        ValueType::Date => b"DATE",
+        ValueType::Text => b"TEXT",
+    }
+}
+
 /// The value type of that name, or `None` where no one has it.
 #[tactic(auto, unfolding(crate::specs::Names::value_type_named))]
 pub fn value_type_named(name: &[u8]) -> Option<ValueType>
     ensures { result ≡ value_type_named name.now }
 {
-    match name {
-        b"NUMBER" => Some(ValueType::Number),
-        b"INTEGER" => Some(ValueType::Integer),
-        b"INTEGER_POSITIVE" => Some(ValueType::IntegerPositive),
-        b"INTEGER_NEGATIVE" => Some(ValueType::IntegerNegative),
-        b"INTEGER_ZERO_OR_POSITIVE" => Some(ValueType::IntegerZeroOrPositive),
-        b"PERCENTAGE" => Some(ValueType::Percentage),
-        b"UNIT_INTERVAL" => Some(ValueType::UnitInterval),
-        b"BOOLEAN" => Some(ValueType::Boolean),
-        b"TRUE_ONLY" => Some(ValueType::TrueOnly),
-        b"DATE" => Some(ValueType::Date),
-        b"TEXT" => Some(ValueType::Text),
-        _ => None,
+    ALL_VALUE_TYPES
+        .iter()
+        .copied()
+        .find(|each| value_type_name(*each) == name)
+}
+
+const ALL_OPERATORS: [Operator; 8] = [
+    Operator::EqualTo,
+    Operator::NotEqualTo,
+    Operator::GreaterThan,
+    Operator::GreaterThanOrEqualTo,
+    Operator::LessThan,
+    Operator::LessThanOrEqualTo,
+    Operator::CompulsoryPair,
+    Operator::ExclusivePair,
+];
+
+/// The name of the operator.
+pub fn operator_name(value: Operator) -> &'static [u8]
+    ensures { result.now ≡ operator_name value }
+{
+    match value {
+        Operator::EqualTo => b"equal_to",
+        Operator::NotEqualTo => b"not_equal_to",
+        Operator::GreaterThan => b"greater_than",
+        Operator::GreaterThanOrEqualTo => b"greater_than_or_equal_to",
+        Operator::LessThan => b"less_than",
+        Operator::LessThanOrEqualTo => b"less_than_or_equal_to",
+        Operator::CompulsoryPair => b"compulsory_pair",
+        Operator::ExclusivePair => b"exclusive_pair",
     }
 }
 
@@ -97,16 +147,24 @@ pub fn value_type_named(name: &[u8]) -> Option<ValueType>
 pub fn operator_named(name: &[u8]) -> Option<Operator>
     ensures { result ≡ operator_named name.now }
 {
-    match name {
-        b"equal_to" => Some(Operator::EqualTo),
-        b"not_equal_to" => Some(Operator::NotEqualTo),
-        b"greater_than" => Some(Operator::GreaterThan),
-        b"greater_than_or_equal_to" => Some(Operator::GreaterThanOrEqualTo),
-        b"less_than" => Some(Operator::LessThan),
-        b"less_than_or_equal_to" => Some(Operator::LessThanOrEqualTo),
-        b"compulsory_pair" => Some(Operator::CompulsoryPair),
-        b"exclusive_pair" => Some(Operator::ExclusivePair),
-        _ => None,
+    ALL_OPERATORS
+        .iter()
+        .copied()
+        .find(|each| operator_name(*each) == name)
+}
+
+const ALL_PROGRAM_TYPES: [ProgramType; 2] = [
+    ProgramType::WithRegistration,
+    ProgramType::WithoutRegistration,
+];
+
+/// The name of the program type.
+pub fn program_type_name(value: ProgramType) -> &'static [u8]
+    ensures { result.now ≡ program_type_name value }
+{
+    match value {
+        ProgramType::WithRegistration => b"WITH_REGISTRATION",
+        ProgramType::WithoutRegistration => b"WITHOUT_REGISTRATION",
     }
 }
 
@@ -115,10 +173,21 @@ pub fn operator_named(name: &[u8]) -> Option<Operator>
 pub fn program_type_named(name: &[u8]) -> Option<ProgramType>
     ensures { result ≡ program_type_named name.now }
 {
-    match name {
-        b"WITH_REGISTRATION" => Some(ProgramType::WithRegistration),
-        b"WITHOUT_REGISTRATION" => Some(ProgramType::WithoutRegistration),
-        _ => None,
+    ALL_PROGRAM_TYPES
+        .iter()
+        .copied()
+        .find(|each| program_type_name(*each) == name)
+}
+
+const ALL_ANALYTICS_TYPES: [AnalyticsType; 2] = [AnalyticsType::Event, AnalyticsType::Enrollment];
+
+/// The name of the analytics type.
+pub fn analytics_type_name(value: AnalyticsType) -> &'static [u8]
+    ensures { result.now ≡ analytics_type_name value }
+{
+    match value {
+        AnalyticsType::Event => b"EVENT",
+        AnalyticsType::Enrollment => b"ENROLLMENT",
     }
 }
 
@@ -127,10 +196,42 @@ pub fn program_type_named(name: &[u8]) -> Option<ProgramType>
 pub fn analytics_type_named(name: &[u8]) -> Option<AnalyticsType>
     ensures { result ≡ analytics_type_named name.now }
 {
-    match name {
-        b"EVENT" => Some(AnalyticsType::Event),
-        b"ENROLLMENT" => Some(AnalyticsType::Enrollment),
-        _ => None,
+    ALL_ANALYTICS_TYPES
+        .iter()
+        .copied()
+        .find(|each| analytics_type_name(*each) == name)
+}
+
+const ALL_AGGREGATIONS: [AggType; 11] = [
+    AggType::Sum,
+    AggType::Average,
+    AggType::AverageSumOrgUnit,
+    AggType::Last,
+    AggType::First,
+    AggType::LastAverageOrgUnit,
+    AggType::FirstAverageOrgUnit,
+    AggType::Count,
+    AggType::Min,
+    AggType::Max,
+    AggType::None,
+];
+
+/// The name of the aggregation type.
+pub fn aggregation_name(value: AggType) -> &'static [u8]
+    ensures { result.now ≡ aggregation_name value }
+{
+    match value {
+        AggType::Sum => b"SUM",
+        AggType::Average => b"AVERAGE",
+        AggType::AverageSumOrgUnit => b"AVERAGE_SUM_ORG_UNIT",
+        AggType::Last => b"LAST",
+        AggType::First => b"FIRST",
+        AggType::LastAverageOrgUnit => b"LAST_AVERAGE_ORG_UNIT",
+        AggType::FirstAverageOrgUnit => b"FIRST_AVERAGE_ORG_UNIT",
+        AggType::Count => b"COUNT",
+        AggType::Min => b"MIN",
+        AggType::Max => b"MAX",
+        AggType::None => b"NONE",
     }
 }
 
@@ -139,19 +240,22 @@ pub fn analytics_type_named(name: &[u8]) -> Option<AnalyticsType>
 pub fn aggregation_named(name: &[u8]) -> Option<AggType>
     ensures { result ≡ aggregation_named name.now }
 {
-    match name {
-        b"SUM" => Some(AggType::Sum),
-        b"AVERAGE" => Some(AggType::Average),
-        b"AVERAGE_SUM_ORG_UNIT" => Some(AggType::AverageSumOrgUnit),
-        b"LAST" => Some(AggType::Last),
-        b"FIRST" => Some(AggType::First),
-        b"LAST_AVERAGE_ORG_UNIT" => Some(AggType::LastAverageOrgUnit),
-        b"FIRST_AVERAGE_ORG_UNIT" => Some(AggType::FirstAverageOrgUnit),
-        b"COUNT" => Some(AggType::Count),
-        b"MIN" => Some(AggType::Min),
-        b"MAX" => Some(AggType::Max),
-        b"NONE" => Some(AggType::None),
-        _ => None,
+    ALL_AGGREGATIONS
+        .iter()
+        .copied()
+        .find(|each| aggregation_name(*each) == name)
+}
+
+const ALL_STRATEGIES: [Strategy; 3] = [Strategy::SkipIfAny, Strategy::SkipIfAll, Strategy::Never];
+
+/// The name of the missing-value strategy.
+pub fn strategy_name(value: Strategy) -> &'static [u8]
+    ensures { result.now ≡ strategy_name value }
+{
+    match value {
+        Strategy::SkipIfAny => b"SKIP_IF_ANY_VALUE_MISSING",
+        Strategy::SkipIfAll => b"SKIP_IF_ALL_VALUES_MISSING",
+        Strategy::Never => b"NEVER_SKIP",
     }
 }
 
@@ -160,10 +264,8 @@ pub fn aggregation_named(name: &[u8]) -> Option<AggType>
 pub fn strategy_named(name: &[u8]) -> Option<Strategy>
     ensures { result ≡ strategy_named name.now }
 {
-    match name {
-        b"SKIP_IF_ANY_VALUE_MISSING" => Some(Strategy::SkipIfAny),
-        b"SKIP_IF_ALL_VALUES_MISSING" => Some(Strategy::SkipIfAll),
-        b"NEVER_SKIP" => Some(Strategy::Never),
-        _ => None,
-    }
+    ALL_STRATEGIES
+        .iter()
+        .copied()
+        .find(|each| strategy_name(*each) == name)
 }

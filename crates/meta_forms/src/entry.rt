@@ -1,0 +1,345 @@
+//! What stands inside objects: elements of data sets and stages, attributes of programs, sides of rules,
+//! values of constants, tokens and settings.
+
+ghost use Rattle.std.specs.Prelude.{◌≡◌, ℕ, ℤ, IfOk, codes, map, option_map};
+ghost use Rattle.std.specs.Fmt.{signed_decimal};
+ghost use Rattle.std.specs.List.{list_all};
+ghost use Rattle.serde_json.specs.View.{view};
+ghost use Rattle.json_forms.specs.Forms.{text_of, listed_of, field_or_of};
+ghost use Rattle.json_forms.specs.Given.{Gives};
+ghost use Rattle.dh_base.specs.Decimals.{decimal_of};
+ghost use Rattle.meta_forms.specs.Entries.{is_visible, is_token, token_in, constant_of, acceptance_of, set_elements_of, attributes_of, stage_elements_of, side_of, tokens_of};
+
+use crate::field::{optional_reference, reference};
+use crate::named::named_or;
+use crate::path::here;
+use dh_base::decimal::{Micros, read_decimal};
+use dh_base::items::Items;
+use dh_base::plain::Strategy;
+use dh_base::uid::Uid;
+use json_forms::fault::FormFault;
+use json_forms::form::{ReadJson, field, field_or, listed, require_object};
+use serde_json::Value;
+use std::alloc::{AllocError, Global};
+
+/// An element of a data set, and the category combination that is named beside it.
+#[derive(Clone, Copy, Drop)]
+pub struct SetElement {
+    pub element: Uid,
+    pub combo: Option<Uid>,
+}
+
+/// An attribute of a program.
+#[derive(Clone, Copy, Drop)]
+pub struct ProgramAttribute {
+    pub attribute: Uid,
+}
+
+/// An element of a program stage.
+#[derive(Clone, Copy, Drop)]
+pub struct StageElement {
+    pub element: Uid,
+}
+
+/// A side of a validation rule.
+#[derive(Drop)]
+pub struct Side {
+    pub expression: Items<u8>,
+    pub strategy: Strategy,
+}
+
+/// The value of a constant.
+#[derive(Clone, Copy, Drop)]
+pub struct ConstantValue {
+    pub value: Micros,
+}
+
+/// The text of a token.
+#[derive(Drop)]
+pub struct TokenText {
+    pub text: Items<u8>,
+}
+
+/// A token and its user.
+#[derive(Drop)]
+pub struct Token {
+    pub token: TokenText,
+    pub user: Uid,
+}
+
+/// The settings of the system.
+#[derive(Clone, Copy, Drop)]
+pub struct Settings {
+    pub acceptance_required: bool,
+}
+
+impl ReadJson for SetElement {
+    ghost use Rattle.meta_forms.specs.Entries.{set_element_of};
+
+    ghost form = { set_element_of };
+
+    #[tactic(auto, unfolding(crate::specs::Entries::set_element_of))]
+    fn read(alloc: Global, value: &Value) -> Result<SetElement, FormFault> {
+        require_object(alloc, value)?;
+        let element = reference(alloc, value, "dataElement")?;
+        let combo = optional_reference(alloc, value, "categoryCombo")?;
+        Ok(SetElement { element, combo })
+    }
+}
+
+impl ReadJson for ProgramAttribute {
+    ghost use Rattle.meta_forms.specs.Entries.{attribute_of};
+
+    ghost form = { attribute_of };
+
+    #[tactic(auto, unfolding(crate::specs::Entries::attribute_of))]
+    fn read(alloc: Global, value: &Value) -> Result<ProgramAttribute, FormFault> {
+        require_object(alloc, value)?;
+        let attribute = reference(alloc, value, "trackedEntityAttribute")?;
+        Ok(ProgramAttribute { attribute })
+    }
+}
+
+impl ReadJson for StageElement {
+    ghost use Rattle.meta_forms.specs.Entries.{stage_element_of};
+
+    ghost form = { stage_element_of };
+
+    #[tactic(auto, unfolding(crate::specs::Entries::stage_element_of))]
+    fn read(alloc: Global, value: &Value) -> Result<StageElement, FormFault> {
+        require_object(alloc, value)?;
+        let element = reference(alloc, value, "dataElement")?;
+        Ok(StageElement { element })
+    }
+}
+
+impl ReadJson for Side {
+    ghost use Rattle.meta_forms.specs.Entries.{side_form};
+
+    ghost form = { side_form };
+
+    #[tactic(auto, unfolding(crate::specs::Entries::side_form))]
+    fn read(alloc: Global, value: &Value) -> Result<Side, FormFault> {
+        require_object(alloc, value)?;
+        let expression = field(alloc, value, "expression")?;
+        let strategy = named_or(alloc, value, "missingValueStrategy", Strategy::Never)?;
+        Ok(Side {
+            expression,
+            strategy,
+        })
+    }
+}
+
+fn text_of(alloc: Global, number: i64) -> Result<Vec<u8>, AllocError>
+    ensures { IfOk result (λ text. text.items ≡ signed_decimal number) }
+{
+    Ok(format!(in alloc; "{number}")?.into_bytes())
+}
+
+fn number_read(alloc: Global, number: i64) -> Result<Option<Micros>, AllocError>
+    ensures { IfOk result (λ value. value ≡ decimal_of (signed_decimal number)) }
+{
+    let text = text_of(alloc, number)?;
+    Ok(read_decimal(&text))
+}
+
+#[tactic(auto, unfolding(crate::specs::Entries::constant_of))]
+fn constant_of(alloc: Global, value: &Value) -> Result<Option<Micros>, AllocError>
+    ensures { IfOk result (λ found. found ≡ constant_of (view value.now)) }
+{
+    match value.as_str() {
+        Some(text) => Ok(read_decimal(text.as_bytes())),
+        None => match value.as_i64() {
+            Some(number) => number_read(alloc, number),
+            None => Ok(None),
+        },
+    }
+}
+
+impl ReadJson for ConstantValue {
+    ghost use Rattle.meta_forms.specs.Entries.{constant_form};
+
+    ghost form = { constant_form };
+
+    fn read(alloc: Global, value: &Value) -> Result<ConstantValue, FormFault> {
+        match constant_of(alloc, value)? {
+            Some(value) => Ok(ConstantValue { value }),
+            None => Err(here(alloc)),
+        }
+    }
+}
+
+fn is_visible(byte: u8) -> bool
+    ensures { result ≡ is_visible byte }
+{
+    33 <= byte && byte <= 126
+}
+
+fn all_visible(text: &[u8]) -> bool
+    ensures { result ≡ list_all is_visible text.now }
+{
+    text.iter().all(|byte| is_visible(*byte))
+}
+
+#[tactic(auto, unfolding(crate::specs::Entries::is_token))]
+fn is_token(text: &[u8]) -> bool
+    ensures { result ≡ is_token text.now }
+{
+    1 <= text.len() && text.len() <= 64 && all_visible(text)
+}
+
+fn token_in<'a>(value: &'a Value) -> Option<&'a [u8]>
+    ensures { option_map (λ text. text.now) result ≡ token_in (view value.now) }
+{
+    let text = value.as_str()?.as_bytes();
+    if is_token(text) { Some(text) } else { None }
+}
+
+impl ReadJson for TokenText {
+    ghost use Rattle.meta_forms.specs.Entries.{token_text_of};
+
+    ghost form = { token_text_of };
+
+    fn read(alloc: Global, value: &Value) -> Result<TokenText, FormFault> {
+        match token_in(value) {
+            Some(text) => Ok(TokenText {
+                text: Items::from(text.to_vec(alloc)?),
+            }),
+            None => Err(here(alloc)),
+        }
+    }
+}
+
+impl ReadJson for Token {
+    ghost use Rattle.meta_forms.specs.Entries.{token_of};
+
+    ghost form = { token_of };
+
+    #[tactic(auto, unfolding(crate::specs::Entries::token_of))]
+    fn read(alloc: Global, value: &Value) -> Result<Token, FormFault> {
+        require_object(alloc, value)?;
+        let token = field(alloc, value, "token")?;
+        let user = reference(alloc, value, "user")?;
+        Ok(Token { token, user })
+    }
+}
+
+impl ReadJson for Settings {
+    ghost use Rattle.meta_forms.specs.Entries.{settings_of};
+
+    ghost form = { settings_of };
+
+    #[tactic(auto, unfolding(crate::specs::Entries::settings_of))]
+    fn read(alloc: Global, value: &Value) -> Result<Settings, FormFault> {
+        require_object(alloc, value)?;
+        let acceptance_required = field_or(
+            alloc,
+            value,
+            "keyAcceptanceRequiredForApproval",
+            false,
+        )?;
+        Ok(Settings {
+            acceptance_required,
+        })
+    }
+}
+
+fn set_pairs(alloc: Global, entries: &[SetElement]) -> Result<Items<(Uid, Option<Uid>)>, AllocError>
+    ensures { IfOk result (λ list. list ≡ map (λ entry. (entry.element, entry.combo)) entries.now) }
+{
+    Ok(Items {
+        items: entries
+            .iter()
+            .map(|entry| (entry.element, entry.combo))
+            .collect(alloc)?,
+    })
+}
+
+/// The elements of a data set.
+#[tactic(auto, unfolding(crate::specs::Entries::set_elements_of))]
+pub fn set_elements(alloc: Global, value: &Value) -> Result<Items<(Uid, Option<Uid>)>, FormFault>
+    ensures { Gives (set_elements_of (view value.now)) result }
+{
+    let found: Items<SetElement> = listed(alloc, value, "dataSetElements")?;
+    Ok(set_pairs(alloc, found.as_slice())?)
+}
+
+fn attribute_ids(alloc: Global, entries: &[ProgramAttribute]) -> Result<Items<Uid>, AllocError>
+    ensures { IfOk result (λ list. list ≡ map (λ entry. entry.attribute) entries.now) }
+{
+    Ok(Items {
+        items: entries.iter().map(|entry| entry.attribute).collect(alloc)?,
+    })
+}
+
+/// The attributes of a program.
+#[tactic(auto, unfolding(crate::specs::Entries::attributes_of))]
+pub fn attributes(alloc: Global, value: &Value) -> Result<Items<Uid>, FormFault>
+    ensures { Gives (attributes_of (view value.now)) result }
+{
+    let found: Items<ProgramAttribute> = listed(alloc, value, "programTrackedEntityAttributes")?;
+    Ok(attribute_ids(alloc, found.as_slice())?)
+}
+
+fn stage_element_ids(alloc: Global, entries: &[StageElement]) -> Result<Items<Uid>, AllocError>
+    ensures { IfOk result (λ list. list ≡ map (λ entry. entry.element) entries.now) }
+{
+    Ok(Items {
+        items: entries.iter().map(|entry| entry.element).collect(alloc)?,
+    })
+}
+
+/// The elements of a program stage.
+#[tactic(auto, unfolding(crate::specs::Entries::stage_elements_of))]
+pub fn stage_elements(alloc: Global, value: &Value) -> Result<Items<Uid>, FormFault>
+    ensures { Gives (stage_elements_of (view value.now)) result }
+{
+    let found: Items<StageElement> = listed(alloc, value, "programStageDataElements")?;
+    Ok(stage_element_ids(alloc, found.as_slice())?)
+}
+
+/// A side of a validation rule: its expression and its missing-value strategy.
+#[tactic(auto, unfolding(crate::specs::Entries::side_of))]
+pub fn rule_side(
+    alloc: Global,
+    value: &Value,
+    key: &str,
+) -> Result<(Items<u8>, Strategy), FormFault>
+    ensures { Gives (side_of key.now (view value.now)) result }
+{
+    let side: Side = field(alloc, value, key)?;
+    Ok((side.expression, side.strategy))
+}
+
+fn token_pairs(alloc: Global, tokens: Items<Token>) -> Result<Items<(Items<u8>, Uid)>, AllocError>
+    ensures { IfOk result (λ list. list ≡ map (λ entry. (entry.token.text, entry.user)) tokens) }
+{
+    Ok(Items {
+        items: tokens
+            .items
+            .into_iter()
+            .map(|entry| (entry.token.text, entry.user))
+            .collect(alloc)?,
+    })
+}
+
+/// The tokens, each with the identifier of its user.
+#[tactic(auto, unfolding(crate::specs::Entries::tokens_of))]
+pub fn tokens(alloc: Global, value: &Value) -> Result<Items<(Items<u8>, Uid)>, FormFault>
+    ensures { Gives (tokens_of (view value.now)) result }
+{
+    let found: Items<Token> = listed(alloc, value, "apiTokens")?;
+    Ok(token_pairs(alloc, found)?)
+}
+
+/// Whether an approval has to be accepted before the level above may approve.
+#[tactic(auto, unfolding(crate::specs::Entries::acceptance_of))]
+pub fn acceptance_required(alloc: Global, value: &Value) -> Result<bool, FormFault>
+    ensures { Gives (acceptance_of (view value.now)) result }
+{
+    let default = Settings {
+        acceptance_required: false,
+    };
+    let settings: Settings = field_or(alloc, value, "systemSettings", default)?;
+    Ok(settings.acceptance_required)
+}

@@ -1,0 +1,18 @@
+//! Reading what a metadata file says from JSON data: the records of all its objects, or the path of the
+//! first place that isn't in the form of the file.
+#![tactic(auto)]
+
+mod aggregate;
+mod entry;
+mod field;
+mod formulas;
+mod named;
+mod object;
+pub mod parts;
+mod path;
+mod people;
+mod sharing;
+mod structure;
+#[cfg(test)]
+mod tests;
+mod tracking;

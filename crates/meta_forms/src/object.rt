@@ -1,0 +1,116 @@
+//! The objects of a key.
+
+ghost use Rattle.std.specs.Prelude.{◌≡◌, ℕ, ◌+◌, ◌<◌, ◌^◌, List, [], ◌∷◌, ◌++◌, Option, Result, Ok, Err, IfOk, map, drop};
+ghost use Rattle.std.specs.Fmt.{decimal};
+ghost use Rattle.serde_json.specs.Data.{Data};
+ghost use Rattle.serde_json.specs.View.{view, items_view};
+ghost use Rattle.json_forms.specs.Forms.{at_step, field_or_of};
+ghost use Rattle.json_forms.specs.Given.{Gives};
+ghost use Rattle.meta_forms.specs.Objects.{IsPlace, object_of, objects_of, list_of, objects_at};
+
+use crate::path::{here, seen_from};
+use dh_base::items::Items;
+use dh_base::uid::Uid;
+use json_forms::fault::FormFault;
+use json_forms::form::{field, require_object};
+use meta_parts::built_in::is_built_in;
+use serde_json::Value;
+use std::alloc::{AllocError, Global};
+
+/// A record of an object that stands at a place of a key's list and has an identifier.
+pub trait ReadObject: Sized + Drop {
+    /// What the object stands for, or the path of the first fault in it.
+    ghost form: { ℕ → List ℕ → Data → Result Self (List ℕ) };
+
+    /// Reads what is behind the identifier.
+    fn read(alloc: Global, place: u32, id: Uid, value: &Value) -> Result<Self, FormFault>
+        ensures { Gives (form place id (view value.now)) result };
+}
+
+// The number of a place. A list of 2^32 values and more takes more memory than there is.
+fn place_of(place: usize) -> Result<u32, FormFault>
+    ensures { IsPlace place result }
+{
+    match u32::try_from(place) {
+        Ok(place) => Ok(place),
+        Err(_) => Err(FormFault::Memory),
+    }
+}
+
+fn read_object<T: ReadObject>(
+    alloc: Global,
+    place: usize,
+    value: &Value,
+) -> Result<Option<T>, FormFault>
+    ensures { Gives (object_of T.form place (view value.now)) result }
+{
+    require_object(alloc, value)?;
+    let id: Uid = field(alloc, value, "id")?;
+    if is_built_in(id) {
+        return Ok(None);
+    }
+    let place = place_of(place)?;
+    Ok(Some(T::read(alloc, place, id, value)?))
+}
+
+fn step_of(alloc: Global, place: usize) -> Result<Vec<u8>, AllocError>
+    ensures { IfOk result (λ v. v.items ≡ decimal place) }
+{
+    Ok(format!(in alloc; "{place}")?.into_bytes())
+}
+
+fn read_at<T: ReadObject>(
+    alloc: Global,
+    place: usize,
+    value: &Value,
+) -> Result<Option<T>, FormFault>
+    ensures { Gives (at_step (decimal place) (object_of T.form place (view value.now))) result }
+{
+    match read_object(alloc, place, value) {
+        Ok(read) => Ok(read),
+        Err(fault) => {
+            let step = step_of(alloc, place)?;
+            Err(seen_from(alloc, &step, fault))
+        }
+    }
+}
+
+fn read_each<T: ReadObject>(alloc: Global, values: &[Value]) -> Result<Items<T>, FormFault>
+    ensures { Gives (objects_of T.form 0 (items_view values.now)) result }
+{
+    let mut all = Vec::new(alloc);
+    let mut place = 0;
+    for value in values {
+        if let Some(object) = read_at(alloc, place, value)? {
+            all.push(object)?;
+        }
+        place += 1;
+    }
+    Ok(Items::from(all))
+}
+
+fn read_list<T: ReadObject>(alloc: Global, value: &Value) -> Result<Items<T>, FormFault>
+    ensures { Gives (list_of T.form (view value.now)) result }
+{
+    match value.as_array() {
+        Some(values) => read_each(alloc, values),
+        None => Err(here(alloc)),
+    }
+}
+
+/// The objects under a key.
+pub fn objects<T: ReadObject>(
+    alloc: Global,
+    value: &Value,
+    key: &str,
+) -> Result<Items<T>, FormFault>
+    ensures { Gives (objects_at key.now T.form (view value.now)) result }
+{
+    match value.get(key) {
+        Some(found) => match read_list(alloc, found) {
+            Ok(read) => Ok(read),
+            Err(fault) => Err(seen_from(alloc, key.as_bytes(), fault)),
+        },
+        None => Ok(Items::new(alloc)),
+    }
+}

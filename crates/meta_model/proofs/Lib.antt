@@ -1,0 +1,5 @@
+pub mod LinkLemmas
+pub mod MemberLemmas
+pub mod HolderLemmas
+pub mod SetLemmas
+pub mod UserLemmas

@@ -1,0 +1,9 @@
+pub mod Objects
+pub mod Linked
+pub mod Members
+pub mod Sets
+pub mod Levels
+pub mod Workflows
+pub mod Users
+pub mod Approval
+pub mod Held
