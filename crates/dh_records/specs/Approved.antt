@@ -1,5 +1,5 @@
 -- Up to which position values are approved.
-use Rattle.std.specs.Prelude.{ℕ, Bool, false, List, Option, slice_get}
+use Rattle.std.specs.Prelude.{ℕ, Bool, true, false, List, Option, slice_get}
 use Rattle.std.specs.Option.{option_map_or, option_and_then}
 use Rattle.std.specs.List.{position_from}
 use Rattle.org_tree.specs.Units.{ancestor_of}
@@ -12,8 +12,23 @@ use Rattle.meta_parts.specs.declared.records.Workflow.{Workflow}
 use Rattle.meta_model.specs.Approval.{unit_rows, levels_at}
 use Rattle.meta_model.specs.Workflows.{workflow_of}
 use Rattle.record_index.specs.Facts.{Facts}
-use Rattle.approved_position.specs.declared.Scope.{Scope}
-use Rattle.approved_position.specs.Approved.{is_approved}
+use Rattle.record_index.specs.declared.said.ApprovalState.{ApprovalState}
+use Rattle.record_index.specs.declared.said.ApprovalState.TheVariants as state
+use Rattle.dh_changes.specs.declared.keys.ApprovalKey.{ApprovalKey}
+use Rattle.dh_records.specs.declared.approved.Scope.{Scope}
+
+-- an accepted key counts as approved
+abbrev pub counts : ApprovalState → Bool
+counts state.None = false
+counts state.Approved = true
+counts state.Accepted = true
+
+abbrev pub key_of : Scope → List ℕ → ApprovalKey
+key_of scope id = record { workflow = scope.workflow; period = scope.period; unit = id; attribute = scope.attribute }
+
+-- the unit of this identifier is approved
+abbrev pub is_approved : Facts → Scope → List ℕ → Bool
+is_approved facts scope id = counts (facts.approval (key_of scope id))
 
 -- the unit of this number is approved
 abbrev pub is_approved_as : Facts → Records → Scope → ℕ → Bool

@@ -1,9 +1,7 @@
 ghost use Rattle.std.specs.Prelude.{◌≡◌, ◌<◌, ◌≤◌, length};
 ghost use Rattle.record_index.specs.World.{facts};
-ghost use Rattle.approved_position.specs.Approved as approved;
 ghost use Rattle.dh_records.specs.Approved as known;
 
-use approved_position::Scope;
 use dh_base::uid::Uid;
 use dh_changes::keys::ApprovalKey;
 use dh_periods::{Period, containing};
@@ -11,12 +9,29 @@ use meta_model::metadata::Metadata;
 use record_index::said::ApprovalState;
 use record_index::world::World;
 
+/// What an approval is of, beside its unit.
+#[derive(Clone, Copy, PartialEq, Eq)]
+pub struct Scope {
+    pub workflow: Uid,
+    /// A period of the workflow's type.
+    pub period: Period,
+    /// The attribute option combination.
+    pub attribute: Uid,
+}
+
 /// The position up to which the values of an element at a unit are approved in this period and
 /// attribute option combination: the least at whose level the unit's ancestor is approved or
 /// accepted. `None` where there is no workflow, no period of its type around this one, or no such
 /// position.
 #[tactic(auto, unfolding(crate::specs::Approved::approved_of, crate::specs::Approved::approved_in))]
-pub fn approved_position_of(world: &World, meta: &Metadata, element: u32, unit: u32, period: Period, attribute: Uid) -> Option<u8>
+pub fn approved_position_of(
+    world: &World,
+    meta: &Metadata,
+    element: u32,
+    unit: u32,
+    period: Period,
+    attribute: Uid,
+) -> Option<u8>
     requires element { element < length meta.now.data_elements }
     requires unit { unit < length meta.now.organisation_units }
     ensures { result ≡ known.approved_of (facts world.now) meta.now element unit period attribute }
@@ -26,7 +41,14 @@ pub fn approved_position_of(world: &World, meta: &Metadata, element: u32, unit: 
 }
 
 #[tactic(auto, unfolding(crate::specs::Approved::approved_in))]
-fn approved_in(world: &World, meta: &Metadata, workflow: u32, unit: u32, period: Period, attribute: Uid) -> Option<u8>
+fn approved_in(
+    world: &World,
+    meta: &Metadata,
+    workflow: u32,
+    unit: u32,
+    period: Period,
+    attribute: Uid,
+) -> Option<u8>
     requires workflow { workflow < length meta.now.data_approval_workflows }
     requires unit { unit < length meta.now.organisation_units }
     ensures { result ≡ known.approved_in (facts world.now) meta.now workflow unit period attribute }
@@ -41,7 +63,13 @@ fn approved_in(world: &World, meta: &Metadata, workflow: u32, unit: u32, period:
     least_position(world, meta, unit, meta.positions(workflow), &scope)
 }
 
-fn least_position(world: &World, meta: &Metadata, unit: u32, levels: &[u8], scope: &Scope) -> Option<u8>
+fn least_position(
+    world: &World,
+    meta: &Metadata,
+    unit: u32,
+    levels: &[u8],
+    scope: &Scope,
+) -> Option<u8>
     requires unit { unit < length meta.now.organisation_units }
     requires few { length levels.now ≤ 8 }
     ensures { result ≡ known.least_position (facts world.now) meta.now unit scope.now levels.now }
@@ -77,7 +105,7 @@ fn is_approved_as(world: &World, meta: &Metadata, unit: u32, scope: &Scope) -> b
 }
 
 fn is_approved(world: &World, id: Uid, scope: &Scope) -> bool
-    ensures { result ≡ approved.is_approved (facts world.now) scope.now id }
+    ensures { result ≡ known.is_approved (facts world.now) scope.now id }
 {
     let key = ApprovalKey {
         workflow: scope.workflow,
