@@ -1,0 +1,4 @@
+//! Rules over what the record log holds and the metadata.
+#![tactic(auto)]
+
+pub mod approved;
