@@ -1,0 +1,4 @@
+pub mod Samples
+pub mod Values
+pub mod Ends
+pub mod RowSamples

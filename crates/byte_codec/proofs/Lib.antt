@@ -1,0 +1,3 @@
+pub mod Counting
+pub mod Codecs
+pub mod Growing

@@ -1,0 +1,20 @@
+//! The bytes of a change of the log: how many they are, writing them and reading them back.
+#![tactic(auto)]
+
+mod decode_body;
+mod decode_fields;
+mod decoded;
+mod decoding;
+mod encode_fields;
+mod encoding;
+mod laws;
+mod lengths;
+mod periods;
+#[cfg(test)]
+mod tests;
+
+pub use decoded::Decoded;
+pub use decoding::decode;
+pub use encoding::encode;
+pub use laws::{days_are_of_the_years, log_grows};
+pub use lengths::encoded_len;

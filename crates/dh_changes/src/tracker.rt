@@ -1,0 +1,52 @@
+use dh_base::items::Items;
+use dh_base::uid::Uid;
+
+/// A tracker event as a write leaves it.
+#[derive(Drop)]
+pub struct Event {
+    pub id: Uid,
+    /// The enrollment, or `None` in a program without registration.
+    pub enrollment: Option<Uid>,
+    pub program: Uid,
+    /// The program stage.
+    pub stage: Uid,
+    /// The organisation unit.
+    pub unit: Uid,
+    /// The place in ACTIVE, COMPLETED, VISITED, SCHEDULE, OVERDUE, SKIPPED, counted from 0.
+    pub status: u8,
+    /// Days since 1 January 1970.
+    pub occurred: Option<i32>,
+    /// Days since 1 January 1970.
+    pub scheduled: Option<i32>,
+    /// Data elements and their values, in byte order of the identifiers.
+    pub values: Items<(Uid, Items<u8>)>,
+}
+
+/// An enrollment as a write leaves it.
+#[derive(Drop)]
+pub struct Enrollment {
+    pub id: Uid,
+    /// The tracked entity.
+    pub entity: Uid,
+    pub program: Uid,
+    /// The organisation unit.
+    pub unit: Uid,
+    /// The place in ACTIVE, COMPLETED, CANCELLED, counted from 0.
+    pub status: u8,
+    /// Days since 1 January 1970.
+    pub enrolled: Option<i32>,
+    /// Days since 1 January 1970.
+    pub occurred: Option<i32>,
+}
+
+/// A tracked entity as a write leaves it.
+#[derive(Drop)]
+pub struct Entity {
+    pub id: Uid,
+    /// The tracked entity type.
+    pub kind: Uid,
+    /// The organisation unit.
+    pub unit: Uid,
+    /// Attributes and their values, in byte order of the identifiers.
+    pub attributes: Items<(Uid, Items<u8>)>,
+}

@@ -1,0 +1,17 @@
+use Rattle.std.proofs.Common.{◌∙◌, ◌+◌, sym, subst, take}
+use Rattle.meta_exprs.specs.Objects.{rule_unread, AllMade, IsRule}
+use Rattle.meta_exprs.proofs.MadeLemmas.{made_step}
+use Rattle.meta_exprs.proofs.rules.rules.Goals as goal
+
+pub loop-each-preserved : goal.loop-each-preserved
+loop-each-preserved c =
+    let days = c.args.days.now in
+    let i = c.loop-each.each-index in
+    let step = made_step (rule_unread c.args.ids.now days) (IsRule days) c.args.raw.now c.args.links i c.each-item.result c.next-own.result
+    c.loop-each.rest c.next-own.new.rest c.loop-each.made.items c.in_ok-rule.field-0 c.loop-each-test.true c.each-item.is
+    c.loop-each.invariant.rest c.next-own.ensures c.in_ok-rule.ensures.0 c.in_ok-rule.ensures.1 c.loop-each.invariant.made in
+    record {
+      unread = c.loop-each.invariant.unread ∙ step.unread;
+      rest = step.left;
+      made = subst (AllMade (IsRule days) (take (i + 1) c.args.raw.now) (take (i + 1) c.args.links)) (sym c.in_ok-push.ensures.items) step.made;
+    }

@@ -1,0 +1,10 @@
+pub mod Faults
+pub mod Trees
+pub mod Categories
+pub mod Workflows
+pub mod Seen
+pub mod Levels
+pub mod Ordered
+pub mod Overrides
+pub mod Limits
+pub mod Held

@@ -1,0 +1,5 @@
+pub mod MapLemmas
+pub mod IndexLemmas
+pub mod HangingLemmas
+pub mod OrderLemmas
+pub mod FactsLemmas

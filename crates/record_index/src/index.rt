@@ -1,0 +1,158 @@
+ghost use Rattle.std.specs.Prelude.{◌≡◌, ℕ, List, [], true, Some, None, OnOk};
+ghost use Rattle.std.specs.Option.{is_some, option_copied};
+ghost use Rattle.std.specs.HashMap.{get};
+ghost use Rattle.record_index.specs.Said.{same_id};
+ghost use Rattle.record_index.specs.Maps.{Grows, is_noted};
+ghost use Rattle.record_index.specs.Holds.{contents, HoldSame};
+ghost use Rattle.record_index.specs.Hanging.{event_parent, enrollment_parent};
+ghost use Rattle.record_index.specs.Index.{is_linked, IsLinked, IsReady, Keeps, Puts};
+
+use crate::children::note;
+use crate::held::{enter, look, put};
+use crate::said::{ApprovalState, Said};
+use dh_base::items::Items;
+use dh_base::memory::Memory;
+use dh_base::uid::Uid;
+use dh_changes::keys::{ApprovalKey, RegKey, ValueKey};
+use dh_changes::tracker::{Enrollment, Entity, Event};
+use std::alloc::Global;
+use std::collections::HashMap;
+
+/// What each key holds. A key that is entered may hold nothing.
+#[derive(Drop)]
+pub struct Index {
+    pub values: HashMap<ValueKey, Option<Items<u8>>>,
+    pub events: HashMap<Uid, Option<Event>>,
+    pub enrollments: HashMap<Uid, Option<Enrollment>>,
+    pub entities: HashMap<Uid, Option<Entity>>,
+    pub approvals: HashMap<ApprovalKey, ApprovalState>,
+    pub registrations: HashMap<RegKey, Option<i32>>,
+    /// At least the events that hang on an enrollment; some may be gone or stand twice.
+    pub events_of: HashMap<Uid, Items<Uid>>,
+    /// At least the enrollments that hang on an entity; some may be gone or stand twice.
+    pub enrollments_of: HashMap<Uid, Items<Uid>>,
+}
+
+/// The enrollment that an event hangs on.
+pub fn parent_of_event(event: Option<&Event>) -> Option<Uid>
+    ensures { result ≡ event_parent (option_copied event.entry) }
+{
+    match event {
+        Some(event) => event.enrollment,
+        None => None,
+    }
+}
+
+/// The entity that an enrollment hangs on.
+pub fn parent_of_enrollment(enrollment: Option<&Enrollment>) -> Option<Uid>
+    ensures { result ≡ enrollment_parent (option_copied enrollment.entry) }
+{
+    match enrollment {
+        Some(enrollment) => Some(enrollment.entity),
+        None => None,
+    }
+}
+
+// Notes a child under its parent, unless it is noted there as what it was before.
+fn link(
+    alloc: Global,
+    children: &mut HashMap<Uid, Items<Uid>>,
+    before: Option<Uid>,
+    parent: Option<Uid>,
+    child: Uid,
+) -> Result<(), Memory>
+    requires { is_linked children.old before child ≡ true }
+    ensures linked { OnOk result (is_linked children.new parent child ≡ true) }
+    ensures stays { (p c : List ℕ) → is_noted children.old p c ≡ true → is_noted children.new p c ≡ true }
+{
+    match parent {
+        None => Ok(()),
+        Some(parent) => match before {
+            Some(other) if other == parent => Ok(()),
+            _ => note(alloc, children, &parent, child),
+        },
+    }
+}
+
+fn enter_event(
+    alloc: Global,
+    index: &mut Index,
+    id: Uid,
+    event: Option<&Event>,
+) -> Result<(), Memory>
+    requires { IsLinked index.old }
+    ensures same { HoldSame (contents index.new) [] (contents index.old) [] }
+    ensures keeps { Keeps index.old index.new }
+    ensures there { OnOk result (is_some (get same_id index.new.events id) ≡ true) }
+    ensures linked { OnOk result (is_linked index.new.events_of (event_parent (option_copied event.entry)) id ≡ true) }
+{
+    let before = parent_of_event(look(&index.events, &id));
+    link(
+        alloc,
+        &mut index.events_of,
+        before,
+        parent_of_event(event),
+        id,
+    )?;
+    enter(&mut index.events, &id, None)
+}
+
+fn enter_enrollment(
+    alloc: Global,
+    index: &mut Index,
+    id: Uid,
+    enrollment: Option<&Enrollment>,
+) -> Result<(), Memory>
+    requires { IsLinked index.old }
+    ensures same { HoldSame (contents index.new) [] (contents index.old) [] }
+    ensures keeps { Keeps index.old index.new }
+    ensures there { OnOk result (is_some (get same_id index.new.enrollments id) ≡ true) }
+    ensures linked { OnOk result (is_linked index.new.enrollments_of (enrollment_parent (option_copied enrollment.entry)) id ≡ true) }
+{
+    let before = parent_of_enrollment(look(&index.enrollments, &id));
+    link(
+        alloc,
+        &mut index.enrollments_of,
+        before,
+        parent_of_enrollment(enrollment),
+        id,
+    )?;
+    enter(&mut index.enrollments, &id, None)
+}
+
+/// Enters the key of what will be said, and notes a child under its parent.
+pub fn make_ready(alloc: Global, index: &mut Index, said: &Said) -> Result<(), Memory>
+    requires { IsLinked index.old }
+    ensures same { HoldSame (contents index.new) [] (contents index.old) [] }
+    ensures keeps { Keeps index.old index.new }
+    ensures ready { OnOk result (IsReady index.new said.now) }
+{
+    match said {
+        Said::Value { key, .. } => enter(&mut index.values, key, None),
+        Said::Event { id, event } => enter_event(alloc, index, *id, event.as_ref()),
+        Said::Enrollment { id, enrollment } => enter_enrollment(
+            alloc,
+            index,
+            *id,
+            enrollment.as_ref(),
+        ),
+        Said::Entity { id, .. } => enter(&mut index.entities, id, None),
+        Said::Approval { key, .. } => enter(&mut index.approvals, key, ApprovalState::None),
+        Said::Registration { key, .. } => enter(&mut index.registrations, key, None),
+    }
+}
+
+/// Has the key hold what is said of it. It takes no memory.
+pub fn take_in(index: &mut Index, said: Said)
+    requires { IsReady index.old said }
+    ensures { Puts index.old said index.new }
+{
+    match said {
+        Said::Value { key, value } => put(&mut index.values, key, value),
+        Said::Event { id, event } => put(&mut index.events, id, event),
+        Said::Enrollment { id, enrollment } => put(&mut index.enrollments, id, enrollment),
+        Said::Entity { id, entity } => put(&mut index.entities, id, entity),
+        Said::Approval { key, state } => put(&mut index.approvals, key, state),
+        Said::Registration { key, day } => put(&mut index.registrations, key, day),
+    }
+}

@@ -1,0 +1,7 @@
+pub mod Rows
+pub mod Order
+pub mod Groups
+pub mod Sums
+pub mod Events
+pub mod Store
+pub mod Cells

@@ -1,0 +1,146 @@
+//! Rows of events and of registrations.
+ghost use Rattle.std.specs.Prelude.{◌≡◌, IfOk};
+ghost use Rattle.std.specs.Ordering.{is_lt};
+ghost use Rattle.table_rows.specs.Events.{event_cmp, reg_cmp, is_event_of, is_reg_of};
+
+use dh_base::items::Items;
+use dh_base::memory::Memory;
+use dh_base::uid::Uid;
+use dh_periods::Period;
+use std::alloc::Global;
+
+/// The value of a data element of an event, or of an attribute.
+#[derive(Clone, Copy, Debug, PartialEq, Eq)]
+pub enum ItemValue {
+    /// A number in millionths, of a value type that has one.
+    Number(i64),
+    /// A date, as days since 1 January 1970.
+    Day(i32),
+    /// A text.
+    Plain,
+}
+
+/// A live event. A unit stands by its order in the tree, days are days since 1 January 1970.
+#[derive(Drop)]
+pub struct EventRow {
+    pub id: Uid,
+    pub enrollment: Option<Uid>,
+    pub entity: Option<Uid>,
+    pub program: u32,
+    pub stage: u32,
+    pub order: u32,
+    /// The day on which it occurred.
+    pub day: i32,
+    /// The day of its enrollment.
+    pub enrolled: Option<i32>,
+    /// Data elements with their values.
+    pub values: Items<(u32, ItemValue)>,
+    /// Attributes of its entity with their values.
+    pub attributes: Items<(u32, ItemValue)>,
+}
+
+/// A data set that was registered as complete.
+#[derive(Clone, Copy, PartialEq, Eq)]
+pub struct RegRow {
+    pub set: u32,
+    pub period: Period,
+    pub order: u32,
+    pub attribute: u32,
+    /// The day of the registration.
+    pub day: i32,
+}
+
+#[derive(Clone, Copy, PartialEq, Eq, PartialOrd, Ord)]
+struct EventKey {
+    day: i32,
+    id: Uid,
+}
+
+#[derive(Clone, Copy, PartialEq, Eq, PartialOrd, Ord)]
+struct RegKey {
+    set: u32,
+    period: Period,
+    order: u32,
+    attribute: u32,
+}
+
+fn copy_values(
+    alloc: Global,
+    values: &[(u32, ItemValue)],
+) -> Result<Items<(u32, ItemValue)>, Memory>
+    ensures { IfOk result (λ copy. copy ≡ values.now) }
+{
+    Ok(Items::from(Vec::from_slice(alloc, values)?))
+}
+
+impl EventRow {
+    /// Whether it is of the program and occurred from the one day to the other.
+    pub fn is_of(&self, program: u32, from_day: i32, to_day: i32) -> bool
+        ensures { result ≡ is_event_of program from_day to_day self.now }
+    {
+        self.program == program && from_day <= self.day && self.day <= to_day
+    }
+
+    /// Whether it stands before the other, by day and identifier.
+    pub fn is_before(&self, other: &EventRow) -> bool
+        ensures { result ≡ is_lt (event_cmp self.now other.now) }
+    {
+        let own = EventKey {
+            day: self.day,
+            id: self.id,
+        };
+        let others = EventKey {
+            day: other.day,
+            id: other.id,
+        };
+        own.cmp(&others).is_lt()
+    }
+
+    /// A copy of it.
+    pub fn copy(&self, alloc: Global) -> Result<EventRow, Memory>
+        ensures { IfOk result (λ copy. copy ≡ self.now) }
+    {
+        let values = copy_values(alloc, self.values.as_slice())?;
+        let attributes = copy_values(alloc, self.attributes.as_slice())?;
+        Ok(EventRow {
+            id: self.id,
+            enrollment: self.enrollment,
+            entity: self.entity,
+            program: self.program,
+            stage: self.stage,
+            order: self.order,
+            day: self.day,
+            enrolled: self.enrolled,
+            values,
+            attributes,
+        })
+    }
+}
+
+impl RegRow {
+    /// Whether it is of the data set.
+    pub fn is_of(&self, set: u32) -> bool
+        ensures { result ≡ is_reg_of set self.now }
+    {
+        self.set == set
+    }
+
+    /// Whether it stands before the other, by data set, period, unit and attribute combination.
+    pub fn is_before(&self, other: &RegRow) -> bool
+        ensures { result ≡ is_lt (reg_cmp self.now other.now) }
+    {
+        let own = RegKey {
+            set: self.set,
+            period: self.period,
+            order: self.order,
+            attribute: self.attribute,
+        };
+        let others = RegKey {
+            set: other.set,
+            period: other.period,
+            order: other.order,
+            attribute: other.attribute,
+        };
+        own.cmp(&others).is_lt()
+    }
+}
