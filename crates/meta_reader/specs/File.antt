@@ -1,0 +1,39 @@
+-- What the bytes of a metadata file say.
+use Rattle.std.specs.Prelude.{◌≡◌, ℕ, cond, List, length, nat_lt, Option, None, Result, Ok, Err, ⊤}
+use Rattle.std.specs.Option.{option_map_or}
+use Rattle.std.specs.Str.{is_utf8}
+use Rattle.serde_json.specs.Data.{Data}
+use Rattle.serde_json.specs.Read.{read}
+use Rattle.json_forms.specs.Forms.{Formed}
+use Rattle.meta_parts.specs.declared.parts.MetaParts.{MetaParts}
+use Rattle.meta_forms.specs.Parts.{parts_of}
+use Rattle.meta_reader.specs.declared.fault.FileFault.{FileFault}
+use Rattle.meta_reader.specs.declared.fault.FileFault.TheVariants as fault
+
+-- the JSON data of a file: bytes that are UTF-8 and JSON of at most 127 levels
+abbrev pub document_of : List ℕ → Option Data
+document_of bytes = cond (is_utf8 bytes) (read bytes) None
+
+-- data that isn't in the form of the file is at fault
+abbrev pub or_shape : Formed MetaParts → Result MetaParts FileFault
+or_shape (Ok parts) = Ok parts
+or_shape (Err path) = Err (fault.Shape path)
+
+abbrev pub shaped_of : Data → Result MetaParts FileFault
+shaped_of json = or_shape (parts_of json)
+
+-- the most bytes of a file
+abbrev pub most_bytes : ℕ
+most_bytes = 67108864
+
+-- what the bytes of a file say, or its first fault
+unfoldable pub file_of : List ℕ → Result MetaParts FileFault
+file_of bytes = cond (nat_lt most_bytes (length bytes)) (Err fault.TooLong) (option_map_or shaped_of (document_of bytes) (Err fault.NotJson))
+
+-- what is meant, or that memory was wanting
+abbrev pub GivesFile : Result MetaParts FileFault → Result MetaParts FileFault → Type 0
+GivesFile meant (Ok parts) = meant ≡ Ok parts
+GivesFile meant (Err fault.TooLong) = meant ≡ Err fault.TooLong
+GivesFile meant (Err fault.NotJson) = meant ≡ Err fault.NotJson
+GivesFile meant (Err (fault.Shape path)) = meant ≡ Err (fault.Shape path)
+GivesFile meant (Err fault.Memory) = ⊤

@@ -1,0 +1,8 @@
+//! Reading a metadata file: from its bytes to what it says, and the text of its first fault.
+#![tactic(auto)]
+
+pub mod fault;
+pub mod file;
+#[cfg(test)]
+mod tests;
+pub mod text;
