@@ -50,10 +50,10 @@ feeds_head h =
     let front : List ℕ = print_blank h.blank ++ h.method ++ 32 ∷ h.target ++ 32 ∷ print_version h.minor in
     let all : print_request h ≡ front ++ (print_end h.line_end ++ print_section h.fields h.last) = append_assoc front (print_end h.line_end) (print_section h.fields h.last) in
     let parted : feeds (print_request h) ≡ feeds front + feeds (print_end h.line_end ++ print_section h.fields h.last) =
-      ap feeds all ∙ feeds_append front (print_end h.line_end ++ print_section h.fields h.last) in
+    ap feeds all ∙ feeds_append front (print_end h.line_end ++ print_section h.fields h.last) in
     let line = feeds_append (print_end h.line_end) (print_section h.fields h.last) in
     let section : feeds (print_section h.fields h.last) ≡ feeds (flat_map print_field h.fields) + feeds (print_end h.last) =
-      feeds_append (flat_map print_field h.fields) (print_end h.last) in
+    feeds_append (flat_map print_field h.fields) (print_end h.last) in
     let one = feeds_end h.line_end in
     let two = feeds_end h.last in
     let fs = feeds_fields h.fields in

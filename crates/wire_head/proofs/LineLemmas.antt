@@ -13,12 +13,13 @@ blank_step (b ∷ []) some =
     [ true ↦ λ _. refl | false ↦ λ none. absurd (omega arith) ] some
 blank_step (b ∷ c ∷ bytes) some =
     elim (nat_eq b 10) as (λ t. 0 < cond t 1 (cond (nat_eq b 13 && nat_eq c 10) 2 0) →
-      cond t (1 + blank_length (c ∷ bytes)) (cond (nat_eq b 13 && nat_eq c 10) (2 + blank_length bytes) 0) ≡
-      cond t 1 (cond (nat_eq b 13 && nat_eq c 10) 2 0) + blank_length (drop {A = ℕ} (cond t 1 (cond (nat_eq b 13 && nat_eq c 10) 2 0)) (b ∷ c ∷ bytes)))
-    [ true ↦ λ _. refl
-    | false ↦ elim (nat_eq b 13 && nat_eq c 10) as (λ t. 0 < cond t 2 0 →
-        cond t (2 + blank_length bytes) 0 ≡ cond t 2 0 + blank_length (drop {A = ℕ} (cond t 2 0) (b ∷ c ∷ bytes)))
-      [ true ↦ λ _. refl | false ↦ λ none. absurd (omega arith) ] ] some
+    cond t (1 + blank_length (c ∷ bytes)) (cond (nat_eq b 13 && nat_eq c 10) (2 + blank_length bytes) 0) ≡
+    cond t 1 (cond (nat_eq b 13 && nat_eq c 10) 2 0) + blank_length (drop {A = ℕ} (cond t 1 (cond (nat_eq b 13 && nat_eq c 10) 2 0)) (b ∷ c ∷ bytes))) [
+      | true ↦ λ _. refl
+      | false ↦ elim (nat_eq b 13 && nat_eq c 10) as (λ t. 0 < cond t 2 0 →
+          cond t (2 + blank_length bytes) 0 ≡ cond t 2 0 + blank_length (drop {A = ℕ} (cond t 2 0) (b ∷ c ∷ bytes)))
+          [ true ↦ λ _. refl | false ↦ λ none. absurd (omega arith) ]
+    ] some
 
 one : ◌≡◌ {A = ℕ} 1 0 → ⊥
 one e = absurd (omega arith)
@@ -31,10 +32,11 @@ blank_none [] none = refl
 blank_none (b ∷ []) none = none
 blank_none (b ∷ c ∷ bytes) none =
     elim (nat_eq b 10) as (λ t. ◌≡◌ {A = ℕ} (cond t 1 (cond (nat_eq b 13 && nat_eq c 10) 2 0)) 0 →
-      cond t (1 + blank_length (c ∷ bytes)) (cond (nat_eq b 13 && nat_eq c 10) (2 + blank_length bytes) 0) ≡ 0)
-    [ true ↦ λ some. absurd (one some)
-    | false ↦ elim (nat_eq b 13 && nat_eq c 10) as (λ t. ◌≡◌ {A = ℕ} (cond t 2 0) 0 → cond t (2 + blank_length bytes) 0 ≡ 0)
-      [ true ↦ λ some. absurd (two some) | false ↦ λ _. refl ] ] none
+    cond t (1 + blank_length (c ∷ bytes)) (cond (nat_eq b 13 && nat_eq c 10) (2 + blank_length bytes) 0) ≡ 0) [
+      | true ↦ λ some. absurd (one some)
+      | false ↦ elim (nat_eq b 13 && nat_eq c 10) as (λ t. ◌≡◌ {A = ℕ} (cond t 2 0) 0 → cond t (2 + blank_length bytes) 0 ≡ 0)
+          [ true ↦ λ some. absurd (two some) | false ↦ λ _. refl ]
+    ] none
 
 shifted_on : (at : ℕ) (found : Option ℕ) → shifted at (shifted 1 found) ≡ shifted (at + 1) found
 shifted_on at None = refl
@@ -42,7 +44,7 @@ shifted_on at (Some n) = ap Some (omega arith)
 
 head_split : (bytes : List ℕ) (at : ℕ) → at < length bytes
     → head_length (drop at bytes) ≡ cond (nat_eq (get_or bytes at 0) 10 && nat_lt 0 (empty_line (drop (at + 1) bytes)))
-      (Some (1 + empty_line (drop (at + 1) bytes))) (shifted 1 (head_length (drop (at + 1) bytes)))
+    (Some (1 + empty_line (drop (at + 1) bytes))) (shifted 1 (head_length (drop (at + 1) bytes)))
 head_split bytes at within =
     let next : at + 1 ≡ suc at = omega arith in
     let split : drop at bytes ≡ get_or bytes at 0 ∷ drop (at + 1) bytes = rw next (drop-cons bytes at 0 within) in

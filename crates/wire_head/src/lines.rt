@@ -111,5 +111,8 @@ pub fn find_opening(bytes: &[u8], from: usize) -> Opening
 pub fn field_lines(head: &[u8]) -> usize
     ensures { result ≡ field_lines head.now }
 {
-    head.iter().filter(|byte| **byte == b'\n').count().saturating_sub(2)
+    head.iter()
+        .filter(|byte| **byte == b'\n')
+        .count()
+        .saturating_sub(2)
 }

@@ -144,7 +144,8 @@ fn is_badly_framed(headers: &[Header]) -> bool
 {
     has_two_lengths(headers)
         || (gives_bad_length(headers)
-            || ((gives_length(headers) && names_transfer(headers)) || names_other_transfer(headers)))
+            || ((gives_length(headers) && names_transfer(headers))
+                || names_other_transfer(headers)))
 }
 
 fn has_body(plan: Plan) -> bool

@@ -122,7 +122,9 @@ fn parts(said: &Result<Head, HeadFault>, method: &[u8], path: &[u8], query: &[u8
     let Ok(head) = said else {
         return false;
     };
-    head.method.as_slice() == method && head.path.as_slice() == path && head.query.as_slice() == query
+    head.method.as_slice() == method
+        && head.path.as_slice() == path
+        && head.query.as_slice() == query
 }
 
 fn keeps(said: &Result<Head, HeadFault>) -> bool {
@@ -142,7 +144,10 @@ fn has_token(said: &Result<Head, HeadFault>) -> bool {
 #[test]
 fn heads_say_the_token_and_the_connection(rt: HostRuntime) -> Result<(), Fail> {
     let alloc = rt.alloc();
-    let head = lines(alloc, "GET /a?b?c HTTP/1.1~AUTHORIZATION: apitoken tok-country~X-Min-Change: 1~x-min-change: 02~~")?;
+    let head = lines(
+        alloc,
+        "GET /a?b?c HTTP/1.1~AUTHORIZATION: apitoken tok-country~X-Min-Change: 1~x-min-change: 02~~",
+    )?;
     let result = read_head(alloc, &head);
     assert!(rt; says(&result, b"tok-country", b"02"));
     assert!(rt; parts(&result, b"GET", b"/a", b"b?c"));

@@ -15,7 +15,7 @@ loop-at-preserved c =
     let some : 0 < empty_line (drop c.loop-at.at c.args.bytes.now) = omega arith in
     let step = blank_step (drop c.loop-at.at c.args.bytes.now) some in
     let far : drop (empty_line (drop c.loop-at.at c.args.bytes.now)) (drop c.loop-at.at c.args.bytes.now) ≡ drop (c.loop-at.at + c.empty_line-line.result) c.args.bytes.now =
-      drop-drop (empty_line (drop c.loop-at.at c.args.bytes.now)) c.loop-at.at c.args.bytes.now ∙ ap (λ n. drop (c.loop-at.at + n) c.args.bytes.now) (sym line) in
+    drop-drop (empty_line (drop c.loop-at.at c.args.bytes.now)) c.loop-at.at c.args.bytes.now ∙ ap (λ n. drop (c.loop-at.at + n) c.args.bytes.now) (sym line) in
     let known = ap blank_length far in
     record {
       skipped = omega (arith, c.loop-at.invariant.skipped);

@@ -6,7 +6,7 @@ use Rattle.wire_head.proofs.lines.head_length.Goals as goal
 pub returns-then-line-gt0 : goal.returns-then-line-gt0
 returns-then-line-gt0 c =
     let some : 0 < cond (nat_eq (get_or c.args.bytes.now c.loop-at.at 0) 10) (empty_line (drop (c.loop-at.at + 1) c.args.bytes.now)) 0 =
-      subst (λ n. 0 < n) c.line_behind-line.ensures.value c.if-line-gt0.true in
+    subst (λ n. 0 < n) c.line_behind-line.ensures.value c.if-line-gt0.true in
     ap (λ line. Some (c.loop-at.at + (1 + line))) c.line_behind-line.ensures.value
     ∙ sym (head_here c.args.bytes.now c.loop-at.at c.loop-at-test.true some c.loop-at.invariant)
 
