@@ -1,3 +1,5 @@
 pub mod Faults
 pub mod Files
+pub mod Keeper
 pub mod Memory
+pub mod Pieces

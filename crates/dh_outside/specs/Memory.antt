@@ -1,5 +1,5 @@
 -- What the forms in memory show of themselves.
-use Rattle.std.specs.Prelude.{ℕ, ℤ, List, Bool, nat_eq}
+use Rattle.std.specs.Prelude.{ℕ, List, Bool, nat_eq}
 use Rattle.std.specs.List.{list_any}
 use Rattle.dh_outside.specs.Faults.{one_more}
 

@@ -1,4 +1,4 @@
-//! What lies outside the program: sources of bytes, sinks, sets of files and clocks, as traits whose
+//! What lies outside the program: sources of bytes, sinks, sets of files, keepers and clocks, as traits whose
 //! clauses say what a call does to the bytes, where these are told, and that a call answers `Failed`
 //! only where the object's count of faults rose in it. Beside them stand forms in memory, which tell
 //! their bytes, and the adapters for the real objects, which don't.
@@ -6,7 +6,9 @@
 
 mod adapters;
 mod files;
+mod keeper;
 mod memory;
+mod pieces;
 #[cfg(test)]
 mod tests;
 mod whole;
@@ -18,7 +20,9 @@ ghost use Rattle.dh_outside.specs.Faults.{Rose};
 
 pub use adapters::{RealFiles, StdIn, StdOut, SystemClock};
 pub use files::{FileFault, FileSet, MemFiles};
+pub use keeper::{KeepFault, Keeper, MemKeeper};
 pub use memory::{MemClock, MemSink, MemSource};
+pub use pieces::{Piece, take_piece};
 pub use whole::{read_all, write_all};
 
 /// A read, a write or a file failed. The object's count of faults rose in the call.

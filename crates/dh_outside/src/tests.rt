@@ -82,3 +82,42 @@ fn the_adapters_reach_the_system(rt: HostRuntime) -> Result<(), Fail> {
     assert!(rt; SystemClock::new(rt.clone()?).now() > 1_700_000_000);
     Ok(())
 }
+
+#[test]
+fn a_keeper_holds_what_it_acknowledged(rt: HostRuntime) -> Result<(), Fail> {
+    let alloc = rt.alloc();
+    let mut keeper = MemKeeper::honest(alloc);
+    assert_eq!(rt; keeper.append(alloc, 0, b"abc"), Ok(()));
+    assert_eq!(rt; keeper.append(alloc, 3, b"de"), Ok(()));
+    assert_eq!(rt; keeper.kept(), b"abcde".as_slice());
+    assert!(rt; matches!(keeper.read_all(alloc, 4), Err(KeepFault::TooLong)));
+    let mut failing = Vec::new(alloc);
+    failing.push(1)?;
+    let mut keeper = MemKeeper::with(alloc, bytes(alloc, "ab")?, failing)?;
+    assert_eq!(rt; keeper.append(alloc, 2, b"c"), Err(KeepFault::Failed));
+    assert_eq!(rt; keeper.append(alloc, 2, b"d"), Ok(()));
+    let Ok(read) = keeper.read_all(alloc, 3) else {
+        return Err(Fail::from("the bytes are there"));
+    };
+    assert_eq!(rt; read.as_slice(), b"abd".as_slice());
+    Ok(())
+}
+
+#[test]
+fn pieces_stand_behind_one_another(rt: HostRuntime) -> Result<(), Fail> {
+    let alloc = rt.alloc();
+    let mut failing = Vec::new(alloc);
+    failing.push(1)?;
+    let mut source = MemSource::with(alloc, bytes(alloc, "cde")?, failing)?;
+    let mut held = bytes(alloc, "ab")?;
+    let mut read = 0;
+    assert_eq!(rt;
+        take_piece(&mut source, &mut held, &mut read),
+        Piece::Failed
+    );
+    assert_eq!(rt; take_piece(&mut source, &mut held, &mut read), Piece::More);
+    assert_eq!(rt; take_piece(&mut source, &mut held, &mut read), Piece::Over);
+    assert_eq!(rt; held.as_slice(), b"abcde".as_slice());
+    assert_eq!(rt; read, 3);
+    Ok(())
+}

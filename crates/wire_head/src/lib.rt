@@ -1,0 +1,10 @@
+//! The head of a request of HTTP/1.1 (RFC 9112): the empty lines before it, where it ends, and what
+//! its fields say of the body, the token and the connection. The grammar is that of `httparse`.
+#![tactic(auto)]
+
+pub mod fields;
+pub mod head;
+pub mod lines;
+pub mod plan;
+#[cfg(test)]
+mod tests;
