@@ -1,7 +1,7 @@
 //! Which texts are values of a type.
 
-ghost use Rattle.std.specs.Prelude.{◌≡◌};
-ghost use Rattle.value_types.specs.Values.{is_short, fits};
+ghost use Rattle.std.specs.Prelude.{◌≡◌, IsTrue, is_some};
+ghost use Rattle.value_types.specs.Values.{is_short, is_numeric, number_of, fits};
 
 use crate::number::{is_false, is_true, number_of};
 use dh_periods::civil;
@@ -23,7 +23,8 @@ fn is_short(text: &[u8]) -> bool
 /// The integers are decimal texts without a point. BOOLEAN is `true`, `false`, `1` or `0`, TRUE_ONLY is
 /// `true` or `1`, DATE is a date such as `2024-02-29`, and TEXT has 1 to 1,024 bytes.
 pub fn fits(value_type: ValueType, text: &[u8]) -> bool
-    ensures { result ≡ fits value_type text.now }
+    ensures value { result ≡ fits value_type text.now }
+    ensures numeric { IsTrue (is_numeric value_type) → result ≡ is_some (number_of value_type text.now) }
 {
     match value_type {
         ValueType::Boolean => is_true(text) || is_false(text),
