@@ -1,0 +1,29 @@
+-- Bodies of requests, which are JSON data of a stated form.
+use Rattle.std.specs.Prelude.{◌≡◌, ℕ, cond, List, Option, None, Result, Ok, Err, ⊤}
+use Rattle.std.specs.Str.{is_utf8}
+use Rattle.serde_json.specs.Data.{Data}
+use Rattle.serde_json.specs.Read.{read}
+use Rattle.json_forms.specs.Forms.{Formed, and_then, or_fault}
+use Rattle.json_forms.specs.declared.fault.FormFault.{FormFault}
+use Rattle.json_forms.specs.declared.fault.FormFault.TheVariants as form
+use Rattle.record_index.specs.declared.outcome.BodyFault.{BodyFault}
+use Rattle.record_index.specs.declared.outcome.BodyFault.TheVariants as fault
+
+-- the JSON data of a body: bytes that are UTF-8 and JSON of at most 127 levels
+abbrev pub document_of : List ℕ → Option Data
+document_of bytes = cond (is_utf8 bytes) (read bytes) None
+
+-- what a body stands for; the path of a body that isn't JSON is empty
+abbrev pub body_of : {A : Type 0} → (Data → Formed A) → List ℕ → Formed A
+body_of meaning bytes = and_then (or_fault (document_of bytes)) meaning
+
+-- the value that is meant, or the path of the first fault, or that memory was wanting
+abbrev pub Gives : {A : Type 0} → Formed A → Result A BodyFault → Type 0
+Gives meant (Ok value) = meant ≡ Ok value
+Gives meant (Err (fault.Bad path)) = meant ≡ Err path
+Gives meant (Err fault.Memory) = ⊤
+
+-- a fault of a form, as that of a body
+abbrev pub Told : FormFault → BodyFault → Type 0
+Told (form.At path) told = told ≡ fault.Bad path
+Told form.Memory told = told ≡ fault.Memory

@@ -1,0 +1,4 @@
+pub mod Bodies
+pub mod Texts
+pub mod Sets
+pub mod Completions

@@ -1,0 +1,79 @@
+//! Complete data set registrations.
+
+ghost use Rattle.std.specs.Prelude.{◌≡◌, IfOk};
+ghost use Rattle.serde_json.specs.View.{view};
+ghost use Rattle.json_forms.specs.Given as forms;
+ghost use Rattle.value_forms.specs.Bodies.{body_of, Gives};
+ghost use Rattle.value_forms.specs.Completions.{completion_of, completions_of};
+
+use crate::body::{document, fault_of, no_document};
+use crate::text::{text_in, truth_in};
+use dh_base::items::Items;
+use json_forms::fault::FormFault;
+use json_forms::form::{ReadJson, require_object, required_list};
+use record_index::outcome::BodyFault;
+use serde_json::Value;
+use std::alloc::{AllocError, Global};
+
+/// A complete data set registration, as it stands in the body.
+#[derive(Debug, Drop)]
+pub struct Completion {
+    pub data_set: Option<Items<u8>>,
+    pub period: Option<Items<u8>>,
+    /// The organisation unit.
+    pub unit: Option<Items<u8>>,
+    /// The attribute option combination.
+    pub attribute: Option<Items<u8>>,
+    /// The day of the registration, by default that of the request.
+    pub date: Option<Items<u8>>,
+    /// Whether the set is completed; else the registration is taken away.
+    pub done: bool,
+}
+
+#[tactic(auto, unfolding(crate::specs::Completions::completion_of))]
+fn completion_of(alloc: Global, value: &Value) -> Result<Completion, AllocError>
+    ensures { IfOk result (λ found. found ≡ completion_of (view value.now)) }
+{
+    Ok(Completion {
+        data_set: text_in(alloc, value, "dataSet")?,
+        period: text_in(alloc, value, "period")?,
+        unit: text_in(alloc, value, "organisationUnit")?,
+        attribute: text_in(alloc, value, "attributeOptionCombo")?,
+        date: text_in(alloc, value, "date")?,
+        done: truth_in(value, "completed").unwrap_or(true),
+    })
+}
+
+impl ReadJson for Completion {
+    ghost use Rattle.value_forms.specs.Completions.{completion_form};
+
+    ghost form = { completion_form };
+
+    fn read(alloc: Global, value: &Value) -> Result<Completion, FormFault> {
+        require_object(alloc, value)?;
+        Ok(completion_of(alloc, value)?)
+    }
+}
+
+#[tactic(auto, unfolding(crate::specs::Completions::completions_of))]
+fn completions_of(alloc: Global, value: &Value) -> Result<Items<Completion>, FormFault>
+    ensures { forms.Gives (completions_of (view value.now)) result }
+{
+    require_object(alloc, value)?;
+    required_list(alloc, value, "completeDataSetRegistrations")
+}
+
+/// The complete data set registrations of a body. A body that isn't JSON or no object is at fault with
+/// the empty path, one without the list at the list's key.
+pub fn read_completions(alloc: Global, body: &[u8]) -> Result<Items<Completion>, BodyFault>
+    ensures { Gives (body_of completions_of body.now) result }
+{
+    match document(alloc, body) {
+        Ok(Some(value)) => match completions_of(alloc, &value) {
+            Ok(list) => Ok(list),
+            Err(fault) => Err(fault_of(fault)),
+        },
+        Ok(None) => Err(no_document(alloc)),
+        Err(_) => Err(BodyFault::Memory),
+    }
+}

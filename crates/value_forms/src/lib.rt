@@ -1,0 +1,9 @@
+//! The bodies of requests that bring data values and complete data set registrations, as plain data.
+#![tactic(auto)]
+
+pub mod body;
+pub mod completion;
+pub mod set;
+#[cfg(test)]
+mod tests;
+pub mod text;
