@@ -1,1 +1,2 @@
 pub mod Approved
+pub mod Access
