@@ -10,11 +10,14 @@ use Rattle.meta_parts.specs.declared.held.Records.{Records}
 use Rattle.meta_parts.specs.declared.records.Unit.{Unit}
 use Rattle.meta_parts.specs.declared.records.Workflow.{Workflow}
 use Rattle.meta_model.specs.Approval.{unit_rows, levels_at}
-use Rattle.meta_model.specs.Workflows.{workflow_of}
+use Rattle.meta_rules.specs.Workflows.{workflow_of}
+use Rattle.meta_model.specs.Objects.{find_of}
+use Rattle.meta_parts.specs.declared.kind.Kind.TheVariants.{OrganisationUnit, DataElement}
 use Rattle.record_index.specs.Facts.{Facts}
 use Rattle.record_index.specs.declared.said.ApprovalState.{ApprovalState}
 use Rattle.record_index.specs.declared.said.ApprovalState.TheVariants as state
 use Rattle.dh_changes.specs.declared.keys.ApprovalKey.{ApprovalKey}
+use Rattle.dh_changes.specs.declared.keys.ValueKey.{ValueKey}
 use Rattle.dh_records.specs.declared.approved.Scope.{Scope}
 
 -- an accepted key counts as approved
@@ -60,3 +63,11 @@ approved_in facts r number unit period attribute =
 unfoldable pub approved_of : Facts → Records → ℕ → ℕ → PeriodName → List ℕ → Option ℕ
 approved_of facts r element unit period attribute =
     option_and_then (λ number. approved_in facts r number unit period attribute) (workflow_of r.data_sets element)
+
+abbrev pub approved_by_element : Facts → Records → ValueKey → ℕ → Option ℕ
+approved_by_element facts r key element =
+    option_and_then (λ unit. approved_of facts r element unit key.period key.attribute) (find_of r OrganisationUnit key.unit)
+
+-- of a key; a key names objects that stand in the metadata: no such element or unit, no position
+unfoldable pub approved_at : Facts → Records → ValueKey → Option ℕ
+approved_at facts r key = option_and_then (approved_by_element facts r key) (find_of r DataElement key.element)

@@ -1,1 +1,4 @@
 pub mod Approved
+pub mod Access
+pub use Rattle.record_index.specs.Facts
+pub use Rattle.record_index.specs.World

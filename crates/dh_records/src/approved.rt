@@ -3,9 +3,10 @@ ghost use Rattle.record_index.specs.World.{facts};
 ghost use Rattle.dh_records.specs.Approved as known;
 
 use dh_base::uid::Uid;
-use dh_changes::keys::ApprovalKey;
+use dh_changes::keys::{ApprovalKey, ValueKey};
 use dh_periods::{Period, containing};
 use meta_model::metadata::Metadata;
+use meta_parts::kind::Kind;
 use record_index::said::ApprovalState;
 use record_index::world::World;
 
@@ -17,6 +18,17 @@ pub struct Scope {
     pub period: Period,
     /// The attribute option combination.
     pub attribute: Uid,
+}
+
+/// The position up to which the value of a key is approved. A key names objects that stand in the
+/// metadata: where its element or its unit isn't there, there is no position.
+#[tactic(auto, unfolding(crate::specs::Approved::approved_at))]
+pub fn approved_at(world: &World, meta: &Metadata, key: &ValueKey) -> Option<u8>
+    ensures { result ≡ known.approved_at (facts world.now) meta.now key.now }
+{
+    let element = meta.find(Kind::DataElement, key.element)?;
+    let unit = meta.find(Kind::OrganisationUnit, key.unit)?;
+    approved_position_of(world, meta, element, unit, key.period, key.attribute)
 }
 
 /// The position up to which the values of an element at a unit are approved in this period and

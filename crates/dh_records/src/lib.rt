@@ -1,4 +1,12 @@
 //! Rules over what the record log holds and the metadata.
 #![tactic(auto)]
 
+pub mod access;
 pub mod approved;
+
+pub use dh_changes::change::{Change, Write};
+pub use dh_changes::keys::{ApprovalKey, RegKey, ValueKey};
+pub use dh_changes::tracker::{Enrollment, Entity, Event};
+pub use record_index::outcome::{BodyFault, Conflict, ImportStrategy, Verdict, Who};
+pub use record_index::said::ApprovalState;
+pub use record_index::world::World;

@@ -1,0 +1,17 @@
+-- Who may do what, and the tree of the units, after a log.
+use Rattle.std.specs.Prelude.{ℕ, Bool, List}
+use Rattle.dh_sharing.specs.declared.access.Right.{Right}
+use Rattle.org_tree.specs.Units.{UnitRow}
+use Rattle.meta_parts.specs.declared.held.Records.{Records}
+use Rattle.meta_parts.specs.declared.kind.Kind.{Kind}
+use Rattle.meta_model.specs.Approval.{unit_rows}
+use Rattle.meta_model.specs.Users.{may_of}
+use Rattle.record_index.specs.Facts.{Facts}
+
+-- the user has the right to the object: no write changes how the metadata shares it
+unfoldable pub access : Facts → Records → ℕ → Right → Kind → ℕ → Bool
+access facts r user right kind number = may_of r user right kind number
+
+-- each unit's identifier and its parent: no write changes those of the metadata
+unfoldable pub tree : Facts → Records → List UnitRow
+tree facts r = unit_rows r

@@ -1,0 +1,31 @@
+ghost use Rattle.std.specs.Prelude.{◌≡◌, ◌<◌, true, length};
+ghost use Rattle.meta_model.specs.Objects.{count_of, is_shared};
+ghost use Rattle.record_index.specs.World.{facts};
+ghost use Rattle.dh_records.specs.Access as known;
+
+use dh_sharing::access::Right;
+use meta_model::metadata::Metadata;
+use meta_parts::kind::Kind;
+use org_tree::tree::Tree;
+use record_index::world::World;
+
+/// Whether the user has the right to the object of this number, after the writes of the log.
+#[tactic(auto, unfolding(crate::specs::Access::access))]
+pub fn may(world: &World, meta: &Metadata, user: u32, right: Right, kind: Kind, number: u32) -> bool
+    requires user { user < length meta.now.users }
+    requires shared { is_shared kind ≡ true }
+    requires in_range { number < count_of meta.now kind }
+    ensures { result ≡ known.access (facts world.now) meta.now user right kind number }
+{
+    meta.may(user, right, kind, number)
+}
+
+/// The tree of the organisation units after the writes of the log.
+#[tactic(auto, unfolding(crate::specs::Access::tree))]
+pub fn tree_of<'a>(world: &'a World, meta: &'a Metadata) -> &'a Tree
+    ensures value { result.now ≡ known.tree (facts world.now) meta.now }
+    // a unit has one number in the tree and in the metadata
+    ensures numbers { length result.now ≡ length meta.now.organisation_units }
+{
+    meta.tree()
+}
