@@ -1,5 +1,5 @@
 use crate::head::{Head, HeadFault, read_head};
-use crate::lines::{Opening, blank_length, find_opening};
+use crate::lines::blank_length;
 use crate::plan::Plan;
 use dh_base::codes::Code;
 use std::alloc::Global;
@@ -172,21 +172,9 @@ GET / HTTP/1.0~Connection: keep-alive~~";
 }
 
 #[test]
-fn a_head_ends_at_its_first_empty_line(rt: HostRuntime) -> Result<(), Fail> {
-    let alloc = rt.alloc();
-    let blank = lines(alloc, "~~\n~GET")?;
+fn empty_lines_stand_before_a_head(rt: HostRuntime) -> Result<(), Fail> {
+    let blank = lines(rt.alloc(), "~~\n~GET")?;
     assert_eq!(rt; blank_length(&blank), 7);
     assert_eq!(rt; blank_length(b"\r"), 0);
-    assert_eq!(rt; find_opening(b"", 0), Opening::Nothing);
-    assert_eq!(rt; find_opening(b"GET / HTTP/1.1\r\n", 0), Opening::Unfinished);
-    assert_eq!(rt; find_opening(b"G\n\r\nmore", 0), Opening::Whole(4));
-    assert_eq!(rt; find_opening(b"G\n\nmore", 0), Opening::Whole(3));
-    let mut long = Vec::new(alloc);
-    for _ in 0..16383 {
-        long.push(b'a')?;
-    }
-    assert_eq!(rt; find_opening(&long, 0), Opening::Unfinished);
-    long.push(b'a')?;
-    assert_eq!(rt; find_opening(&long, 0), Opening::TooLong);
     Ok(())
 }
