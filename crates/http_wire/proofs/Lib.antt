@@ -1,0 +1,4 @@
+pub mod BodyLemmas
+pub mod FrontLemmas
+pub mod OpeningLaws
+pub mod RestLemmas
