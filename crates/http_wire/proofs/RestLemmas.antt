@@ -158,3 +158,6 @@ reads_some_stop {left} {left1} {left'} {held} {held1} {held'} {read} {read1} {re
     (stop_gives e ((held ++ skims.taken) ++ reads.taken) (held1 ++ reads.taken) held' end (IsSpent left' read')
       (front_on (held ++ skims.taken) held1 reads.taken end (front_is skims none) is) (opening_more held1 reads.taken end is) reads.gives);
 }
+
+pub opens_some : (held : List ℕ) (Spent : Type 0) (found : Option ℕ) (end : ℕ) → found ≡ Some end → Opens held Spent (Ok found) → opening_of held ≡ Whole end
+opens_some held Spent found end some opens = subst (λ o. Opens held Spent (Ok o)) some opens

@@ -126,6 +126,14 @@ fn read_chunks<S: Source>(
     }
 }
 
+// Drops a head and the bytes of its body.
+fn drop_body(bytes: &mut Vec<u8>, end: usize, count: u64)
+    requires { end + count ≤ length bytes.old.items }
+    ensures { bytes.new.items ≡ drop (end + count) bytes.old.items }
+{
+    drop_front(bytes, end + count as usize);
+}
+
 fn read_chunked<S: Source>(
     alloc: Global,
     source: &mut S,
@@ -141,7 +149,7 @@ fn read_chunked<S: Source>(
     ensures keeps { S.source_faults source.old ≤ S.source_faults source.new }
 {
     let chunks = read_chunks(alloc, source, bytes, read, end)?;
-    drop_front(bytes, end + chunks.seen as usize);
+    drop_body(bytes, end, chunks.seen);
     Ok(chunks.content)
 }
 

@@ -3,8 +3,11 @@
 
 mod body;
 mod front;
+pub mod reply;
 mod request;
 mod rest;
+mod written;
 
 pub use request::{Request, WireFault};
 pub use rest::{Rest, next_request};
+pub use written::Head;

@@ -50,14 +50,13 @@ impl From<AllocError> for WireFault {
     }
 }
 
-impl From<HeadFault> for WireFault {
-    ghost from_gives = { λ fault e. e ≡ comes_from fault };
-
-    fn from(fault: HeadFault) -> Self {
-        match fault {
-            HeadFault::Refused(code) => WireFault::Refused(code),
-            HeadFault::Memory => WireFault::Memory,
-        }
+// The fault of a request whose head is at fault.
+pub(crate) fn fault_of(fault: HeadFault) -> WireFault
+    ensures { result ≡ comes_from fault }
+{
+    match fault {
+        HeadFault::Refused(code) => WireFault::Refused(code),
+        HeadFault::Memory => WireFault::Memory,
     }
 }
 

@@ -1,4 +1,4 @@
-ghost use Rattle.std.specs.Prelude.{◌≡◌, ◌≤◌, ◌^◌, Err, [], length, take};
+ghost use Rattle.std.specs.Prelude.{◌≡◌, ◌≤◌, ◌^◌, Ok, Err, [], length, take};
 ghost use Rattle.dh_outside.specs.Faults.{Rose};
 ghost use Rattle.http_wire.specs.Reads.{Reads, ReadsBehind, seen};
 ghost use Rattle.wire_head.specs.Head.{Says, Answers};
@@ -6,7 +6,7 @@ ghost use Rattle.http_wire.specs.declared.request.WireFault.TheVariants.{ReadFau
 
 use crate::body::read_body;
 use crate::front::find_head;
-use crate::request::{Request, WireFault, request_of};
+use crate::request::{Request, WireFault, fault_of, request_of};
 use dh_outside::Source;
 use std::alloc::Global;
 use std::marker::Model;
@@ -43,11 +43,35 @@ impl Rest {
 }
 
 // The head at the front of the bytes.
-fn head_at(alloc: Global, bytes: &[u8], end: usize) -> Result<Head, HeadFault>
-    requires { end ≤ length bytes.now }
-    ensures { Answers result (Says (take end bytes.now)) }
+fn head_at(alloc: Global, bytes: &Vec<u8>, end: usize) -> Result<Head, HeadFault>
+    requires { end ≤ length bytes.now.items }
+    ensures { Answers result (Says (take end bytes.now.items)) }
 {
+    let bytes = bytes.as_slice();
     read_head(alloc, &bytes[..end])
+}
+
+// Reads the body behind a head of so many bytes.
+fn read_at_head<S: Source>(
+    alloc: Global,
+    source: &mut S,
+    bytes: &mut Vec<u8>,
+    read: &mut u64,
+    end: usize,
+    head: Head,
+) -> Result<Request, WireFault>
+    requires within { end ≤ length bytes.old.items }
+    requires bound { read.old ≤ 2 ^ 63 }
+    requires says { Says (take end bytes.old.items) (Ok head) }
+    ensures reads { ReadsBehind (S.left source.old) (S.left source.new) bytes.old.items bytes.new.items read.old read.new end result }
+    ensures bound { read.new ≤ 2 ^ 63 }
+    ensures failed { result ≡ Err ReadFault → Rose (S.source_faults source.old) (S.source_faults source.new) }
+    ensures keeps { S.source_faults source.old ≤ S.source_faults source.new }
+{
+    match read_body(alloc, source, bytes, read, end, head.plan) {
+        Ok(body) => Ok(request_of(head, body)),
+        Err(error) => Err(error),
+    }
 }
 
 // Reads the request whose head of so many bytes stands at the front of the bytes held.
@@ -65,9 +89,10 @@ fn read_behind<S: Source>(
     ensures failed { result ≡ Err ReadFault → Rose (S.source_faults source.old) (S.source_faults source.new) }
     ensures keeps { S.source_faults source.old ≤ S.source_faults source.new }
 {
-    let head = head_at(alloc, bytes, end)?;
-    let body = read_body(alloc, source, bytes, read, end, head.plan)?;
-    Ok(request_of(head, body))
+    match head_at(alloc, bytes, end) {
+        Ok(head) => read_at_head(alloc, source, bytes, read, end, head),
+        Err(error) => Err(fault_of(error)),
+    }
 }
 
 // Reads the next request behind the bytes held.
@@ -83,10 +108,16 @@ fn read_next<S: Source>(
     ensures failed { result ≡ Err ReadFault → Rose (S.source_faults source.old) (S.source_faults source.new) }
     ensures keeps { S.source_faults source.old ≤ S.source_faults source.new }
 {
-    let Some(end) = find_head(source, bytes, read)? else {
-        return Ok(None);
-    };
-    Ok(Some(read_behind(alloc, source, bytes, read, end)?))
+    match find_head(source, bytes, read) {
+        Ok(found) => match found {
+            Some(end) => match read_behind(alloc, source, bytes, read, end) {
+                Ok(request) => Ok(Some(request)),
+                Err(error) => Err(error),
+            },
+            None => Ok(None),
+        },
+        Err(error) => Err(error),
+    }
 }
 
 /// Reads the next request of a source, behind the bytes that `rest` holds. `None` is the end of the input

@@ -36,8 +36,8 @@ pub returns-then-not-branch-clause-skims : goal.returns-then-not-branch-clause-s
 returns-then-not-branch-clause-skims g c =
     skims_more (skims_skipped c.look.new.bytes.items c.loop-end.invariant.skims c.look.ensures.skipped) c.take_more.ensures.gains
 
-pub loop-end-preserved-in-Nothing : goal.loop-end-preserved-in-Nothing
-loop-end-preserved-in-Nothing g c = record {
+pub loop-end-preserved-else-not-branch : goal.loop-end-preserved-else-not-branch
+loop-end-preserved-else-not-branch g c = record {
   skims = skims_more (skims_skipped c.look.new.bytes.items c.loop-end.invariant.skims c.look.ensures.skipped) c.take_more.ensures.gains;
   passed = passed_on c.look.new.bytes.items c.take_more.new.bytes.items c.take_more.ensures.gains.taken c.look.new.from
     (inl (sym c.look.ensures.opening ∙ c.in-Nothing.is)) c.look.ensures.from c.take_more.ensures.gains.behind;
