@@ -97,7 +97,7 @@ reads_sized {left} {left'} {held} {held1} {held'} {read} {read'} end count conte
   consumed = gains.consumed;
   counted = gains.counted;
   gives = subst (λ all. GivesBody all held' end (Sized count) (IsSpent left' read') (Ok content)) gains.behind
-    (count, sized_whole held1 end count within enough ∙ ap (λ xs. complete xs count) (sym same), rest);
+      (count, sized_whole held1 end count within enough ∙ ap (λ xs. complete xs count) (sym same), rest);
 }
 
 pub reads_sized_stop : {left left' : Option (List ℕ)} {held held1 : List ℕ} {read read' : ℕ} (end count : ℕ) (e : WireFault)

@@ -49,7 +49,7 @@ skims_more {left} {left'} {left''} {held} {held'} {held''} {read} {read'} {read'
   taken = skims.taken ++ gains.taken;
   consumed = Consumes-trans left left' left'' skims.taken gains.taken skims.consumed gains.consumed;
   same = ap skipped gains.behind ∙ skip_on held' gains.taken ∙ ap (λ xs. skipped (xs ++ gains.taken)) skims.same
-    ∙ sym (skip_on (held ++ skims.taken) gains.taken) ∙ ap skipped (append_assoc held skims.taken gains.taken);
+      ∙ sym (skip_on (held ++ skims.taken) gains.taken) ∙ ap skipped (append_assoc held skims.taken gains.taken);
   counted = (let sum = length-append skims.taken gains.taken in omega (arith, skims.counted, gains.counted));
 }
 

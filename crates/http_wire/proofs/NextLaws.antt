@@ -89,16 +89,20 @@ first_stays TooLong bytes more f at is decided = subst (λ o. IsFoundBy o (bytes
 first_stays (Whole n) bytes more f at is decided =
     let high : n ≤ length bytes = (opening_head bytes n at).1 in
     let here : IsDecided (behind_head is.0 (drop n bytes)) = decided_front n (behind_head is.0 (drop n bytes)) (subst IsDecided is.2 decided) in
-    subst (λ o. IsFoundBy o (bytes ++ more) f) (sym (opening_more bytes more n at))
-    (is.0, subst (λ xs. Says xs is.0) (sym (take-append-le n bytes more high)) is.1,
-      is.2 ∙ ap (behind n) (sym (ap (behind_head is.0) (drop-append-le n bytes more high) ∙ head_stays is.0 (drop n bytes) more here)))
+    subst (λ o. IsFoundBy o (bytes ++ more) f) (sym (opening_more bytes more n at)) (
+      is.0,
+      subst (λ xs. Says xs is.0) (sym (take-append-le n bytes more high)) is.1,
+      is.2 ∙ ap (behind n) (sym (ap (behind_head is.0) (drop-append-le n bytes more high) ∙ head_stays is.0 (drop n bytes) more here)),
+    )
 
 pub next_stays : (bytes more : List ℕ) (f : Found) → IsNext bytes f → IsDecided f → IsNext (bytes ++ more) f
 next_stays bytes more f is decided =
     let first : IsDecided is.0 = decided_front (blank_length bytes) is.0 (subst IsDecided is.2 decided) in
-    let long = skip_still bytes more (two_bytes (opening_of (skipped bytes)) (skipped bytes) is.0 refl is.1 first) in
-    (is.0, subst (λ xs. IsFirst xs is.0) (sym long.1) (first_stays (opening_of (skipped bytes)) (skipped bytes) more is.0 refl is.1 first),
-      is.2 ∙ ap (λ n. behind n is.0) (sym long.0))
+    let long = skip_still bytes more (two_bytes (opening_of (skipped bytes)) (skipped bytes) is.0 refl is.1 first) in (
+      is.0,
+      subst (λ xs. IsFirst xs is.0) (sym long.1) (first_stays (opening_of (skipped bytes)) (skipped bytes) more is.0 refl is.1 first),
+      is.2 ∙ ap (λ n. behind n is.0) (sym long.0),
+    )
 
 -- ---- within the bytes
 

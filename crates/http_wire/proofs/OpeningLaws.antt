@@ -51,9 +51,10 @@ blank_within (x ∷ []) = elim (nat_eq x 10) as (λ t. cond t 1 0 ≤ 1) [ true 
 blank_within (x ∷ y ∷ b) =
     let one = blank_within (y ∷ b) in
     let two = blank_within b in
-    elim (nat_eq x 10) as (λ t. cond t (1 + blank_length (y ∷ b)) (cond (nat_eq x 13 && nat_eq y 10) (2 + blank_length b) 0) ≤ length (x ∷ y ∷ b))
-    [ true ↦ omega arith
-    | false ↦ elim (nat_eq x 13 && nat_eq y 10) as (λ u. cond u (2 + blank_length b) 0 ≤ length (x ∷ y ∷ b)) [ true ↦ omega arith | false ↦ omega arith ] ]
+    elim (nat_eq x 10) as (λ t. cond t (1 + blank_length (y ∷ b)) (cond (nat_eq x 13 && nat_eq y 10) (2 + blank_length b) 0) ≤ length (x ∷ y ∷ b)) [
+      | true ↦ omega arith
+      | false ↦ elim (nat_eq x 13 && nat_eq y 10) as (λ u. cond u (2 + blank_length b) 0 ≤ length (x ∷ y ∷ b)) [ true ↦ omega arith | false ↦ omega arith ]
+    ]
 
 -- skipping at once, or as the bytes come
 pub skip_on : (b more : List ℕ) → skipped (b ++ more) ≡ skipped (skipped b ++ more)
@@ -108,9 +109,10 @@ empty_within : (b : List ℕ) → empty_line b ≤ length b
 empty_within [] = omega arith
 empty_within (x ∷ []) = elim (nat_eq x 10) as (λ t. cond t 1 0 ≤ 1) [ true ↦ omega arith | false ↦ omega arith ]
 empty_within (x ∷ y ∷ b) =
-    elim (nat_eq x 10) as (λ t. cond t 1 (cond (nat_eq x 13 && nat_eq y 10) 2 0) ≤ length (x ∷ y ∷ b))
-    [ true ↦ omega arith
-    | false ↦ elim (nat_eq x 13 && nat_eq y 10) as (λ u. cond u 2 0 ≤ length (x ∷ y ∷ b)) [ true ↦ omega arith | false ↦ omega arith ] ]
+    elim (nat_eq x 10) as (λ t. cond t 1 (cond (nat_eq x 13 && nat_eq y 10) 2 0) ≤ length (x ∷ y ∷ b)) [
+      | true ↦ omega arith
+      | false ↦ elim (nat_eq x 13 && nat_eq y 10) as (λ u. cond u 2 0 ≤ length (x ∷ y ∷ b)) [ true ↦ omega arith | false ↦ omega arith ]
+    ]
 
 lone_line : (t : Bool) (n : ℕ) → 0 < cond t 1 0 → cond t 1 n ≡ cond t 1 0
 lone_line true n some = refl
@@ -190,7 +192,7 @@ head_resume (x ∷ y ∷ z ∷ b) more none =
     let inner : length (y ∷ z ∷ b) - 2 ≡ length b = omega arith in
     let outer : length (x ∷ y ∷ z ∷ b) - 2 ≡ suc (length b) = omega arith in
     let moved : head_length (y ∷ z ∷ (b ++ more)) ≡ shifted (length b) (head_length (drop (length b) (y ∷ z ∷ (b ++ more)))) =
-      later ∙ ap (λ n. shifted n (head_length (drop n (y ∷ z ∷ (b ++ more))))) inner in
+    later ∙ ap (λ n. shifted n (head_length (drop n (y ∷ z ∷ (b ++ more))))) inner in
     ap (λ t. cond t (Some (1 + empty_line (y ∷ z ∷ (b ++ more)))) (shifted 1 (head_length (y ∷ z ∷ (b ++ more))))) here.0
     ∙ ap (shifted 1) moved
     ∙ shifted_one (length b) (head_length (drop (length b) (y ∷ z ∷ (b ++ more))))
@@ -206,9 +208,10 @@ take_grows (suc k) (x ∷ r) more = let i = take_grows k r more in (i.0, ap (λ 
 whole_by : (found : Option ℕ) (count n : ℕ) → opening_by found count ≡ Whole n → found ≡ Some n
 whole_by (Some end) count n is = ap Some (cc)
 whole_by None count n is =
-    elim (nat_le head_limit count) as (λ t. cond t TooLong (cond (nat_eq count 0) Nothing Unfinished) ≡ Whole n → None ≡ Some n)
-    [ true ↦ λ e. absurd (cc)
-    | false ↦ elim (nat_eq count 0) as (λ t. cond t Nothing Unfinished ≡ Whole n → None ≡ Some n) [ true ↦ λ e. absurd (cc) | false ↦ λ e. absurd (cc) ] ] is
+    elim (nat_le head_limit count) as (λ t. cond t TooLong (cond (nat_eq count 0) Nothing Unfinished) ≡ Whole n → None ≡ Some n) [
+      | true ↦ λ e. absurd (cc)
+      | false ↦ elim (nat_eq count 0) as (λ t. cond t Nothing Unfinished ≡ Whole n → None ≡ Some n) [ true ↦ λ e. absurd (cc) | false ↦ λ e. absurd (cc) ]
+    ] is
 
 pub opening_head : (r : List ℕ) (n : ℕ) → opening_of r ≡ Whole n → (2 ≤ n) × (n ≤ length r)
 opening_head r n is =
@@ -221,7 +224,7 @@ pub opening_more : (r more : List ℕ) (n : ℕ) → opening_of r ≡ Whole n �
 opening_more r more n is =
     let grown = take_grows head_limit r more in
     let at : head_length (take head_limit (r ++ more)) ≡ Some n =
-      ap head_length grown.1 ∙ head_more (take head_limit r) grown.0 n (whole_by (head_length (take head_limit r)) (length r) n is) in
+    ap head_length grown.1 ∙ head_more (take head_limit r) grown.0 n (whole_by (head_length (take head_limit r)) (length r) n is) in
     ap (λ found. opening_by found (length (r ++ more))) at
 
 long_by : (found : Option ℕ) (count : ℕ) → opening_by found count ≡ TooLong → (found ≡ None) × (nat_le head_limit count ≡ true)
@@ -243,10 +246,11 @@ opening_long r more is =
     let long : head_limit ≤ length r = (let t : nat_le head_limit (length r) ≡ true = by.1 in grind (arith, nat_tests)) in
     let two = limit_two in
     let longer : nat_le head_limit (length (r ++ more)) ≡ true = (let sum = length-append r more in grind (arith, nat_tests)) in
-    let none : head_length (take head_limit (r ++ more)) ≡ None = ap head_length (take-append-le head_limit r more long) ∙ by.0 in
-    (omega arith,
+    let none : head_length (take head_limit (r ++ more)) ≡ None = ap head_length (take-append-le head_limit r more long) ∙ by.0 in (
+      omega arith,
       ap (λ found. opening_by found (length (r ++ more))) none
-      ∙ ap (λ t. cond t TooLong (cond (nat_eq (length (r ++ more)) 0) Nothing Unfinished)) longer)
+          ∙ ap (λ t. cond t TooLong (cond (nat_eq (length (r ++ more)) 0) Nothing Unfinished)) longer,
+    )
 
 open_by : (found : Option ℕ) (count : ℕ) → opening_by found count ≡ Unfinished → (found ≡ None) × (nat_le head_limit count ≡ false)
 open_by (Some end) count is = absurd (cc)
@@ -266,7 +270,7 @@ passed_more r more is =
     let all : take head_limit r ≡ r = take_all head_limit r (omega arith) in
     let none : head_length r ≡ None = sym (ap head_length all) ∙ by.0 in
     let grown : take head_limit (r ++ more) ≡ r ++ take (head_limit - length r) more =
-      ap (λ n. take n (r ++ more)) (sym split) ∙ take-append-add r more (head_limit - length r) in
+    ap (λ n. take n (r ++ more)) (sym split) ∙ take-append-add r more (head_limit - length r) in
     ap head_length grown ∙ head_resume r (take (head_limit - length r) more) none
     ∙ sym (ap (λ xs. shifted (length r - 2) (head_length (drop (length r - 2) xs))) grown)
 

@@ -29,14 +29,43 @@ row s short low high = (short, (low, high))
 reply_fits : (s : ℕ) → is_reply_status s ≡ true → Fits s
 unfolding Each is_reply_status phrase_of
 reply_fits s is =
-    listed Fits s (200 ∷ 400 ∷ 401 ∷ 403 ∷ 404 ∷ 405 ∷ 409 ∷ 413 ∷ 415 ∷ 431 ∷ 501 ∷ 503 ∷ 507 ∷ [])
-    (row 200 (omega arith) (omega arith) (omega arith), (row 400 (omega arith) (omega arith) (omega arith),
-      (row 401 (omega arith) (omega arith) (omega arith), (row 403 (omega arith) (omega arith) (omega arith),
-      (row 404 (omega arith) (omega arith) (omega arith), (row 405 (omega arith) (omega arith) (omega arith),
-      (row 409 (omega arith) (omega arith) (omega arith), (row 413 (omega arith) (omega arith) (omega arith),
-      (row 415 (omega arith) (omega arith) (omega arith), (row 431 (omega arith) (omega arith) (omega arith),
-      (row 501 (omega arith) (omega arith) (omega arith), (row 503 (omega arith) (omega arith) (omega arith),
-      (row 507 (omega arith) (omega arith) (omega arith), tt))))))))))))) is
+    listed Fits s (200 ∷ 400 ∷ 401 ∷ 403 ∷ 404 ∷ 405 ∷ 409 ∷ 413 ∷ 415 ∷ 431 ∷ 501 ∷ 503 ∷ 507 ∷ []) (
+      row 200 (omega arith) (omega arith) (omega arith),
+      (
+        row 400 (omega arith) (omega arith) (omega arith),
+        (
+          row 401 (omega arith) (omega arith) (omega arith),
+          (
+            row 403 (omega arith) (omega arith) (omega arith),
+            (
+              row 404 (omega arith) (omega arith) (omega arith),
+              (
+                row 405 (omega arith) (omega arith) (omega arith),
+                (
+                  row 409 (omega arith) (omega arith) (omega arith),
+                  (
+                    row 413 (omega arith) (omega arith) (omega arith),
+                    (
+                      row 415 (omega arith) (omega arith) (omega arith),
+                      (
+                        row 431 (omega arith) (omega arith) (omega arith),
+                        (
+                          row 501 (omega arith) (omega arith) (omega arith),
+                          (
+                            row 503 (omega arith) (omega arith) (omega arith),
+                            (row 507 (omega arith) (omega arith) (omega arith), tt),
+                          ),
+                        ),
+                      ),
+                    ),
+                  ),
+                ),
+              ),
+            ),
+          ),
+        ),
+      ),
+    ) is
 
 pub short_phrase : (s : ℕ) → is_reply_status s ≡ true → length (phrase_of s) ≤ 31
 short_phrase s is = (reply_fits s is).0

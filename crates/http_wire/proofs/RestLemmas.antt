@@ -67,7 +67,7 @@ reads_behind_head left held read end f e same says = record {
   consumed = Consumes-nil left;
   counted = omega arith;
   gives = subst (λ x. GivesBehind (held ++ []) held end (IsSpent left read) (Err x)) (sym same)
-    (subst (λ all. GivesBehind all held end (IsSpent left read) (Err (comes_from f))) (sym (append-nil held)) (head_stop f held end (IsSpent left read) says));
+      (subst (λ all. GivesBehind all held end (IsSpent left read) (Err (comes_from f))) (sym (append-nil held)) (head_stop f held end (IsSpent left read) says));
 }
 
 -- ---- at the front
@@ -124,9 +124,11 @@ behind_next all front end found at is back =
 
 some_gives : (all front held' : List ℕ) (end : ℕ) (Spent : Type 0) (request : Request) → front ≡ skipped all → opening_of front ≡ Whole end
     → GivesBehind front held' end Spent (Ok request) → Gives all held' Spent (Ok (Some request))
-some_gives all front held' end Spent request at is gives =
-    (blank_length all + (end + gives.0), behind_next all front end (whole request gives.0) at is gives.1,
-      gives.2 ∙ ap (drop (end + gives.0)) at ∙ drop-drop (end + gives.0) (blank_length all) all)
+some_gives all front held' end Spent request at is gives = (
+  blank_length all + (end + gives.0),
+  behind_next all front end (whole request gives.0) at is gives.1,
+  gives.2 ∙ ap (drop (end + gives.0)) at ∙ drop-drop (end + gives.0) (blank_length all) all,
+)
 
 stop_gives : (e : WireFault) (all front held' : List ℕ) (end : ℕ) (Spent : Type 0) → front ≡ skipped all → opening_of front ≡ Whole end
     → GivesBehind front held' end Spent (Err e) → Gives all held' Spent (Err e)
@@ -143,7 +145,7 @@ reads_some {left} {left1} {left'} {held} {held1} {held'} {read} {read1} {read'} 
   consumed = Consumes-trans left left1 left' skims.taken reads.taken skims.consumed reads.consumed;
   counted = (let sum = length-append skims.taken reads.taken in omega (arith, skims.counted, reads.counted));
   gives = subst (λ all. Gives all held' (IsSpent left' read') (Ok (Some request))) (append_assoc held skims.taken reads.taken)
-    (some_gives ((held ++ skims.taken) ++ reads.taken) (held1 ++ reads.taken) held' end (IsSpent left' read') request
+      (some_gives ((held ++ skims.taken) ++ reads.taken) (held1 ++ reads.taken) held' end (IsSpent left' read') request
       (front_on (held ++ skims.taken) held1 reads.taken end (front_is skims none) is) (opening_more held1 reads.taken end is) reads.gives);
 }
 
@@ -155,7 +157,7 @@ reads_some_stop {left} {left1} {left'} {held} {held1} {held'} {read} {read1} {re
   consumed = Consumes-trans left left1 left' skims.taken reads.taken skims.consumed reads.consumed;
   counted = (let sum = length-append skims.taken reads.taken in omega (arith, skims.counted, reads.counted));
   gives = subst (λ all. Gives all held' (IsSpent left' read') (Err e)) (append_assoc held skims.taken reads.taken)
-    (stop_gives e ((held ++ skims.taken) ++ reads.taken) (held1 ++ reads.taken) held' end (IsSpent left' read')
+      (stop_gives e ((held ++ skims.taken) ++ reads.taken) (held1 ++ reads.taken) held' end (IsSpent left' read')
       (front_on (held ++ skims.taken) held1 reads.taken end (front_is skims none) is) (opening_more held1 reads.taken end is) reads.gives);
 }
 

@@ -6,6 +6,8 @@ mod front;
 pub mod reply;
 mod request;
 mod rest;
+#[cfg(test)]
+mod tests;
 mod written;
 
 pub use request::{Request, WireFault};

@@ -8,8 +8,8 @@ pub loop-chunks-preserved : goal.loop-chunks-preserved
 loop-chunks-preserved g c = record {
   gains = gains_on c.loop-chunks.invariant.gains c.take_more.ensures.gains;
   runs = chunks_on c.loop-chunks.bytes.items c.take_more.new.bytes.items c.take_more.ensures.gains.taken c.args.end c.len-at.result c.feed.new.chunks
-    c.loop-chunks.invariant.within c.take_more.ensures.gains.behind (omega arith)
-    (c.loop-chunks.invariant.runs
+      c.loop-chunks.invariant.within c.take_more.ensures.gains.behind (omega arith)
+      (c.loop-chunks.invariant.runs
       ∙ sym (ap (run c.loop-chunks.chunks) (c.behind.ensures ∙ ap (drop c.loop-chunks.at) c.deref.ensures.value))
       ∙ fed_more _ _ c.in_ok-feed.field-0 c.in-More.is c.in_ok-feed.ensures.comes);
   sound = c.feed.ensures.sound;

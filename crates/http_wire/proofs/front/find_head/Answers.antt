@@ -40,7 +40,7 @@ pub loop-end-preserved-else-not-branch : goal.loop-end-preserved-else-not-branch
 loop-end-preserved-else-not-branch g c = record {
   skims = skims_more (skims_skipped c.look.new.bytes.items c.loop-end.invariant.skims c.look.ensures.skipped) c.take_more.ensures.gains;
   passed = passed_on c.look.new.bytes.items c.take_more.new.bytes.items c.take_more.ensures.gains.taken c.look.new.from
-    (inl (sym c.look.ensures.opening ∙ c.in-Nothing.is)) c.look.ensures.from c.take_more.ensures.gains.behind;
+      (inl (sym c.look.ensures.opening ∙ c.in-Nothing.is)) c.look.ensures.from c.take_more.ensures.gains.behind;
   bound = c.take_more.ensures.bound;
   keeps = omega (arith, c.take_more.ensures.keeps, c.loop-end.invariant.keeps);
 }
@@ -66,7 +66,7 @@ pub loop-end-preserved : goal.loop-end-preserved
 loop-end-preserved g c = record {
   skims = skims_more (skims_skipped c.look.new.bytes.items c.loop-end.invariant.skims c.look.ensures.skipped) c.take_more-in-Unfinished.ensures.gains;
   passed = passed_on c.look.new.bytes.items c.take_more-in-Unfinished.new.bytes.items c.take_more-in-Unfinished.ensures.gains.taken c.look.new.from
-    (inr (sym c.look.ensures.opening ∙ c.in-Unfinished.is)) c.look.ensures.from c.take_more-in-Unfinished.ensures.gains.behind;
+      (inr (sym c.look.ensures.opening ∙ c.in-Unfinished.is)) c.look.ensures.from c.take_more-in-Unfinished.ensures.gains.behind;
   bound = c.take_more-in-Unfinished.ensures.bound;
   keeps = omega (arith, c.take_more-in-Unfinished.ensures.keeps, c.loop-end.invariant.keeps);
 }

@@ -6,7 +6,7 @@ use Rattle.http_wire.proofs.rest.read_next.Goals as goal
 pub read_behind-requires-clause-within : goal.read_behind-requires-clause-within
 read_behind-requires-clause-within g c =
     (opening_head c.find_head.new.bytes.items c.in-Some.end
-      (opens_some c.find_head.new.bytes.items (IsSpent (g.S.Source.left c.find_head.new.source) c.find_head.new.read) c.in-Ok.found c.in-Some.end c.in-Some.is c.in-Ok.ensures.opens)).1
+    (opens_some c.find_head.new.bytes.items (IsSpent (g.S.Source.left c.find_head.new.source) c.find_head.new.read) c.in-Ok.found c.in-Some.end c.in-Some.is c.in-Ok.ensures.opens)).1
 
 pub returns-in-Ok-read_behind-clause-reads : goal.returns-in-Ok-read_behind-clause-reads
 returns-in-Ok-read_behind-clause-reads g c =
