@@ -1,2 +1,3 @@
+pub mod HeadLaws
 pub mod HeadLemmas
 pub mod LineLemmas

@@ -1,0 +1,164 @@
+-- Bodies, as their bytes come.
+use Rattle.std.proofs.Common.{◌≡◌, ◌∙◌, ℕ, ◌+◌, ◌-◌, ◌<◌, ◌≤◌, Bool, true, false, cond, List, [], ◌∷◌, ◌++◌, length, drop, take, Option, Result, Ok, Err, refl, sym, ap, subst, arith, nat_le, append-nil, length-append}
+use Rattle.std.specs.Prelude.{⊤}
+use Rattle.std.proofs.lemmas.List.{drop-append-le, take-append-le, length-drop}
+use Rattle.std.proofs.Math.Seq.{drop-append_seam}
+use Rattle.std.proofs.lemmas.Bool.Decides.{nat_tests}
+use Rattle.dh_outside.specs.Pieces.{Gains, IsSpent}
+use Rattle.wire_body.specs.Chunks.{Outcome, open_at, and_on, advanced, stepped, step, frame_limit, run, at_first, chunked}
+use Rattle.wire_body.specs.Chunks as body
+use Rattle.wire_body.specs.declared.chunks.Chunks.{Chunks}
+use Rattle.wire_body.specs.declared.chunks.Step.{Step}
+use Rattle.wire_body.specs.declared.chunks.Step.TheVariants as stepping
+use Rattle.wire_body.specs.Fed.{FedTo}
+use Rattle.wire_body.specs.declared.chunks.Fed.{Fed}
+use Rattle.wire_body.specs.declared.chunks.Fed.TheVariants as feeding
+use Rattle.wire_body.proofs.ChunkLemmas.{run_append}
+use Rattle.wire_head.specs.declared.plan.Plan.TheVariants.{Sized, Chunked}
+use Rattle.dh_base.specs.declared.codes.Code.TheVariants.{F3}
+use Rattle.wire_head.specs.declared.plan.Plan.{Plan}
+use Rattle.http_wire.specs.Next.{Body, waiting, wrong, complete, by_chunks, body_of}
+use Rattle.http_wire.specs.Reads.{GivesBody, ReadsBody, GivesChunks, is_stop}
+use Rattle.http_wire.specs.declared.request.WireFault.{WireFault}
+use Rattle.http_wire.specs.declared.request.WireFault.TheVariants as fault
+
+-- ---- chunks
+
+-- more bytes behind those that were fed
+pub chunks_on : (bytes bytes' taken : List ℕ) (end at : ℕ) (chunks : Chunks) → end ≤ length bytes → bytes' ≡ bytes ++ taken → at ≡ length bytes
+    → run at_first (drop end bytes) ≡ open_at chunks → run at_first (drop end bytes') ≡ run chunks (drop at bytes')
+chunks_on bytes bytes' taken end at chunks within grown place still =
+    ap (λ xs. run at_first (drop end xs)) grown
+    ∙ ap (run at_first) (drop-append-le end bytes taken within)
+    ∙ run_append at_first (drop end bytes) taken
+    ∙ ap (λ o. and_on o (λ next. run next taken)) still
+    ∙ sym (ap (λ xs. run chunks (drop at xs)) grown ∙ ap (λ n. run chunks (drop n (bytes ++ taken))) place ∙ ap (run chunks) (drop-append_seam bytes taken))
+
+-- the number of bytes after one more byte
+Steps : ℕ → Outcome → Type 0
+Steps seen (open_at next) = next.seen ≡ seen + 1
+Steps seen (body.refused code) = ⊤
+Steps seen (body.whole content count) = count ≡ seen + 1
+
+stepped_steps : (s : Step) (chunks : Chunks) (byte : ℕ) → Steps chunks.seen (stepped s chunks byte)
+unfolding Steps
+stepped_steps (stepping.Goes place) chunks byte = refl
+stepped_steps stepping.Ends chunks byte = refl
+stepped_steps (stepping.Fails code) chunks byte = tt
+
+advanced_steps : (chunks : Chunks) (byte : ℕ) → Steps chunks.seen (advanced chunks byte)
+unfolding Steps
+advanced_steps chunks byte =
+    elim (nat_le frame_limit chunks.seen) as (λ t. Steps chunks.seen (cond t (body.refused F3) (stepped (step chunks.place (length chunks.content) byte) chunks byte)))
+    [ true ↦ tt | false ↦ stepped_steps (step chunks.place (length chunks.content) byte) chunks byte ]
+
+within_by : (o : Outcome) (seen more : ℕ) (bytes content : List ℕ) (count : ℕ) → Steps seen o
+    → ((next : Chunks) → run next bytes ≡ body.whole content count → count ≤ next.seen + more)
+    → and_on o (λ next. run next bytes) ≡ body.whole content count → count ≤ seen + (more + 1)
+unfolding Steps
+within_by (open_at next) seen more bytes content count steps later is = let bound = later next is in omega (arith, steps)
+within_by (body.refused code) seen more bytes content count steps later is = absurd (cc)
+within_by (body.whole other n) seen more bytes content count steps later is = let same : n ≡ count = cc in omega (arith, steps)
+
+-- a whole body lies within the bytes
+pub run_within : (bytes : List ℕ) (chunks : Chunks) (content : List ℕ) (count : ℕ) → run chunks bytes ≡ body.whole content count → count ≤ chunks.seen + length bytes
+run_within [] chunks content count is = absurd (cc)
+run_within (byte ∷ bytes) chunks content count is =
+    let bound = within_by (advanced chunks byte) chunks.seen (length bytes) bytes content count (advanced_steps chunks byte) (λ next e. run_within bytes next content count e) is in
+    omega (arith, bound)
+
+pub chunked_within : (bytes : List ℕ) (end : ℕ) (content : List ℕ) (count : ℕ) → end ≤ length bytes → chunked (drop end bytes) ≡ body.whole content count → end + count ≤ length bytes
+chunked_within bytes end content count within is =
+    let bound = run_within (drop end bytes) at_first content count is in
+    omega (arith, bound, length-drop end bytes)
+
+-- ---- what is answered of a body
+
+sized_whole : (all : List ℕ) (end count : ℕ) → end ≤ length all → count ≤ length all - end
+    → body_of (Sized count) (drop end all) ≡ complete (take count (drop end all)) count
+sized_whole all end count within enough =
+    let len = length-drop end all in
+    let fits : count ≤ length (drop end all) = omega arith in
+    let test : nat_le count (length (drop end all)) ≡ true = grind (arith, nat_tests) in
+    ap (λ t. cond t (complete (take count (drop end all)) count) waiting) test
+
+sized_short : (all : List ℕ) (end count : ℕ) → length all - end < count → body_of (Sized count) (drop end all) ≡ waiting
+sized_short all end count short =
+    let len = length-drop end all in
+    let more : length (drop end all) < count = omega arith in
+    let test : nat_le count (length (drop end all)) ≡ false = grind (arith, nat_tests) in
+    ap (λ t. cond t (complete (take count (drop end all)) count) waiting) test
+
+pub reads_sized : {left left' : Option (List ℕ)} {held held1 held' : List ℕ} {read read' : ℕ} (end count : ℕ) (content : List ℕ)
+    → Gains left left' held held1 read read' → end ≤ length held1 → count ≤ length held1 - end → content ≡ take count (drop end held1)
+    → held' ≡ drop (end + count) held1 → ReadsBody left left' held held' read read' end (Sized count) (Ok content)
+reads_sized {left} {left'} {held} {held1} {held'} {read} {read'} end count content gains within enough same rest = record {
+  taken = gains.taken;
+  consumed = gains.consumed;
+  counted = gains.counted;
+  gives = subst (λ all. GivesBody all held' end (Sized count) (IsSpent left' read') (Ok content)) gains.behind
+      (count, sized_whole held1 end count within enough ∙ ap (λ xs. complete xs count) (sym same), rest);
+}
+
+pub reads_sized_stop : {left left' : Option (List ℕ)} {held held1 : List ℕ} {read read' : ℕ} (end count : ℕ) (e : WireFault)
+    → Gains left left' held held1 read read' → length held1 - end < count → is_stop e ≡ true → (e ≡ fault.Truncated → IsSpent left' read')
+    → ReadsBody left left' held held1 read read' end (Sized count) (Err e)
+reads_sized_stop {left} {left'} {held} {held1} {read} {read'} end count e gains short stop spent = record {
+  taken = gains.taken;
+  consumed = gains.consumed;
+  counted = gains.counted;
+  gives = subst (λ all. GivesBody all held1 end (Sized count) (IsSpent left' read') (Err e)) gains.behind (at_stop e (sized_short held1 end count short) stop spent);
+}
+  where
+    at_stop : (e : WireFault) → body_of (Sized count) (drop end held1) ≡ waiting → is_stop e ≡ true → (e ≡ fault.Truncated → IsSpent left' read')
+        → GivesBody held1 held1 end (Sized count) (IsSpent left' read') (Err e)
+    at_stop (fault.Refused code) still stop spent = absurd (cc)
+    at_stop fault.Truncated still stop spent = (still, spent refl)
+    at_stop fault.ReadFault still stop spent = (still, refl)
+    at_stop fault.Memory still stop spent = refl
+
+pub reads_no_memory : {left left' : Option (List ℕ)} {held held1 held' : List ℕ} {read read' : ℕ} (end : ℕ) (plan : Plan)
+    → Gains left left' held held1 read read' → held' ≡ held1 → ReadsBody left left' held held' read read' end plan (Err fault.Memory)
+reads_no_memory end plan gains same = record {
+  taken = gains.taken;
+  consumed = gains.consumed;
+  counted = gains.counted;
+  gives = same ∙ gains.behind;
+}
+
+pub reads_chunked : {left left' : Option (List ℕ)} {held held1 held' : List ℕ} {read read' : ℕ} (end used : ℕ) (content : List ℕ)
+    → Gains left left' held held1 read read' → chunked (drop end held1) ≡ body.whole content used → held' ≡ drop (end + used) held1
+    → ReadsBody left left' held held' read read' end Chunked (Ok content)
+reads_chunked {left} {left'} {held} {held1} {held'} {read} {read'} end used content gains whole rest = record {
+  taken = gains.taken;
+  consumed = gains.consumed;
+  counted = gains.counted;
+  gives = subst (λ all. GivesBody all held' end Chunked (IsSpent left' read') (Ok content)) gains.behind (used, ap by_chunks whole, rest);
+}
+
+pub reads_chunked_stop : {left left' : Option (List ℕ)} {held held1 : List ℕ} {read read' : ℕ} (end : ℕ) (e : WireFault)
+    → Gains left left' held held1 read read' → GivesChunks (drop end held1) (IsSpent left' read') (Err e)
+    → ReadsBody left left' held held1 read read' end Chunked (Err e)
+reads_chunked_stop {left} {left'} {held} {held1} {read} {read'} end e gains gives = record {
+  taken = gains.taken;
+  consumed = gains.consumed;
+  counted = gains.counted;
+  gives = subst (λ all. GivesBody all held1 end Chunked (IsSpent left' read') (Err e)) gains.behind (at_stop e gives);
+}
+  where
+    at_stop : (e : WireFault) → GivesChunks (drop end held1) (IsSpent left' read') (Err e) → GivesBody held1 held1 end Chunked (IsSpent left' read') (Err e)
+    at_stop (fault.Refused code) refused = ap by_chunks refused
+    at_stop fault.Truncated still = still
+    at_stop fault.ReadFault still = (still, refl)
+    at_stop fault.Memory _ = refl
+
+-- ---- the loop over the pieces of a body in chunks
+
+pub fed_more : (outcome : Outcome) (chunks : Chunks) (fed : Fed) → fed ≡ feeding.More → FedTo outcome chunks fed → outcome ≡ open_at chunks
+fed_more outcome chunks fed more is = subst (λ f. FedTo outcome chunks f) more is
+
+pub within_on : (n : ℕ) (bytes bytes' taken : List ℕ) → n ≤ length bytes → bytes' ≡ bytes ++ taken → n ≤ length bytes'
+within_on n bytes bytes' taken within grown =
+    let sum = length-append bytes taken in
+    let same = ap length grown in
+    omega arith

@@ -1,0 +1,6 @@
+pub mod BodyLemmas
+pub mod FrontLemmas
+pub mod NextLaws
+pub mod OpeningLaws
+pub mod ReplyLemmas
+pub mod RestLemmas

@@ -1,0 +1,18 @@
+use Rattle.std.proofs.Common.{◌≡◌, ◌≤◌, ◌-◌, ◌^◌, length, drop}
+use Rattle.dh_outside.specs.Pieces.{Gains}
+use Rattle.wire_body.specs.Chunks.{run, at_first, IsSound}
+use Rattle.http_wire.proofs.body.read_chunks.Given as goal
+
+abbrev pub invariant-loop-chunks : goal.invariant-loop-chunks
+invariant-loop-chunks g l = record {
+  gains : Gains (g.S.Source.left l.initial.source) (g.S.Source.left l.source) l.initial.bytes.items l.bytes.items l.initial.read l.read;
+  runs : run at_first (drop l.end l.bytes.items) ≡ run l.chunks (drop l.at l.bytes.items);
+  sound : IsSound l.chunks.place;
+  within : l.end ≤ length l.bytes.items;
+  at : l.at ≤ length l.bytes.items;
+  bound : l.read ≤ 2 ^ 63;
+  keeps : g.S.Source.source_faults l.initial.source ≤ g.S.Source.source_faults l.source;
+}
+
+abbrev pub decreases-loop-chunks : goal.decreases-loop-chunks
+decreases-loop-chunks g l = 2 ^ 63 - l.read

@@ -1,0 +1,137 @@
+ghost use Rattle.std.specs.Prelude.{◌≡◌, ◌≤◌, ◌+◌, ◌++◌, Option, true, length, take, decimal};
+ghost use Rattle.http_wire.specs.Reply.{is_reply_status, phrase_of, number_line, closing, front_of, behind_front, head_of};
+
+use crate::written::Head;
+use http::StatusCode;
+use itoa::Buffer;
+
+// More than the longest head has.
+const ROOM: usize = 256;
+
+// Writes a text behind the bytes that are there, and says how many there are now.
+fn put(buffer: &mut [u8], len: usize, text: &[u8]) -> usize
+    requires { len + length text.now ≤ length buffer.old }
+    ensures written { take result buffer.new ≡ take len buffer.old ++ text.now }
+    ensures count { result ≡ len + length text.now }
+    ensures room { length buffer.new ≡ length buffer.old }
+{
+    let end = len + text.len();
+    buffer[len..end].copy_from_slice(text);
+    end
+}
+
+// Writes a number in decimal, of at most 20 digits.
+fn put_number(buffer: &mut [u8], len: usize, number: u64) -> usize
+    requires { len + 20 ≤ length buffer.old }
+    ensures written { take result buffer.new ≡ take len buffer.old ++ decimal number }
+    ensures count { result ≤ len + 20 }
+    ensures room { length buffer.new ≡ length buffer.old }
+{
+    let mut digits = Buffer::new();
+    put(buffer, len, digits.format(number).as_bytes())
+}
+
+// Writes a line with a number, where there is one. The name has at most 13 bytes.
+fn put_line(buffer: &mut [u8], len: usize, name: &[u8], number: Option<u64>) -> usize
+    requires short { length name.now ≤ 13 }
+    requires room { len + 35 ≤ length buffer.old }
+    ensures written { take result buffer.new ≡ take len buffer.old ++ number_line name.now number }
+    ensures count { result ≤ len + 35 }
+    ensures room { length buffer.new ≡ length buffer.old }
+{
+    let Some(number) = number else {
+        return len;
+    };
+    let len = put(buffer, len, name);
+    let len = put_number(buffer, len, number);
+    put(buffer, len, b"\r\n")
+}
+
+// The phrase that stands behind a status.
+#[tactic(auto, using(crate::proofs::ReplyLemmas::valid_status), unfolding(crate::specs::Reply::phrase_of))]
+fn standard_phrase(status: u16) -> &'static str
+    requires { is_reply_status status ≡ true }
+    ensures { result.now ≡ phrase_of status }
+{
+    match StatusCode::from_u16(status) {
+        Ok(code) => code.canonical_reason().unwrap_or(""),
+        Err(_) => "",
+    }
+}
+
+fn phrase(status: u16) -> &'static str
+    requires { is_reply_status status ≡ true }
+    ensures value { result.now ≡ phrase_of status }
+    ensures short { length result.now ≤ 31 }
+{
+    standard_phrase(status)
+}
+
+// Writes the lines that every head has.
+#[tactic(auto, unfolding(crate::specs::Reply::front_of))]
+fn put_front(buffer: &mut [u8], status: u16, count: u64) -> usize
+    requires status { is_reply_status status ≡ true }
+    requires room { 150 ≤ length buffer.old }
+    ensures written { take result buffer.new ≡ front_of status count }
+    ensures count { result ≤ 150 }
+    ensures room { length buffer.new ≡ length buffer.old }
+{
+    let len = put(buffer, 0, b"HTTP/1.1 ");
+    let len = put_number(buffer, len, u64::from(status));
+    let len = put(buffer, len, b" ");
+    let len = put(buffer, len, phrase(status).as_bytes());
+    let len = put(
+        buffer,
+        len,
+        b"\r\nContent-Type: application/json;charset=UTF-8\r\nContent-Length: ",
+    );
+    let len = put_number(buffer, len, count);
+    put(buffer, len, b"\r\n")
+}
+
+fn closing(keep: bool) -> &'static [u8]
+    ensures value { result.now ≡ closing keep }
+    ensures short { length result.now ≤ 26 }
+{
+    if keep {
+        b"Connection: keep-alive\r\n\r\n"
+    } else {
+        b"Connection: close\r\n\r\n"
+    }
+}
+
+// Writes the lines behind those that are there.
+fn put_behind(
+    buffer: &mut [u8],
+    len: usize,
+    published: Option<u64>,
+    change: Option<u64>,
+    keep: bool,
+) -> usize
+    requires { len + 96 ≤ length buffer.old }
+    ensures written { take result buffer.new ≡ behind_front (take len buffer.old) published change keep }
+    ensures count { result ≤ len + 96 }
+    ensures room { length buffer.new ≡ length buffer.old }
+{
+    let len = put_line(buffer, len, b"X-Published: ", published);
+    let len = put_line(buffer, len, b"X-Change: ", change);
+    put(buffer, len, closing(keep))
+}
+
+/// The head of a reply whose body has `length` bytes: `published` after a look at tables and after an update,
+/// `change` after a change that was accepted, `keep` where the connection goes on. This takes no memory.
+pub fn head(
+    status: u16,
+    length: u64,
+    published: Option<u64>,
+    change: Option<u64>,
+    keep: bool,
+) -> Head
+    requires { is_reply_status status ≡ true }
+    ensures { result ≡ head_of status length published change keep }
+{
+    let mut bytes = [0; ROOM];
+    let front = put_front(&mut bytes, status, length);
+    let len = put_behind(&mut bytes, front, published, change, keep);
+    Head::of(bytes, len)
+}

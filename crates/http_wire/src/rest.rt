@@ -1,0 +1,137 @@
+ghost use Rattle.std.specs.Prelude.{◌≡◌, ◌≤◌, ◌^◌, Ok, Err, [], length, take};
+ghost use Rattle.dh_outside.specs.Faults.{Rose};
+ghost use Rattle.http_wire.specs.Reads.{Reads, ReadsBehind, seen};
+ghost use Rattle.wire_head.specs.Head.{Says, Answers};
+ghost use Rattle.http_wire.specs.declared.request.WireFault.TheVariants.{ReadFault};
+
+use crate::body::read_body;
+use crate::front::find_head;
+use crate::request::{Request, WireFault, fault_of, request_of};
+use dh_outside::Source;
+use std::alloc::Global;
+use std::marker::Model;
+use wire_head::head::{Head, HeadFault, read_head};
+
+/// The bytes that were read of one source and not yet used.
+#[derive(Drop)]
+pub struct Rest {
+    bytes: Vec<u8>,
+    read: u64,
+}
+
+impl Model for Rest {
+    ghost use Rattle.std.specs.Prelude.{◌≤◌, ◌^◌};
+    ghost use Rattle.http_wire.specs.Reads.{RestSeen};
+
+    ghost Value = { RestSeen };
+
+    ghost view = { λ r. record { bytes = r.bytes.items; read = r.read } };
+
+    ghost invariant = { λ r. r.read ≤ 2 ^ 63 };
+}
+
+impl Rest {
+    /// Nothing was read yet. This takes no memory.
+    pub fn new(alloc: Global) -> Self
+        ensures { result ≡ record { bytes = []; read = 0 } }
+    {
+        Rest {
+            bytes: Vec::new(alloc),
+            read: 0,
+        }
+    }
+}
+
+// The head at the front of the bytes.
+fn head_at(alloc: Global, bytes: &Vec<u8>, end: usize) -> Result<Head, HeadFault>
+    requires { end ≤ length bytes.now.items }
+    ensures { Answers result (Says (take end bytes.now.items)) }
+{
+    let bytes = bytes.as_slice();
+    read_head(alloc, &bytes[..end])
+}
+
+// Reads the body behind a head of so many bytes.
+fn read_at_head<S: Source>(
+    alloc: Global,
+    source: &mut S,
+    bytes: &mut Vec<u8>,
+    read: &mut u64,
+    end: usize,
+    head: Head,
+) -> Result<Request, WireFault>
+    requires within { end ≤ length bytes.old.items }
+    requires bound { read.old ≤ 2 ^ 63 }
+    requires says { Says (take end bytes.old.items) (Ok head) }
+    ensures reads { ReadsBehind (S.left source.old) (S.left source.new) bytes.old.items bytes.new.items read.old read.new end result }
+    ensures bound { read.new ≤ 2 ^ 63 }
+    ensures failed { result ≡ Err ReadFault → Rose (S.source_faults source.old) (S.source_faults source.new) }
+    ensures keeps { S.source_faults source.old ≤ S.source_faults source.new }
+{
+    match read_body(alloc, source, bytes, read, end, head.plan) {
+        Ok(body) => Ok(request_of(head, body)),
+        Err(error) => Err(error),
+    }
+}
+
+// Reads the request whose head of so many bytes stands at the front of the bytes held.
+fn read_behind<S: Source>(
+    alloc: Global,
+    source: &mut S,
+    bytes: &mut Vec<u8>,
+    read: &mut u64,
+    end: usize,
+) -> Result<Request, WireFault>
+    requires within { end ≤ length bytes.old.items }
+    requires bound { read.old ≤ 2 ^ 63 }
+    ensures reads { ReadsBehind (S.left source.old) (S.left source.new) bytes.old.items bytes.new.items read.old read.new end result }
+    ensures bound { read.new ≤ 2 ^ 63 }
+    ensures failed { result ≡ Err ReadFault → Rose (S.source_faults source.old) (S.source_faults source.new) }
+    ensures keeps { S.source_faults source.old ≤ S.source_faults source.new }
+{
+    match head_at(alloc, bytes, end) {
+        Ok(head) => read_at_head(alloc, source, bytes, read, end, head),
+        Err(error) => Err(fault_of(error)),
+    }
+}
+
+// Reads the next request behind the bytes held.
+fn read_next<S: Source>(
+    alloc: Global,
+    source: &mut S,
+    bytes: &mut Vec<u8>,
+    read: &mut u64,
+) -> Result<Option<Request>, WireFault>
+    requires bound { read.old ≤ 2 ^ 63 }
+    ensures reads { Reads (S.left source.old) (S.left source.new) (seen bytes.old.items read.old) (seen bytes.new.items read.new) result }
+    ensures bound { read.new ≤ 2 ^ 63 }
+    ensures failed { result ≡ Err ReadFault → Rose (S.source_faults source.old) (S.source_faults source.new) }
+    ensures keeps { S.source_faults source.old ≤ S.source_faults source.new }
+{
+    match find_head(source, bytes, read) {
+        Ok(found) => match found {
+            Some(end) => match read_behind(alloc, source, bytes, read, end) {
+                Ok(request) => Ok(Some(request)),
+                Err(error) => Err(error),
+            },
+            None => Ok(None),
+        },
+        Err(error) => Err(error),
+    }
+}
+
+/// Reads the next request of a source, behind the bytes that `rest` holds. `None` is the end of the input
+/// between two requests. A refusal leaves the bytes of the request held, so no request follows one.
+///
+/// A source counts as ended after 2^63 bytes.
+pub fn next_request<S: Source>(
+    alloc: Global,
+    source: &mut S,
+    rest: &mut Rest,
+) -> Result<Option<Request>, WireFault>
+    ensures reads { Reads (S.left source.old) (S.left source.new) rest.old rest.new result }
+    ensures failed { result ≡ Err ReadFault → Rose (S.source_faults source.old) (S.source_faults source.new) }
+    ensures keeps { S.source_faults source.old ≤ S.source_faults source.new }
+{
+    read_next(alloc, source, &mut rest.bytes, &mut rest.read)
+}
