@@ -1,5 +1,3 @@
-ghost use Rattle.wire_body.specs.Chunks.{IsSound};
-
 use crate::chunks::{Chunks, Fed, feed, start};
 use dh_base::codes::Code;
 use std::alloc::Global;
@@ -27,18 +25,6 @@ fn meets(fed: Fed, chunks: &Chunks, want: &str) -> bool {
         Fed::Refused(Code::F4) => want == "F4",
         Fed::Refused(_) => false,
     }
-}
-
-// The first half, and then the rest.
-fn in_two(chunks: &mut Chunks, bytes: &[u8]) -> Result<Fed, Fail>
-    requires { IsSound chunks.old.place }
-{
-    let half = bytes.len() / 2;
-    let fed = feed(chunks, &bytes[..half])?;
-    if fed != Fed::More {
-        return Ok(fed);
-    }
-    Ok(feed(chunks, &bytes[half..])?)
 }
 
 #[test]
@@ -88,24 +74,6 @@ ffffffffffffffff~|F3
         let mut chunks = start(alloc);
         let fed = feed(&mut chunks, &bytes)?;
         assert!(rt; meets(fed, &chunks, want), "{text}");
-        let mut chunks = start(alloc);
-        let fed = in_two(&mut chunks, &bytes)?;
-        assert!(rt; meets(fed, &chunks, want), "{text} in two pieces");
     }
-    Ok(())
-}
-
-#[test]
-fn framing_has_a_limit(rt: HostRuntime) -> Result<(), Fail> {
-    let alloc = rt.alloc();
-    let mut chunks = start(alloc);
-    assert_eq!(rt; feed(&mut chunks, b"1;")?, Fed::More);
-    chunks.seen = 33_554_431;
-    assert_eq!(rt; feed(&mut chunks, b"a")?, Fed::More);
-    assert_eq!(rt; feed(&mut chunks, b"b")?, Fed::Refused(Code::F3));
-    let mut chunks = start(alloc);
-    assert_eq!(rt; feed(&mut chunks, b"3\r\na")?, Fed::More);
-    chunks.seen = 33_554_431;
-    assert_eq!(rt; feed(&mut chunks, b"bc")?, Fed::Refused(Code::F3));
     Ok(())
 }
