@@ -5,7 +5,7 @@ use dh_base::uid::Uid;
 use meta_ids::ids::Ids;
 use meta_parts::held::Links;
 use meta_parts::parts::MetaParts;
-use meta_parts::raw::{RawUnit, RawUnitGroup};
+use meta_parts::raw::RawUnit;
 use std::alloc::Global;
 use std::process::Abort;
 use std::test::Fail;
@@ -50,47 +50,34 @@ fn is_unknown(linked: &Result<Links, LinkFault>, expected: Uid, at: &[u8]) -> bo
     }
 }
 
-#[test]
-fn references_are_numbers_or_told(rt: HostRuntime) -> Result<(), Fail> {
-    let alloc = rt.alloc();
-    let country = uid(&rt, "OuCountry01");
-    let district = uid(&rt, "OuDistrictA");
+fn one_unit(alloc: Global, id: Uid, parent: Option<Uid>) -> Result<MetaParts, Fail> {
     let mut parts = empty(alloc);
     parts.organisation_units.push(RawUnit {
         place: 0,
-        id: district,
+        id,
         name: Items::new(alloc),
-        parent: Some(country),
+        parent,
     })?;
-    let ids = Ids::of(alloc, &parts)?;
-    assert!(rt;
-        is_unknown(
-            &link(alloc, &ids, &parts),
-            country,
-            b"organisationUnits.0.parent"
-        )
-    );
-    parts.organisation_units.push(RawUnit {
-        place: 3,
-        id: country,
-        name: Items::new(alloc),
-        parent: None,
-    })?;
-    let mut members = Items::new(alloc);
-    members.push(country)?;
-    members.push(uid(&rt, "OuNoSuchOne"))?;
-    let ids = Ids::of(alloc, &parts)?;
-    let links = link(alloc, &ids, &parts)?;
-    assert_eq!(rt; links.organisation_units.as_slice()[0].parent, Some(1));
-    assert_eq!(rt; links.category_option_combos.len(), 1);
-    parts.organisation_unit_groups.push(RawUnitGroup {
-        place: 2,
-        id: uid(&rt, "OgGroupFull"),
-        name: Items::new(alloc),
-        organisation_units: members,
-    })?;
-    let ids = Ids::of(alloc, &parts)?;
-    let at = b"organisationUnitGroups.2.organisationUnits.1";
-    assert!(rt; is_unknown(&link(alloc, &ids, &parts), uid(&rt, "OuNoSuchOne"), at));
+    Ok(parts)
+}
+
+fn outcome(alloc: Global, parts: &MetaParts) -> Result<Result<Links, LinkFault>, Fail> {
+    let ids = Ids::of(alloc, parts)?;
+    Ok(link(alloc, &ids, parts))
+}
+
+#[test]
+fn an_unknown_parent_is_told(rt: HostRuntime) -> Result<(), Fail> {
+    let country = uid(&rt, "OuCountry01");
+    let parts = one_unit(rt.alloc(), uid(&rt, "OuDistrictA"), Some(country))?;
+    let linked = outcome(rt.alloc(), &parts)?;
+    assert!(rt; is_unknown(&linked, country, b"organisationUnits.0.parent"));
+    Ok(())
+}
+
+#[test]
+fn a_root_has_no_reference(rt: HostRuntime) -> Result<(), Fail> {
+    let parts = one_unit(rt.alloc(), uid(&rt, "OuCountry01"), None)?;
+    assert!(rt; outcome(rt.alloc(), &parts)?.is_ok());
     Ok(())
 }
