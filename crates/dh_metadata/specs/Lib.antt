@@ -1,0 +1,3 @@
+pub mod Records
+pub mod Stages
+pub mod Faults
