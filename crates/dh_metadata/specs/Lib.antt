@@ -1,3 +1,4 @@
 pub mod Records
 pub mod Stages
 pub mod Faults
+pub mod Told

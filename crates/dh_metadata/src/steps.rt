@@ -14,11 +14,11 @@ ghost use Rattle.meta_rules.specs.Categories.{option_combo_rows};
 ghost use Rattle.meta_rules.specs.Held.{IsHeld};
 ghost use Rattle.meta_rules.specs.Limits.{first_passed};
 ghost use Rattle.meta_rules.specs.Trees.{tree_rows};
-ghost use Rattle.dh_metadata.specs.Faults.{twice, unknown, broken, passed, twice_fault, unknown_fault, unread_fault, rule_fault, Unless};
+ghost use Rattle.dh_metadata.specs.Told.{twice_told, unknown_uid, unknown_told};
+ghost use Rattle.dh_metadata.specs.Faults.{broken, passed, twice_fault, unknown_fault, unread_fault, rule_fault, Unless};
 ghost use Rattle.dh_metadata.specs.Records.{AreRecords, unread_of};
 
 use crate::fault::{MetaFault, Which};
-use dh_base::items::Items;
 use dh_base::uid::Uid;
 use meta_exprs::all::{Expressions, Unread, read_all};
 use meta_exprs::fault::ExprError;
@@ -34,16 +34,32 @@ use meta_rules::held::{Held, rules};
 use meta_rules::limits::first_passed;
 use std::alloc::Global;
 
-fn twice(uid: Uid) -> MetaFault
-    ensures { result ≡ twice uid }
+// Identifiers are read behind a `&`, since this crate can't take them out of another's enum.
+fn twice(fault: &IdsFault) -> MetaFault
+    ensures { result ≡ twice_told fault.now }
 {
-    MetaFault::Twice { uid }
+    match fault {
+        IdsFault::Twice { uid } => MetaFault::Twice { uid: *uid },
+        IdsFault::Memory => MetaFault::Memory,
+    }
 }
 
-fn unknown(uid: Uid, path: Items<u8>) -> MetaFault
-    ensures { result ≡ unknown (uid, path) }
+fn unknown_uid(fault: &LinkFault) -> Option<Uid>
+    ensures { result ≡ unknown_uid fault.now }
 {
-    MetaFault::Unknown { uid, path }
+    match fault {
+        LinkFault::Unknown { uid, path: _ } => Some(*uid),
+        LinkFault::Memory => None,
+    }
+}
+
+fn unknown(uid: Uid, fault: LinkFault) -> MetaFault
+    ensures { result ≡ unknown_told uid fault }
+{
+    match fault {
+        LinkFault::Unknown { uid: _, path } => MetaFault::Unknown { uid, path },
+        LinkFault::Memory => MetaFault::Memory,
+    }
 }
 
 /// The identifiers of a file, where nothing stands twice.
@@ -53,8 +69,7 @@ pub(crate) fn numbered(alloc: Global, parts: &MetaParts) -> Result<Ids, MetaFaul
 {
     match Ids::of(alloc, parts) {
         Ok(ids) => Ok(ids),
-        Err(IdsFault::Twice { uid }) => Err(twice(uid)),
-        Err(IdsFault::Memory) => Err(MetaFault::Memory),
+        Err(fault) => Err(twice(&fault)),
     }
 }
 
@@ -65,8 +80,10 @@ pub(crate) fn linked(alloc: Global, ids: &Ids, parts: &MetaParts) -> Result<Link
 {
     match link(alloc, ids, parts) {
         Ok(links) => Ok(links),
-        Err(LinkFault::Unknown { uid, path }) => Err(unknown(uid, path)),
-        Err(LinkFault::Memory) => Err(MetaFault::Memory),
+        Err(fault) => match unknown_uid(&fault) {
+            Some(uid) => Err(unknown(uid, fault)),
+            None => Err(MetaFault::Memory),
+        },
     }
 }
 
