@@ -1,0 +1,4 @@
+pub mod Records
+pub mod Stages
+pub mod Faults
+pub mod Told

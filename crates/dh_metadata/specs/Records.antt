@@ -1,0 +1,69 @@
+-- What metadata has of a file.
+use Rattle.std.specs.Prelude.{◌≡◌, ℕ, List}
+use Rattle.meta_parts.specs.declared.parts.MetaParts.{MetaParts}
+use Rattle.meta_parts.specs.declared.held.Links.{Links}
+use Rattle.meta_parts.specs.declared.held.Records.{Records}
+use Rattle.meta_exprs.specs.declared.all.Unread.{Unread}
+use Rattle.meta_exprs.specs.declared.all.Expressions.{Expressions}
+use Rattle.meta_exprs.specs.All.{HaveExpressions}
+use Rattle.meta_ids.specs.Ids.{ids_of}
+use Rattle.meta_links.specs.Held.{links_of}
+
+-- the references of the objects with expressions
+abbrev pub unread_of : Links → Unread
+unread_of links = record {
+  indicators = links.indicators;
+  validation_rules = links.validation_rules;
+  program_indicators = links.program_indicators;
+}
+
+-- the objects with expressions
+abbrev pub expressions_in : Records → Expressions
+expressions_in r = record {
+  indicators = r.indicators;
+  validation_rules = r.validation_rules;
+  program_indicators = r.program_indicators;
+}
+
+-- the other objects are those that were linked
+abbrev pub records_of : MetaParts → Links → Expressions → Records
+records_of parts links made = record {
+  organisation_units = links.organisation_units;
+  organisation_unit_groups = links.organisation_unit_groups;
+  category_options = links.category_options;
+  categories = links.categories;
+  category_combos = links.category_combos;
+  category_option_combos = links.category_option_combos;
+  data_elements = links.data_elements;
+  data_approval_levels = links.data_approval_levels;
+  data_approval_workflows = links.data_approval_workflows;
+  data_sets = links.data_sets;
+  constants = links.constants;
+  indicator_types = links.indicator_types;
+  indicators = made.indicators;
+  validation_rules = made.validation_rules;
+  tracked_entity_types = links.tracked_entity_types;
+  tracked_entity_attributes = links.tracked_entity_attributes;
+  programs = links.programs;
+  program_stages = links.program_stages;
+  program_indicators = made.program_indicators;
+  user_roles = links.user_roles;
+  users = links.users;
+  user_groups = links.user_groups;
+  api_tokens = links.api_tokens;
+  acceptance_required = parts.acceptance_required;
+}
+
+-- the objects with expressions have these and their references, and the others are those that were linked
+pub record AreRecords (parts : MetaParts) (links : Links) (r : Records) : Type 0 where
+  pub made : HaveExpressions parts (unread_of links) (expressions_in r)
+  pub others : r ≡ records_of parts links (expressions_in r)
+
+-- the objects of a file with their references as numbers
+abbrev pub links_in : MetaParts → Links
+links_in parts = links_of (ids_of parts) parts
+
+-- what metadata has of a file: its objects, each reference a number and each text an expression, with its tokens and
+-- whether an approval has to be accepted
+abbrev pub IsMetadata : MetaParts → Records → Type 0
+IsMetadata parts r = AreRecords parts (links_in parts) r
