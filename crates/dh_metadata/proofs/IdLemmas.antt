@@ -91,7 +91,7 @@ find_none test (y ∷ xs) (suc n) x none at =
 
 at_most : (most n : ℕ) → nat_lt most n ≡ false → n ≤ most
 at_most most n none =
-    elim (cases_lt most n) [ | inl less ↦ (let is : nat_lt most n ≡ true = lt-ltb most n less in absurd (cc)) | inr past ↦ past ]
+    elim (cases_lt most n) [ inl less ↦ (let is : nat_lt most n ≡ true = lt-ltb most n less in absurd (cc)) | inr past ↦ past ]
 
 few_of : (most count raw : ℕ) → nat_lt most raw ≡ false → count ≤ raw + 1 → most ≤ 65536 → count < 2 ^ 32
 few_of most count raw none within small = let below = at_most most raw none in omega arith
@@ -164,11 +164,13 @@ own_ids ids parts none =
     let all : repeat_of (own ++ others) ≡ None = none_repeats (own ++ others) (or_first (repeated (own ++ others)) (user_of_repeated parts.api_tokens) none) in
     let number = row_count ids parts.organisation_units in
     let long = length-append own others in
-    record { differ = λ x y left right same.
-      (let left_within : x < length own = omega arith in
-      let right_within : y < length own = omega arith in
-      repeat_of-differ (own ++ others) all x y (omega arith) (omega arith)
-      (get_or-append own others [] x left_within ∙ sym (unit_id ids parts.organisation_units x) ∙ same ∙ unit_id ids parts.organisation_units y ∙ sym (get_or-append own others [] y right_within))) }
+    record {
+      differ = λ x y left right same.
+          (let left_within : x < length own = omega arith in
+          let right_within : y < length own = omega arith in
+          repeat_of-differ (own ++ others) all x y (omega arith) (omega arith)
+          (get_or-append own others [] x left_within ∙ sym (unit_id ids parts.organisation_units x) ∙ same ∙ unit_id ids parts.organisation_units y ∙ sym (get_or-append own others [] y right_within)));
+    }
 
 combo_at : (end : ℕ) (row : ℕ × List ℕ) (rows : List (ℕ × List ℕ)) → row.0 < end → CombosBelow end rows → (k : ℕ) → k < length (row ∷ rows) → (slice_index_or (row ∷ rows) k (0, [])).0 < end
 combo_at end row rows first rest zero within = first

@@ -46,7 +46,6 @@ rules_of parts r held is ruled none =
     subst (λ (x : Records). HaveRules x held) (sym is.others)
     (record { tree = ruled.tree; combos = ruled.combos; workflows = ruled.approvals.workflows; positions = ruled.approvals.positions; few_positions = few_positions parts held.positions.items none })
 
-
 no_limit : (a : Option MetaFault) (b : Option LimitFault) → option_or a (option_map passed b) ≡ None → b ≡ None
 no_limit None None none = refl
 no_limit None (Some limit) none = absurd (cc)
@@ -81,9 +80,13 @@ pub ready : (parts : MetaParts) (ids : Ids) (r : Records) (held : Held) (met : O
 ready parts ids r held met same known is ruled late none =
     let all = late ∙ ap (λ (x : Ids). option_or (option_map broken (stages_broken x r.program_stages r.program_indicators)) (option_map passed (first_passed parts held.positions.items))) same in
     let fits : first_passed parts held.positions.items ≡ None =
-    no_limit (option_map broken (stages_broken (ids_of parts) r.program_stages r.program_indicators)) (first_passed parts held.positions.items) (sym all ∙ none) in
-    (sym (late_is parts r held is ruled) ∙ sym all ∙ none, are_few parts held.positions.items r (have_of parts r is) fits, linked_of parts r is known,
-    subst (HaveIds r) (sym same) (have_of parts r is), rules_of parts r held is ruled fits)
+    no_limit (option_map broken (stages_broken (ids_of parts) r.program_stages r.program_indicators)) (first_passed parts held.positions.items) (sym all ∙ none) in (
+      sym (late_is parts r held is ruled) ∙ sym all ∙ none,
+      are_few parts held.positions.items r (have_of parts r is) fits,
+      linked_of parts r is known,
+      subst (HaveIds r) (sym same) (have_of parts r is),
+      rules_of parts r held is ruled fits,
+    )
 
 -- the answer of what comes behind is the answer where nothing was met before
 pub then_unless : {X : Type 0} (a b : Option MetaFault) (Is : X → Type 0) (result : Result X MetaFault) → a ≡ None → Unless b Is result → Unless (option_or a b) Is result
@@ -96,10 +99,11 @@ pub linked_ready : (parts : MetaParts) (ids : Ids) (links : Links) → ids ≡ i
     × HasOwnIds (tree_rows links.organisation_units) × CombosBelow (length links.category_combos) (option_combo_rows links.category_option_combos)
 unfolding links_of
 linked_ready parts ids links same differ known is =
-    let at : links ≡ links_in parts = is ∙ ap (λ (x : Ids). links_of x parts) same in
-    (sym (ap (λ (l : Links). length l.indicators) is ∙ length-map parts.indicators (indicator_held ids)),
-    sym (ap (λ (l : Links). length l.validation_rules) is ∙ length-map parts.validation_rules (rule_held ids)),
-    sym (ap (λ (l : Links). length l.program_indicators) is ∙ length-map parts.program_indicators (program_indicator_held ids)),
-    subst (λ (l : Links). HasOwnIds (tree_rows l.organisation_units)) (sym is) (own_ids ids parts differ),
-    subst (λ (l : Links). CombosBelow (length l.category_combos) (option_combo_rows l.category_option_combos)) (sym at)
-    (combos_below parts (subst (λ (x : Ids). Known x (references parts)) same known)))
+    let at : links ≡ links_in parts = is ∙ ap (λ (x : Ids). links_of x parts) same in (
+      sym (ap (λ (l : Links). length l.indicators) is ∙ length-map parts.indicators (indicator_held ids)),
+      sym (ap (λ (l : Links). length l.validation_rules) is ∙ length-map parts.validation_rules (rule_held ids)),
+      sym (ap (λ (l : Links). length l.program_indicators) is ∙ length-map parts.program_indicators (program_indicator_held ids)),
+      subst (λ (l : Links). HasOwnIds (tree_rows l.organisation_units)) (sym is) (own_ids ids parts differ),
+      subst (λ (l : Links). CombosBelow (length l.category_combos) (option_combo_rows l.category_option_combos)) (sym at)
+          (combos_below parts (subst (λ (x : Ids). Known x (references parts)) same known)),
+    )

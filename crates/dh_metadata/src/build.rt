@@ -40,12 +40,7 @@ fn finished(
 }
 
 #[tactic(auto, using(crate::proofs::FaultLemmas::faults, crate::proofs::ReadyLemmas::linked_ready, crate::proofs::ReadyLemmas::then_unless))]
-fn joined(
-    alloc: Global,
-    ids: Ids,
-    parts: &MetaParts,
-    links: Links,
-) -> Result<Metadata, MetaFault>
+fn joined(alloc: Global, ids: Ids, parts: &MetaParts, links: Links) -> Result<Metadata, MetaFault>
     requires ids { ids ≡ ids_of parts.now }
     requires differ { twice_of parts.now ≡ None }
     requires links { links ≡ links_of ids parts.now }
