@@ -12,7 +12,5 @@ mod link_each;
 mod objects;
 mod path;
 mod sharing;
-#[cfg(test)]
-mod tests;
 mod tokens;
 mod unknown;

@@ -3,6 +3,4 @@
 
 pub mod fault;
 pub mod file;
-#[cfg(test)]
-mod tests;
 pub mod text;
