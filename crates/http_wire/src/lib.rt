@@ -6,8 +6,6 @@ mod front;
 pub mod reply;
 mod request;
 mod rest;
-#[cfg(test)]
-mod tests;
 mod written;
 
 pub use request::{Request, WireFault};
