@@ -1,6 +1,6 @@
 //! Data value sets.
 
-ghost use Rattle.std.specs.Prelude.{◌≡◌, IfOk};
+ghost use Rattle.std.specs.Prelude.{◌≡◌, IfOk, codes};
 ghost use Rattle.serde_json.specs.View.{view};
 ghost use Rattle.json_forms.specs.Given as forms;
 ghost use Rattle.value_forms.specs.Bodies.{body_of, Gives};
@@ -153,6 +153,14 @@ fn set_of(alloc: Global, params: SetParams, value: &Value) -> Result<ValueSet, F
         attribute: place.attribute,
         values: place.values,
     })
+}
+
+/// The values of a bundle: those under `dataValues`, none where the key is absent or null. No other key is
+/// looked at. A fault has its path from the bundle's top.
+pub fn read_values(alloc: Global, bundle: &Value) -> Result<Items<SetValue>, FormFault>
+    ensures { forms.Gives (values_at (codes "dataValues") (view bundle.now)) result }
+{
+    values_at(alloc, bundle, "dataValues")
 }
 
 /// The data value set of a body. A body that isn't JSON or no object is at fault with the empty path.
