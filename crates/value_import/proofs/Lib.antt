@@ -1,0 +1,6 @@
+pub mod FirstLemmas
+pub mod SaidLemmas
+pub mod NameLemmas
+pub mod JudgedLemmas
+pub mod TextSizes
+pub mod WriteLemmas

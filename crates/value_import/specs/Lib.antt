@@ -1,0 +1,10 @@
+pub mod Names
+pub mod Ranges
+pub mod Rules
+pub mod Dates
+pub mod Values
+pub mod Completions
+pub mod Outcomes
+pub mod Said
+pub mod Verdicts
+pub mod Sizes

@@ -1,0 +1,281 @@
+//! How a completion is judged.
+
+ghost use Rattle.std.specs.Prelude.{◌≡◌, ◌<◌, length, IfOk, unwrap_or, pos, is_some};
+ghost use Rattle.meta_model.specs.Linked.{IsBelow};
+ghost use Rattle.record_index.specs.World.{facts};
+ghost use Rattle.value_import.specs.Completions as asks;
+ghost use Rattle.value_import.specs.Completions.{typed_set, reg_names_of, reg_name_conditions, reg_place_of, set_id, reg_key_of, reg_conditions, placed_reg_conditions, registered, completed, judged_completion, uncounted};
+ghost use Rattle.value_import.specs.Dates.{day_told};
+ghost use Rattle.value_import.specs.Outcomes.{IsKnown};
+ghost use Rattle.value_import.specs.Ranges.{IsWithin, AreRegWithin, Finds};
+ghost use Rattle.value_import.specs.Rules.{first_of};
+ghost use Rattle.value_import.specs.Said.{AreSaid, holds_registration};
+ghost use Rattle.value_import.specs.Values.{judged_by};
+
+use crate::batch::{Batch, holds_registration};
+use crate::dates::day_told;
+use crate::judged::Judged;
+use crate::names::{object_named, period_named, typed};
+use crate::place::{Place, RegNames};
+use crate::rules::place_condition;
+use crate::value::attribute_of;
+use dh_base::codes::Code;
+use dh_base::items::Items;
+use dh_base::memory::Memory;
+use dh_changes::change::Write;
+use dh_changes::keys::RegKey;
+use dh_periods::Period;
+use meta_model::metadata::Metadata;
+use meta_parts::kind::Kind;
+use record_index::outcome::Who;
+use record_index::world::World;
+use std::alloc::Global;
+use value_forms::completion::Completion;
+use value_forms::set::ValueSet;
+
+#[tactic(auto, unfolding(crate::specs::Completions::typed_set))]
+fn typed_set(meta: &Metadata, set: Option<u32>, period: &Option<Period>) -> Option<u32>
+    requires { IsBelow (length meta.now.data_sets) set }
+    ensures value { result ≡ typed_set meta.now set period.now }
+    ensures in_range { IsBelow (length meta.now.data_sets) result }
+{
+    match period {
+        Some(period) => typed(meta, period.kind(), set),
+        None => None,
+    }
+}
+
+#[tactic(auto, unfolding(crate::specs::Completions::reg_names_of))]
+fn reg_names_of(meta: &Metadata, asked: &Completion) -> RegNames
+    ensures value { result ≡ reg_names_of meta.now asked.now }
+    ensures in_range { AreRegWithin meta.now result }
+{
+    let unit = object_named(meta, Kind::OrganisationUnit, &asked.unit);
+    let period = period_named(&asked.period);
+    let set = object_named(meta, Kind::DataSet, &asked.data_set);
+    let found = typed_set(meta, set, &period);
+    let attribute = attribute_of(meta, &asked.attribute, found);
+    RegNames {
+        unit,
+        period,
+        is_set: set.is_some(),
+        set: found,
+        attribute,
+    }
+}
+
+fn reg_place_of(meta: &Metadata, names: &RegNames) -> Result<Place, Code>
+    requires { AreRegWithin meta.now names.now }
+    ensures found { Finds (reg_name_conditions names.now) (reg_place_of names.now) result }
+    ensures in_range { IfOk result (IsWithin meta.now) }
+{
+    let _meta = meta;
+    let Some(unit) = names.unit else {
+        return Err(Code::C2);
+    };
+    let Some(period) = names.period else {
+        return Err(Code::C3);
+    };
+    if !names.is_set {
+        return Err(Code::C4);
+    }
+    let Some(set) = names.set else {
+        return Err(Code::C5);
+    };
+    let Some(attribute) = names.attribute else {
+        return Err(Code::C7);
+    };
+    Ok(Place {
+        unit,
+        period,
+        set,
+        attribute,
+    })
+}
+
+fn placed(meta: &Metadata, asked: &Completion) -> Result<Place, Code>
+    ensures found { Finds (reg_name_conditions (reg_names_of meta.now asked.now)) (reg_place_of (reg_names_of meta.now asked.now)) result }
+    ensures in_range { IfOk result (IsWithin meta.now) }
+{
+    let names = reg_names_of(meta, asked);
+    reg_place_of(meta, &names)
+}
+
+#[tactic(auto, unfolding(crate::specs::Completions::reg_key_of, crate::specs::Completions::set_id, crate::specs::Values::unit_id, crate::specs::Values::option_combo_id))]
+fn key_of(meta: &Metadata, place: &Place) -> RegKey
+    requires { IsWithin meta.now place.now }
+    ensures { result ≡ reg_key_of meta.now place.now }
+{
+    RegKey {
+        set: meta.data_set(place.set).id,
+        period: place.period,
+        unit: meta.unit(place.unit).id,
+        attribute: meta.option_combo(place.attribute).id,
+    }
+}
+
+#[tactic(auto, unfolding(crate::specs::Completions::reg_conditions))]
+fn reg_condition(day: Option<i32>, done: bool, held: bool) -> Option<Code>
+    ensures { result ≡ first_of (reg_conditions day done held) }
+{
+    if day.is_none() {
+        return Some(Code::C11);
+    }
+    if !done && !held {
+        return Some(Code::C15);
+    }
+    None
+}
+
+fn condition(
+    world: &World,
+    meta: &Metadata,
+    who: Who,
+    day: Option<i32>,
+    done: bool,
+    held: bool,
+    place: &Place,
+) -> Option<Code>
+    requires who { IsKnown meta.now who }
+    requires place { IsWithin meta.now place.now }
+    ensures { result ≡ first_of (placed_reg_conditions (facts world.now) meta.now who day done held place.now) }
+{
+    match place_condition(world, meta, who, place) {
+        Some(code) => Some(code),
+        None => reg_condition(day, done, held),
+    }
+}
+
+fn completed(key: RegKey, day: i32, held: bool) -> Judged
+    ensures { result ≡ completed key day held }
+{
+    if held {
+        Judged::Updated(Write::Complete { key, day })
+    } else {
+        Judged::Imported(Write::Complete { key, day })
+    }
+}
+
+fn registered(key: RegKey, day: i32, done: bool, held: bool) -> Judged
+    ensures { result ≡ registered key day done held }
+{
+    if done {
+        completed(key, day, held)
+    } else {
+        Judged::Deleted(Write::Uncomplete { key })
+    }
+}
+
+fn day_or_first(day: Option<i32>) -> i32
+    ensures { result ≡ unwrap_or day (pos 0) }
+{
+    day.unwrap_or(0)
+}
+
+// What a completion comes to, where it is there or isn't.
+fn judge_held(
+    world: &World,
+    meta: &Metadata,
+    who: Who,
+    day: Option<i32>,
+    done: bool,
+    key: RegKey,
+    held: bool,
+    place: &Place,
+) -> Judged
+    requires who { IsKnown meta.now who }
+    requires place { IsWithin meta.now place.now }
+    ensures { result ≡ judged_by
+        (first_of (placed_reg_conditions (facts world.now) meta.now who day done held place.now))
+        (registered key (unwrap_or day (pos 0)) done held) }
+{
+    match condition(world, meta, who, day, done, held, place) {
+        Some(code) => Judged::Refused(code),
+        None => registered(key, day_or_first(day), done, held),
+    }
+}
+
+fn judge_placed(
+    world: &World,
+    meta: &Metadata,
+    who: Who,
+    day: Option<i32>,
+    done: bool,
+    batch: &Batch,
+    place: &Place,
+) -> Judged
+    requires who { IsKnown meta.now who }
+    requires place { IsWithin meta.now place.now }
+    requires said { AreSaid batch.now.values batch.now.registrations batch.now.verdict.writes }
+    ensures { result ≡ judged_by
+        (first_of (placed_reg_conditions (facts world.now) meta.now who day done (holds_registration (facts world.now) batch.now.verdict.writes (reg_key_of meta.now place.now)) place.now))
+        (registered (reg_key_of meta.now place.now) (unwrap_or day (pos 0)) done (holds_registration (facts world.now) batch.now.verdict.writes (reg_key_of meta.now place.now))) }
+{
+    let key = key_of(meta, place);
+    let held = holds_registration(world, batch, &key);
+    judge_held(world, meta, who, day, done, key, held, place)
+}
+
+/// What a completion comes to, after the writes accepted so far.
+pub fn judge_completion(
+    world: &World,
+    meta: &Metadata,
+    who: Who,
+    today: i32,
+    batch: &Batch,
+    asked: &Completion,
+) -> Judged
+    requires who { IsKnown meta.now who }
+    requires said { AreSaid batch.now.values batch.now.registrations batch.now.verdict.writes }
+    ensures { result ≡ judged_completion (facts world.now) meta.now who today (holds_registration (facts world.now) batch.now.verdict.writes) asked.now }
+{
+    match placed(meta, asked) {
+        Ok(place) => judge_placed(
+            world,
+            meta,
+            who,
+            day_told(today, &asked.date),
+            asked.done,
+            batch,
+            &place,
+        ),
+        Err(code) => Judged::Refused(code),
+    }
+}
+
+/// The same judgement, where it counts as no value.
+pub fn uncounted(judged: Judged) -> Judged
+    ensures { result ≡ uncounted judged }
+{
+    match judged {
+        Judged::Refused(code) => Judged::Refused(code),
+        Judged::Ignored => Judged::Ignored,
+        Judged::Imported(write) => Judged::Uncounted(write),
+        Judged::Updated(write) => Judged::Uncounted(write),
+        Judged::Deleted(write) => Judged::Uncounted(write),
+        Judged::Uncounted(write) => Judged::Uncounted(write),
+    }
+}
+
+fn copied(alloc: Global, text: &Option<Items<u8>>) -> Result<Option<Items<u8>>, Memory>
+    ensures { IfOk result (λ copy. copy ≡ text.now) }
+{
+    match text {
+        Some(text) => Ok(Some(Items::from(Vec::from_slice(alloc, text.as_slice())?))),
+        None => Ok(None),
+    }
+}
+
+/// The completion that the `completeDate` of a set asks for.
+pub fn completion_in(alloc: Global, set: &ValueSet) -> Result<Completion, Memory>
+    ensures { IfOk result (λ asked. asked ≡ asks.completion_in set.now) }
+{
+    Ok(Completion {
+        data_set: copied(alloc, &set.data_set)?,
+        period: copied(alloc, &set.period)?,
+        unit: copied(alloc, &set.unit)?,
+        attribute: copied(alloc, &set.attribute)?,
+        date: copied(alloc, &set.complete_date)?,
+        done: true,
+    })
+}

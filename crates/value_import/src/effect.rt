@@ -1,0 +1,240 @@
+//! What a data value comes to.
+
+ghost use Rattle.std.specs.Prelude.{◌≡◌, ◌<◌, length, unwrap_or, [], IfOk, not, ◌&&◌};
+ghost use Rattle.record_index.specs.World.{facts};
+ghost use Rattle.value_import.specs.Outcomes.{IsKnown};
+ghost use Rattle.value_import.specs.Ranges.{IsValueWithin};
+ghost use Rattle.value_import.specs.Rules.{first_of, of_user};
+ghost use Rattle.value_import.specs.Values.{is_delete_all, is_delete, has_value, is_summed, is_zero, is_idle_zero, is_create, is_update, is_misplaced, is_approved, value_conditions, stored, zeroed, accepted};
+
+use crate::judged::Judged;
+use crate::place::ValuePlace;
+use crate::rules::{is_too_early, is_too_late};
+use dh_base::codes::Code;
+use dh_base::items::Items;
+use dh_base::memory::Memory;
+use dh_base::plain::AggType;
+use dh_changes::change::Write;
+use dh_changes::keys::ValueKey;
+use dh_records::approved::approved_position_of;
+use meta_model::metadata::Metadata;
+use meta_parts::records::Element;
+use record_index::outcome::{ImportStrategy, Who};
+use record_index::world::World;
+use std::alloc::Global;
+use value_forms::set::SetValue;
+use value_types::number::{is_numeric, number_of};
+use value_types::value::fits;
+
+fn is_delete_all(strategy: ImportStrategy) -> bool
+    ensures { result ≡ is_delete_all strategy }
+{
+    match strategy {
+        ImportStrategy::Create => false,
+        ImportStrategy::Update => false,
+        ImportStrategy::CreateAndUpdate => false,
+        ImportStrategy::Delete => true,
+    }
+}
+
+fn is_create(strategy: ImportStrategy) -> bool
+    ensures { result ≡ is_create strategy }
+{
+    match strategy {
+        ImportStrategy::Create => true,
+        ImportStrategy::Update => false,
+        ImportStrategy::CreateAndUpdate => false,
+        ImportStrategy::Delete => false,
+    }
+}
+
+fn is_update(strategy: ImportStrategy) -> bool
+    ensures { result ≡ is_update strategy }
+{
+    match strategy {
+        ImportStrategy::Create => false,
+        ImportStrategy::Update => true,
+        ImportStrategy::CreateAndUpdate => false,
+        ImportStrategy::Delete => false,
+    }
+}
+
+/// Whether the value is to be taken away.
+#[tactic(auto, unfolding(crate::specs::Values::is_delete))]
+pub fn is_delete(strategy: ImportStrategy, value: &SetValue) -> bool
+    ensures { result ≡ is_delete strategy value.now }
+{
+    is_delete_all(strategy) || value.deleted
+}
+
+#[tactic(auto, unfolding(crate::specs::Values::has_value))]
+fn has_value(meta: &Metadata, element: u32, text: &Option<Items<u8>>) -> bool
+    requires { element < length meta.now.data_elements }
+    ensures { result ≡ has_value meta.now element text.now }
+{
+    match text {
+        Some(text) => fits(meta.element(element).value_type, text.as_slice()),
+        None => false,
+    }
+}
+
+fn is_summed(kind: AggType) -> bool
+    ensures { result ≡ is_summed kind }
+{
+    match kind {
+        AggType::Sum => true,
+        _ => false,
+    }
+}
+
+#[tactic(auto, unfolding(crate::specs::Values::is_zero))]
+fn is_zero(element: &Element, text: &[u8]) -> bool
+    ensures { result ≡ is_zero element.now text.now }
+{
+    if !is_numeric(element.value_type) {
+        return false;
+    }
+    match number_of(element.value_type, text) {
+        Some(number) => number.value() == 0,
+        None => false,
+    }
+}
+
+#[tactic(auto, unfolding(crate::specs::Values::is_idle_zero))]
+fn is_idle_zero(meta: &Metadata, element: u32, text: &[u8]) -> bool
+    requires { element < length meta.now.data_elements }
+    ensures { result ≡ is_idle_zero meta.now element text.now }
+{
+    let found = meta.element(element);
+    is_summed(found.aggregation_type) && (!found.zero_is_significant && is_zero(found, text))
+}
+
+#[tactic(auto, unfolding(crate::specs::Values::is_misplaced))]
+fn is_misplaced(strategy: ImportStrategy, deletes: bool, held: bool) -> bool
+    ensures { result ≡ is_misplaced strategy deletes held }
+{
+    (is_create(strategy) && held) || ((is_update(strategy) || deletes) && !held)
+}
+
+#[tactic(auto, unfolding(crate::specs::Values::is_approved, crate::specs::Values::option_combo_id))]
+fn is_approved(world: &World, meta: &Metadata, place: &ValuePlace) -> bool
+    requires { IsValueWithin meta.now place.now }
+    ensures { result ≡ is_approved (facts world.now) meta.now place.now }
+{
+    let attribute = meta.option_combo(place.at.attribute).id;
+    let position = approved_position_of(
+        world,
+        meta,
+        place.element,
+        place.at.unit,
+        place.at.period,
+        attribute,
+    );
+    position.is_some()
+}
+
+fn is_closed(world: &World, meta: &Metadata, who: Who, place: &ValuePlace) -> bool
+    requires { IsValueWithin meta.now place.now }
+    ensures { result ≡ of_user (λ _user. is_approved (facts world.now) meta.now place.now) who }
+{
+    match who {
+        Who::User(_) => is_approved(world, meta, place),
+        Who::Loader => false,
+    }
+}
+
+fn is_unfit(meta: &Metadata, strategy: ImportStrategy, place: &ValuePlace, value: &SetValue) -> bool
+    requires { place.now.element < length meta.now.data_elements }
+    ensures { result ≡ (not (is_delete strategy value.now) && not (has_value meta.now place.now.element value.now.value)) }
+{
+    !is_delete(strategy, value) && !has_value(meta, place.element, &value.value)
+}
+
+/// The first condition on a value in its place that holds; `held` says whether its key holds a value.
+#[tactic(auto, unfolding(crate::specs::Values::value_conditions))]
+pub fn value_condition(
+    world: &World,
+    meta: &Metadata,
+    who: Who,
+    today: i32,
+    strategy: ImportStrategy,
+    held: bool,
+    place: &ValuePlace,
+    value: &SetValue,
+) -> Option<Code>
+    requires who { IsKnown meta.now who }
+    requires place { IsValueWithin meta.now place.now }
+    ensures { result ≡ first_of (value_conditions (facts world.now) meta.now who today strategy held place.now value.now) }
+{
+    if is_unfit(meta, strategy, place, value) {
+        return Some(Code::C11);
+    }
+    if is_too_early(meta, who, today, &place.at) {
+        return Some(Code::C12);
+    }
+    if is_too_late(meta, who, today, &place.at) {
+        return Some(Code::C13);
+    }
+    if is_closed(world, meta, who, place) {
+        return Some(Code::C14);
+    }
+    if is_misplaced(strategy, is_delete(strategy, value), held) {
+        return Some(Code::C15);
+    }
+    None
+}
+
+fn text_of(text: &Option<Items<u8>>) -> &[u8]
+    ensures { result.now ≡ unwrap_or text.now [] }
+{
+    match text {
+        Some(text) => text.as_slice(),
+        None => &[],
+    }
+}
+
+fn stored(alloc: Global, key: ValueKey, held: bool, text: &[u8]) -> Result<Judged, Memory>
+    ensures { IfOk result (λ judged. judged ≡ stored key held text.now) }
+{
+    let value = Items::from(Vec::from_slice(alloc, text)?);
+    let write = Write::ValueSet { key, value };
+    if held {
+        Ok(Judged::Updated(write))
+    } else {
+        Ok(Judged::Imported(write))
+    }
+}
+
+fn zeroed(key: ValueKey, held: bool) -> Judged
+    ensures { result ≡ zeroed key held }
+{
+    if held {
+        Judged::Deleted(Write::ValueCleared { key })
+    } else {
+        Judged::Ignored
+    }
+}
+
+/// What a value without a conflict comes to.
+#[tactic(auto, unfolding(crate::specs::Values::accepted))]
+pub fn accepted(
+    alloc: Global,
+    meta: &Metadata,
+    strategy: ImportStrategy,
+    key: ValueKey,
+    held: bool,
+    element: u32,
+    value: &SetValue,
+) -> Result<Judged, Memory>
+    requires { element < length meta.now.data_elements }
+    ensures { IfOk result (λ judged. judged ≡ accepted meta.now strategy key held element value.now) }
+{
+    if is_delete(strategy, value) {
+        return Ok(Judged::Deleted(Write::ValueCleared { key }));
+    }
+    let text = text_of(&value.value);
+    if is_idle_zero(meta, element, text) {
+        return Ok(zeroed(key, held));
+    }
+    stored(alloc, key, held, text)
+}

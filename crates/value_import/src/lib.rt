@@ -1,0 +1,17 @@
+//! The verdict on data value sets and on completions.
+#![tactic(auto)]
+
+mod batch;
+mod completion;
+mod dates;
+mod effect;
+mod judge;
+pub mod judged;
+mod names;
+pub mod place;
+mod rights;
+mod rules;
+#[cfg(test)]
+mod tests;
+mod value;
+pub mod verdict;

@@ -1,0 +1,188 @@
+//! What texts name.
+
+ghost use Rattle.std.specs.Prelude.{◌≡◌, ◌<◌, length, find, option_and_then};
+ghost use Rattle.std.specs.Option.{option_or, option_to_list};
+ghost use Rattle.dh_base.specs.Uid.{uid_of};
+ghost use Rattle.meta_parts.specs.declared.kind.Kind.TheVariants.{DataSet};
+ghost use Rattle.meta_model.specs.Linked.{AreBelow, IsBelow};
+ghost use Rattle.meta_model.specs.Objects.{count_of};
+ghost use Rattle.meta_model.specs.Sets as sets;
+ghost use Rattle.value_import.specs.Names.{object_named, period_named, if_so, has_type, candidates, chosen_set, is_of, chosen_combo};
+ghost use Rattle.value_import.specs.Values.{has_candidate};
+
+use dh_base::items::Items;
+use dh_base::uid::Uid;
+use dh_periods::{Period, PeriodType};
+use meta_model::metadata::Metadata;
+use meta_parts::kind::Kind;
+
+/// The text of its own, or else the other.
+pub fn either<'a>(own: &'a Option<Items<u8>>, other: &'a Option<Items<u8>>) -> &'a Option<Items<u8>>
+    ensures { result.now ≡ option_or own.now other.now }
+{
+    match own {
+        Some(_) => own,
+        None => other,
+    }
+}
+
+fn id_in(text: &Option<Items<u8>>) -> Option<Uid>
+    ensures { result ≡ option_and_then uid_of text.now }
+{
+    match text {
+        Some(text) => Uid::parse(text.as_slice()),
+        None => None,
+    }
+}
+
+/// The object of a kind that a text names.
+#[tactic(auto, unfolding(crate::specs::Names::object_named))]
+pub fn object_named(meta: &Metadata, kind: Kind, text: &Option<Items<u8>>) -> Option<u32>
+    ensures value { result ≡ object_named meta.now kind text.now }
+    ensures in_range { IsBelow (count_of meta.now kind) result }
+{
+    match id_in(text) {
+        Some(id) => meta.find(kind, id),
+        None => None,
+    }
+}
+
+/// The period that a text names.
+#[tactic(auto, unfolding(crate::specs::Names::period_named))]
+pub fn period_named(text: &Option<Items<u8>>) -> Option<Period>
+    ensures { result ≡ period_named text.now }
+{
+    match text {
+        Some(text) => Period::parse(text.as_slice()),
+        None => None,
+    }
+}
+
+/// Whether the periods of the data set have the type.
+#[tactic(auto, unfolding(crate::specs::Names::has_type))]
+pub fn has_type(meta: &Metadata, kind: PeriodType, set: u32) -> bool
+    requires { set < length meta.now.data_sets }
+    ensures { result ≡ has_type meta.now kind set }
+{
+    meta.data_set(set).period_type == kind
+}
+
+fn first_typed(meta: &Metadata, kind: PeriodType, sets: &[u32]) -> Option<u32>
+    requires { AreBelow (length meta.now.data_sets) sets.now }
+    ensures value { result ≡ find (has_type meta.now kind) sets.now }
+    ensures in_range { IsBelow (length meta.now.data_sets) result }
+{
+    for set in sets {
+        if has_type(meta, kind, *set) {
+            return Some(*set);
+        }
+    }
+    None
+}
+
+fn named_candidate(meta: &Metadata, name: &Option<Items<u8>>, element: u32) -> Option<u32>
+    ensures value { result ≡ if_so (λ set. sets.has_element meta.now set element) (object_named meta.now DataSet name.now) }
+    ensures in_range { IsBelow (length meta.now.data_sets) result }
+{
+    match object_named(meta, Kind::DataSet, name) {
+        Some(set) => {
+            if meta.has_element(set, element) {
+                Some(set)
+            } else {
+                None
+            }
+        }
+        None => None,
+    }
+}
+
+/// The data set, if its periods have the type.
+pub fn typed(meta: &Metadata, kind: PeriodType, found: Option<u32>) -> Option<u32>
+    requires { IsBelow (length meta.now.data_sets) found }
+    ensures value { result ≡ if_so (has_type meta.now kind) found }
+    ensures first { result ≡ find (has_type meta.now kind) (option_to_list found) }
+    ensures in_range { IsBelow (length meta.now.data_sets) result }
+{
+    match found {
+        Some(set) => {
+            if has_type(meta, kind, set) {
+                Some(set)
+            } else {
+                None
+            }
+        }
+        None => None,
+    }
+}
+
+/// The data set of a value: the first of the candidates for periods of the type.
+#[tactic(auto, unfolding(crate::specs::Names::chosen_set, crate::specs::Names::candidates))]
+pub fn chosen_set(
+    meta: &Metadata,
+    name: &Option<Items<u8>>,
+    element: u32,
+    period: Period,
+) -> Option<u32>
+    requires { element < length meta.now.data_elements }
+    ensures value { result ≡ chosen_set meta.now name.now element period }
+    ensures in_range { IsBelow (length meta.now.data_sets) result }
+{
+    match name {
+        None => first_typed(meta, period.kind(), meta.sets_with(element)),
+        Some(_) => typed(meta, period.kind(), named_candidate(meta, name, element)),
+    }
+}
+
+/// Whether there is a data set to which a value of the element may belong.
+#[tactic(auto, unfolding(crate::specs::Values::has_candidate, crate::specs::Names::candidates))]
+pub fn has_candidate(meta: &Metadata, name: &Option<Items<u8>>, element: u32) -> bool
+    requires { element < length meta.now.data_elements }
+    ensures { result ≡ has_candidate meta.now name.now element }
+{
+    match name {
+        None => meta.sets_with(element).len() != 0,
+        Some(_) => named_candidate(meta, name, element).is_some(),
+    }
+}
+
+#[tactic(auto, unfolding(crate::specs::Names::is_of))]
+fn is_of(meta: &Metadata, combo: u32, option_combo: u32) -> bool
+    requires { option_combo < length meta.now.category_option_combos }
+    ensures { result ≡ is_of meta.now combo option_combo }
+{
+    meta.option_combo(option_combo).category_combo == combo
+}
+
+fn named_combo(meta: &Metadata, combo: u32, found: Option<u32>) -> Option<u32>
+    requires { IsBelow (length meta.now.category_option_combos) found }
+    ensures value { result ≡ if_so (is_of meta.now combo) found }
+    ensures in_range { IsBelow (length meta.now.category_option_combos) result }
+{
+    match found {
+        Some(option_combo) => {
+            if is_of(meta, combo, option_combo) {
+                Some(option_combo)
+            } else {
+                None
+            }
+        }
+        None => None,
+    }
+}
+
+/// The option combination of a category combination: the named one, if it is of it, or without a name
+/// the only one.
+#[tactic(auto, unfolding(crate::specs::Names::chosen_combo), using(crate::proofs::NameLemmas::only_below))]
+pub fn chosen_combo(meta: &Metadata, name: &Option<Items<u8>>, combo: u32) -> Option<u32>
+    ensures value { result ≡ chosen_combo meta.now name.now combo }
+    ensures in_range { IsBelow (length meta.now.category_option_combos) result }
+{
+    match name {
+        None => meta.combos().only(combo),
+        Some(_) => named_combo(
+            meta,
+            combo,
+            object_named(meta, Kind::CategoryOptionCombo, name),
+        ),
+    }
+}

@@ -1,0 +1,195 @@
+//! The verdict on a data value set and on completions.
+
+ghost use Rattle.std.specs.Prelude.{◌≡◌, ◌+◌, ◌<◌, ◌^◌, length, OnOk, IfOk};
+ghost use Rattle.record_index.specs.World.{facts};
+ghost use Rattle.value_import.specs.Outcomes.{nothing, taken, finished, AreAtMost, IsKnown};
+ghost use Rattle.value_import.specs.Said.{AreSaid};
+ghost use Rattle.value_import.specs.Verdicts.{with_value, with_values, with_date, verdict_of, with_completion, with_completions, completions_verdict_of};
+
+use crate::batch::{Batch, empty_batch, take_in};
+use crate::completion::{completion_in, judge_completion, uncounted};
+use crate::judge::judge_value;
+use dh_base::items::Items;
+use dh_base::memory::Memory;
+use meta_model::metadata::Metadata;
+use moment_days::day_of;
+use record_index::outcome::{Verdict, Who};
+use record_index::world::World;
+use std::alloc::Global;
+use value_forms::completion::Completion;
+use value_forms::set::{SetValue, ValueSet};
+
+#[tactic(auto, unfolding(crate::specs::Verdicts::with_value))]
+fn with_value(
+    alloc: Global,
+    world: &World,
+    meta: &Metadata,
+    who: Who,
+    today: i32,
+    set: &ValueSet,
+    batch: &mut Batch,
+    index: u64,
+    value: &SetValue,
+) -> Result<(), Memory>
+    requires who { IsKnown meta.now who }
+    requires said { AreSaid batch.old.values batch.old.registrations batch.old.verdict.writes }
+    requires counts { AreAtMost index batch.old.verdict }
+    requires few { index + 1 < 2 ^ 64 }
+    ensures verdict { OnOk result (batch.new.verdict ≡ with_value (facts world.now) meta.now who today set.now index value.now batch.old.verdict) }
+    ensures said { OnOk result (AreSaid batch.new.values batch.new.registrations batch.new.verdict.writes) }
+    ensures counts { OnOk result (AreAtMost (index + 1) batch.new.verdict) }
+{
+    let judged = judge_value(alloc, world, meta, who, today, set, batch, value)?;
+    take_in(batch, index, judged)
+}
+
+fn with_values(
+    alloc: Global,
+    world: &World,
+    meta: &Metadata,
+    who: Who,
+    today: i32,
+    set: &ValueSet,
+    values: &[SetValue],
+    batch: &mut Batch,
+) -> Result<(), Memory>
+    requires who { IsKnown meta.now who }
+    requires said { AreSaid batch.old.values batch.old.registrations batch.old.verdict.writes }
+    requires counts { AreAtMost 0 batch.old.verdict }
+    ensures verdict { OnOk result (batch.new.verdict ≡ with_values (facts world.now) meta.now who today set.now 0 values.now batch.old.verdict) }
+    ensures said { OnOk result (AreSaid batch.new.values batch.new.registrations batch.new.verdict.writes) }
+    ensures counts { OnOk result (AreAtMost (length values.now) batch.new.verdict) }
+{
+    let mut index = 0u64;
+    for value in values {
+        with_value(alloc, world, meta, who, today, set, batch, index, value)?;
+        index += 1;
+    }
+    Ok(())
+}
+
+#[tactic(auto, unfolding(crate::specs::Verdicts::with_date))]
+fn with_date(
+    alloc: Global,
+    world: &World,
+    meta: &Metadata,
+    who: Who,
+    today: i32,
+    set: &ValueSet,
+    batch: &mut Batch,
+) -> Result<(), Memory>
+    requires who { IsKnown meta.now who }
+    requires said { AreSaid batch.old.values batch.old.registrations batch.old.verdict.writes }
+    requires counts { AreAtMost (length set.now.values) batch.old.verdict }
+    ensures { OnOk result (batch.new.verdict ≡ with_date (facts world.now) meta.now who today set.now batch.old.verdict) }
+{
+    if set.complete_date.is_none() {
+        return Ok(());
+    }
+    let asked = completion_in(alloc, set)?;
+    let judged = judge_completion(world, meta, who, today, batch, &asked);
+    let index = set.values.as_slice().len() as u64;
+    take_in(batch, index, uncounted(judged))
+}
+
+fn finished(alloc: Global, dry: bool, mut verdict: Verdict) -> Verdict
+    ensures { result ≡ finished dry verdict }
+{
+    if dry {
+        verdict.writes = Items::new(alloc);
+    }
+    verdict
+}
+
+/// The verdict on a data value set. Each value is judged by what holds after the log and the writes
+/// accepted before it in the set. A user is named by a number of the metadata.
+#[tactic(auto, unfolding(crate::specs::Verdicts::verdict_of))]
+pub fn verdict(
+    alloc: Global,
+    world: &World,
+    meta: &Metadata,
+    who: Who,
+    moment: i64,
+    set: &ValueSet,
+) -> Result<Verdict, Memory>
+    requires { IsKnown meta.now who }
+    ensures { IfOk result (λ verdict. verdict ≡ verdict_of (facts world.now) meta.now who moment set.now) }
+{
+    let today = day_of(moment);
+    let mut batch = empty_batch(alloc);
+    with_values(
+        alloc,
+        world,
+        meta,
+        who,
+        today,
+        set,
+        set.values.as_slice(),
+        &mut batch,
+    )?;
+    with_date(alloc, world, meta, who, today, set, &mut batch)?;
+    Ok(finished(alloc, set.params.dry, batch.verdict))
+}
+
+#[tactic(auto, unfolding(crate::specs::Verdicts::with_completion))]
+fn with_completion(
+    world: &World,
+    meta: &Metadata,
+    who: Who,
+    today: i32,
+    batch: &mut Batch,
+    index: u64,
+    asked: &Completion,
+) -> Result<(), Memory>
+    requires who { IsKnown meta.now who }
+    requires said { AreSaid batch.old.values batch.old.registrations batch.old.verdict.writes }
+    requires counts { AreAtMost index batch.old.verdict }
+    requires few { index + 1 < 2 ^ 64 }
+    ensures verdict { OnOk result (batch.new.verdict ≡ with_completion (facts world.now) meta.now who today index asked.now batch.old.verdict) }
+    ensures said { OnOk result (AreSaid batch.new.values batch.new.registrations batch.new.verdict.writes) }
+    ensures counts { OnOk result (AreAtMost (index + 1) batch.new.verdict) }
+{
+    let judged = judge_completion(world, meta, who, today, batch, asked);
+    take_in(batch, index, judged)
+}
+
+fn with_completions(
+    world: &World,
+    meta: &Metadata,
+    who: Who,
+    today: i32,
+    list: &[Completion],
+    batch: &mut Batch,
+) -> Result<(), Memory>
+    requires who { IsKnown meta.now who }
+    requires said { AreSaid batch.old.values batch.old.registrations batch.old.verdict.writes }
+    requires counts { AreAtMost 0 batch.old.verdict }
+    ensures { OnOk result (batch.new.verdict ≡ with_completions (facts world.now) meta.now who today 0 list.now batch.old.verdict) }
+{
+    let mut index = 0u64;
+    for asked in list {
+        with_completion(world, meta, who, today, batch, index, asked)?;
+        index += 1;
+    }
+    Ok(())
+}
+
+/// The verdict on completions. Each is judged by what holds after the log and the writes accepted
+/// before it in the list. A user is named by a number of the metadata.
+#[tactic(auto, unfolding(crate::specs::Verdicts::completions_verdict_of))]
+pub fn judge_completions(
+    alloc: Global,
+    world: &World,
+    meta: &Metadata,
+    who: Who,
+    moment: i64,
+    list: &[Completion],
+) -> Result<Verdict, Memory>
+    requires { IsKnown meta.now who }
+    ensures { IfOk result (λ verdict. verdict ≡ completions_verdict_of (facts world.now) meta.now who moment list.now) }
+{
+    let today = day_of(moment);
+    let mut batch = empty_batch(alloc);
+    with_completions(world, meta, who, today, list, &mut batch)?;
+    Ok(batch.verdict)
+}
