@@ -1,0 +1,9 @@
+pub mod OrderedLemmas
+pub mod MemberLemmas
+pub mod OrderLemmas
+pub mod NamedLemmas
+pub mod EachLemmas
+pub mod DayLemmas
+pub mod FactLemmas
+pub mod StoreLemmas
+pub mod KeyLemmas

@@ -1,0 +1,13 @@
+//! The rows, registrations and events that a list of changes leaves, as a store of rows.
+#![tactic(auto)]
+
+pub mod events;
+mod items;
+pub mod listed;
+mod named;
+pub mod regs;
+#[cfg(test)]
+mod tests;
+pub mod values;
+mod world;
+mod years;
