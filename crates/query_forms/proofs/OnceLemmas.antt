@@ -1,0 +1,25 @@
+-- A set and a list that get the same item.
+use Rattle.std.proofs.Common.{◌≡◌, ◌∙◌, Bool, true, false, List, [], ◌∷◌, ◌++◌, ◌||◌, refl, sym, ap}
+use Rattle.std.specs.Bool.{MatchBool}
+use Rattle.std.specs.List.{list_any}
+use Rattle.std.specs.List.Sorted.{IsPermutation}
+use Rattle.std.proofs.lemmas.List.Sorted.{list_any-IsPermutation}
+use Rattle.std.proofs.lemmas.List.Folds.{list_any-append}
+
+turned : (a b : Bool) → (a || b) ≡ (b || (a || false))
+turned true true = refl
+turned true false = refl
+turned false true = refl
+turned false false = refl
+
+-- a key was put into a set, and an item that passes the same tests at the end of a list
+pub put_one : {K T : Type 0} (test : K → Bool) (other : T → Bool) (key : K) (x : T) (old new : List K) (kept : List T) (added : Bool)
+    → added ≡ true → MatchBool added (IsPermutation (key ∷ old) new) (new ≡ old) → test key ≡ other x
+    → list_any test old ≡ list_any other kept → list_any test new ≡ list_any other (kept ++ x ∷ [])
+put_one test other key x old new kept true is moved same known =
+    sym (list_any-IsPermutation test (key ∷ old) new moved)
+    ∙ ap (λ b. b || list_any test old) same
+    ∙ ap (λ b. other x || b) known
+    ∙ turned (other x) (list_any other kept)
+    ∙ sym (list_any-append other kept (x ∷ []))
+put_one test other key x old new kept false is moved same known = absurd (cc)

@@ -1,0 +1,4 @@
+pub mod Once
+pub mod Items
+pub mod Given
+pub mod Form

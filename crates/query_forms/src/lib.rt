@@ -1,0 +1,12 @@
+//! The text of a query as plain data: pairs, dimensions, and the forms of their items.
+#![tactic(auto)]
+
+pub mod dimension;
+pub mod fault;
+pub mod form;
+pub mod item;
+mod once;
+mod period;
+#[cfg(test)]
+mod tests;
+pub mod text;

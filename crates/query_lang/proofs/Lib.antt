@@ -1,0 +1,5 @@
+pub mod ViewLemmas
+pub mod PeriodLaws
+pub mod FormLaws
+pub mod TextLaws
+pub mod AskLaws

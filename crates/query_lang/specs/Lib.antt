@@ -1,0 +1,5 @@
+pub mod Each
+pub mod Named
+pub mod Units
+pub mod Query
+pub mod Askable

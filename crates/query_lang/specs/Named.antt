@@ -1,0 +1,122 @@
+-- What the items of the dimension `dx` name, for a user.
+use Rattle.std.specs.Prelude.{ℕ, ◌==◌, Bool, true, false, ◌||◌, if◌then◌else◌, List, [], ◌∷◌, slice_get, Option, None, Some, option_map, option_and_then, Result, Ok, Err}
+use Rattle.std.specs.List.{list_any}
+use Rattle.std.specs.Option.{option_map_or, option_or}
+use Rattle.dh_base.specs.declared.codes.Code.TheVariants as code
+use Rattle.dh_base.specs.declared.codes.Refusal.{Refusal}
+use Rattle.dh_sharing.specs.declared.access.Right.TheVariants.{Read}
+use Rattle.expr_lang.specs.declared.tree.Item.{Item}
+use Rattle.expr_lang.specs.declared.tree.Item.TheVariants as item
+use Rattle.expr_lang.specs.declared.expr.Expr.{Expr}
+use Rattle.expr_lang.specs.Expr.{items_in}
+use Rattle.meta_parts.specs.declared.held.Records.{Records}
+use Rattle.meta_parts.specs.declared.kind.Kind.{Kind}
+use Rattle.meta_parts.specs.declared.kind.Kind.TheVariants as kind
+use Rattle.meta_parts.specs.declared.names.AnalyticsType.{AnalyticsType}
+use Rattle.meta_parts.specs.declared.names.AnalyticsType.TheVariants as analytics
+use Rattle.meta_parts.specs.declared.records.Element.{Element}
+use Rattle.meta_parts.specs.declared.records.OptionCombo.{OptionCombo}
+use Rattle.meta_parts.specs.declared.records.Indicator.{Indicator}
+use Rattle.meta_parts.specs.declared.records.ProgramIndicator.{ProgramIndicator}
+use Rattle.meta_model.specs.Objects.{find_of}
+use Rattle.meta_model.specs.Users.{may_of}
+use Rattle.query_parts.specs.declared.DxKind.{DxKind}
+use Rattle.query_parts.specs.declared.DxKind.TheVariants as dx
+use Rattle.query_parts.specs.declared.Dx.{Dx}
+use Rattle.query_forms.specs.declared.item.DxForm.{DxForm}
+use Rattle.query_forms.specs.declared.item.DxForm.TheVariants as form
+use Rattle.query_forms.specs.declared.item.DxItem.{DxItem}
+use Rattle.query_forms.specs.Given.{and_then, refusal, or_refuse}
+use Rattle.query_lang.specs.declared.named.Found.{Found}
+
+-- the object of that identifier, if the user may read it
+unfoldable pub readable : Records → ℕ → Kind → List ℕ → Option ℕ
+readable r user kind id = option_and_then (λ n. if may_of r user Read kind n then Some n else None) (find_of r kind id)
+
+abbrev pub alone : DxKind → ℕ → Found
+alone kind n = record { kind = kind; number = n; part = None }
+
+-- a data element, an indicator or a program indicator
+unfoldable pub object_named : Records → ℕ → List ℕ → Option Found
+object_named r user id =
+    option_or (option_map (alone dx.Element) (readable r user kind.DataElement id))
+    (option_or (option_map (alone dx.Indicator) (readable r user kind.Indicator id))
+    (option_map (alone dx.ProgramIndicator) (readable r user kind.ProgramIndicator id)))
+
+-- the option combination is one of the element's category combination
+unfoldable pub is_combo_of : Records → ℕ → ℕ → Bool
+is_combo_of r element part =
+    option_map_or (λ (e : Element). option_map_or (λ (c : OptionCombo). c.category_combo == e.category_combo) (slice_get r.category_option_combos part) false)
+    (slice_get r.data_elements element) false
+
+unfoldable pub combo_named : Records → ℕ → List ℕ → Option ℕ
+combo_named r element id = option_and_then (λ part. if is_combo_of r element part then Some part else None) (find_of r kind.CategoryOptionCombo id)
+
+-- a data element with one of its option combinations
+unfoldable pub operand_named : Records → ℕ → List ℕ → List ℕ → Option Found
+operand_named r user element combo =
+    option_and_then (λ n. option_map (λ part. record { kind = dx.Element; number = n; part = Some part }) (combo_named r n combo))
+    (readable r user kind.DataElement element)
+
+-- what an item names, if the user may read it
+abbrev pub named : Records → ℕ → DxForm → Option Found
+named r user (form.Object id) = object_named r user id
+named r user (form.Operand element combo) = operand_named r user element combo
+named r user (form.Rate set figure) = option_map (alone (dx.Rate figure)) (readable r user kind.DataSet set)
+
+abbrev pub is_enrollment_type : AnalyticsType → Bool
+is_enrollment_type analytics.Event = false
+is_enrollment_type analytics.Enrollment = true
+
+unfoldable pub is_enrollment : Records → ℕ → Bool
+is_enrollment r n = option_map_or (λ (i : ProgramIndicator). is_enrollment_type i.analytics_type) (slice_get r.program_indicators n) false
+
+-- a program indicator over enrollments
+abbrev pub is_over_enrollments : Records → DxKind → ℕ → Bool
+is_over_enrollments r dx.Element n = false
+is_over_enrollments r dx.Indicator n = false
+is_over_enrollments r dx.ProgramIndicator n = is_enrollment r n
+is_over_enrollments r (dx.Rate figure) n = false
+
+abbrev pub dx_from : Found → List ℕ → Dx
+dx_from n text = record { kind = n.kind; number = n.number; part = n.part; text = text }
+
+abbrev pub offered : Records → List ℕ → Found → Result Dx Refusal
+offered r text n = if is_over_enrollments r n.kind n.number then Err (refusal code.F17 text) else Ok (dx_from n text)
+
+-- an item, or its refusal
+unfoldable pub dx_of : Records → ℕ → DxItem → Result Dx Refusal
+dx_of r user item = and_then (or_refuse code.F14 item.text (named r user item.form)) (offered r item.text)
+
+abbrev pub is_rate : Item → Bool
+is_rate (item.Element element combo attribute) = false
+is_rate (item.Constant id) = false
+is_rate (item.Group id) = false
+is_rate item.Days = false
+is_rate (item.Rate set figure) = true
+is_rate (item.StageElement stage element) = false
+is_rate (item.Attribute id) = false
+is_rate item.EventDate = false
+is_rate item.EnrollmentDate = false
+is_rate item.EventCount = false
+is_rate item.EnrollmentCount = false
+is_rate item.EntityCount = false
+
+abbrev pub has_rate : Expr → Bool
+has_rate expr = list_any is_rate (items_in expr)
+
+-- the indicator names a reporting rate
+unfoldable pub names_rate : Records → ℕ → Bool
+names_rate r n = option_map_or (λ (i : Indicator). has_rate i.numerator || has_rate i.denominator) (slice_get r.indicators n) false
+
+-- what the server doesn't compute yet
+abbrev pub is_unbuilt : Records → DxKind → ℕ → Bool
+is_unbuilt r dx.Element n = false
+is_unbuilt r dx.Indicator n = names_rate r n
+is_unbuilt r dx.ProgramIndicator n = true
+is_unbuilt r (dx.Rate figure) n = true
+
+-- the first item that the server doesn't compute yet
+abbrev pub first_unbuilt : Records → List Dx → Option (List ℕ)
+first_unbuilt r [] = None
+first_unbuilt r (d ∷ ds) = if is_unbuilt r d.kind d.number then Some d.text else first_unbuilt r ds

@@ -1,0 +1,65 @@
+-- A query, or the first refusal.
+use Rattle.std.specs.Prelude.{◌≡◌, ℕ, ℤ, ◌*◌, ◌==◌, nat_lt, if◌then◌else◌, List, [], length, Option, None, Some, Result, Ok, Err, ⊤}
+use Rattle.std.specs.Fmt.{decimal}
+use Rattle.dh_base.specs.declared.codes.Code.{Code}
+use Rattle.dh_base.specs.declared.codes.Code.TheVariants as code
+use Rattle.dh_base.specs.declared.codes.Refusal.{Refusal}
+use Rattle.meta_parts.specs.declared.held.Records.{Records}
+use Rattle.query_parts.specs.declared.Axis.{Axis}
+use Rattle.query_parts.specs.declared.Dx.{Dx}
+use Rattle.query_parts.specs.declared.Query.{Query}
+use Rattle.query_parts.specs.declared.QueryFault.{QueryFault}
+use Rattle.query_parts.specs.declared.QueryFault.TheVariants as fault
+use Rattle.query_units.specs.declared.part.Part.{Part}
+use Rattle.query_forms.specs.declared.form.Form.{Form}
+use Rattle.query_forms.specs.Form.{form_of}
+use Rattle.query_forms.specs.Given.{and_then, refusal}
+use Rattle.query_lang.specs.Each.{each_of}
+use Rattle.query_lang.specs.Named.{dx_of, first_unbuilt}
+use Rattle.query_lang.specs.Units.{part_of, units_of}
+
+-- refused with this detail if there is one
+abbrev pub unless_there : {A : Type 0} → Code → Option (List ℕ) → Result A Refusal → Result A Refusal
+unless_there code None next = next
+unless_there code (Some detail) next = Err (refusal code detail)
+
+-- how many values of a dimension have a cell of their own
+abbrev pub axis_count : {A : Type 0} → Axis A → ℕ
+axis_count axis = if axis.filter then 1 else length axis.items
+
+-- the number of cells
+unfoldable pub cells_of : Query → ℕ
+cells_of query = length query.dx * axis_count query.periods * axis_count query.units
+
+-- a query with units and at most so many cells
+unfoldable pub within : ℕ → Query → Result Query Refusal
+within most query =
+    if length query.units.items == 0 then Err (refusal code.F13 [])
+    else (if nat_lt most (cells_of query) then Err (refusal code.F16 (decimal (cells_of query))) else Ok query)
+
+abbrev pub assembled : Records → ℕ → Form → List Dx → List Part → Query
+assembled r user form dx parts = record {
+  dx = dx;
+  periods = form.periods;
+  units = record { items = units_of r user parts; filter = form.units.filter };
+  meta = form.meta;
+}
+
+abbrev pub built_within : Records → ℕ → ℕ → Form → List Dx → List Part → Result Query Refusal
+built_within r user cells form dx parts = unless_there code.F9 (first_unbuilt r dx) (within cells (assembled r user form dx parts))
+
+-- a query's form against metadata
+unfoldable pub query_from : Records → ℕ → ℕ → Form → Result Query Refusal
+query_from r user cells form =
+    and_then (each_of (dx_of r user) form.dx) (λ dx.
+    and_then (each_of (part_of r user) form.units.items) (λ parts.
+    built_within r user cells form dx parts))
+
+-- the query of a text, for a user on a day, with at most so many cells, or the first refusal
+unfoldable pub query_of : Records → ℕ → ℤ → ℕ → List ℕ → Result Query Refusal
+query_of r user day cells text = and_then (form_of day text) (query_from r user cells)
+
+-- the fault is the refusal, or that memory was wanting
+abbrev pub IsFaultOf : Result Query Refusal → QueryFault → Type 0
+IsFaultOf meant (fault.Refused refused) = meant ≡ Err refused
+IsFaultOf meant fault.Memory = ⊤

@@ -1,0 +1,53 @@
+//! The number of a query's cells.
+ghost use Rattle.std.specs.Prelude.{◌≡◌, ◌<◌, ◌^◌, IfSome, IfOk, decimal};
+ghost use Rattle.query_forms.specs.Given.{Gives};
+ghost use Rattle.query_lang.specs.Query.{axis_count, cells_of, within};
+
+use dh_base::codes::Code;
+use dh_base::memory::Memory;
+use query_forms::fault::{TextFault, refused};
+use query_parts::{Axis, Query};
+use std::alloc::Global;
+
+fn axis_count<T>(axis: &Axis<T>) -> u128
+    ensures value { result ≡ axis_count axis.now }
+{
+    if axis.filter {
+        1
+    } else {
+        axis.items.len() as u128
+    }
+}
+
+/// The number of cells, `None` where it is too wide to be told.
+#[tactic(auto, unfolding(crate::specs::Query::cells_of))]
+fn cells_of(query: &Query) -> Option<u128>
+    ensures { IfSome result (λ count. count ≡ cells_of query.now) }
+{
+    let columns = (query.dx.len() as u128).checked_mul(axis_count(&query.periods))?;
+    columns.checked_mul(axis_count(&query.units))
+}
+
+fn decimal(alloc: Global, number: u128) -> Result<Vec<u8>, Memory>
+    ensures { IfOk result (λ text. text.items ≡ decimal number) }
+{
+    Ok(format!(in alloc; "{number}")?.into_bytes())
+}
+
+/// A query with units and at most so many cells.
+#[tactic(auto, unfolding(crate::specs::Query::within))]
+pub(crate) fn within(alloc: Global, query: Query, most: u64) -> Result<Query, TextFault>
+    ensures { Gives (within most query) result }
+{
+    if query.units.items.len() == 0 {
+        return Err(refused(alloc, Code::F13, b""));
+    }
+    let Some(count) = cells_of(&query) else {
+        return Err(TextFault::Memory);
+    };
+    if u128::from(most) < count {
+        let text = decimal(alloc, count)?;
+        return Err(refused(alloc, Code::F16, &text));
+    }
+    Ok(query)
+}

@@ -1,0 +1,196 @@
+//! What the items of the dimension `dx` name.
+ghost use Rattle.std.specs.Prelude.{◌≡◌, ◌<◌, [], true, length};
+ghost use Rattle.meta_model.specs.Linked.{IsBelow};
+ghost use Rattle.meta_model.specs.Objects.{count_of, is_shared};
+ghost use Rattle.query_forms.specs.Given.{Gives};
+ghost use Rattle.query_lang.specs.Each.{each_of};
+ghost use Rattle.query_lang.specs.Named.{readable, alone, object_named, is_combo_of, combo_named, operand_named, named, is_enrollment_type, is_enrollment, is_over_enrollments, dx_of};
+
+use dh_base::codes::Code;
+use dh_base::items::Items;
+use dh_base::plain::Rate;
+use dh_base::uid::Uid;
+use dh_sharing::access::Right;
+use meta_model::metadata::Metadata;
+use meta_parts::kind::Kind;
+use meta_parts::names::AnalyticsType;
+use query_forms::fault::{TextFault, refused};
+use query_forms::item::{DxForm, DxItem};
+use query_parts::{Dx, DxKind};
+use std::alloc::Global;
+
+/// What an item of the dimension `dx` names.
+#[derive(Clone, Copy, Debug, PartialEq, Eq)]
+pub struct Found {
+    pub kind: DxKind,
+    /// The object's number among those of its kind.
+    pub number: u32,
+    /// The option combination of an operand.
+    pub part: Option<u32>,
+}
+
+#[tactic(auto, unfolding(crate::specs::Named::readable))]
+fn readable(meta: &Metadata, user: u32, kind: Kind, id: Uid) -> Option<u32>
+    requires user { user < length meta.now.users }
+    requires shared { is_shared kind ≡ true }
+    ensures value { result ≡ readable meta.now user kind id }
+    ensures in_range { IsBelow (count_of meta.now kind) result }
+{
+    let number = meta.find(kind, id)?;
+    if meta.may(user, Right::Read, kind, number) {
+        Some(number)
+    } else {
+        None
+    }
+}
+
+fn alone(kind: DxKind, number: u32) -> Found
+    ensures { result ≡ alone kind number }
+{
+    Found {
+        kind,
+        number,
+        part: None,
+    }
+}
+
+#[tactic(auto, unfolding(crate::specs::Named::object_named))]
+fn object_named(meta: &Metadata, user: u32, id: Uid) -> Option<Found>
+    requires { user < length meta.now.users }
+    ensures { result ≡ object_named meta.now user id }
+{
+    if let Some(number) = readable(meta, user, Kind::DataElement, id) {
+        return Some(alone(DxKind::Element, number));
+    }
+    if let Some(number) = readable(meta, user, Kind::Indicator, id) {
+        return Some(alone(DxKind::Indicator, number));
+    }
+    if let Some(number) = readable(meta, user, Kind::ProgramIndicator, id) {
+        return Some(alone(DxKind::ProgramIndicator, number));
+    }
+    None
+}
+
+#[tactic(auto, unfolding(crate::specs::Named::is_combo_of))]
+fn is_combo_of(meta: &Metadata, element: u32, part: u32) -> bool
+    requires element { element < length meta.now.data_elements }
+    requires part { part < length meta.now.category_option_combos }
+    ensures { result ≡ is_combo_of meta.now element part }
+{
+    let combo = meta.option_combo(part).category_combo;
+    combo == meta.element(element).category_combo
+}
+
+#[tactic(auto, unfolding(crate::specs::Named::combo_named))]
+fn combo_named(meta: &Metadata, element: u32, id: Uid) -> Option<u32>
+    requires { element < length meta.now.data_elements }
+    ensures { result ≡ combo_named meta.now element id }
+{
+    let part = meta.find(Kind::CategoryOptionCombo, id)?;
+    if is_combo_of(meta, element, part) {
+        Some(part)
+    } else {
+        None
+    }
+}
+
+#[tactic(auto, unfolding(crate::specs::Named::operand_named))]
+fn operand_named(meta: &Metadata, user: u32, element: Uid, combo: Uid) -> Option<Found>
+    requires { user < length meta.now.users }
+    ensures { result ≡ operand_named meta.now user element combo }
+{
+    let number = readable(meta, user, Kind::DataElement, element)?;
+    let part = combo_named(meta, number, combo)?;
+    Some(Found {
+        kind: DxKind::Element,
+        number,
+        part: Some(part),
+    })
+}
+
+fn rate_named(meta: &Metadata, user: u32, set: Uid, figure: Rate) -> Option<Found>
+    requires { user < length meta.now.users }
+    ensures { result ≡ named meta.now user (DxForm.Rate set figure) }
+{
+    let number = readable(meta, user, Kind::DataSet, set)?;
+    Some(alone(DxKind::Rate(figure), number))
+}
+
+fn named(meta: &Metadata, user: u32, form: &DxForm) -> Option<Found>
+    requires { user < length meta.now.users }
+    ensures { result ≡ named meta.now user form.now }
+{
+    match form {
+        DxForm::Object(id) => object_named(meta, user, *id),
+        DxForm::Operand(element, combo) => operand_named(meta, user, *element, *combo),
+        DxForm::Rate(set, figure) => rate_named(meta, user, *set, *figure),
+    }
+}
+
+fn is_enrollment_type(analytics: AnalyticsType) -> bool
+    ensures { result ≡ is_enrollment_type analytics }
+{
+    match analytics {
+        AnalyticsType::Event => false,
+        AnalyticsType::Enrollment => true,
+    }
+}
+
+#[tactic(auto, unfolding(crate::specs::Named::is_enrollment))]
+fn is_enrollment(meta: &Metadata, number: u32) -> bool
+    ensures { result ≡ is_enrollment meta.now number }
+{
+    if number < meta.count(Kind::ProgramIndicator) {
+        is_enrollment_type(meta.program_indicator(number).analytics_type)
+    } else {
+        false
+    }
+}
+
+fn is_over_enrollments(meta: &Metadata, kind: DxKind, number: u32) -> bool
+    ensures { result ≡ is_over_enrollments meta.now kind number }
+{
+    match kind {
+        DxKind::Element => false,
+        DxKind::Indicator => false,
+        DxKind::ProgramIndicator => is_enrollment(meta, number),
+        DxKind::Rate(_) => false,
+    }
+}
+
+#[tactic(auto, unfolding(crate::specs::Named::dx_of))]
+fn dx_of(alloc: Global, meta: &Metadata, user: u32, item: &DxItem) -> Result<Dx, TextFault>
+    requires { user < length meta.now.users }
+    ensures { Gives (dx_of meta.now user item.now) result }
+{
+    let Some(named) = named(meta, user, &item.form) else {
+        return Err(refused(alloc, Code::F14, item.text.as_slice()));
+    };
+    if is_over_enrollments(meta, named.kind, named.number) {
+        return Err(refused(alloc, Code::F17, item.text.as_slice()));
+    }
+    let text = Items::from(Vec::from_slice(alloc, item.text.as_slice())?);
+    Ok(Dx {
+        kind: named.kind,
+        number: named.number,
+        part: named.part,
+        text,
+    })
+}
+
+/// The items of the dimension `dx`, or the first refusal.
+pub(crate) fn each_dx(
+    alloc: Global,
+    meta: &Metadata,
+    user: u32,
+    items: &[DxItem],
+) -> Result<Items<Dx>, TextFault>
+    requires { user < length meta.now.users }
+    ensures { Gives (each_of (dx_of meta.now user) items.now) result }
+{
+    let mut all = Vec::new(alloc);
+    for item in items {
+        all.push(dx_of(alloc, meta, user, item)?)?;
+    }
+    Ok(Items::from(all))
+}

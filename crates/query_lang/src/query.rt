@@ -1,0 +1,106 @@
+//! A query of its text.
+ghost use Rattle.std.specs.Prelude.{◌≡◌, ◌<◌, length, pos, neg_ℤ, ◌≤ℤ◌, MatchResult, IfOk, Ok, Err};
+ghost use Rattle.query_lang.specs.Askable.{IsAskable};
+ghost use Rattle.query_forms.specs.Given.{Gives};
+ghost use Rattle.query_lang.specs.Query.{built_within, query_from, query_of, IsFaultOf};
+
+use crate::cells::within;
+use crate::named::each_dx;
+use crate::unbuilt::first_unbuilt;
+use crate::units::{each_part, units_of, view_of};
+use dh_base::codes::Code;
+use dh_base::items::Items;
+use meta_model::metadata::Metadata;
+use query_forms::fault::{TextFault, refused};
+use query_forms::form::Form;
+use query_forms::text::form_of;
+use query_parts::{Axis, Dx, Query, QueryFault};
+use query_units::part::Part;
+use std::alloc::Global;
+
+fn built_within(
+    alloc: Global,
+    meta: &Metadata,
+    user: u32,
+    cells: u64,
+    form: Form,
+    dx: Items<Dx>,
+    parts: &[Part],
+) -> Result<Query, TextFault>
+    requires { user < length meta.now.users }
+    ensures { Gives (built_within meta.now user cells form dx parts.now) result }
+{
+    if let Some(text) = first_unbuilt(meta, dx.as_slice()) {
+        return Err(refused(alloc, Code::F9, text));
+    }
+    let items = units_of(alloc, meta, user, parts)?;
+    let query = Query {
+        dx,
+        periods: form.periods,
+        units: Axis {
+            items,
+            filter: form.units.filter,
+        },
+        meta: form.meta,
+    };
+    within(alloc, query, cells)
+}
+
+#[tactic(auto, unfolding(crate::specs::Query::query_from))]
+fn query_from(
+    alloc: Global,
+    meta: &Metadata,
+    user: u32,
+    cells: u64,
+    form: Form,
+) -> Result<Query, TextFault>
+    requires { user < length meta.now.users }
+    ensures { Gives (query_from meta.now user cells form) result }
+{
+    let dx = each_dx(alloc, meta, user, form.dx.as_slice())?;
+    let view = view_of(alloc, meta, user)?;
+    let parts = each_part(alloc, meta, user, &view, form.units.items.as_slice())?;
+    built_within(alloc, meta, user, cells, form, dx, parts.as_slice())
+}
+
+#[tactic(auto, unfolding(crate::specs::Query::query_of))]
+fn query_of(
+    alloc: Global,
+    text: &[u8],
+    meta: &Metadata,
+    user: u32,
+    day: i32,
+    cells: u64,
+) -> Result<Query, TextFault>
+    requires user { user < length meta.now.users }
+    requires from { neg_ℤ (pos 21915) ≤ℤ day }
+    requires to { day ≤ℤ pos 47481 }
+    ensures { Gives (query_of meta.now user day cells text.now) result }
+{
+    let form = form_of(alloc, text, day)?;
+    query_from(alloc, meta, user, cells, form)
+}
+
+/// The query of a text, for a user, on a day from 1 January 1910 to 31 December 2099, with at most
+/// so many cells.
+pub fn read_query(
+    alloc: Global,
+    text: &[u8],
+    meta: &Metadata,
+    user: u32,
+    day: i32,
+    cells: u64,
+) -> Result<Query, QueryFault>
+    requires user { user < length meta.now.users }
+    requires from { neg_ℤ (pos 21915) ≤ℤ day }
+    requires to { day ≤ℤ pos 47481 }
+    ensures value { MatchResult result (λ query. query_of meta.now user day cells text.now ≡ Ok query)
+        (λ fault. IsFaultOf (query_of meta.now user day cells text.now) fault) }
+    ensures askable { IfOk result (λ query. IsAskable meta.now user query) }
+{
+    match query_of(alloc, text, meta, user, day, cells) {
+        Ok(query) => Ok(query),
+        Err(TextFault::Refused(refusal)) => Err(QueryFault::Refused(refusal)),
+        Err(TextFault::Memory) => Err(QueryFault::Memory),
+    }
+}

@@ -1,0 +1,180 @@
+//! The units of a query against metadata.
+ghost use Rattle.std.specs.Prelude.{◌≡◌, ◌<◌, ◌++◌, [], length, IfOk, OnOk};
+ghost use Rattle.meta_model.specs.Approval.{unit_rows};
+ghost use Rattle.meta_model.specs.Users.{view_units_of};
+ghost use Rattle.meta_model.specs.Linked.{IsBelow};
+ghost use Rattle.query_forms.specs.Given.{Gives};
+ghost use Rattle.query_units.specs.View.{is_under_any, Covers};
+ghost use Rattle.query_lang.specs.Each.{each_of};
+ghost use Rattle.query_lang.specs.Units.{unit_seen, part_by, part_of, group_units, part_members, members_of, units_of};
+
+use dh_base::codes::Code;
+use dh_base::items::Items;
+use dh_base::memory::Memory;
+use dh_base::uid::Uid;
+use dh_sharing::ranges::ViewRanges;
+use meta_model::metadata::Metadata;
+use meta_parts::kind::Kind;
+use query_forms::fault::{TextFault, refused};
+use query_forms::item::{UnitForm, UnitItem};
+use query_units::choice::chosen_units;
+use query_units::part::Part;
+use query_units::view::{is_covered, ranges_under};
+use std::alloc::Global;
+
+/// The ranges of the units that the user sees.
+#[tactic(auto, using(crate::proofs::ViewLemmas::views_in))]
+pub(crate) fn view_of(alloc: Global, meta: &Metadata, user: u32) -> Result<ViewRanges, Memory>
+    requires { user < length meta.now.users }
+    ensures { IfOk result (λ view. Covers (unit_rows meta.now) (view_units_of meta.now user) view) }
+{
+    ranges_under(alloc, meta.tree(), meta.view_units(user))
+}
+
+#[tactic(auto, using(crate::proofs::ViewLemmas::unit_in))]
+fn is_seen(meta: &Metadata, user: u32, view: &ViewRanges, unit: u32) -> bool
+    requires user { user < length meta.now.users }
+    requires view { Covers (unit_rows meta.now) (view_units_of meta.now user) view.now }
+    requires unit { unit < length meta.now.organisation_units }
+    ensures { result ≡ is_under_any (unit_rows meta.now) (view_units_of meta.now user) unit }
+{
+    is_covered(meta.tree(), view, meta.view_units(user), unit)
+}
+
+#[tactic(auto, unfolding(crate::specs::Units::unit_seen))]
+fn unit_seen(meta: &Metadata, user: u32, view: &ViewRanges, id: Uid) -> Option<u32>
+    requires user { user < length meta.now.users }
+    requires view { Covers (unit_rows meta.now) (view_units_of meta.now user) view.now }
+    ensures { result ≡ unit_seen meta.now user id }
+{
+    let unit = meta.find(Kind::OrganisationUnit, id)?;
+    if is_seen(meta, user, view, unit) {
+        Some(unit)
+    } else {
+        None
+    }
+}
+
+fn unit_part(
+    alloc: Global,
+    meta: &Metadata,
+    user: u32,
+    view: &ViewRanges,
+    id: Uid,
+    text: &[u8],
+) -> Result<Part, TextFault>
+    requires user { user < length meta.now.users }
+    requires view { Covers (unit_rows meta.now) (view_units_of meta.now user) view.now }
+    ensures { Gives (part_by meta.now user text.now (UnitForm.Unit id)) result }
+{
+    match unit_seen(meta, user, view, id) {
+        Some(unit) => Ok(Part::Unit(unit)),
+        None => Err(refused(alloc, Code::F15, text)),
+    }
+}
+
+fn group_part(
+    alloc: Global,
+    meta: &Metadata,
+    user: u32,
+    id: Uid,
+    text: &[u8],
+) -> Result<Part, TextFault>
+    ensures { Gives (part_by meta.now user text.now (UnitForm.Group id)) result }
+{
+    match meta.find(Kind::OrganisationUnitGroup, id) {
+        Some(group) => Ok(Part::Group(group)),
+        None => Err(refused(alloc, Code::F14, text)),
+    }
+}
+
+#[tactic(auto, unfolding(crate::specs::Units::part_of))]
+fn part_of(
+    alloc: Global,
+    meta: &Metadata,
+    user: u32,
+    view: &ViewRanges,
+    item: &UnitItem,
+) -> Result<Part, TextFault>
+    requires user { user < length meta.now.users }
+    requires view { Covers (unit_rows meta.now) (view_units_of meta.now user) view.now }
+    ensures { Gives (part_of meta.now user item.now) result }
+{
+    match &item.form {
+        UnitForm::Unit(id) => unit_part(alloc, meta, user, view, *id, item.text.as_slice()),
+        UnitForm::User => Ok(Part::User),
+        UnitForm::Children => Ok(Part::Children),
+        UnitForm::Grandchildren => Ok(Part::Grandchildren),
+        UnitForm::Level(level) => Ok(Part::Level(*level)),
+        UnitForm::Group(id) => group_part(alloc, meta, user, *id, item.text.as_slice()),
+    }
+}
+
+/// The items of the dimension `ou`, or the first refusal.
+pub(crate) fn each_part(
+    alloc: Global,
+    meta: &Metadata,
+    user: u32,
+    view: &ViewRanges,
+    items: &[UnitItem],
+) -> Result<Items<Part>, TextFault>
+    requires user { user < length meta.now.users }
+    requires view { Covers (unit_rows meta.now) (view_units_of meta.now user) view.now }
+    ensures { Gives (each_of (part_of meta.now user) items.now) result }
+{
+    let mut all = Vec::new(alloc);
+    for item in items {
+        all.push(part_of(alloc, meta, user, view, item)?)?;
+    }
+    Ok(Items::from(all))
+}
+
+#[tactic(auto, unfolding(crate::specs::Units::group_units))]
+fn push_group(units: &mut Vec<u32>, meta: &Metadata, group: u32) -> Result<(), Memory>
+    ensures { OnOk result (units.new.items ≡ units.old.items ++ group_units meta.now group) }
+{
+    if group < meta.count(Kind::OrganisationUnitGroup) {
+        units.extend_from_slice(meta.unit_group(group).organisation_units.as_slice())?;
+    }
+    Ok(())
+}
+
+fn push_members(units: &mut Vec<u32>, meta: &Metadata, part: Part) -> Result<(), Memory>
+    ensures { OnOk result (units.new.items ≡ units.old.items ++ part_members meta.now part) }
+{
+    match part {
+        Part::Group(group) => push_group(units, meta, group),
+        Part::Unit(_) => Ok(()),
+        Part::User => Ok(()),
+        Part::Children => Ok(()),
+        Part::Grandchildren => Ok(()),
+        Part::Level(_) => Ok(()),
+    }
+}
+
+#[tactic(auto, unfolding(crate::specs::Units::members_of))]
+fn members_of(alloc: Global, meta: &Metadata, parts: &[Part]) -> Result<Vec<u32>, Memory>
+    ensures { IfOk result (λ units. units.items ≡ members_of meta.now parts.now) }
+{
+    let mut units = Vec::new(alloc);
+    for part in parts {
+        push_members(&mut units, meta, *part)?;
+    }
+    Ok(units)
+}
+
+/// The units that the items choose.
+#[tactic(auto, unfolding(crate::specs::Units::units_of), using(crate::proofs::ViewLemmas::views_in))]
+pub(crate) fn units_of(
+    alloc: Global,
+    meta: &Metadata,
+    user: u32,
+    parts: &[Part],
+) -> Result<Items<u32>, Memory>
+    requires { user < length meta.now.users }
+    ensures { IfOk result (λ units. units ≡ units_of meta.now user parts.now) }
+{
+    let members = members_of(alloc, meta, parts)?;
+    let units = chosen_units(alloc, meta.tree(), meta.view_units(user), &members, parts)?;
+    Ok(Items::from(units))
+}

@@ -1,0 +1,4 @@
+pub mod Walk
+pub mod View
+pub mod Parts
+pub mod Choice
