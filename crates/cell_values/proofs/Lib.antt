@@ -1,0 +1,7 @@
+pub mod SpanLemmas
+pub mod DayLemmas
+pub mod PartLemmas
+pub mod WeightLemmas
+pub mod GlueLemmas
+pub mod RepeatLemmas
+pub mod UnitLemmas

@@ -1,0 +1,40 @@
+use Rattle.std.proofs.Common.{◌≡◌, ◌≤◌, ◌+◌, ◌*◌, ◌∙◌, pos, ◌+ℤ◌, ◌*ℤ◌, unsigned_abs, refl, ap, subst, arith, rules, of_z, to_z, to_z-of_z, FitsSigned}
+use Rattle.std.specs.Int.{w128}
+use Rattle.table_rows.specs.declared.sum.Sum.{Sum}
+use Rattle.agg_types.specs.Samples.{days_of}
+use Rattle.cell_values.specs.Parts.{group_sum, group_weight}
+use Rattle.cell_values.proofs.PartLemmas.{sums-more, sums-fit}
+use Rattle.cell_values.proofs.WeightLemmas.{weights-more}
+use Rattle.cell_values.proofs.totals.totals_of.Goals as goal
+
+pub loop-group-preserved : goal.loop-group-preserved
+loop-group-preserved g c =
+    let groups = c.args.groups.now in
+    let rows = g.S.RowStore.rows c.args.store.now in
+    let f = group_sum rows c.args.need c.args.ranges.now in
+    let w = group_weight rows c.args.need c.args.ranges.now in
+    let i = c.loop-group.group-index in
+    let x = c.group-item.result in
+    let more = c.group_sum-more.result in
+    let within = c.loop-group-test.true in
+    let fits : FitsSigned w128 c.plus-weighted.result = search rules in
+    let weight_fits : FitsSigned w128 c.weight.result = search rules in
+    let told : to_z w128 (of_z w128 c.weight.result) ≡ c.weight.result = to_z-of_z weight_fits in
+    let old = to_z w128 c.loop-group.weighted-bits in
+    let weight : to_z w128 (of_z w128 c.weight.result) ≡ w x =
+    told ∙ c.weight.ensures.weight ∙ ap (λ (s : Sum). s.micros *ℤ pos (days_of x.period)) c.group_sum-more.ensures.sum in
+    let sum : c.plus-weighted.result ≡ old +ℤ w x = c.plus-weighted.ensures.sum ∙ ap (λ z. old +ℤ z) weight in
+    let added : unsigned_abs c.plus-weighted.result ≤ unsigned_abs old + unsigned_abs c.weight.result =
+    subst (λ z. unsigned_abs c.plus-weighted.result ≤ unsigned_abs old + unsigned_abs z) told c.plus-weighted.ensures.size in
+    let room = sums-fit f groups i x c.loop-group.sum more 4194304 within c.group-item.is c.group_sum-more.ensures.sum c.requires.all c.loop-group.invariant.is in
+    let count : c.join-sum.result.count ≡ c.loop-group.sum.count + more.count = ap (λ (s : Sum). s.count) c.join-sum.ensures.sum in
+    let small : unsigned_abs c.plus-weighted.result ≤ 39614081257132168796771975168 * c.join-sum.result.count =
+    omega (arith, added, count, c.weight.ensures.size, c.loop-group.invariant.small) in
+    record {
+      is = sums-more f groups i x c.loop-group.sum more c.join-sum.result within c.group-item.is c.group_sum-more.ensures.sum c.join-sum.ensures.sum c.loop-group.invariant.is;
+      size = c.join-sum.ensures.size;
+      plain = c.join-sum.ensures.plain;
+      few = omega (arith, room, count);
+      weighted = weights-more w groups i x old (w x) (to_z w128 (of_z w128 c.plus-weighted.result)) within c.group-item.is refl (to_z-of_z fits ∙ sum) c.loop-group.invariant.weighted;
+      small = rw (to_z-of_z fits) small;
+    }

@@ -1,0 +1,5 @@
+pub mod Cells
+pub mod Spans
+pub mod Parts
+pub mod Ends
+pub mod Items

@@ -1,0 +1,16 @@
+//! The value of a cell: an element, a constant, a group of units or days over some periods and
+//! units, from the rows of a store that a user sees.
+#![tactic(auto)]
+
+mod aggregated;
+mod element;
+mod gathered;
+mod groups;
+mod item;
+mod period_days;
+mod repeats;
+mod totals;
+
+pub use element::element_value;
+pub use item::item_value;
+pub use period_days::days;

@@ -1,0 +1,64 @@
+//! Numbers in ranges, and the days of periods.
+ghost use Rattle.std.specs.Prelude.{◌≡◌, ◌<◌, ◌≤◌, ◌+ℤ◌, ◌≤ℤ◌, pos, neg_ℤ, length, IfOk};
+ghost use Rattle.dh_sharing.specs.Ranges.{AreApart};
+ghost use Rattle.cell_values.specs.Cells.{days_in};
+ghost use Rattle.cell_values.specs.Spans.{covered, IsDayRange, AreDayRanges};
+
+use dh_base::memory::Memory;
+use dh_periods::Period;
+use dh_sharing::ranges::ViewRanges;
+use std::alloc::{AllocError, Global};
+
+/// How many numbers the ranges hold.
+pub(crate) fn covered(ranges: &[(u32, u32)]) -> u32
+    requires { AreApart ranges.now }
+    ensures { result ≡ covered ranges.now }
+{
+    let mut count = 0;
+    for range in ranges {
+        count += range.1 - range.0;
+    }
+    count
+}
+
+/// How many days the day lies behind 1 January 1900.
+fn place_of(day: i32) -> u32
+    requires from { neg_ℤ (pos 25567) ≤ℤ day }
+    requires to { day ≤ℤ pos 48119 }
+    ensures value { pos result ≡ day +ℤ pos 25567 }
+    ensures bound { result ≤ 73_686 }
+{
+    (day + 25_567) as u32
+}
+
+/// The days of the period, counted from 1 January 1900.
+fn day_range(period: &Period) -> (u32, u32)
+    ensures { IsDayRange period.now result }
+{
+    let first = place_of(period.first());
+    let last = place_of(period.last());
+    (first, last + 1)
+}
+
+fn day_ranges(alloc: Global, periods: &[Period]) -> Result<Vec<(u32, u32)>, AllocError>
+    ensures { IfOk result (λ ranges. AreDayRanges periods.now ranges.items) }
+{
+    let mut ranges = Vec::new(alloc);
+    for period in periods {
+        ranges.push(day_range(period))?;
+    }
+    Ok(ranges)
+}
+
+/// How many different days the periods have.
+pub fn days(alloc: Global, periods: &[Period]) -> Result<u32, Memory>
+    requires { 0 < length periods.now }
+    ensures value { IfOk result (λ days. days ≡ days_in periods.now) }
+    ensures some { IfOk result (λ days. 0 < days) }
+{
+    // its first day is there
+    let _day = periods[0].first();
+    let ranges = day_ranges(alloc, periods)?;
+    let joined = ViewRanges::of(alloc, &ranges)?;
+    Ok(covered(joined.parts()))
+}

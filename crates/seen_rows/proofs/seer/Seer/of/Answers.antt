@@ -1,0 +1,15 @@
+use Rattle.std.proofs.Common.{false, ◌∙◌, ap}
+use Rattle.meta_model.specs.Approval.{unit_rows}
+use Rattle.seen_rows.specs.Places.{is_at_some}
+use Rattle.seen_rows.specs.Seen.{is_viewed}
+use Rattle.seen_rows.proofs.seer.Seer.of.Goals as goal
+
+pub returns-clause-seer : goal.returns-clause-seer
+unfolding is_viewed
+returns-clause-seer c = record {
+  user = c.requires;
+  views = λ order.
+      c.in_ok-views.ensures.members order
+      ∙ ap (λ us. is_at_some us false c.view_units.result.now order) c.tree.ensures
+      ∙ ap (λ units. is_at_some (unit_rows c.args.meta.now) false units order) c.view_units.ensures.value;
+}
