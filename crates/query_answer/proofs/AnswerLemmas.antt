@@ -1,0 +1,119 @@
+-- From the rows that were written to the answer.
+use Rattle.std.proofs.Common.{◌≡◌, ℕ, ◌+◌, ◌<◌, Bool, true, false, List, [], ◌∷◌, length, map, Option, Some, None, Ok, Err, Vec, Global, refl, sym, subst, ◌∙◌, arith, suc, true≢false, zero-add}
+use Rattle.std.proofs.lemmas.Bool.{and_parts}
+use Rattle.std.specs.List.{flat_map, list_all, All, AllByRecursion}
+use Rattle.std.specs.Option.{option_map}
+use Rattle.std.proofs.lemmas.List.Elements.{All-nil, All-cons, All-append}
+use Rattle.serde_json.specs.Written.{compact_text}
+use Rattle.dh_periods.specs.declared.name.PeriodName.{PeriodName}
+use Rattle.meta_parts.specs.declared.held.Records.{Records}
+use Rattle.meta_model.specs.Linked.{AreBelow, IsBelow}
+use Rattle.meta_model.specs.Objects.{count_of}
+use Rattle.agg_types.specs.declared.sample.Sample.{Sample}
+use Rattle.indicator_values.specs.declared.arithmetic.CellValue.{CellValue}
+use Rattle.indicator_values.specs.declared.arithmetic.CellValue.TheVariants as cell
+use Rattle.query_parts.specs.declared.Dx.{Dx}
+use Rattle.query_parts.specs.declared.DxKind.{DxKind}
+use Rattle.query_parts.specs.declared.DxKind.TheVariants as dx_kind
+use Rattle.query_parts.specs.declared.Query.{Query}
+use Rattle.answer_body.specs.Body.{body_of, IsAnswer}
+use Rattle.answer_body.specs.Names.{IsThere, kind_of}
+use Rattle.answer_body.specs.Rows.{IsRow}
+use Rattle.query_answer.specs.declared.whole.AnswerFault.TheVariants.{Wide}
+use Rattle.query_answer.specs.Asked.{can_answer_dx, CanAnswer}
+use Rattle.query_answer.specs.Rows.{Slot, alone, slots, period_slots, unit_slots, row_with, slot_value, unit_rows, period_rows, dx_rows, rows_from}
+use Rattle.query_answer.specs.Answer.{wide_dx, answer_with, answer_of, Answers}
+use Rattle.query_answer.proofs.AskedLemmas.{element_there, indicator_there, no_program, no_rate}
+
+all_flat : {X Y : Type 0} (P : X → Type 0) (Q : Y → Type 0) (f : X → List Y) (xs : List X) → ((x : X) → P x → All Q (f x)) → AllByRecursion P xs
+    → All Q (flat_map f xs)
+all_flat P Q f [] each all = All-nil Q
+all_flat P Q f (x ∷ xs) each all = All-append Q (f x) (flat_map f xs) (each x all.0) (all_flat P Q f xs each all.1)
+
+each_alone : (end : ℕ) (units : List ℕ) → AreBelow end units → AllByRecursion (λ (slot : Slot ℕ). IsBelow end slot.label) (map alone units)
+each_alone end [] below = tt
+each_alone end (unit ∷ units) below =
+    (below.each 0 0 (omega arith), each_alone end units (record { each = λ k d within. below.each (suc k) d (omega arith) }))
+
+units_there : (end : ℕ) (filter : Bool) (units : List ℕ) → AreBelow end units → AllByRecursion (λ (slot : Slot ℕ). IsBelow end slot.label) (slots filter units)
+units_there end true units below = (tt, tt)
+units_there end false units below = each_alone end units below
+
+row_is : (r : Records) (asked : List Dx) (place : ℕ) (dx : Dx) (period : Slot PeriodName) (unit : Slot ℕ) (value : CellValue)
+    → place < length asked → IsBelow (length r.organisation_units) unit.label → All (IsRow r asked) (row_with r place dx period unit value)
+row_is r asked place dx period unit (cell.Number x) within there =
+    All-cons (IsRow r asked) _ [] (record { dx = within; unit = there }) (All-nil (IsRow r asked))
+row_is r asked place dx period unit cell.None within there = All-nil (IsRow r asked)
+row_is r asked place dx period unit cell.Wide within there = All-nil (IsRow r asked)
+
+period_are : (r : Records) (samples : List Sample) (asked : List Dx) (place : ℕ) (dx : Dx) (units : List (Slot ℕ)) (period : Slot PeriodName)
+    → place < length asked → AllByRecursion (λ (slot : Slot ℕ). IsBelow (length r.organisation_units) slot.label) units
+    → All (IsRow r asked) (period_rows r samples place dx units period)
+unfolding period_rows unit_rows
+period_are r samples asked place dx units period within there =
+    all_flat (λ (slot : Slot ℕ). IsBelow (length r.organisation_units) slot.label) (IsRow r asked) _ units
+    (λ unit one. row_is r asked place dx period unit (slot_value r samples dx period unit) within one) there
+
+any_slot : (periods : List (Slot PeriodName)) → AllByRecursion (λ (slot : Slot PeriodName). Unit {0}) periods
+any_slot [] = tt
+any_slot (x ∷ xs) = (tt, any_slot xs)
+
+dx_are : (r : Records) (samples : List Sample) (query : Query) (asked : List Dx) (place : ℕ) (dx : Dx) → place < length asked
+    → AreBelow (length r.organisation_units) query.units.items → All (IsRow r asked) (dx_rows r samples query place dx)
+unfolding dx_rows
+dx_are r samples query asked place dx within below =
+    all_flat (λ (slot : Slot PeriodName). Unit {0}) (IsRow r asked) _ (period_slots query)
+    (λ period one. period_are r samples asked place dx (unit_slots query) period within (units_there _ query.units.filter query.units.items below))
+    (any_slot (period_slots query))
+
+rows_are : (r : Records) (samples : List Sample) (query : Query) (asked : List Dx) (place : ℕ) (more : List Dx) → place + length more ≡ length asked
+    → AreBelow (length r.organisation_units) query.units.items → All (IsRow r asked) (rows_from r samples query place more)
+rows_are r samples query asked place [] ends below = All-nil (IsRow r asked)
+rows_are r samples query asked place (dx ∷ more) ends below =
+    All-append (IsRow r asked) (dx_rows r samples query place dx) (rows_from r samples query (place + 1) more)
+    (dx_are r samples query asked place dx (omega arith) below)
+    (rows_are r samples query asked (place + 1) more (omega arith) below)
+
+there_by : (r : Records) (dx : Dx) (kind : DxKind) → dx.kind ≡ kind → can_answer_dx r dx ≡ true → IsThere r dx
+there_by r dx dx_kind.Element is can =
+    subst (λ k. dx.number < count_of r (kind_of k)) (sym is) (element_there r dx can is)
+there_by r dx dx_kind.Indicator is can =
+    subst (λ k. dx.number < count_of r (kind_of k)) (sym is) (indicator_there r dx can is)
+there_by r dx dx_kind.ProgramIndicator is can = absurd (true≢false (sym can ∙ no_program r dx is))
+there_by r dx (dx_kind.Rate rate) is can = absurd (true≢false (sym can ∙ no_rate r dx rate is))
+
+are_there : (r : Records) (asked : List Dx) → list_all (can_answer_dx r) asked ≡ true → All (IsThere r) asked
+are_there r [] can = All-nil (IsThere r)
+are_there r (dx ∷ more) can =
+    let parts = and_parts (can_answer_dx r dx) _ can in
+    All-cons (IsThere r) dx more (there_by r dx dx.kind refl parts.0) (are_there r more parts.1)
+
+-- the rows of a query that can be answered make a body
+pub is_answer : (r : Records) (samples : List Sample) (query : Query) → CanAnswer r query → IsAnswer r query (rows_from r samples query 0 query.dx)
+is_answer r samples query can = record {
+  dx = are_there r query.dx can.dx;
+  units = can.units;
+  rows = rows_are r samples query query.dx 0 query.dx (zero-add (length query.dx)) can.units;
+}
+
+wide_with : (r : Records) (query : Query) (samples : List Sample) (found : Option Dx) (id : List ℕ) → Some id ≡ option_map (λ (dx : Dx). dx.text) found
+    → Answers (Err (Wide id)) (answer_with r query samples found)
+wide_with r query samples None id e = absurd (cc)
+wide_with r query samples (Some dx) id e = cc
+
+-- the first dx item with a cell that is too wide is told
+pub wide_answer : (r : Records) (query : Query) (samples : List Sample) (id : List ℕ) → Some id ≡ option_map (λ (dx : Dx). dx.text) (wide_dx r query samples)
+    → Answers (Err (Wide id)) (answer_of r query samples)
+unfolding answer_of
+wide_answer r query samples id e = wide_with r query samples (wide_dx r query samples) id e
+
+body_with : (r : Records) (query : Query) (samples : List Sample) (found : Option Dx) (bytes : Vec ℕ Global) → None ≡ option_map (λ (dx : Dx). dx.text) found
+    → bytes.items ≡ compact_text (body_of r query (rows_from r samples query 0 query.dx)) → Answers (Ok bytes) (answer_with r query samples found)
+body_with r query samples None bytes e is = is
+body_with r query samples (Some dx) bytes e is = absurd (cc)
+
+-- where there is none, the body is written
+pub body_answer : (r : Records) (query : Query) (samples : List Sample) (bytes : Vec ℕ Global) → None ≡ option_map (λ (dx : Dx). dx.text) (wide_dx r query samples)
+    → bytes.items ≡ compact_text (body_of r query (rows_from r samples query 0 query.dx)) → Answers (Ok bytes) (answer_of r query samples)
+unfolding answer_of
+body_answer r query samples bytes e is = body_with r query samples (wide_dx r query samples) bytes e is

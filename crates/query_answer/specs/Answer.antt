@@ -1,0 +1,32 @@
+-- The answer to a query.
+use Rattle.std.specs.Prelude.{◌≡◌, ℕ, List, Option, Some, None, Result, Ok, Err, find, Vec}
+use Rattle.std.specs.declared.alloc.Global.{Global}
+use Rattle.serde_json.specs.Data.{Data}
+use Rattle.serde_json.specs.Written.{compact_text}
+use Rattle.meta_parts.specs.declared.held.Records.{Records}
+use Rattle.agg_types.specs.declared.sample.Sample.{Sample}
+use Rattle.query_parts.specs.declared.Dx.{Dx}
+use Rattle.query_parts.specs.declared.Query.{Query}
+use Rattle.answer_body.specs.Body.{body_of}
+use Rattle.query_answer.specs.declared.whole.AnswerFault.{AnswerFault}
+use Rattle.query_answer.specs.declared.whole.AnswerFault.TheVariants.{Wide, Memory}
+use Rattle.query_answer.specs.Rows.{dx_is_wide, rows_from}
+
+-- the first dx item with a cell that is too wide
+abbrev pub wide_dx : Records → Query → List Sample → Option Dx
+wide_dx r query samples = find (dx_is_wide r samples query) query.dx
+
+abbrev pub answer_with : Records → Query → List Sample → Option Dx → Result Data (List ℕ)
+answer_with r query samples (Some dx) = Err dx.text
+answer_with r query samples None = Ok (body_of r query (rows_from r samples query 0 query.dx))
+
+-- the body over the seen records, or the text of the first dx item with a cell that is too wide
+unfoldable pub answer_of : Records → Query → List Sample → Result Data (List ℕ)
+answer_of r query samples = answer_with r query samples (wide_dx r query samples)
+
+-- the call answers so, unless memory is wanting
+abbrev pub Answers : Result (Vec ℕ Global) AnswerFault → Result Data (List ℕ) → Type 0
+Answers (Ok bytes) (Ok body) = bytes.items ≡ compact_text body
+Answers (Err (Wide id)) (Err text) = id ≡ text
+Answers (Err Memory) answer = Unit {0}
+Answers _ answer = ⊥

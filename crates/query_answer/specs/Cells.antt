@@ -1,0 +1,59 @@
+-- The value of a cell.
+use Rattle.std.specs.Prelude.{ℕ, Bool, true, false, ℤ, unsigned_abs, min, List, Option, Some, None, slice_get}
+use Rattle.std.specs.Option.{option_map_or}
+use Rattle.dh_base.specs.Decimals.{printed}
+use Rattle.dh_base.specs.Fractions.{Fraction}
+use Rattle.dh_periods.specs.declared.name.PeriodName.{PeriodName}
+use Rattle.meta_parts.specs.declared.held.Records.{Records}
+use Rattle.meta_parts.specs.declared.records.Indicator.{Indicator}
+use Rattle.agg_types.specs.declared.sample.Sample.{Sample}
+use Rattle.cell_values.specs.Cells.{cell_of, aggregate_of, days_in}
+use Rattle.cell_values.specs.Items.{item_value_of}
+use Rattle.indicator_values.specs.declared.arithmetic.CellValue.{CellValue}
+use Rattle.indicator_values.specs.declared.arithmetic.CellValue.TheVariants as cell
+use Rattle.indicator_values.specs.Value.{indicator_value_of}
+use Rattle.query_parts.specs.declared.Dx.{Dx}
+use Rattle.query_parts.specs.declared.DxKind.{DxKind}
+use Rattle.query_parts.specs.declared.DxKind.TheVariants as dx_kind
+
+abbrev pub of_option : Option Fraction → CellValue
+of_option None = cell.None
+of_option (Some x) = cell.Number x
+
+-- a data element's cell is its aggregate, of the operand's option combination alone where there is one
+unfoldable pub element_cell : Records → List Sample → ℕ → Option ℕ → List PeriodName → List ℕ → CellValue
+element_cell r samples element part periods units = of_option (aggregate_of r samples (cell_of element part None periods units false))
+
+-- an indicator's cell is its value by the values of its items in the cell
+unfoldable pub indicator_cell : Records → List Sample → Indicator → List PeriodName → List ℕ → CellValue
+indicator_cell r samples indicator periods units =
+    indicator_value_of r (λ item. item_value_of r samples item periods units false) (days_in periods) indicator
+
+abbrev pub cell_by : Records → List Sample → DxKind → ℕ → Option ℕ → List PeriodName → List ℕ → CellValue
+cell_by r samples dx_kind.Element n part periods units = element_cell r samples n part periods units
+cell_by r samples dx_kind.Indicator n part periods units =
+    option_map_or (λ indicator. indicator_cell r samples indicator periods units) (slice_get r.indicators n) cell.None
+cell_by r samples other n part periods units = cell.None
+
+-- the value of a dx item over the seen records in some periods and under some units
+unfoldable pub cell_value : Records → List Sample → Dx → List PeriodName → List ℕ → CellValue
+cell_value r samples dx periods units = cell_by r samples dx.kind dx.number dx.part periods units
+
+abbrev pub is_wide : CellValue → Bool
+is_wide cell.Wide = true
+is_wide _ = false
+
+-- decimals as they are printed; those of a metadata file are from 0 to 5
+abbrev pub places_of : ℤ → ℕ
+places_of decimals = min (unsigned_abs decimals) 6
+
+abbrev pub decimals_by : Records → ℕ → DxKind → ℕ
+decimals_by r n dx_kind.Indicator = option_map_or (λ (indicator : Indicator). places_of indicator.decimals) (slice_get r.indicators n) 6
+decimals_by r n _ = 6
+
+-- a value is printed with up to so many decimals
+unfoldable pub decimals_of : Records → Dx → ℕ
+decimals_of r dx = decimals_by r dx.number dx.kind
+
+abbrev pub value_text : Records → Dx → Fraction → List ℕ
+value_text r dx x = printed x (decimals_of r dx)

@@ -1,0 +1,5 @@
+pub mod Asked
+pub mod Cells
+pub mod Plans
+pub mod Rows
+pub mod Answer

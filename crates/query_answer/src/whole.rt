@@ -1,0 +1,58 @@
+//! The answer.
+
+ghost use Rattle.std.specs.Prelude.{◌≡◌, List};
+ghost use Rattle.table_rows.specs.declared.row.Row.{Row};
+ghost use Rattle.seen_rows.specs.Held.{IsSeer};
+ghost use Rattle.seen_rows.specs.Seen.{seen};
+ghost use Rattle.query_answer.specs.Asked.{CanAnswer};
+ghost use Rattle.query_answer.specs.Answer.{answer_of, Answers};
+
+use crate::rows::write_rows;
+use answer_body::body;
+use dh_base::items::Items;
+use dh_base::memory::Memory;
+use meta_model::metadata::Metadata;
+use query_parts::Query;
+use seen_rows::Seer;
+use std::alloc::Global;
+use table_rows::RowStore;
+
+/// Why there is no answer.
+#[derive(Debug, Drop)]
+pub enum AnswerFault {
+    /// A cell is too wide to be computed. It carries the text of the first `dx` item that has such
+    /// a cell.
+    Wide { id: Items<u8> },
+    /// Memory was wanting.
+    Memory,
+}
+
+impl From<Memory> for AnswerFault {
+    ghost use Rattle.query_answer.specs.declared.whole.AnswerFault.TheVariants as fault;
+
+    ghost from_gives = { λ _ made. made ≡ fault.Memory };
+
+    fn from(_fault: Memory) -> AnswerFault {
+        AnswerFault::Memory
+    }
+}
+
+/// The body that answers a query over the records that the user sees.
+pub fn answer<S: RowStore>(
+    alloc: Global,
+    meta: &Metadata,
+    store: &S,
+    seer: &Seer,
+    query: &Query,
+) -> Result<Vec<u8>, AnswerFault>
+    requires seer { IsSeer meta.now seer.now }
+    requires query { CanAnswer meta.now query.now }
+    ensures answer { Answers result (answer_of meta.now query.now (seen meta.now seer.now.user (S.rows store.now))) }
+    ensures unseen { (rows : List Row) → seen meta.now seer.now.user rows ≡ seen meta.now seer.now.user (S.rows store.now) → Answers result (answer_of meta.now query.now (seen meta.now seer.now.user rows)) }
+{
+    let mut rows = Vec::new(alloc);
+    match write_rows(alloc, meta, store, seer, query, &mut rows)? {
+        Some(id) => Err(AnswerFault::Wide { id }),
+        None => Ok(body(alloc, meta, query, rows.as_slice())?),
+    }
+}
