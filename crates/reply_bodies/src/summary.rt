@@ -1,0 +1,121 @@
+ghost use Rattle.std.specs.Prelude.{◌≡◌, IfOk, Bool, map, codes};
+ghost use Rattle.serde_json.specs.Data.{Data, array};
+ghost use Rattle.serde_json.specs.View.{view, items_of};
+ghost use Rattle.http.specs.StatusCode.{IsStatusCode};
+ghost use Rattle.reply_bodies.specs.Bodies.{reply_of};
+ghost use Rattle.reply_bodies.specs.Summary.{conflict_of, counts_of, response_of, summary_of, summary_status_of, is_clean, word_within, word_of, summary_response, summary_text};
+
+use crate::phrase::phrase;
+use dh_base::memory::Memory;
+use record_index::outcome::{Conflict, Verdict};
+use serde_json::{Value, json};
+use std::alloc::{AllocError, Global};
+
+#[tactic(auto, unfolding(crate::specs::Summary::conflict_of))]
+fn conflict_value(alloc: Global, conflict: &Conflict) -> Result<Value, AllocError>
+    ensures { IfOk result (λ v. view v ≡ conflict_of conflict.now) }
+{
+    let number = conflict.code.number();
+    json!(in alloc; {"errorCode": number, "index": conflict.index})
+}
+
+fn conflict_values(alloc: Global, conflicts: &[Conflict]) -> Result<Vec<Value>, Memory>
+    ensures { IfOk result (λ values. map view values.items ≡ map conflict_of conflicts.now) }
+{
+    let mut values = Vec::with_capacity(alloc, conflicts.len())?;
+    for conflict in conflicts {
+        values.push(conflict_value(alloc, conflict)?)?;
+    }
+    Ok(values)
+}
+
+fn conflict_list(alloc: Global, conflicts: &[Conflict]) -> Result<Value, Memory>
+    ensures { IfOk result (λ v. view v ≡ array (items_of (map conflict_of conflicts.now))) }
+{
+    Ok(Value::Array(conflict_values(alloc, conflicts)?))
+}
+
+#[tactic(auto, unfolding(crate::specs::Summary::counts_of))]
+fn counts_value(alloc: Global, verdict: &Verdict) -> Result<Value, AllocError>
+    ensures { IfOk result (λ v. view v ≡ counts_of verdict.now) }
+{
+    json!(in alloc; {"deleted": verdict.deleted, "ignored": verdict.ignored, "imported": verdict.imported, "updated": verdict.updated})
+}
+
+#[tactic(auto, unfolding(crate::specs::Summary::response_of))]
+fn response_value(
+    alloc: Global,
+    conflicts: Value,
+    counts: Value,
+    word: &str,
+) -> Result<Value, AllocError>
+    ensures { IfOk result (λ v. view v ≡ response_of (view conflicts) (view counts) word.now) }
+{
+    json!(in alloc; {"conflicts": conflicts, "importCount": counts, "responseType": "ImportSummary", "status": word})
+}
+
+#[tactic(auto, unfolding(crate::specs::Bodies::reply_of))]
+fn reply_value(alloc: Global, status: u16, response: Value, word: &str) -> Result<Value, AllocError>
+    requires { IsStatusCode status }
+    ensures { IfOk result (λ v. view v ≡ reply_of status (view response) word.now) }
+{
+    let phrase = phrase(status);
+    let status = u64::from(status);
+    json!(in alloc; {"httpStatus": phrase, "httpStatusCode": status, "response": response, "status": word})
+}
+
+#[tactic(auto, unfolding(crate::specs::Summary::is_clean))]
+fn is_clean(verdict: &Verdict) -> bool
+    ensures { result ≡ is_clean verdict.now }
+{
+    verdict.conflicts.as_slice().len() == 0
+}
+
+/// The status of the reply to an import of values or completions: 200, or 409 where there is a conflict.
+pub fn summary_status(verdict: &Verdict) -> u16
+    ensures { result ≡ summary_status_of verdict.now }
+{
+    if is_clean(verdict) { 200 } else { 409 }
+}
+
+fn word_within(verdict: &Verdict) -> &'static str
+    ensures { result.now ≡ word_within verdict.now }
+{
+    if is_clean(verdict) {
+        "SUCCESS"
+    } else {
+        "WARNING"
+    }
+}
+
+fn word(verdict: &Verdict) -> &'static str
+    ensures { result.now ≡ word_of verdict.now }
+{
+    if is_clean(verdict) { "OK" } else { "WARNING" }
+}
+
+#[tactic(auto, unfolding(crate::specs::Summary::summary_response))]
+fn response(alloc: Global, verdict: &Verdict) -> Result<Value, Memory>
+    ensures { IfOk result (λ v. view v ≡ summary_response verdict.now) }
+{
+    let conflicts = conflict_list(alloc, verdict.conflicts.as_slice())?;
+    let counts = counts_value(alloc, verdict)?;
+    Ok(response_value(alloc, conflicts, counts, word_within(verdict))?)
+}
+
+#[tactic(auto, using(crate::proofs::SummaryLemmas::summary_has_status), unfolding(crate::specs::Summary::summary_of))]
+fn summary_value(alloc: Global, verdict: &Verdict) -> Result<Value, Memory>
+    ensures { IfOk result (λ v. view v ≡ summary_of verdict.now) }
+{
+    let response = response(alloc, verdict)?;
+    Ok(reply_value(alloc, summary_status(verdict), response, word(verdict))?)
+}
+
+/// The body of the reply to an import of values or completions.
+#[tactic(auto, using(crate::proofs::SummaryLemmas::summary_whole), unfolding(crate::specs::Summary::summary_text))]
+pub fn summary_body(alloc: Global, verdict: &Verdict) -> Result<Vec<u8>, Memory>
+    ensures { IfOk result (λ text. text.items ≡ summary_text verdict.now) }
+{
+    let value = summary_value(alloc, verdict)?;
+    Ok(value.to_vec(alloc)?)
+}

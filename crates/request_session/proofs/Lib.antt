@@ -1,0 +1,6 @@
+pub mod ReplyLemmas
+pub mod RequestLemmas
+pub mod SendLemmas
+pub mod SessionLaws
+pub mod SessionLemmas
+pub mod ToldLemmas

@@ -1,0 +1,4 @@
+pub mod Replies
+pub mod Session
+pub mod SoFar
+pub mod Turn

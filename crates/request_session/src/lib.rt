@@ -1,0 +1,18 @@
+//! The loop of a session: it reads the requests of a source one after another, lets a machine answer each, and
+//! writes the replies in order. Requests that are refused by the wire get their reply here, and want of memory gets
+//! a reply that takes none.
+#![tactic(auto)]
+
+mod ended;
+mod machine;
+mod send;
+mod session;
+#[cfg(test)]
+mod tests;
+mod texts;
+mod turn;
+
+pub use ended::Ended;
+pub use machine::Machine;
+pub use session::serve_requests;
+pub use texts::whole_reply;
