@@ -1,0 +1,7 @@
+use Rattle.engine.proofs.engine.Engine.look.Goals as goal
+
+pub returns-clause-step : goal.returns-clause-step
+returns-clause-step g c = rw (← c.self.view_is) (c.look.ensures.step c.self.inside.log.changes)
+
+pub returns-clause-tables : goal.returns-clause-tables
+returns-clause-tables g c = rw (← c.self.view_is) (c.look.ensures.tables _ _ c.self.invariant.tables)

@@ -1,0 +1,20 @@
+use Rattle.std.proofs.Common.{◌≡◌, ◌∙◌, ◌≤◌, subst, sym, ap, map, length, true}
+use Rattle.std.specs.List.{list_all}
+use Rattle.std.specs.Arc.{arc_value}
+use Rattle.log_rows.specs.Log.{is_of_days}
+use Rattle.log_rows.specs.Listed.{listed_in}
+use Rattle.engine.specs.Tables.{tables_of}
+use Rattle.engine.proofs.Days.{all-of-days, writes-are}
+use Rattle.engine.proofs.tables.tables_of.Goals as goal
+
+pub build-requires : goal.build-requires
+build-requires c =
+    let e = sym (writes-are (map arc_value c.args.changes.now)) in
+    record {
+      few = subst (λ x. length x ≤ 4194304) e c.requires.few;
+      days = subst (λ x. list_all is_of_days x ≡ true) e (all-of-days _ c.requires.fits);
+    }
+
+pub returns : goal.returns
+unfolding tables_of
+returns c = c.in_ok-new.ensures.ok ∙ c.in_ok-rows.ensures ∙ ap (listed_in c.args.meta.now) (writes-are (map arc_value c.args.changes.now))

@@ -1,0 +1,4 @@
+pub mod Requests
+pub mod Machine
+pub mod Tables
+pub mod Seen

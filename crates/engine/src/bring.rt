@@ -1,0 +1,96 @@
+//! A change, from the request to the log.
+ghost use Rattle.std.specs.List.{All};
+ghost use Rattle.change_bytes.specs.Forms.{WriteFits};
+ghost use Rattle.change_log.specs.Log.{IsWhole};
+ghost use Rattle.value_import.specs.Outcomes.{IsKnown};
+ghost use Rattle.engine.specs.Machine.{ChangeStep};
+ghost use Rattle.engine.specs.Seen.{seen_of, state_of, AreParts, Puts, Brings, Brought};
+
+use crate::asked::maker_of;
+use crate::judge::{Judged, judge};
+use crate::machine::{ChangeFault, ChangeRequest, Report};
+use crate::updates::Shown;
+use change_log::{AppendFault, ChangeLog};
+use dh_base::uid::Uid;
+use dh_outside::Keeper;
+use meta_model::metadata::Metadata;
+use record_index::outcome::Who;
+use std::alloc::Global;
+
+// Puts the writes last in the log, if there are any.
+fn put<K: Keeper>(
+    alloc: Global,
+    log: &mut ChangeLog<K>,
+    user: Option<Uid>,
+    moment: i64,
+    judged: Judged,
+) -> Result<Report, ChangeFault>
+    requires whole { IsWhole log.old }
+    requires fits { All WriteFits judged.writes }
+    ensures puts { Puts log.old (record { user = user; moment = moment; writes = judged.writes }) judged result log.new }
+    ensures whole { IsWhole log.new }
+{
+    let Judged {
+        writes,
+        body,
+        status,
+    } = judged;
+    if writes.as_slice().len() == 0 {
+        let number = log.count();
+        return Ok(Report {
+            body,
+            status,
+            number,
+        });
+    }
+    match log.append(alloc, user, moment, writes) {
+        Ok(number) => Ok(Report {
+            body,
+            status,
+            number,
+        }),
+        Err(AppendFault::LogFull { limit }) => Err(ChangeFault::LogFull { limit }),
+        Err(AppendFault::StoreFault) => Err(ChangeFault::StoreFault),
+        Err(AppendFault::Memory) => Err(ChangeFault::Memory),
+    }
+}
+
+// The reply's body is made before the keeper is called.
+fn bring<K: Keeper>(
+    alloc: Global,
+    log: &mut ChangeLog<K>,
+    meta: &Metadata,
+    who: Who,
+    moment: i64,
+    request: &ChangeRequest,
+) -> Result<Report, ChangeFault>
+    requires whole { IsWhole log.old }
+    requires known { IsKnown meta.now who }
+    ensures brings { Brings meta.now log.old (record { who = who; moment = moment; request = request.now }) result log.new }
+    ensures whole { IsWhole log.new }
+{
+    let user = maker_of(meta, who);
+    match judge(alloc, log.world(), meta, who, moment, request) {
+        Ok(judged) => put(alloc, log, user, moment, judged),
+        Err(_) => Err(ChangeFault::Memory),
+    }
+}
+
+// The same beside the tables, which stay.
+pub(crate) fn change<K: Keeper>(
+    alloc: Global,
+    log: &mut ChangeLog<K>,
+    shown: &Shown,
+    meta: &Metadata,
+    who: Who,
+    moment: i64,
+    request: &ChangeRequest,
+) -> Result<Report, ChangeFault>
+    requires parts { AreParts log.old meta.now shown.now }
+    requires known { IsKnown meta.now who }
+    ensures step { ChangeStep meta.now log.old.limits (state_of log.old.changes shown.now) (record { who = who; moment = moment; request = request.now }) result (state_of log.new.changes shown.now) }
+    ensures brought { Brought (seen_of log.old meta.now shown.now) (record { who = who; moment = moment; request = request.now }) result (seen_of log.new meta.now shown.now) }
+    ensures parts { AreParts log.new meta.now shown.now }
+{
+    bring(alloc, log, meta, who, moment, request)
+}
