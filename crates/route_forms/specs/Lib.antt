@@ -1,0 +1,4 @@
+pub mod Given
+pub mod Paths
+pub mod Routes
+pub mod Parameters

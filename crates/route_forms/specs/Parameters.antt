@@ -1,0 +1,93 @@
+-- Parameters of requests. They are the pairs of the query's text; of a repeated one the last counts.
+use Rattle.std.specs.Prelude.{ℕ, Bool, true, false, not, nat_le, nat_lt, ◌&&◌, ◌||◌, if◌then◌else◌, List, [], ◌∷◌, length, find, bytes_eq, codes, Option, Some, None, Result, Ok, Err}
+use Rattle.std.specs.List.{list_all}
+use Rattle.std.specs.Option.{option_map_or}
+use Rattle.std.specs.Char.{is_ascii_digit}
+use Rattle.std.specs.Str.Parse.{digits_value}
+use Rattle.dh_base.specs.declared.codes.Code.TheVariants as code
+use Rattle.dh_base.specs.declared.codes.Refusal.{Refusal}
+use Rattle.dh_base.specs.declared.plain.CutKind.{CutKind}
+use Rattle.dh_base.specs.declared.plain.CutKind.TheVariants as cut
+use Rattle.record_index.specs.declared.outcome.ImportStrategy.{ImportStrategy}
+use Rattle.record_index.specs.declared.outcome.ImportStrategy.TheVariants as strategy
+use Rattle.value_forms.specs.declared.set.SetParams.{SetParams}
+use Rattle.query_forms.specs.Given.{and_then, refusal, or_refuse}
+
+-- the value under a name in the pairs that are left, where this one was found before
+abbrev pub last_from : List ℕ → Option (List ℕ) → List (List ℕ × List ℕ) → Option (List ℕ)
+last_from name found [] = found
+last_from name found (pair ∷ pairs) = last_from name (if bytes_eq pair.0 name then Some pair.1 else found) pairs
+
+-- the last value under a name
+unfoldable pub value_of : List ℕ → List (List ℕ × List ℕ) → Option (List ℕ)
+value_of name pairs = last_from name None pairs
+
+-- a text in its form, or what stands for an absent one
+abbrev pub or_default : {A : Type 0} → (List ℕ → Option A) → A → Option (List ℕ) → Option A
+or_default form default (Some text) = form text
+or_default form default None = Some default
+
+-- a parameter in its form, or what stands for an absent one; else F21 with its name
+abbrev pub parameter : {A : Type 0} → List ℕ → (List ℕ → Option A) → A → Option (List ℕ) → Result A Refusal
+parameter name form default text = or_refuse code.F21 name (or_default form default text)
+
+-- ---- forms of values
+
+unfoldable pub truth_of : List ℕ → Option Bool
+truth_of text =
+    if bytes_eq text (codes "true") then Some true
+    else (if bytes_eq text (codes "false") then Some false
+    else None)
+
+-- NEW, UPDATES, NEW_AND_UPDATES and DELETES are older names
+unfoldable pub strategy_of : List ℕ → Option ImportStrategy
+strategy_of text =
+    if bytes_eq text (codes "CREATE") || bytes_eq text (codes "NEW") then Some strategy.Create
+    else (if bytes_eq text (codes "UPDATE") || bytes_eq text (codes "UPDATES") then Some strategy.Update
+    else (if bytes_eq text (codes "CREATE_AND_UPDATE") || bytes_eq text (codes "NEW_AND_UPDATES") then Some strategy.CreateAndUpdate
+    else (if bytes_eq text (codes "DELETE") || bytes_eq text (codes "DELETES") then Some strategy.Delete
+    else None)))
+
+-- a decimal of 1 to 18 digits
+unfoldable pub is_number : List ℕ → Bool
+is_number text = nat_lt 0 (length text) && (nat_le (length text) 18 && list_all is_ascii_digit text)
+
+unfoldable pub number_of : List ℕ → Option ℕ
+number_of text = if is_number text then Some (digits_value 10 text) else None
+
+-- objects are named by their identifiers
+unfoldable pub is_scheme : List ℕ → Bool
+is_scheme text = bytes_eq text (codes "UID") || bytes_eq text (codes "uid")
+
+-- ---- the parameters of routes
+
+-- the change that the tables have to have taken in, from the field `X-Min-Change`
+unfoldable pub asked_of : Option (List ℕ) → Result ℕ Refusal
+asked_of field = parameter (codes "X-Min-Change") number_of 0 field
+
+-- what an update rebuilds; updates of the latest part alone are not built
+unfoldable pub kind_of : List (List ℕ × List ℕ) → Result CutKind Refusal
+kind_of pairs =
+    and_then (parameter (codes "latest") truth_of false (value_of (codes "latest") pairs)) (λ latest.
+    if latest then Err (refusal code.F9 []) else Ok cut.Full)
+
+abbrev pub scheme_names : List (List ℕ)
+scheme_names = codes "idScheme" ∷ codes "dataElementIdScheme" ∷ codes "orgUnitIdScheme" ∷ codes "categoryOptionComboIdScheme" ∷ []
+
+-- the parameter names objects otherwise than by their identifiers
+unfoldable pub is_bad_scheme : List (List ℕ × List ℕ) → List ℕ → Bool
+is_bad_scheme pairs name = option_map_or (λ text. not (is_scheme text)) (value_of name pairs) false
+
+unfoldable pub bad_scheme : List (List ℕ × List ℕ) → Option (List ℕ)
+bad_scheme pairs = find (is_bad_scheme pairs) scheme_names
+
+abbrev pub unless_bad : {A : Type 0} → Option (List ℕ) → A → Result A Refusal
+unless_bad (Some name) value = Err (refusal code.F21 name)
+unless_bad None value = Ok value
+
+-- how a set of values is to be imported
+unfoldable pub params_of : List (List ℕ × List ℕ) → Result SetParams Refusal
+params_of pairs =
+    and_then (parameter (codes "importStrategy") strategy_of strategy.CreateAndUpdate (value_of (codes "importStrategy") pairs)) (λ chosen.
+    and_then (parameter (codes "dryRun") truth_of false (value_of (codes "dryRun") pairs)) (λ dry.
+    unless_bad (bad_scheme pairs) (record { strategy = chosen; dry = dry })))

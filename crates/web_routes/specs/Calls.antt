@@ -1,0 +1,108 @@
+-- The call that a request stands for. Its causes of refusal stand in this order: the route, the method, the user, the
+-- right, the parameters, the body.
+use Rattle.std.specs.Prelude.{◌≡◌, ℕ, ℤ, ◌<◌, if◌then◌else◌, List, [], ◌∷◌, length, Option, Some, None, option_and_then, Result, Ok, Err}
+use Rattle.dh_base.specs.declared.codes.Code.TheVariants as code
+use Rattle.dh_base.specs.declared.codes.Refusal.{Refusal}
+use Rattle.dh_base.specs.declared.plain.CutKind.TheVariants.{Full}
+use Rattle.http_wire.specs.declared.request.Request.{Request}
+use Rattle.meta_parts.specs.declared.held.Records.{Records}
+use Rattle.meta_model.specs.Users.{user_of, has_authority}
+use Rattle.query_forms.specs.Form.{pairs_of}
+use Rattle.query_forms.specs.Given.{and_then, refusal, or_refuse}
+use Rattle.query_lang.specs.Askable.{IsAskable}
+use Rattle.query_lang.specs.Query.{query_of}
+use Rattle.value_forms.specs.Bodies.{body_of}
+use Rattle.value_forms.specs.Sets.{set_of}
+use Rattle.value_forms.specs.Completions.{completions_of}
+use Rattle.route_forms.specs.Parameters.{asked_of, kind_of, params_of}
+use Rattle.route_forms.specs.Routes.{authority_of, route_of}
+use Rattle.route_forms.specs.declared.table.Route.{Route}
+use Rattle.route_forms.specs.declared.table.Route.TheVariants as route
+use Rattle.web_routes.specs.Completions.{uncompletion_of}
+use Rattle.web_routes.specs.Told.{or_body}
+use Rattle.web_routes.specs.declared.call.Call.{Call}
+use Rattle.web_routes.specs.declared.call.Call.TheVariants as call
+
+-- the user whose token the request has, else F8
+unfoldable pub user_for : Records → Option (List ℕ) → Result ℕ Refusal
+user_for r token = or_refuse code.F8 [] (option_and_then (user_of r) token)
+
+-- the authority that is needed and that the user lacks
+abbrev pub lacked : Records → ℕ → Option (List ℕ) → Option (List ℕ)
+lacked r user None = None
+lacked r user (Some authority) = if has_authority r user authority then None else Some authority
+
+-- F31 with the authority that the user lacks
+abbrev pub unless_lacking : {A : Type 0} → Option (List ℕ) → Result A Refusal → Result A Refusal
+unless_lacking (Some authority) next = Err (refusal code.F31 authority)
+unless_lacking None next = next
+
+-- the most cells that a query may have
+unfoldable pub most_cells : ℕ
+most_cells = 100000
+
+-- a query, its `X-Min-Change` first
+unfoldable pub query_call : Records → ℤ → ℕ → Request → Result Call Refusal
+query_call r day user request =
+    and_then (asked_of request.asked) (λ asked.
+    and_then (query_of r user day most_cells request.query) (λ query.
+    Ok (call.Query user asked query)))
+
+unfoldable pub update_call : List ℕ → Result Call Refusal
+update_call text = and_then (kind_of (pairs_of text)) (λ kind. Ok (call.Update kind))
+
+unfoldable pub values_call : ℕ → Request → Result Call Refusal
+values_call user request =
+    and_then (params_of (pairs_of request.query)) (λ params.
+    and_then (or_body (body_of (set_of params) request.body)) (λ set.
+    Ok (call.Values user set)))
+
+unfoldable pub completions_call : ℕ → List ℕ → Result Call Refusal
+completions_call user body = and_then (or_body (body_of completions_of body)) (λ list. Ok (call.Completion user list))
+
+unfoldable pub uncompletion_call : Records → ℕ → List ℕ → Result Call Refusal
+uncompletion_call r user text =
+    and_then (uncompletion_of r (pairs_of text)) (λ completion. Ok (call.Completion user (completion ∷ [])))
+
+-- routes that are not built have F9
+abbrev pub not_built : Result Call Refusal
+not_built = Err (refusal code.F9 [])
+
+-- what a user asks for by a route
+abbrev pub call_of : Records → ℤ → ℕ → Route → Request → Result Call Refusal
+call_of r day user route.Query request = query_call r day user request
+call_of r day user route.Check request = not_built
+call_of r day user route.Update request = update_call request.query
+call_of r day user route.Values request = values_call user request
+call_of r day user route.Complete request = completions_call user request.body
+call_of r day user route.Uncomplete request = uncompletion_call r user request.query
+call_of r day user route.Tracker request = not_built
+call_of r day user route.Approve request = not_built
+call_of r day user route.Unapprove request = not_built
+call_of r day user route.Accept request = not_built
+call_of r day user route.Unaccept request = not_built
+
+-- what a user who may ask it asks for by a route
+unfoldable pub allowed_call : Records → ℤ → ℕ → Route → Request → Result Call Refusal
+allowed_call r day user route request = unless_lacking (lacked r user (authority_of route)) (call_of r day user route request)
+
+-- the call that a request stands for on a day, or the first cause of its refusal
+unfoldable pub routed : Records → ℤ → Request → Result Call Refusal
+routed r day request =
+    and_then (route_of request.method request.path) (λ route.
+    and_then (user_for r request.token) (λ user.
+    allowed_call r day user route request))
+
+-- the call is this user's, who may ask its query; an update has no user and is of all tables
+abbrev pub IsBy : Records → ℕ → Call → Type 0
+IsBy r by (call.Query user asked query) = (user ≡ by) × IsAskable r by query
+IsBy r by (call.Update kind) = kind ≡ Full
+IsBy r by (call.Values user set) = user ≡ by
+IsBy r by (call.Completion user list) = user ≡ by
+
+-- the user of the call is one of the metadata's, and may ask its query; an update is of all tables
+abbrev pub IsSound : Records → Call → Type 0
+IsSound r (call.Query user asked query) = (user < length r.users) × IsAskable r user query
+IsSound r (call.Update kind) = kind ≡ Full
+IsSound r (call.Values user set) = user < length r.users
+IsSound r (call.Completion user list) = user < length r.users

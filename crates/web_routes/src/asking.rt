@@ -1,0 +1,172 @@
+//! What a user asks for by a route.
+ghost use Rattle.std.specs.Prelude.{◌≡◌, ℕ, pos, neg_ℤ, ◌≤ℤ◌, ◌<◌, length, IfOk};
+ghost use Rattle.std.specs.Option.{option_copied};
+ghost use Rattle.meta_parts.specs.declared.held.Records.{Records};
+ghost use Rattle.route_forms.specs.Given.{Gives};
+ghost use Rattle.route_forms.specs.Routes.{authority_of};
+ghost use Rattle.web_routes.specs.Calls.{user_for, lacked, query_call, update_call, values_call, completions_call, uncompletion_call, not_built, call_of, allowed_call, IsBy};
+
+use crate::body::{completions_in, query_in, set_in};
+use crate::call::Call;
+use crate::completion::{only, uncompletion_of};
+use dh_base::codes::Code;
+use dh_base::items::Items;
+use http_wire::Request;
+use meta_model::metadata::Metadata;
+use route_forms::fault::{RouteFault, refused};
+use route_forms::form::{asked_of, kind_of, params_of};
+use route_forms::pairs::pairs_of;
+use route_forms::table::{Route, authority_of};
+use std::alloc::Global;
+
+/// The user whose token it is.
+#[tactic(auto, unfolding(crate::specs::Calls::user_for))]
+pub(crate) fn user_for(
+    alloc: Global,
+    meta: &Metadata,
+    token: &Option<Items<u8>>,
+) -> Result<u32, RouteFault>
+    ensures value { Gives (user_for meta.now token.now) result }
+    ensures in_range { IfOk result (λ user. user < length meta.now.users) }
+{
+    let Some(token) = token else {
+        return Err(refused(alloc, Code::F8, b""));
+    };
+    match meta.user_of(token.as_slice()) {
+        Some(user) => Ok(user),
+        None => Err(refused(alloc, Code::F8, b"")),
+    }
+}
+
+fn lacked(meta: &Metadata, user: u32, route: Route) -> Option<&'static [u8]>
+    requires { user < length meta.now.users }
+    ensures { option_copied result ≡ lacked meta.now user (authority_of route) }
+{
+    let authority = authority_of(route)?;
+    if meta.has_authority(user, authority) {
+        None
+    } else {
+        Some(authority)
+    }
+}
+
+#[tactic(auto, unfolding(crate::specs::Calls::query_call))]
+fn query_call(
+    alloc: Global,
+    request: &Request,
+    meta: &Metadata,
+    user: u32,
+    day: i32,
+) -> Result<Call, RouteFault>
+    requires user { user < length meta.now.users }
+    requires from { neg_ℤ (pos 21915) ≤ℤ day }
+    requires to { day ≤ℤ pos 47481 }
+    ensures value { Gives (query_call meta.now day user request.now) result }
+    ensures user { IfOk result (λ call. IsBy meta.now user call) }
+{
+    let asked = asked_of(alloc, &request.asked)?;
+    let query = query_in(alloc, request.query.as_slice(), meta, user, day)?;
+    Ok(Call::Query { user, asked, query })
+}
+
+#[tactic(auto, unfolding(crate::specs::Calls::update_call))]
+fn update_call(alloc: Global, text: &[u8]) -> Result<Call, RouteFault>
+    ensures value { Gives (update_call text.now) result }
+    ensures user { (r : Records) (user : ℕ) → IfOk result (λ call. IsBy r user call) }
+{
+    let pairs = pairs_of(alloc, text)?;
+    let kind = kind_of(alloc, &pairs)?;
+    Ok(Call::Update { kind })
+}
+
+#[tactic(auto, unfolding(crate::specs::Calls::values_call))]
+fn values_call(alloc: Global, request: &Request, user: u32) -> Result<Call, RouteFault>
+    ensures value { Gives (values_call user request.now) result }
+    ensures user { (r : Records) → IfOk result (λ call. IsBy r user call) }
+{
+    let pairs = pairs_of(alloc, request.query.as_slice())?;
+    let params = params_of(alloc, &pairs)?;
+    let set = set_in(alloc, request.body.as_slice(), params)?;
+    Ok(Call::Values { user, set })
+}
+
+#[tactic(auto, unfolding(crate::specs::Calls::completions_call))]
+fn completions_call(alloc: Global, body: &[u8], user: u32) -> Result<Call, RouteFault>
+    ensures value { Gives (completions_call user body.now) result }
+    ensures user { (r : Records) → IfOk result (λ call. IsBy r user call) }
+{
+    let list = completions_in(alloc, body)?;
+    Ok(Call::Completion { user, list })
+}
+
+#[tactic(auto, unfolding(crate::specs::Calls::uncompletion_call))]
+fn uncompletion_call(
+    alloc: Global,
+    meta: &Metadata,
+    text: &[u8],
+    user: u32,
+) -> Result<Call, RouteFault>
+    ensures value { Gives (uncompletion_call meta.now user text.now) result }
+    ensures user { IfOk result (λ call. IsBy meta.now user call) }
+{
+    let pairs = pairs_of(alloc, text)?;
+    let completion = uncompletion_of(alloc, meta, &pairs)?;
+    let list = only(alloc, completion)?;
+    Ok(Call::Completion { user, list })
+}
+
+fn not_built(alloc: Global) -> Result<Call, RouteFault>
+    ensures { Gives not_built result }
+{
+    Err(refused(alloc, Code::F9, b""))
+}
+
+fn call_of(
+    alloc: Global,
+    request: &Request,
+    meta: &Metadata,
+    user: u32,
+    route: Route,
+    day: i32,
+) -> Result<Call, RouteFault>
+    requires user { user < length meta.now.users }
+    requires from { neg_ℤ (pos 21915) ≤ℤ day }
+    requires to { day ≤ℤ pos 47481 }
+    ensures value { Gives (call_of meta.now day user route request.now) result }
+    ensures user { IfOk result (λ call. IsBy meta.now user call) }
+{
+    match route {
+        Route::Query => query_call(alloc, request, meta, user, day),
+        Route::Update => update_call(alloc, request.query.as_slice()),
+        Route::Values => values_call(alloc, request, user),
+        Route::Complete => completions_call(alloc, request.body.as_slice(), user),
+        Route::Uncomplete => uncompletion_call(alloc, meta, request.query.as_slice(), user),
+        Route::Check
+        | Route::Tracker
+        | Route::Approve
+        | Route::Unapprove
+        | Route::Accept
+        | Route::Unaccept => not_built(alloc),
+    }
+}
+
+#[tactic(auto, unfolding(crate::specs::Calls::allowed_call))]
+pub(crate) fn allowed_call(
+    alloc: Global,
+    request: &Request,
+    meta: &Metadata,
+    user: u32,
+    route: Route,
+    day: i32,
+) -> Result<Call, RouteFault>
+    requires user { user < length meta.now.users }
+    requires from { neg_ℤ (pos 21915) ≤ℤ day }
+    requires to { day ≤ℤ pos 47481 }
+    ensures value { Gives (allowed_call meta.now day user route request.now) result }
+    ensures user { IfOk result (λ call. IsBy meta.now user call) }
+{
+    match lacked(meta, user, route) {
+        Some(authority) => Err(refused(alloc, Code::F31, authority)),
+        None => call_of(alloc, request, meta, user, route, day),
+    }
+}

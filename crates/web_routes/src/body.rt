@@ -1,0 +1,82 @@
+//! Bodies and queries, with their faults as refusals of requests.
+ghost use Rattle.std.specs.Prelude.{◌≡◌, pos, neg_ℤ, ◌≤ℤ◌, ◌<◌, length, IfOk};
+ghost use Rattle.value_forms.specs.Bodies.{body_of};
+ghost use Rattle.value_forms.specs.Sets.{set_of};
+ghost use Rattle.value_forms.specs.Completions.{completions_of};
+ghost use Rattle.query_lang.specs.Askable.{IsAskable};
+ghost use Rattle.query_lang.specs.Query.{query_of};
+ghost use Rattle.route_forms.specs.Given.{Gives};
+ghost use Rattle.web_routes.specs.Told.{or_body, of_body, of_query};
+ghost use Rattle.web_routes.specs.Calls.{most_cells};
+
+use dh_base::codes::{Code, Refusal};
+use dh_base::items::Items;
+use meta_model::metadata::Metadata;
+use query_lang::read_query;
+use query_parts::{Query, QueryFault};
+use record_index::outcome::BodyFault;
+use route_forms::fault::RouteFault;
+use std::alloc::Global;
+use value_forms::completion::{Completion, read_completions};
+use value_forms::set::{SetParams, ValueSet, read_set};
+
+const MOST_CELLS: u64 = 100_000;
+
+fn of_body(fault: BodyFault) -> RouteFault
+    ensures { result ≡ of_body fault }
+{
+    match fault {
+        BodyFault::Bad { path } => RouteFault::Refused(Refusal {
+            code: Code::F20,
+            detail: path,
+        }),
+        BodyFault::Memory => RouteFault::Memory,
+    }
+}
+
+fn of_query(fault: QueryFault) -> RouteFault
+    ensures { result ≡ of_query fault }
+{
+    match fault {
+        QueryFault::Refused(refusal) => RouteFault::Refused(refusal),
+        QueryFault::Memory => RouteFault::Memory,
+    }
+}
+
+pub(crate) fn set_in(alloc: Global, body: &[u8], params: SetParams) -> Result<ValueSet, RouteFault>
+    ensures { Gives (or_body (body_of (set_of params) body.now)) result }
+{
+    match read_set(alloc, body, params) {
+        Ok(set) => Ok(set),
+        Err(fault) => Err(of_body(fault)),
+    }
+}
+
+pub(crate) fn completions_in(alloc: Global, body: &[u8]) -> Result<Items<Completion>, RouteFault>
+    ensures { Gives (or_body (body_of completions_of body.now)) result }
+{
+    match read_completions(alloc, body) {
+        Ok(list) => Ok(list),
+        Err(fault) => Err(of_body(fault)),
+    }
+}
+
+#[tactic(auto, unfolding(crate::specs::Calls::most_cells))]
+pub(crate) fn query_in(
+    alloc: Global,
+    text: &[u8],
+    meta: &Metadata,
+    user: u32,
+    day: i32,
+) -> Result<Query, RouteFault>
+    requires user { user < length meta.now.users }
+    requires from { neg_ℤ (pos 21915) ≤ℤ day }
+    requires to { day ≤ℤ pos 47481 }
+    ensures value { Gives (query_of meta.now user day most_cells text.now) result }
+    ensures askable { IfOk result (λ query. IsAskable meta.now user query) }
+{
+    match read_query(alloc, text, meta, user, day, MOST_CELLS) {
+        Ok(query) => Ok(query),
+        Err(fault) => Err(of_query(fault)),
+    }
+}

@@ -1,0 +1,20 @@
+//! What a request asks for.
+
+use dh_base::items::Items;
+use dh_base::plain::CutKind;
+use query_parts::Query;
+use value_forms::completion::Completion;
+use value_forms::set::ValueSet;
+
+/// What a request asks for. Users are told by number.
+#[derive(Drop)]
+pub enum Call {
+    /// A query over tables that have taken in so many changes.
+    Query { user: u32, asked: u64, query: Query },
+    /// An update of the tables.
+    Update { kind: CutKind },
+    /// An import of data values.
+    Values { user: u32, set: ValueSet },
+    /// Complete data set registrations, made and taken away.
+    Completion { user: u32, list: Items<Completion> },
+}

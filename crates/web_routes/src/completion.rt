@@ -1,0 +1,103 @@
+//! A registration that is taken away.
+ghost use Rattle.std.specs.Prelude.{◌≡◌, ◌∷◌, [], codes, IfOk};
+ghost use Rattle.route_forms.specs.Given.{Gives};
+ghost use Rattle.route_forms.specs.Parameters.{value_of};
+ghost use Rattle.web_routes.specs.Completions.{is_name, is_period, needed, uncompletion_of};
+
+use dh_base::codes::Code;
+use dh_base::items::Items;
+use dh_base::memory::Memory;
+use dh_base::uid::Uid;
+use dh_periods::Period;
+use meta_model::metadata::Metadata;
+use meta_parts::kind::Kind;
+use route_forms::fault::{RouteFault, refused};
+use route_forms::pairs::value_of;
+use std::alloc::Global;
+use value_forms::completion::Completion;
+
+#[tactic(auto, unfolding(crate::specs::Completions::is_name))]
+fn is_name(meta: &Metadata, kind: Kind, text: &[u8]) -> bool
+    ensures { result ≡ is_name meta.now kind text.now }
+{
+    match Uid::parse(text) {
+        Some(id) => meta.find(kind, id).is_some(),
+        None => false,
+    }
+}
+
+#[tactic(auto, unfolding(crate::specs::Completions::is_period))]
+fn is_period(text: &[u8]) -> bool
+    ensures { result ≡ is_period text.now }
+{
+    Period::parse(text).is_some()
+}
+
+fn copied(alloc: Global, text: &[u8]) -> Result<Items<u8>, Memory>
+    ensures { IfOk result (λ copy. copy ≡ text.now) }
+{
+    Ok(Items::from(Vec::from_slice(alloc, text)?))
+}
+
+/// The parameter that has to name an object of a kind.
+fn object_in(
+    alloc: Global,
+    meta: &Metadata,
+    kind: Kind,
+    pairs: &[(Items<u8>, Items<u8>)],
+    name: &[u8],
+) -> Result<Items<u8>, RouteFault>
+    ensures { Gives (needed name.now (is_name meta.now kind) (value_of name.now pairs.now)) result }
+{
+    let Some(text) = value_of(pairs, name) else {
+        return Err(refused(alloc, Code::F21, name));
+    };
+    if is_name(meta, kind, text) {
+        Ok(copied(alloc, text)?)
+    } else {
+        Err(refused(alloc, Code::F21, name))
+    }
+}
+
+fn period_in(alloc: Global, pairs: &[(Items<u8>, Items<u8>)]) -> Result<Items<u8>, RouteFault>
+    ensures { Gives (needed (codes "pe") is_period (value_of (codes "pe") pairs.now)) result }
+{
+    let Some(text) = value_of(pairs, b"pe") else {
+        return Err(refused(alloc, Code::F21, b"pe"));
+    };
+    if is_period(text) {
+        Ok(copied(alloc, text)?)
+    } else {
+        Err(refused(alloc, Code::F21, b"pe"))
+    }
+}
+
+/// The registration that is taken away.
+#[tactic(auto, unfolding(crate::specs::Completions::uncompletion_of))]
+pub(crate) fn uncompletion_of(
+    alloc: Global,
+    meta: &Metadata,
+    pairs: &[(Items<u8>, Items<u8>)],
+) -> Result<Completion, RouteFault>
+    ensures { Gives (uncompletion_of meta.now pairs.now) result }
+{
+    let set = object_in(alloc, meta, Kind::DataSet, pairs, b"ds")?;
+    let period = period_in(alloc, pairs)?;
+    let unit = object_in(alloc, meta, Kind::OrganisationUnit, pairs, b"ou")?;
+    Ok(Completion {
+        data_set: Some(set),
+        period: Some(period),
+        unit: Some(unit),
+        attribute: None,
+        date: None,
+        done: false,
+    })
+}
+
+pub(crate) fn only(alloc: Global, completion: Completion) -> Result<Items<Completion>, Memory>
+    ensures { IfOk result (λ list. list ≡ completion ∷ []) }
+{
+    let mut list = Items::new(alloc);
+    list.push(completion)?;
+    Ok(list)
+}
