@@ -1,6 +1,5 @@
 -- The exit codes of the program.
 use Rattle.std.specs.Prelude.{ℕ}
-use Rattle.dhis_main.specs.declared.status.Outcome.{Outcome}
 use Rattle.dhis_main.specs.declared.status.Outcome.TheVariants as outcome
 use Rattle.dhis_main.specs.declared.status.Status.{Status}
 use Rattle.dhis_main.specs.declared.status.Status.TheVariants as status
@@ -9,7 +8,8 @@ abbrev pub code_of : Status → ℕ
 code_of (status.Done outcome.Ok) = 0
 code_of (status.Done outcome.Usage) = 2
 code_of (status.Done outcome.MetaRefused) = 3
-code_of (status.Done outcome.NotBuilt) = 15
+code_of (status.Done outcome.QueryRefused) = 4
+code_of (status.Done outcome.DataRefused) = 11
 code_of status.ReadFault = 5
 code_of status.WriteFault = 6
 code_of status.Memory = 7

@@ -1,12 +1,10 @@
 -- What the program answers: its status, and the text that it writes.
-use Rattle.std.specs.Prelude.{ℕ, Bool, true, false, cond, List, [], ◌∷◌, ◌++◌, length, zero, suc, unwrap_or, nat_lt, Option, Some, None, option_and_then, codes}
-use Rattle.std.specs.Option.{option_map_or}
+use Rattle.std.specs.Prelude.{◌≡◌, ℕ, ℤ, List, [], ◌∷◌, ◌++◌, zero, suc, Option, Some, None, codes}
 use Rattle.std.specs.Fmt.{decimal}
-use Rattle.std.specs.Str.{is_utf8}
-use Rattle.serde_json.specs.Data.{Data}
-use Rattle.serde_json.specs.Read.{read}
-use Rattle.bundle_query.specs.Answer as bundle
-use Rattle.dhis_main.specs.Words.{command_of}
+use Rattle.bundle_reply.specs.Bytes.{asked, IsOverBytes}
+use Rattle.bundle_reply.specs.declared.reply.Ending.{Ending}
+use Rattle.bundle_reply.specs.declared.reply.Ending.TheVariants as ending
+use Rattle.bundle_reply.specs.declared.reply.Reply as bundle
 use Rattle.dhis_main.specs.declared.words.Command.{Command}
 use Rattle.dhis_main.specs.declared.words.Command.TheVariants as command
 use Rattle.dhis_main.specs.declared.status.Outcome.{Outcome}
@@ -16,33 +14,6 @@ use Rattle.dhis_main.specs.declared.reply.Reply.{Reply}
 -- a text with a line feed behind it
 abbrev pub line : List ℕ → List ℕ
 line text = text ++ 10 ∷ []
-
--- the JSON data of a document: bytes that are UTF-8 and JSON of at most 127 levels
-abbrev pub document_of : List ℕ → Option Data
-document_of bytes = cond (is_utf8 bytes) (read bytes) None
-
-abbrev pub refused : List ℕ → Reply
-refused fault = record { outcome = outcome.MetaRefused; text = line (codes "dhis: metadata: " ++ fault) }
-
-abbrev pub not_built : Reply
-not_built = record { outcome = outcome.NotBuilt; text = line (codes "dhis: not built") }
-
-abbrev pub body_reply : List ℕ → Reply
-body_reply body = record { outcome = outcome.Ok; text = line body }
-
--- the reply to a query over a document
-unfoldable pub reply_to_document : List ℕ → List ℕ → Data → Reply
-reply_to_document user query json = option_map_or body_reply (bundle.answer_of user query json) not_built
-
--- the most bytes that a bundle may have
-abbrev pub most_bytes : ℕ
-most_bytes = 67108864
-
--- the reply to a query over the bytes of a bundle
-unfoldable pub reply_to_query : List ℕ → List ℕ → List ℕ → Reply
-reply_to_query user query bytes =
-    cond (nat_lt most_bytes (length bytes)) (refused (codes "Limit bytes"))
-    (option_map_or (reply_to_document user query) (document_of bytes) (refused (codes "NotJson")))
 
 -- the word at a place, counted from 0
 abbrev pub word_at : List (List ℕ) → ℕ → List ℕ
@@ -73,7 +44,27 @@ reply_without_input command.Version = Some version_reply
 reply_without_input command.Query = None
 reply_without_input (command.Bad place) = Some (usage_reply place)
 
--- the reply to the words of the command line, over the bytes of the input
-unfoldable pub answer_of : List (List ℕ) → List ℕ → Reply
-answer_of words bytes =
-    unwrap_or (reply_without_input (command_of words)) (reply_to_query (word_at words 1) (word_at words 2) bytes)
+-- ---- queries
+
+-- how a query over a bundle ends, as the program's outcome
+abbrev pub outcome_of : Ending → Outcome
+outcome_of ending.Ok = outcome.Ok
+outcome_of ending.MetaRefused = outcome.MetaRefused
+outcome_of ending.QueryRefused = outcome.QueryRefused
+outcome_of ending.DataRefused = outcome.DataRefused
+
+abbrev pub told_as : bundle.Reply → Reply
+told_as made = record { outcome = outcome_of made.ending; text = made.text }
+
+-- the reply to a query of a user at a moment, over the bytes of a bundle
+abbrev pub IsQueryReply : List ℕ → List ℕ → ℤ → List ℕ → Reply → Type 0
+IsQueryReply user query moment bytes reply = (made : bundle.Reply) × IsOverBytes (asked user query moment) bytes made × (reply ≡ told_as made)
+
+-- at a moment that the clock shows
+abbrev pub IsQueryReplyNow : List ℕ → List ℕ → (ℤ → Type 0) → List ℕ → Reply → Type 0
+IsQueryReplyNow user query shows bytes reply = (moment : ℤ) × shows moment × IsQueryReply user query moment bytes reply
+
+-- the reply to a command over the bytes of the input
+abbrev pub IsCommandReply : Option Reply → List (List ℕ) → (ℤ → Type 0) → List ℕ → Reply → Type 0
+IsCommandReply (Some fixed) words shows bytes reply = reply ≡ fixed
+IsCommandReply None words shows bytes reply = IsQueryReplyNow (word_at words 1) (word_at words 2) shows bytes reply

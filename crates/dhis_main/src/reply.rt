@@ -1,20 +1,17 @@
-ghost use Rattle.std.specs.Prelude.{◌≡◌, ◌<◌, ◌≤◌, ◌^◌, ℕ, List, Option, Some, None, length, map, IfOk, IfErr, codes, true, false};
-ghost use Rattle.serde_json.specs.View.{view};
-ghost use Rattle.serde_json.specs.Data.{Data};
+ghost use Rattle.std.specs.Prelude.{◌≡◌, ◌<◌, ◌≤◌, ◌++◌, ℕ, ℤ, List, length, map, IfOk, IfErr, OnOk, false};
+ghost use Rattle.meta_reader.specs.File.{most_bytes};
 ghost use Rattle.dhis_main.specs.Words.{command_of};
-ghost use Rattle.dhis_main.specs.Outcome.{line, document_of, refused, not_built, body_reply, reply_to_document, reply_to_query, usage_reply, help_reply, version_reply, answer_of, reply_without_input, most_bytes};
-ghost use Rattle.std.specs.Prelude.{OnOk, ◌++◌};
-ghost use Rattle.std.specs.Option.{option_map};
+ghost use Rattle.dhis_main.specs.Outcome.{line, usage_reply, help_reply, version_reply, outcome_of, told_as, IsQueryReply};
 ghost use Rattle.dhis_main.specs.Run.{Prepares, RepliesToInput, is_bad};
 ghost use Rattle.dhis_main.specs.declared.reply.Fault.TheVariants.{Memory as OutOfMemory};
 
 use crate::status::Outcome;
 use crate::words::{Command, read_words};
-use bundle_query::answer::answer;
+use bundle_reply::bytes::{reply_to_bytes, reply_to_long};
+use bundle_reply::reply::{Ending, Reply as BundleReply};
 use dh_base::items::Items;
 use dh_base::memory::Memory;
-use dh_outside::{FileFault, Source, read_all};
-use serde_json::Value;
+use dh_outside::{Clock, FileFault, Source, read_all};
 use std::alloc::{AllocError, AllocFailed, Global};
 
 /// What the program writes, and what it came to.
@@ -69,77 +66,24 @@ fn line(alloc: Global, text: &str) -> Result<Items<u8>, Memory>
     Ok(Items::from(bytes))
 }
 
-fn refused(alloc: Global, fault: &str) -> Result<Reply, Memory>
-    ensures { IfOk result (λ reply. reply ≡ refused fault.now) }
+fn outcome_of(ending: Ending) -> Outcome
+    ensures { result ≡ outcome_of ending }
 {
-    let mut bytes = b"dhis: metadata: ".to_vec(alloc)?;
-    bytes.extend_from_slice(fault.as_bytes())?;
-    bytes.push(b'\n')?;
-    Ok(Reply {
-        outcome: Outcome::MetaRefused,
-        text: Items::from(bytes),
-    })
-}
-
-fn not_built(alloc: Global) -> Result<Reply, Memory>
-    ensures { IfOk result (λ reply. reply ≡ not_built) }
-{
-    Ok(Reply {
-        outcome: Outcome::NotBuilt,
-        text: line(alloc, "dhis: not built")?,
-    })
-}
-
-fn body_reply(body: Vec<u8>) -> Result<Reply, Memory>
-    ensures { IfOk result (λ reply. reply ≡ body_reply body.items) }
-{
-    let mut whole_line = body;
-    whole_line.push(b'\n')?;
-    Ok(Reply {
-        outcome: Outcome::Ok,
-        text: Items::from(whole_line),
-    })
-}
-
-#[tactic(auto, unfolding(crate::specs::Outcome::reply_to_document))]
-fn reply_to_document(
-    alloc: Global,
-    user: &str,
-    query: &str,
-    document: &Value,
-) -> Result<Reply, Memory>
-    ensures { IfOk result (λ reply. reply ≡ reply_to_document user.now query.now (view document.now)) }
-{
-    match answer(alloc, document, user, query)? {
-        Some(body) => body_reply(body),
-        None => not_built(alloc),
+    match ending {
+        Ending::Ok => Outcome::Ok,
+        Ending::MetaRefused => Outcome::MetaRefused,
+        Ending::QueryRefused => Outcome::QueryRefused,
+        Ending::DataRefused => Outcome::DataRefused,
     }
 }
 
-// The JSON data of a document, if it is one.
-fn document(alloc: Global, bytes: &[u8]) -> Result<Option<Value>, Memory>
-    ensures { IfOk result (λ value. option_map view value ≡ document_of bytes.now) }
+// The reply to a query over a bundle, as the program's.
+fn told_as(made: BundleReply) -> Reply
+    ensures { result ≡ told_as made }
 {
-    match Value::from_slice(alloc, bytes) {
-        Ok(value) => Ok(Some(value)),
-        Err(error) => {
-            if error.is_memory() {
-                Err(Memory)
-            } else {
-                Ok(None)
-            }
-        }
-    }
-}
-
-#[tactic(auto, unfolding(crate::specs::Outcome::reply_to_query))]
-fn reply_to_query(alloc: Global, user: &str, query: &str, bytes: &[u8]) -> Result<Reply, Memory>
-    requires { length bytes.now ≤ 67108864 }
-    ensures { IfOk result (λ reply. reply ≡ reply_to_query user.now query.now bytes.now) }
-{
-    match document(alloc, bytes)? {
-        Some(document) => reply_to_document(alloc, user, query, &document),
-        None => refused(alloc, "NotJson"),
+    Reply {
+        outcome: outcome_of(made.ending),
+        text: made.text,
     }
 }
 
@@ -190,33 +134,62 @@ fn push_line(text: &mut Vec<u8>, added: &str) -> Result<(), Memory>
     Ok(())
 }
 
+// The reply to a query over these bytes.
+fn reply_to_query(
+    alloc: Global,
+    user: &str,
+    query: &str,
+    moment: i64,
+    bytes: &[u8],
+) -> Result<Reply, Memory>
+    ensures { IfOk result (IsQueryReply user.now query.now moment bytes.now) }
+{
+    let made = reply_to_bytes(alloc, user.as_bytes(), query.as_bytes(), moment, bytes)?;
+    Ok(told_as(made))
+}
+
+// The reply to every query over a bundle that is too long.
+fn reply_to_too_long(alloc: Global) -> Result<Reply, Memory>
+    ensures { IfOk result (λ reply. (user query : List ℕ) (moment : ℤ) (bytes : List ℕ) → most_bytes < length bytes → IsQueryReply user query moment bytes reply) }
+{
+    let made = reply_to_long(alloc)?;
+    Ok(told_as(made))
+}
+
 // Reads the whole input and makes the reply to a query over it.
-fn reply_to_input<S: Source>(
+fn reply_to_input<S: Source, C: Clock>(
     alloc: Global,
     user: &str,
     query: &str,
     input: &mut S,
+    clock: &C,
 ) -> Result<Reply, Fault>
-    ensures reply { RepliesToInput user.now query.now (S.left input.old) (S.source_faults input.old) (S.source_faults input.new) result }
+    ensures reply { RepliesToInput user.now query.now (C.shows clock.now) (S.left input.old) (S.source_faults input.old) (S.source_faults input.new) result }
     ensures keeps { S.source_faults input.old ≤ S.source_faults input.new }
 {
+    let moment = clock.now();
     match read_all(alloc, input, MOST_BYTES) {
-        Ok(bytes) => Ok(reply_to_query(alloc, user, query, &bytes)?),
-        Err(FileFault::TooLong) => Ok(refused(alloc, "Limit bytes")?),
+        Ok(bytes) => Ok(reply_to_query(alloc, user, query, moment, &bytes)?),
+        Err(FileFault::TooLong) => Ok(reply_to_too_long(alloc)?),
         Err(FileFault::Failed) => Err(Fault::Read),
         Err(FileFault::Memory) => Err(Fault::Memory),
     }
 }
 
 /// The reply to the words of a command line. The input is read where the command does.
-pub fn prepare<S: Source>(alloc: Global, words: &[&str], input: &mut S) -> Result<Reply, Fault>
-    ensures reply { Prepares (map (λ word. word.now) words.now) (S.left input.old) (S.source_faults input.old) (S.source_faults input.new) result }
+pub fn prepare<S: Source, C: Clock>(
+    alloc: Global,
+    words: &[&str],
+    input: &mut S,
+    clock: &C,
+) -> Result<Reply, Fault>
+    ensures reply { Prepares (map (λ word. word.now) words.now) (C.shows clock.now) (S.left input.old) (S.source_faults input.old) (S.source_faults input.new) result }
     ensures idle { IfErr result (λ fault. fault ≡ Fault.Read → is_bad (command_of (map (λ word. word.now) words.now)) ≡ false) }
 {
     match read_words(words) {
         Command::Help => Ok(help_reply(alloc)?),
         Command::Version => Ok(version_reply(alloc)?),
         Command::Bad(place) => Ok(usage_reply(alloc, place)?),
-        Command::Query => reply_to_input(alloc, words[1], words[2], input),
+        Command::Query => reply_to_input(alloc, words[1], words[2], input, clock),
     }
 }

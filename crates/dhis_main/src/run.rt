@@ -19,16 +19,17 @@ fn send<O: Sink>(reply: &Reply, output: &mut O) -> Status
 }
 
 // Makes the reply and writes it.
-fn carry_out<S: Source, O: Sink>(
+fn carry_out<S: Source, O: Sink, C: Clock>(
     alloc: Global,
     words: &[&str],
     input: &mut S,
     output: &mut O,
+    clock: &C,
 ) -> Status
-    ensures { Runs (map (λ word. word.now) words.now) (shown (S.left input.old) (O.written output.old) (O.written output.new)
+    ensures { Runs (map (λ word. word.now) words.now) (C.shows clock.now) (shown (S.left input.old) (O.written output.old) (O.written output.new)
         (S.source_faults input.old) (S.source_faults input.new) (O.sink_faults output.old) (O.sink_faults output.new)) result }
 {
-    match prepare(alloc, words, input) {
+    match prepare(alloc, words, input, clock) {
         Ok(reply) => send(&reply, output),
         Err(Fault::Read) => Status::ReadFault,
         Err(Fault::Memory) => Status::Memory,
@@ -44,18 +45,18 @@ pub fn run_offline<S: Source, O: Sink, F: FileSet, C: Clock>(
     input: &mut S,
     output: &mut O,
     _files: &mut F,
-    _clock: &C,
+    clock: &C,
 ) -> Status
     // each status has its cause, and what was written is the reply's text, a front of it, or nothing
-    ensures runs { Runs (map (λ word. word.now) words.now) (shown (S.left input.old) (O.written output.old) (O.written output.new)
+    ensures runs { Runs (map (λ word. word.now) words.now) (C.shows clock.now) (shown (S.left input.old) (O.written output.old) (O.written output.new)
         (S.source_faults input.old) (S.source_faults input.new) (O.sink_faults output.old) (O.sink_faults output.new)) result }
-    // over told bytes a done run is the answer to them
-    ensures answers { AnswersTold (map (λ word. word.now) words.now) (shown (S.left input.old) (O.written output.old) (O.written output.new)
+    // over told bytes a done run is the reply to the words over them, at a moment that the clock shows
+    ensures answers { AnswersTold (map (λ word. word.now) words.now) (C.shows clock.now) (shown (S.left input.old) (O.written output.old) (O.written output.new)
         (S.source_faults input.old) (S.source_faults input.new) (O.sink_faults output.old) (O.sink_faults output.new)) result }
     // the words are refused exactly where they are not in the grammar
     ensures usage { RefusesWords (command_of (map (λ word. word.now) words.now)) result }
 {
-    carry_out(alloc, words, input, output)
+    carry_out(alloc, words, input, output, clock)
 }
 
 /// Refuses a command line of which the word behind these isn't UTF-8, by the first word that doesn't fit.

@@ -8,10 +8,12 @@ pub enum Outcome {
     Ok,
     /// The words of the command line are not in the grammar.
     Usage,
-    /// The input isn't a document that can be read.
+    /// The metadata, or the form of the values, are refused.
     MetaRefused,
-    /// The bundle or the query is in a form that isn't built.
-    NotBuilt,
+    /// There is no such user, or the query is refused.
+    QueryRefused,
+    /// The values of the bundle are refused.
+    DataRefused,
 }
 
 /// How the program ended.
@@ -36,7 +38,8 @@ impl Status {
             Status::Done(Outcome::Ok) => 0,
             Status::Done(Outcome::Usage) => 2,
             Status::Done(Outcome::MetaRefused) => 3,
-            Status::Done(Outcome::NotBuilt) => 15,
+            Status::Done(Outcome::QueryRefused) => 4,
+            Status::Done(Outcome::DataRefused) => 11,
             Status::ReadFault => 5,
             Status::WriteFault => 6,
             Status::Memory => 7,

@@ -86,13 +86,16 @@ fn each_refusal_has_its_line(rt: HostRuntime) -> Result<(), Fail> {
     assert!(rt; sink.written().is_empty());
     let (status, sink) = run(
         alloc,
-        &["query", "UsDistrictA", QUERY],
+        &["query", "UsNobody001", QUERY],
         BUNDLE,
         false,
         false,
     )?;
-    assert_eq!(rt; status.code(), 15);
-    assert_eq!(rt; sink.written(), b"dhis: not built\n".as_slice());
+    assert_eq!(rt; status.code(), 4);
+    assert_eq!(rt;
+        sink.written(),
+        b"{\"errorCode\":\"F8\",\"httpStatus\":\"Unauthorized\",\"httpStatusCode\":401,\"message\":\"NoUser\",\"status\":\"ERROR\"}\n".as_slice()
+    );
     let (status, _) = run(alloc, &["--help"], BUNDLE, false, false)?;
     assert_eq!(rt; status.code(), 0);
     let (status, sink) = run(alloc, &["--version"], BUNDLE, false, false)?;
@@ -107,27 +110,27 @@ const BUNDLES: &str =
 {"id":"OuCountry01"}||0
 {"id":"OuCountry01"}|{"dataElement":"DeFormsRecv","period":"202401","orgUnit":"OuCountry01","value":"-0.000001"}|0
 {"id":"OuCountry01"}|{"dataElement":"DeFormsRecv","period":"202401","orgUnit":"OuCountry01","value":"999999999999.999999"}|0
-{"id":"OuCountry01"},{"id":"OuCountry01"}|{"dataElement":"DeFormsRecv","period":"202401","orgUnit":"OuCountry01","value":"12"}|15
-{"id":"OuCountry01"},{"id":"OuDistrictA"}|{"dataElement":"DeFormsRecv","period":"202401","orgUnit":"OuCountry01","value":"12"}|15
-{"id":"OuCountry01"},{"id":"OuDistrictA","parent":{"id":"OuNowhere01"}}|{"dataElement":"DeFormsRecv","period":"202401","orgUnit":"OuCountry01","value":"12"}|15
-{"id":"OuCountry01"},{"id":"OuDistrictA","parent":null}|{"dataElement":"DeFormsRecv","period":"202401","orgUnit":"OuCountry01","value":"12"}|15
-{"id":"OuCountry01"},{"id":"OuDistrictA","parent":{"id":"OuDistrictB"}},{"id":"OuDistrictB","parent":{"id":"OuDistrictA"}}|{"dataElement":"DeFormsRecv","period":"202401","orgUnit":"OuCountry01","value":"12"}|15
-{"id":"OuCountry01"},{"id":"OuLevel0002","parent":{"id":"OuCountry01"}},{"id":"OuLevel0003","parent":{"id":"OuLevel0002"}},{"id":"OuLevel0004","parent":{"id":"OuLevel0003"}},{"id":"OuLevel0005","parent":{"id":"OuLevel0004"}},{"id":"OuLevel0006","parent":{"id":"OuLevel0005"}},{"id":"OuLevel0007","parent":{"id":"OuLevel0006"}},{"id":"OuLevel0008","parent":{"id":"OuLevel0007"}},{"id":"OuLevel0009","parent":{"id":"OuLevel0008"}},{"id":"OuLevel0010","parent":{"id":"OuLevel0009"}},{"id":"OuLevel0011","parent":{"id":"OuLevel0010"}},{"id":"OuLevel0012","parent":{"id":"OuLevel0011"}},{"id":"OuLevel0013","parent":{"id":"OuLevel0012"}}|{"dataElement":"DeFormsRecv","period":"202401","orgUnit":"OuCountry01","value":"12"}|15
-{"id":"1Country01x"}|{"dataElement":"DeFormsRecv","period":"202401","orgUnit":"OuCountry01","value":"12"}|15
-7|{"dataElement":"DeFormsRecv","period":"202401","orgUnit":"OuCountry01","value":"12"}|15
-{"id":"OuCountry01"}|{"dataElement":"DeFormsRecv","period":"202401","orgUnit":"OuCountry01","value":"0"}|15
-{"id":"OuCountry01"}|{"dataElement":"DeFormsRecv","period":"202401","orgUnit":"OuCountry01","value":"+5"}|15
-{"id":"OuCountry01"}|{"dataElement":"DeFormsRecv","period":"202401","orgUnit":"OuCountry01","value":""}|15
-{"id":"OuCountry01"}|{"dataElement":"DeFormsRecv","period":"202401","orgUnit":"OuCountry01","value":"1000000000000"}|15
-{"id":"OuCountry01"}|{"dataElement":"DeFormsRecv","period":"202401","orgUnit":"OuCountry01","value":"1.0000001"}|15
-{"id":"OuCountry01"}|{"dataElement":"DeFormsRecv","period":"202401","orgUnit":"OuCountry01","value":12.5}|15
-{"id":"OuCountry01"}|{"dataElement":"DeFormsRecv","period":"2024Q1","orgUnit":"OuCountry01","value":"12"}|15
-{"id":"OuCountry01"}|{"dataElement":"DeFormsRecv","period":"202413","orgUnit":"OuCountry01","value":"12"}|15
-{"id":"OuCountry01"}|{"dataElement":"DeFormsSent","period":"202401","orgUnit":"OuCountry01","value":"12"}|15
-{"id":"OuCountry01"}|{"dataElement":"DeFormsRecv","period":"202401","orgUnit":"OuNowhere01","value":"12"}|15
-{"id":"OuCountry01"}|{"dataElement":"DeFormsRecv","period":"202401","orgUnit":"OuCountry01","value":"12","comment":"x"}|15
-{"id":"OuCountry01"}|{"dataElement":"DeFormsRecv","period":"202401","orgUnit":"OuCountry01"}|15
-{"id":"OuCountry01"}|null|15
+{"id":"OuCountry01"},{"id":"OuCountry01"}|{"dataElement":"DeFormsRecv","period":"202401","orgUnit":"OuCountry01","value":"12"}|3
+{"id":"OuCountry01"},{"id":"OuDistrictA"}|{"dataElement":"DeFormsRecv","period":"202401","orgUnit":"OuCountry01","value":"12"}|3
+{"id":"OuCountry01"},{"id":"OuDistrictA","parent":{"id":"OuNowhere01"}}|{"dataElement":"DeFormsRecv","period":"202401","orgUnit":"OuCountry01","value":"12"}|3
+{"id":"OuCountry01"},{"id":"OuDistrictA","parent":null}|{"dataElement":"DeFormsRecv","period":"202401","orgUnit":"OuCountry01","value":"12"}|3
+{"id":"OuCountry01"},{"id":"OuDistrictA","parent":{"id":"OuDistrictB"}},{"id":"OuDistrictB","parent":{"id":"OuDistrictA"}}|{"dataElement":"DeFormsRecv","period":"202401","orgUnit":"OuCountry01","value":"12"}|3
+{"id":"OuCountry01"},{"id":"OuLevel0002","parent":{"id":"OuCountry01"}},{"id":"OuLevel0003","parent":{"id":"OuLevel0002"}},{"id":"OuLevel0004","parent":{"id":"OuLevel0003"}},{"id":"OuLevel0005","parent":{"id":"OuLevel0004"}},{"id":"OuLevel0006","parent":{"id":"OuLevel0005"}},{"id":"OuLevel0007","parent":{"id":"OuLevel0006"}},{"id":"OuLevel0008","parent":{"id":"OuLevel0007"}},{"id":"OuLevel0009","parent":{"id":"OuLevel0008"}},{"id":"OuLevel0010","parent":{"id":"OuLevel0009"}},{"id":"OuLevel0011","parent":{"id":"OuLevel0010"}},{"id":"OuLevel0012","parent":{"id":"OuLevel0011"}},{"id":"OuLevel0013","parent":{"id":"OuLevel0012"}}|{"dataElement":"DeFormsRecv","period":"202401","orgUnit":"OuCountry01","value":"12"}|3
+{"id":"1Country01x"}|{"dataElement":"DeFormsRecv","period":"202401","orgUnit":"OuCountry01","value":"12"}|3
+7|{"dataElement":"DeFormsRecv","period":"202401","orgUnit":"OuCountry01","value":"12"}|3
+{"id":"OuCountry01"}|{"dataElement":"DeFormsRecv","period":"202401","orgUnit":"OuCountry01","value":"0"}|0
+{"id":"OuCountry01"}|{"dataElement":"DeFormsRecv","period":"202401","orgUnit":"OuCountry01","value":"+5"}|11
+{"id":"OuCountry01"}|{"dataElement":"DeFormsRecv","period":"202401","orgUnit":"OuCountry01","value":""}|11
+{"id":"OuCountry01"}|{"dataElement":"DeFormsRecv","period":"202401","orgUnit":"OuCountry01","value":"1000000000000"}|11
+{"id":"OuCountry01"}|{"dataElement":"DeFormsRecv","period":"202401","orgUnit":"OuCountry01","value":"1.0000001"}|11
+{"id":"OuCountry01"}|{"dataElement":"DeFormsRecv","period":"202401","orgUnit":"OuCountry01","value":12.5}|11
+{"id":"OuCountry01"}|{"dataElement":"DeFormsRecv","period":"2024Q1","orgUnit":"OuCountry01","value":"12"}|11
+{"id":"OuCountry01"}|{"dataElement":"DeFormsRecv","period":"202413","orgUnit":"OuCountry01","value":"12"}|11
+{"id":"OuCountry01"}|{"dataElement":"DeFormsSent","period":"202401","orgUnit":"OuCountry01","value":"12"}|11
+{"id":"OuCountry01"}|{"dataElement":"DeFormsRecv","period":"202401","orgUnit":"OuNowhere01","value":"12"}|11
+{"id":"OuCountry01"}|{"dataElement":"DeFormsRecv","period":"202401","orgUnit":"OuCountry01","value":"12","comment":"x"}|0
+{"id":"OuCountry01"}|{"dataElement":"DeFormsRecv","period":"202401","orgUnit":"OuCountry01"}|11
+{"id":"OuCountry01"}|null|3
 {"id":"OuCountry01"}|}|3
 {"id":"OuCountry01"}|{"dataElement":|3
 {"id":"OuCountry01"}|1e999|3"#;
@@ -153,6 +156,94 @@ fn each_bundle_has_its_status(rt: HostRuntime) -> Result<(), Fail> {
         let (found, _) = run(alloc, &words, bundle.as_str(), false, false)?;
         let found = format!(in alloc; "{}", found.code())?;
         assert_eq!(rt; found.as_str(), status, "in {line}");
+    }
+    Ok(())
+}
+
+// Metadata without the last bracket.
+const METADATA: &str =
+    r##"{"dataElements":[{"id":"DeFormsRecv","valueType":"NUMBER"},{"id":"DeFormsSent","valueType":"NUMBER","sharing":{"public":"--------"}},{"id":"DeSignif001","valueType":"NUMBER","zeroIsSignificant":true},{"id":"DeLatest001","valueType":"NUMBER","aggregationType":"LAST"},{"id":"DeFirst0001","valueType":"NUMBER","aggregationType":"FIRST"},{"id":"DeDaily0001","valueType":"NUMBER","aggregationType":"AVERAGE_SUM_ORG_UNIT"},{"id":"DeWeekly001","valueType":"NUMBER"}],"dataSets":[{"id":"DsMonthly01","periodType":"Monthly","dataSetElements":[{"dataElement":{"id":"DeFormsRecv"}},{"dataElement":{"id":"DeFormsSent"}},{"dataElement":{"id":"DeSignif001"}},{"dataElement":{"id":"DeLatest001"}},{"dataElement":{"id":"DeFirst0001"}},{"dataElement":{"id":"DeDaily0001"}}],"organisationUnits":[{"id":"OuFacilityA"},{"id":"OuFacilityB"},{"id":"OuFacilityC"}]},{"id":"DsWeekly001","periodType":"Weekly","dataSetElements":[{"dataElement":{"id":"DeWeekly001"}}],"organisationUnits":[{"id":"OuFacilityA"},{"id":"OuFacilityB"},{"id":"OuFacilityC"}]}],"indicatorTypes":[{"id":"ItNumber001","factor":1}],"indicators":[{"id":"InRatio0001","numerator":"#{DeFormsRecv}","denominator":"#{DeFormsSent}","indicatorType":{"id":"ItNumber001"},"decimals":2},{"id":"InZero00001","numerator":"#{DeFormsRecv}","denominator":"#{DeFormsSent}-3","indicatorType":{"id":"ItNumber001"}},{"id":"InWide00001","numerator":"#{DeFormsRecv}^4","denominator":"1","indicatorType":{"id":"ItNumber001"}},{"id":"InYearly001","numerator":"#{DeFormsRecv}","denominator":"1","indicatorType":{"id":"ItNumber001"},"annualized":true}],"organisationUnits":[{"id":"OuCountry01"},{"id":"OuDistrictA","parent":{"id":"OuCountry01"}},{"id":"OuDistrictB","parent":{"id":"OuCountry01"}},{"id":"OuFacilityA","parent":{"id":"OuDistrictA"}},{"id":"OuFacilityB","parent":{"id":"OuDistrictA"}},{"id":"OuFacilityC","parent":{"id":"OuDistrictB"}}],"userRoles":[{"id":"RoSuperUser","authorities":["ALL"]}],"users":[{"id":"UsCountry01","organisationUnits":[{"id":"OuCountry01"}],"userRoles":[{"id":"RoSuperUser"}]},{"id":"UsDistrictA","organisationUnits":[{"id":"OuDistrictA"}]}]"##;
+
+// A user, a query, values (element, period, unit and value, parted by commas), the status of the program, and
+// what the text written has in it.
+const QUERIES: &str =
+    r##"UsCountry01|dimension=dx:DeFormsRecv&dimension=pe:2024Q1&dimension=ou:OuCountry01;LEVEL-2&skipMeta=true|DeFormsRecv,202401,OuFacilityA,12 DeFormsRecv,202402,OuFacilityB,5|0|"rows":[["DeFormsRecv","2024Q1","OuDistrictA","17"]]
+UsCountry01|dimension=dx:DeFormsRecv&dimension=pe:2024Q1&dimension=ou:OuCountry01&skipMeta=true|DeFormsRecv,202401,OuFacilityA,0|0|"rows":[]
+UsCountry01|dimension=dx:DeSignif001&dimension=pe:2024Q1&dimension=ou:OuCountry01&skipMeta=true|DeSignif001,202401,OuFacilityA,0|0|"rows":[["DeSignif001","2024Q1","OuCountry01","0"]]
+UsCountry01|dimension=dx:DeFormsRecv&dimension=pe:2024Q1&dimension=ou:OuCountry01&skipMeta=true|DeFormsRecv,202401,OuFacilityA,12 DeFormsRecv,202401,OuFacilityA,0|0|"rows":[]
+UsCountry01|dimension=dx:DeFormsRecv&dimension=pe:2024Q1&dimension=ou:OuCountry01&skipMeta=true|DeFormsRecv,202401,OuFacilityA,3 DeFormsRecv,202401,OuFacilityA,4|0|"rows":[["DeFormsRecv","2024Q1","OuCountry01","4"]]
+UsCountry01|dimension=dx:DeFormsRecv&dimension=pe:2024Q1&dimension=ou:OuCountry01&skipMeta=true|DeFormsRecv,202401,OuFacilityA,0.000001|0|"rows":[["DeFormsRecv","2024Q1","OuCountry01","0.000001"]]
+UsCountry01|dimension=dx:DeFormsRecv&dimension=pe:2024Q1&dimension=ou:OuCountry01&skipMeta=true|DeFormsRecv,202401,OuFacilityA,999999999999.999999|0|"rows":[["DeFormsRecv","2024Q1","OuCountry01","999999999999.999999"]]
+UsCountry01|dimension=dx:DeWeekly001&dimension=pe:2020;202012;2020W53&dimension=ou:OuCountry01&skipMeta=true|DeWeekly001,2020W53,OuFacilityA,7|0|"rows":[["DeWeekly001","2020W53","OuCountry01","7"]]
+UsCountry01|dimension=dx:DeFormsRecv&dimension=pe:LAST_3_MONTHS&dimension=ou:OuCountry01&skipMeta=true|DeFormsRecv,202401,OuFacilityA,12 DeFormsRecv,202402,OuFacilityB,5|0|"rows":[["DeFormsRecv","202401","OuCountry01","12"],["DeFormsRecv","202402","OuCountry01","5"]]
+UsDistrictA|dimension=dx:DeFormsRecv&dimension=pe:2024&dimension=ou:OuCountry01&skipMeta=true|DeFormsRecv,202401,OuFacilityA,12 DeFormsRecv,202402,OuFacilityB,5|4|"message":"OutsideView OuCountry01"
+UsDistrictA|dimension=dx:DeFormsRecv&dimension=pe:2024&dimension=ou:OuNowhere01&skipMeta=true|DeFormsRecv,202401,OuFacilityA,12 DeFormsRecv,202402,OuFacilityB,5|4|"message":"OutsideView OuNowhere01"
+UsDistrictA|dimension=dx:DeFormsSent&dimension=pe:2024&dimension=ou:OuDistrictA&skipMeta=true|DeFormsRecv,202401,OuFacilityA,12 DeFormsRecv,202402,OuFacilityB,5|4|"message":"NotSeen DeFormsSent"
+UsDistrictA|dimension=dx:DeNothing01&dimension=pe:2024&dimension=ou:OuDistrictA&skipMeta=true|DeFormsRecv,202401,OuFacilityA,12 DeFormsRecv,202402,OuFacilityB,5|4|"message":"NotSeen DeNothing01"
+UsDistrictA|dimension=dx:DeFormsRecv&dimension=pe:2024&dimension=ou:OuDistrictA&skipMeta=true|DeFormsRecv,202401,OuFacilityA,12 DeFormsRecv,202402,OuFacilityB,5 DeFormsRecv,202401,OuFacilityC,999999999999|0|"rows":[["DeFormsRecv","2024","OuDistrictA","17"]]
+UsDistrictA|dimension=dx:DeFormsRecv&dimension=pe:2024&dimension=ou:USER_ORGUNIT;USER_ORGUNIT_CHILDREN&skipMeta=true|DeFormsRecv,202401,OuFacilityA,12 DeFormsRecv,202402,OuFacilityB,5|0|"rows":[["DeFormsRecv","2024","OuDistrictA","17"],["DeFormsRecv","2024","OuFacilityA","12"],["DeFormsRecv","2024","OuFacilityB","5"]]
+UsCountry01|dimension=dx:InRatio0001;InZero00001&dimension=pe:2024Q1&dimension=ou:OuDistrictA&skipMeta=true|DeFormsRecv,202401,OuFacilityA,2 DeFormsSent,202401,OuFacilityA,3|0|"rows":[["InRatio0001","2024Q1","OuDistrictA","0.67"]]
+UsCountry01|dimension=dx:InRatio0001&dimension=pe:2024Q1&dimension=ou:OuDistrictA&skipMeta=true|DeFormsRecv,202401,OuFacilityA,2|0|"rows":[]
+UsCountry01|dimension=dx:InYearly001&dimension=pe:202401&dimension=ou:OuDistrictA&skipMeta=true|DeFormsRecv,202401,OuFacilityA,2 DeFormsSent,202401,OuFacilityA,3|0|"rows":[["InYearly001","202401","OuDistrictA","23.5"]]
+UsCountry01|dimension=dx:DeFormsRecv;InWide00001&dimension=pe:2024Q1&dimension=ou:OuDistrictA&skipMeta=true|DeFormsRecv,202401,OuFacilityA,999999999999|4|"message":"Wide InWide00001"
+UsCountry01|dimension=dx:DeDaily0001&dimension=pe:2024Q1&dimension=ou:OuCountry01&skipMeta=true|DeDaily0001,202401,OuFacilityA,10 DeDaily0001,202402,OuFacilityA,20|0|"rows":[["DeDaily0001","2024Q1","OuCountry01","9.78022"]]
+UsCountry01|dimension=dx:DeLatest001;DeFirst0001&dimension=pe:2024Q1&dimension=ou:OuCountry01&skipMeta=true|DeLatest001,202402,OuFacilityA,5 DeLatest001,202401,OuFacilityA,7 DeFirst0001,202402,OuFacilityA,5 DeFirst0001,202401,OuFacilityA,7|0|"rows":[["DeLatest001","2024Q1","OuCountry01","5"],["DeFirst0001","2024Q1","OuCountry01","7"]]
+UsCountry01|dimension=dx:DeFormsRecv&dimension=pe:2024&dimension=ou:OuCountry01&skipMeta=true|DeFormsRecv,202401,OuFacilityA,12 DeFormsRecv,202401,OuFacilityA,x|11|{"conflicts":[{"errorCode":"C11","index":1}],"importCount":{"deleted":0,"ignored":1,"imported":1,"updated":0},"responseType":"ImportSummary","status":"WARNING"}
+UsCountry01|dimension=co||4|"message":"Unsupported co"
+UsCountry01|filter=dx:DeFormsRecv||4|"message":"Unsupported dx"
+UsCountry01|dimension=dx:DeFormsRecv&dimension=ou:OuCountry01||4|"message":"NoPeriod"
+UsCountry01|dimension=dx:DeFormsRecv&filter=pe:202401;202402&filter=ou:OuCountry01&skipMeta=true|DeFormsRecv,202401,OuFacilityA,12 DeFormsRecv,202402,OuFacilityB,5|0|"rows":[["DeFormsRecv","17"]],"width":2
+UsCountry01|dimension=dx:DeFormsRecv&filter=pe:2024Q1&dimension=ou:OuDistrictA||0|"metaData":{"dimensions":{"dx":["DeFormsRecv"],"ou":["OuDistrictA"],"pe":["2024Q1"]},"items":{"2024Q1":{"name":"2024Q1"},"DeFormsRecv":{"name":"DeFormsRecv"},"OuDistrictA":{"name":"OuDistrictA"}}},"rows":[]"##;
+
+// One value of a bundle.
+fn add_value(text: &mut String, value: &str) -> Result<(), Fail> {
+    let mut parts = value.split(',');
+    let element = parts.next().unwrap_or("");
+    let period = parts.next().unwrap_or("");
+    let unit = parts.next().unwrap_or("");
+    let number = parts.next().unwrap_or("");
+    text.push_str(if text.ends_with('[') { "{" } else { ",{" })?;
+    write!(
+        text,
+        "\"dataElement\":\"{element}\",\"period\":\"{period}\",\"orgUnit\":\"{unit}\",\"value\":\"{number}\"}}"
+    )?;
+    Ok(())
+}
+
+// A bundle with these values.
+fn bundle_with(alloc: Global, values: &str) -> Result<String, Fail> {
+    let mut text = format!(in alloc; "{METADATA},\"dataValues\":[")?;
+    for value in values.split(' ') {
+        if !value.is_empty() {
+            add_value(&mut text, value)?;
+        }
+    }
+    text.push_str("]}")?;
+    Ok(text)
+}
+
+#[test]
+fn each_query_has_its_answer(rt: HostRuntime) -> Result<(), Fail> {
+    let alloc = rt.alloc();
+    for line in QUERIES.lines() {
+        let mut parts = line.split('|');
+        let user = parts.next().unwrap_or("");
+        let query = parts.next().unwrap_or("");
+        let values = parts.next().unwrap_or("");
+        let status = parts.next().unwrap_or("");
+        let expected = parts.next().unwrap_or("");
+        let bundle = bundle_with(alloc, values)?;
+        let (found, sink) = run(
+            alloc,
+            &["query", user, query],
+            bundle.as_str(),
+            false,
+            false,
+        )?;
+        let found = format!(in alloc; "{}", found.code())?;
+        assert_eq!(rt; found.as_str(), status, "in {line}");
+        let written = String::from_utf8_lossy(alloc, sink.written())?;
+        assert!(rt; written.contains(expected), "in {line}: {written}");
     }
     Ok(())
 }

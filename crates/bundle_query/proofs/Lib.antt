@@ -1,3 +1,0 @@
-pub mod TotalLemmas
-pub mod WordLemmas
-pub mod LinkLemmas

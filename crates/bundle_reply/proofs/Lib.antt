@@ -1,0 +1,4 @@
+pub mod AskLemmas
+pub mod LoadLemmas
+pub mod LimitLemmas
+pub mod ReplyLemmas

@@ -1,0 +1,75 @@
+-- Replies by cases.
+use Rattle.std.proofs.Common.{◌≡◌, ◌∙◌, ℕ, ℤ, ◌<◌, ◌≤◌, true, false, List, length, nat_lt, Option, None, Some, sym, ap, subst, arith, Result, Ok, Err, IfOk}
+use Rattle.serde_json.specs.Data.{Data}
+use Rattle.dh_base.specs.declared.codes.Code.TheVariants.{F22}
+use Rattle.std.specs.Fmt.{decimal}
+use Rattle.meta_parts.specs.declared.held.Records.{Records}
+use Rattle.meta_reader.specs.File.{document_of, most_bytes}
+use Rattle.metadata_reader.specs.Line.{line_of}
+use Rattle.dh_metadata.specs.declared.fault.MetaFault.TheVariants.{Limit}
+use Rattle.dh_metadata.specs.declared.fault.Which.TheVariants.{Bytes}
+use Rattle.moment_days.specs.Days.{day_of}
+use Rattle.record_index.specs.declared.outcome.Verdict.{Verdict}
+use Rattle.reply_bodies.specs.Bodies.{error_text}
+use Rattle.reply_bodies.specs.Summary.{is_clean, summary_text}
+use Rattle.query_lang.specs.Query.{query_of}
+use Rattle.bundle_reply.specs.Reply.{meta_refused, data_refused, refusal}
+use Rattle.bundle_reply.specs.Load.{limit_of, loading}
+use Rattle.bundle_reply.specs.Answer.{most_cells, reply_to_query, reply_by_conflicts, reply_by_limit, reply_to_load, reply_with_values}
+use Rattle.bundle_reply.specs.Bytes.{Asked, IsOverParts, IsOverDocument, IsOverLength, IsOverBytes}
+use Rattle.dh_base.specs.declared.memory.Memory.{Memory}
+use Rattle.dh_metadata.specs.Faults.{fault_of}
+use Rattle.dh_metadata.specs.Records.{IsMetadata}
+use Rattle.meta_parts.specs.declared.parts.MetaParts.{MetaParts}
+use Rattle.json_forms.specs.Forms.{Formed}
+use Rattle.json_forms.specs.Given.{Gives}
+use Rattle.json_forms.specs.declared.fault.FormFault.{FormFault}
+use Rattle.value_forms.specs.declared.set.SetValue.{SetValue}
+use Rattle.bundle_reply.specs.declared.reply.Reply.{Reply}
+
+lt-test : (m n : ℕ) → m < n → nat_lt m n ≡ true
+lt-test m n less = grind arith
+
+ge-test : (m n : ℕ) → n ≤ m → nat_lt m n ≡ false
+ge-test m n less = grind arith
+
+-- a bundle of too many bytes is refused
+pub long_reply : (ask : Asked) (bytes : List ℕ) (reply : Reply) → most_bytes < length bytes → reply ≡ meta_refused (line_of (Limit Bytes)) → IsOverBytes ask bytes reply
+unfolding IsOverBytes
+long_reply ask bytes reply long is = subst (λ b. IsOverLength ask bytes b reply) (sym (lt-test most_bytes (length bytes) long)) is
+
+-- a bundle that isn't too long is replied to by its document
+pub short_reply : (ask : Asked) (bytes : List ℕ) (document : Option Data) (reply : Reply) → length bytes ≤ most_bytes → document ≡ document_of bytes
+    → IsOverDocument ask document reply → IsOverBytes ask bytes reply
+unfolding IsOverBytes
+short_reply ask bytes document reply short is over =
+    subst (λ b. IsOverLength ask bytes b reply) (sym (ge-test most_bytes (length bytes) short)) (subst (λ d. IsOverDocument ask d reply) is over)
+
+-- the limit is told
+pub full_reply : (r : Records) (user : ℕ) (text : List ℕ) (moment : ℤ) (verdict : Verdict) (limit : ℕ) → Some limit ≡ limit_of (loading moment verdict)
+    → data_refused (error_text (refusal F22 (decimal limit))) ≡ reply_to_load r user text moment verdict
+unfolding reply_to_load
+full_reply r user text moment verdict limit is = ap (reply_by_limit r user text moment verdict) is
+
+-- the summary is told
+pub summary_reply : (r : Records) (user : ℕ) (text : List ℕ) (moment : ℤ) (verdict : Verdict) → None ≡ limit_of (loading moment verdict) → is_clean verdict ≡ false
+    → data_refused (summary_text verdict) ≡ reply_to_load r user text moment verdict
+unfolding reply_to_load
+summary_reply r user text moment verdict is conflicts =
+    sym (ap (reply_by_conflicts r user text moment verdict) conflicts) ∙ ap (reply_by_limit r user text moment verdict) is
+
+-- the query is answered
+pub query_reply : (r : Records) (user : ℕ) (text : List ℕ) (moment : ℤ) (verdict : Verdict) → None ≡ limit_of (loading moment verdict) → is_clean verdict ≡ true
+    → reply_to_query r user verdict.writes (query_of r user (day_of moment) most_cells text) ≡ reply_to_load r user text moment verdict
+unfolding reply_to_load
+query_reply r user text moment verdict is clean =
+    sym (ap (reply_by_conflicts r user text moment verdict) clean) ∙ ap (reply_by_limit r user text moment verdict) is
+
+-- metadata were made, and over them the reply was made
+pub over_made : (ask : Asked) (parts : MetaParts) (given : Result (List SetValue) FormFault) (r : Records) (result : Result Reply Memory)
+    → fault_of parts ≡ None → IsMetadata parts r
+    → IfOk result (λ reply. (formed : Formed (List SetValue)) → Gives formed given → reply ≡ reply_with_values r ask.user ask.query ask.moment formed)
+    → IfOk result (λ reply. (formed : Formed (List SetValue)) → Gives formed given → IsOverParts ask parts formed (fault_of parts) reply)
+over_made ask parts given r (Ok reply) none is made = λ formed gives.
+    subst (λ o. IsOverParts ask parts formed o reply) (sym none) (r, is, made formed gives)
+over_made ask parts given r (Err memory) none is made = tt

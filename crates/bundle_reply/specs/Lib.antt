@@ -1,0 +1,5 @@
+pub mod Reply
+pub mod Load
+pub mod Answer
+pub mod Bytes
+pub mod Steps

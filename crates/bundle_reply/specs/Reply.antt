@@ -1,0 +1,36 @@
+-- What a query over a bundle comes to: how it ends, and the text that is told.
+use Rattle.std.specs.Prelude.{ℕ, List, [], ◌∷◌, ◌++◌, Result, Ok, Err, codes}
+use Rattle.serde_json.specs.Data.{Data}
+use Rattle.serde_json.specs.Written.{compact_text}
+use Rattle.dh_base.specs.declared.codes.Code.{Code}
+use Rattle.dh_base.specs.declared.codes.Code.TheVariants.{F18}
+use Rattle.dh_base.specs.declared.codes.Refusal.{Refusal}
+use Rattle.reply_bodies.specs.Bodies.{error_text}
+use Rattle.bundle_reply.specs.declared.reply.Ending.TheVariants as ending
+use Rattle.bundle_reply.specs.declared.reply.Reply.{Reply}
+
+-- a text with a line feed behind it
+abbrev pub line : List ℕ → List ℕ
+line text = text ++ 10 ∷ []
+
+-- the metadata are refused with that fault
+unfoldable pub meta_refused : List ℕ → Reply
+meta_refused fault = record { ending = ending.MetaRefused; text = line (codes "dhis: metadata: " ++ fault) }
+
+unfoldable pub query_refused : Refusal → Reply
+query_refused refusal = record { ending = ending.QueryRefused; text = line (error_text refusal) }
+
+-- the values of the bundle are refused, and this body says why
+unfoldable pub data_refused : List ℕ → Reply
+data_refused body = record { ending = ending.DataRefused; text = line body }
+
+unfoldable pub answered : List ℕ → Reply
+answered body = record { ending = ending.Ok; text = line body }
+
+abbrev pub refusal : Code → List ℕ → Refusal
+refusal code detail = record { code = code; detail = detail }
+
+-- the body of an answer, or the item that is too wide
+unfoldable pub answer_reply : Result Data (List ℕ) → Reply
+answer_reply (Ok json) = answered (compact_text json)
+answer_reply (Err id) = query_refused (refusal F18 id)

@@ -1,0 +1,15 @@
+-- What the steps of a reply hand on.
+use Rattle.std.specs.Prelude.{◌≡◌, Result, Ok, Err, ⊤}
+use Rattle.serde_json.specs.Data.{Data}
+use Rattle.json_forms.specs.Given.{Gives}
+use Rattle.json_forms.specs.declared.fault.FormFault.{FormFault}
+use Rattle.json_forms.specs.declared.fault.FormFault.TheVariants as form
+use Rattle.meta_forms.specs.Parts.{parts_of}
+use Rattle.bundle_reply.specs.Bytes.{values_of}
+use Rattle.bundle_reply.specs.declared.bytes.Forms.{Forms}
+
+-- the records and the values of a bundle; or the path of the first fault of its records, or that memory was wanting
+abbrev pub AreForms : Data → Result Forms FormFault → Type 0
+AreForms json (Ok forms) = (parts_of json ≡ Ok forms.parts) × Gives (values_of json) forms.values
+AreForms json (Err (form.At path)) = parts_of json ≡ Err path
+AreForms json (Err form.Memory) = ⊤
