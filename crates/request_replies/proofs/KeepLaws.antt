@@ -1,0 +1,89 @@
+-- What holds behind every reply.
+use Rattle.std.proofs.Common.{◌≡◌, ◌∙◌, ◌≤◌, ℕ, ℤ, Bool, List, Option, None, Some, Result, Ok, Err, ap, sym, refl, arith}
+use Rattle.dh_base.specs.declared.codes.Refusal.{Refusal}
+use Rattle.dh_base.specs.declared.plain.CutKind.{CutKind}
+use Rattle.http_wire.specs.declared.request.Request.{Request}
+use Rattle.meta_parts.specs.declared.held.Records.{Records}
+use Rattle.change_log.specs.declared.limits.Limits.{Limits}
+use Rattle.moment_days.specs.Days.{day_of}
+use Rattle.web_routes.specs.Calls.{routed}
+use Rattle.web_routes.specs.declared.call.Call.{Call}
+use Rattle.web_routes.specs.declared.call.Call.TheVariants as call
+use Rattle.engine.specs.Machine.{State, Asked, Issued, ChangeStep, CutStep}
+use Rattle.engine.specs.Seen.{Seen, Brought}
+use Rattle.engine.specs.declared.machine.Report.{Report}
+use Rattle.engine.specs.declared.machine.ChangeFault.{ChangeFault}
+use Rattle.engine.specs.declared.machine.ChangeFault.TheVariants as change
+use Rattle.engine.specs.declared.machine.CutFault.{CutFault}
+use Rattle.engine.specs.declared.machine.CutFault.TheVariants as cut
+use Rattle.request_replies.specs.Updates.{UpdateReply, Ends}
+use Rattle.request_replies.specs.Steps.{ReplyAt, RoutedReply, Keeps}
+
+same-keeps : (old new : Seen) (made : Option (List ℕ)) → new ≡ old → Keeps old made new
+same-keeps old new made is = record {
+  meta = ap (λ (s : Seen). s.meta) is;
+  limits = ap (λ (s : Seen). s.limits) is;
+  faults = let e = ap (λ (s : Seen). s.faults) is in omega arith;
+  free = λ none. ap (λ (s : Seen). s.state.staged) is ∙ none;
+  published = λ _. ap (λ (s : Seen). s.state.published) is;
+}
+
+change-keeps : (old new : Seen) (asked : Asked) (made : Option (List ℕ)) (found : Result Report ChangeFault)
+    → ChangeStep old.meta old.limits old.state asked found new.state → Brought old asked found new → Keeps old made new
+change-keeps old new asked made (Ok report) step brought = record {
+  meta = ap (λ (s : Seen). s.meta) brought.0;
+  limits = ap (λ (s : Seen). s.limits) brought.0;
+  faults = brought.1.0;
+  free = λ none. ap (λ (s : State). s.staged) step.1 ∙ none;
+  published = λ _. ap (λ (s : State). s.published) step.1;
+}
+change-keeps old new asked made (Err (change.LogFull limit)) step brought = same-keeps old new made brought
+change-keeps old new asked made (Err change.StoreFault) step brought = record {
+  meta = ap (λ (s : Seen). s.meta) brought.1;
+  limits = ap (λ (s : Seen). s.limits) brought.1;
+  faults = brought.0.1;
+  free = λ none. ap (λ (s : Seen). s.state.staged) brought.1 ∙ none;
+  published = λ _. ap (λ (s : Seen). s.state.published) brought.1;
+}
+change-keeps old new asked made (Err change.Memory) step brought = same-keeps old new made brought
+
+refused-cut : (limits : Limits) (old between : State) (kind : CutKind) (fault : CutFault) → CutStep limits old kind (Err fault) between → between ≡ old
+refused-cut limits old between kind (cut.Busy ticket) step = step.1
+refused-cut limits old between kind (cut.UpdatesSpent limit) step = step.1
+refused-cut limits old between kind cut.Memory step = step
+
+ends-free : (limits : Limits) (old between new : State) (kind : CutKind) (keep : Bool) (found : Result Issued CutFault) (made : Option (List ℕ))
+    → CutStep limits old kind found between → Ends keep kind found between made new → old.staged ≡ None → new.staged ≡ None
+ends-free limits old between new kind keep (Ok issued) (Some text) step ends none = ap (λ (s : State). s.staged) ends.0.1
+ends-free limits old between new kind keep (Ok issued) None step ends none = ap (λ (s : State). s.staged) ends.1
+ends-free limits old between new kind keep (Err fault) made step ends none =
+    ap (λ (s : State). s.staged) (ends.0 ∙ refused-cut limits old between kind fault step) ∙ none
+
+ends-published : (limits : Limits) (old between new : State) (kind : CutKind) (keep : Bool) (found : Result Issued CutFault)
+    → CutStep limits old kind found between → Ends keep kind found between None new → new.published ≡ old.published
+ends-published limits old between new kind keep (Ok issued) step ends = ap (λ (s : State). s.published) ends.1 ∙ ap (λ (s : State). s.published) step.1
+ends-published limits old between new kind keep (Err fault) step ends =
+    ap (λ (s : State). s.published) (ends.0 ∙ refused-cut limits old between kind fault step)
+
+update-published : (old new : Seen) (kind : CutKind) (keep : Bool) (made : Option (List ℕ)) → UpdateReply old kind keep made new → made ≡ None → new.state.published ≡ old.state.published
+update-published old new kind keep None u none = ends-published old.limits old.state u.between new.state kind keep u.found u.begins u.ends
+update-published old new kind keep (Some text) u none = absurd (cc)
+
+update-keeps : (old new : Seen) (kind : CutKind) (keep : Bool) (made : Option (List ℕ)) → UpdateReply old kind keep made new → Keeps old made new
+update-keeps old new kind keep made u = record {
+  meta = ap (λ (s : Seen). s.meta) u.same;
+  limits = ap (λ (s : Seen). s.limits) u.same;
+  faults = let e = ap (λ (s : Seen). s.faults) u.same in omega arith;
+  free = ends-free old.limits old.state u.between new.state kind keep u.found made u.begins u.ends;
+  published = update-published old new kind keep made u;
+}
+
+routed-keeps : (old new : Seen) (moment : ℤ) (meant : Result Call Refusal) (keep : Bool) (made : Option (List ℕ)) → RoutedReply old moment meant keep made new → Keeps old made new
+routed-keeps old new moment (Err refused) keep made reply = same-keeps old new made reply.1
+routed-keeps old new moment (Ok (call.Query user asked query)) keep made reply = same-keeps old new made reply.1
+routed-keeps old new moment (Ok (call.Update kind)) keep made reply = update-keeps old new kind keep made reply
+routed-keeps old new moment (Ok (call.Values user set)) keep made reply = change-keeps old new _ made reply.found reply.steps reply.brought
+routed-keeps old new moment (Ok (call.Completion user list)) keep made reply = change-keeps old new _ made reply.found reply.steps reply.brought
+
+pub reply-keeps : (old new : Seen) (moment : ℤ) (request : Request) (keep : Bool) (made : Option (List ℕ)) → ReplyAt old moment request keep made new → Keeps old made new
+reply-keeps old new moment request keep made reply = routed-keeps old new moment (routed old.meta (day_of moment) request) keep made reply

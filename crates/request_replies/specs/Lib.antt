@@ -1,0 +1,5 @@
+pub mod Texts
+pub mod Queries
+pub mod Changes
+pub mod Updates
+pub mod Steps

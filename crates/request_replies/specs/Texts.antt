@@ -1,0 +1,92 @@
+-- The texts of replies by what the machine answered. `None` stands for want of memory.
+use Rattle.std.specs.Prelude.{◌≡◌, ◌<◌, ◌≤◌, ◌+◌, ◌*◌, ℕ, nat_le, if◌then◌else◌, Bool, List, [], length, decimal, Option, None, Some, Result, Ok, Err, Vec, ⊤}
+use Rattle.std.specs.declared.alloc.Global.{Global}
+use Rattle.serde_json.specs.Data.{Data}
+use Rattle.serde_json.specs.Written.{compact_text}
+use Rattle.dh_base.specs.Codes.{status_of}
+use Rattle.dh_base.specs.declared.codes.Code.TheVariants.{F18, F19, F22, F23, F30, F32}
+use Rattle.dh_base.specs.declared.codes.Refusal.{Refusal}
+use Rattle.dh_base.specs.declared.memory.Memory.{Memory}
+use Rattle.dh_base.specs.declared.plain.CutKind.{CutKind}
+use Rattle.query_forms.specs.Given.{refusal}
+use Rattle.reply_bodies.specs.Bodies.{error_text, update_text}
+use Rattle.request_session.specs.Replies.{reply_text, memory_reply}
+use Rattle.engine.specs.Machine.{Issued}
+use Rattle.engine.specs.declared.machine.ChangeRequest.{ChangeRequest}
+use Rattle.engine.specs.declared.machine.ChangeRequest.TheVariants.{Values, Completion}
+use Rattle.engine.specs.declared.machine.Report.{Report}
+use Rattle.engine.specs.declared.machine.ChangeFault.{ChangeFault}
+use Rattle.engine.specs.declared.machine.ChangeFault.TheVariants as change
+use Rattle.engine.specs.declared.machine.CutFault.{CutFault}
+use Rattle.engine.specs.declared.machine.CutFault.TheVariants as cut
+
+-- the text that a call answered, or none where memory was wanting
+abbrev pub told : Result (Vec ℕ Global) Memory → Option (List ℕ)
+told (Ok text) = Some text.items
+told (Err fault) = None
+
+-- the text that stands for it
+abbrev pub text_of : Bool → Option (List ℕ) → List ℕ
+text_of keep (Some text) = text
+text_of keep None = memory_reply keep
+
+-- this text, unless memory was wanting
+abbrev pub IsTold : Option (List ℕ) → List ℕ → Type 0
+IsTold (Some text) meant = text ≡ meant
+IsTold None meant = ⊤
+
+-- the reply that refuses a request; it tells how many changes are published where the tables were asked
+unfoldable pub refusal_reply : Option ℕ → Bool → Refusal → List ℕ
+refusal_reply published keep refused = reply_text (status_of refused.code) published None keep (error_text refused)
+
+-- ---- a query
+
+-- the answer over tables that stand for so many changes
+unfoldable pub answer_reply : ℕ → Bool → Result Data (List ℕ) → List ℕ
+answer_reply published keep (Ok body) = reply_text 200 (Some published) None keep (compact_text body)
+answer_reply published keep (Err id) = refusal_reply (Some published) keep (refusal F18 id)
+
+-- only so many changes are published
+abbrev pub not_yet_reply : ℕ → Bool → List ℕ
+not_yet_reply published keep = refusal_reply None keep (refusal F19 (decimal published))
+
+-- ---- a change
+
+unfoldable pub report_reply : Bool → Report → List ℕ
+report_reply keep report = reply_text report.status None (Some report.number) keep report.body
+
+abbrev pub full_reply : ℕ → Bool → List ℕ
+full_reply limit keep = refusal_reply None keep (refusal F22 (decimal limit))
+
+abbrev pub store_reply : Bool → List ℕ
+store_reply keep = refusal_reply None keep (refusal F23 [])
+
+-- the values or completions that a request has
+abbrev pub count_in : ChangeRequest → ℕ
+count_in (Values set) = length set.values
+count_in (Completion list) = length list
+
+-- How many bytes are kept free for the reply to a change before it is made, by the number of values or completions: 1,024, and
+-- 40 for each, which may be a conflict. There are no more of them than a body has bytes.
+unfoldable pub room_of : ℕ → ℕ
+room_of count = if nat_le count 16777216 then 1024 + 40 * count else 1024
+
+-- Where memory is wanting for a change that was made, its reply is longer than the room that was kept free.
+abbrev pub IsChangeText : ℕ → Bool → Result Report ChangeFault → Option (List ℕ) → Type 0
+IsChangeText room keep (Ok report) (Some text) = text ≡ report_reply keep report
+IsChangeText room keep (Ok report) None = room < length (report_reply keep report)
+IsChangeText room keep (Err (change.LogFull limit)) text = IsTold text (full_reply limit keep)
+IsChangeText room keep (Err change.StoreFault) text = IsTold text (store_reply keep)
+IsChangeText room keep (Err change.Memory) text = text ≡ None
+
+-- ---- an update
+
+-- the update was made, and the tables stand for so many changes
+unfoldable pub update_reply : ℕ → Bool → CutKind → List ℕ
+update_reply published keep kind = reply_text 200 (Some published) None keep (update_text kind published)
+
+-- no update was begun
+abbrev pub IsCutText : Bool → CutFault → Option (List ℕ) → Type 0
+IsCutText keep (cut.Busy ticket) text = IsTold text (refusal_reply None keep (refusal F30 (decimal ticket)))
+IsCutText keep (cut.UpdatesSpent limit) text = IsTold text (refusal_reply None keep (refusal F32 (decimal limit)))
+IsCutText keep cut.Memory text = text ≡ None

@@ -1,0 +1,117 @@
+// The reply to a query.
+ghost use Rattle.std.specs.Prelude.{◌≡◌, ◌<◌, length, take, Some, None, IfOk};
+ghost use Rattle.std.specs.Arc.{arc_value};
+ghost use Rattle.engine.specs.Seen.{published_in};
+ghost use Rattle.engine.specs.Tables.{tables_of};
+ghost use Rattle.query_answer.specs.Asked.{CanAnswer};
+ghost use Rattle.query_answer.specs.Answer.{answer_of};
+ghost use Rattle.query_lang.specs.Askable.{IsAskable};
+ghost use Rattle.query_forms.specs.Given.{refusal};
+ghost use Rattle.seen_rows.specs.Seen.{seen};
+ghost use Rattle.request_session.specs.Replies.{reply_text};
+ghost use Rattle.request_replies.specs.Texts.{told, answer_reply, refusal_reply};
+ghost use Rattle.request_replies.specs.Queries.{QueryReply, IsLookText};
+ghost use Rattle.dh_base.specs.declared.codes.Code.TheVariants.{F18};
+
+use crate::texts::{number_reply, refusal_reply};
+use dh_base::codes::{Code, Refusal};
+use dh_base::items::Items;
+use dh_base::memory::Memory;
+use dh_outside::Keeper;
+use engine::{Engine, LookFault, View};
+use meta_model::metadata::Metadata;
+use query_answer::{AnswerFault, answer};
+use query_parts::Query;
+use request_session::whole_reply;
+use seen_rows::Seer;
+use std::alloc::Global;
+use table_rows::ListRows;
+
+// The answer is told.
+#[tactic(auto, using(crate::proofs::Statuses::ok_status))]
+fn answered(alloc: Global, published: u64, keep: bool, body: &[u8]) -> Result<Vec<u8>, Memory>
+    ensures { IfOk result (λ text. text.items ≡ reply_text 200 (Some published) None keep body.now) }
+{
+    whole_reply(alloc, 200, Some(published), None, keep, body)
+}
+
+fn too_wide(alloc: Global, published: u64, keep: bool, id: Items<u8>) -> Result<Vec<u8>, Memory>
+    ensures { IfOk result (λ text. text.items ≡ refusal_reply (Some published) keep (refusal F18 id)) }
+{
+    let refused = Refusal {
+        code: Code::F18,
+        detail: id,
+    };
+    refusal_reply(alloc, Some(published), keep, &refused)
+}
+
+// The answer over the rows of tables that stand for so many changes.
+#[tactic(auto, unfolding(crate::specs::Texts::answer_reply))]
+fn over_rows(
+    alloc: Global,
+    meta: &Metadata,
+    user: u32,
+    store: &ListRows,
+    query: &Query,
+    published: u64,
+    keep: bool,
+) -> Result<Vec<u8>, Memory>
+    requires user { user < length meta.now.users }
+    requires query { CanAnswer meta.now query.now }
+    ensures { IfOk result (λ text. text.items ≡ answer_reply published keep (answer_of meta.now query.now (seen meta.now user store.now.rows))) }
+{
+    let seer = Seer::of(alloc, meta, user)?;
+    match answer(alloc, meta, store, &seer, query) {
+        Ok(body) => answered(alloc, published, keep, body.as_slice()),
+        Err(AnswerFault::Wide { id }) => too_wide(alloc, published, keep, id),
+        Err(AnswerFault::Memory) => Err(Memory),
+    }
+}
+
+// What the look at the tables came to is told.
+#[tactic(auto, using(crate::proofs::TellLemmas::is_told), unfolding(crate::specs::Queries::answer_over))]
+fn tell<K: Keeper>(
+    alloc: Global,
+    engine: &Engine<K>,
+    user: u32,
+    found: Result<View, LookFault>,
+    query: &Query,
+    keep: bool,
+) -> Result<Vec<u8>, Memory>
+    requires user { user < length engine.now.meta.users }
+    requires query { CanAnswer engine.now.meta query.now }
+    requires tables { IfOk found (λ view. arc_value view.tables ≡ tables_of engine.now.meta (take view.published engine.now.state.log)) }
+    ensures { IsLookText engine.now.meta engine.now.state.log user query.now keep (published_in found) (told result) }
+{
+    match found {
+        Ok(view) => over_rows(
+            alloc,
+            engine.meta(),
+            user,
+            &view.tables,
+            query,
+            view.published,
+            keep,
+        ),
+        Err(LookFault::NotYet { published }) => number_reply(alloc, keep, Code::F19, published),
+        Err(LookFault::Memory) => Err(Memory),
+    }
+}
+
+/// The reply to a query over the tables that are published.
+#[tactic(auto)]
+pub(crate) fn reply_to_query<K: Keeper>(
+    alloc: Global,
+    engine: &Engine<K>,
+    user: u32,
+    asked: u64,
+    query: &Query,
+    keep: bool,
+) -> Result<Vec<u8>, Memory>
+    requires user { user < length engine.now.meta.users }
+    requires query { IsAskable engine.now.meta user query.now }
+    ensures { QueryReply engine.now.meta engine.now.state user asked query.now keep (told result) }
+{
+    let found = engine.look(asked);
+    tell(alloc, engine, user, found, query, keep)
+}
