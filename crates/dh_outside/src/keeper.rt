@@ -33,7 +33,7 @@ impl From<AllocError> for KeepFault {
 }
 
 /// What keeps bytes for good, as a journal. It says how many bytes it has acknowledged.
-pub trait Keeper: Drop + Send {
+pub trait Keeper: Drop {
     /// How many bytes are acknowledged, 0 at a keeper that is empty.
     ghost acknowledged: { Self → ℕ };
 

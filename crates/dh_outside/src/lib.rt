@@ -65,7 +65,7 @@ pub trait Sink {
 }
 
 /// A clock. It cannot fail.
-pub trait Clock: Sync {
+pub trait Clock {
     /// The moments that it may show, in seconds from 1970-01-01 in UTC.
     ghost shows: { Self → ℤ → Type 0 };
 
