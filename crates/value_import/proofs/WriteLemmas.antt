@@ -1,10 +1,13 @@
 -- What the writes of a verdict are: values of at most 1,024 bytes, and completions on a day that is told.
-use Rattle.std.proofs.Common.{◌≡◌, ◌∙◌, ℕ, ◌+◌, ◌≤◌, Bool, true, false, cond, List, [], ◌∷◌, ◌++◌, length, Option, Some, None, refl}
+use Rattle.std.proofs.Common.{◌≡◌, ◌∙◌, ℕ, ◌+◌, ◌≤◌, Bool, true, false, cond, List, [], ◌∷◌, ◌++◌, length, Option, Some, None, refl, ap, sym, subst, arith, Result, Ok, Err, IfOk}
 use Rattle.std.specs.Prelude.{ℤ, pos, ◌&&◌, not, unwrap_or}
 use Rattle.std.specs.Option.{option_map_or, option_or, is_none}
-use Rattle.std.specs.List.{AllByRecursion}
+use Rattle.std.specs.List.{All, AllByRecursion}
+use Rattle.std.proofs.lemmas.List.Elements.{All-from_recursion}
 use Rattle.dh_base.specs.declared.codes.Code.{Code}
 use Rattle.dh_base.specs.declared.codes.Code.TheVariants.{C11}
+use Rattle.dh_base.specs.declared.memory.Memory.{Memory}
+use Rattle.change_bytes.specs.Forms.{WriteFits}
 use Rattle.dh_changes.specs.declared.keys.ValueKey.{ValueKey}
 use Rattle.dh_changes.specs.declared.keys.RegKey.{RegKey}
 use Rattle.dh_changes.specs.declared.change.Write.{Write}
@@ -32,6 +35,7 @@ use Rattle.value_import.specs.Completions.{reg_names_of, reg_name_conditions, re
 use Rattle.value_import.specs.Verdicts.{with_value, with_values, with_date, verdict_of, with_completion, with_completions, completions_verdict_of}
 use Rattle.value_import.proofs.FirstLemmas.{first_of-append}
 use Rattle.value_import.proofs.TextSizes.{value-small}
+use Rattle.value_import.proofs.DayLemmas.{told-day}
 
 -- what a value or a completion comes to writes such a write, if any
 abbrev pub Writes : ℤ → Judged → Type 0
@@ -178,7 +182,7 @@ finished-writes today true v all = tt
 finished-writes today false v all = all
 
 -- the writes of the verdict on a data value set
-pub verdict_of-writes : (facts : Facts) (r : Records) (who : Who) (moment : ℤ) (set : ValueSet) → AllByRecursion (IsValueWrite (day_of moment)) (verdict_of facts r who moment set).writes
+verdict_of-writes : (facts : Facts) (r : Records) (who : Who) (moment : ℤ) (set : ValueSet) → AllByRecursion (IsValueWrite (day_of moment)) (verdict_of facts r who moment set).writes
 unfolding verdict_of
 verdict_of-writes facts r who moment set =
     finished-writes (day_of moment) set.params.dry _
@@ -193,7 +197,7 @@ with_completions-writes facts r who today index (asked ∷ more) v all =
     (taken-writes today index (judged_completion facts r who today (holds_registration facts v.writes) asked) v all (judged_completion-writes facts r who today (holds_registration facts v.writes) asked))
 
 -- the writes of the verdict on completions
-pub completions_verdict_of-writes : (facts : Facts) (r : Records) (who : Who) (moment : ℤ) (list : List Completion)
+completions_verdict_of-writes : (facts : Facts) (r : Records) (who : Who) (moment : ℤ) (list : List Completion)
     → AllByRecursion (IsValueWrite (day_of moment)) (completions_verdict_of facts r who moment list).writes
 unfolding completions_verdict_of
 completions_verdict_of-writes facts r who moment list = with_completions-writes facts r who (day_of moment) 0 list nothing tt
@@ -203,6 +207,62 @@ dry v true is = refl
 dry v false is = cc
 
 -- a dry run writes nothing
-pub verdict_of-dry : (facts : Facts) (r : Records) (who : Who) (moment : ℤ) (set : ValueSet) → set.params.dry ≡ true → (verdict_of facts r who moment set).writes ≡ []
+verdict_of-dry : (facts : Facts) (r : Records) (who : Who) (moment : ℤ) (set : ValueSet) → set.params.dry ≡ true → (verdict_of facts r who moment set).writes ≡ []
 unfolding verdict_of
 verdict_of-dry facts r who moment set is = dry _ set.params.dry is
+
+-- ---- the bytes of a change
+
+-- such a write fits them
+fits-bytes : (moment : ℤ) (w : Write) → IsValueWrite (day_of moment) w → WriteFits w
+fits-bytes moment (write.ValueSet key value) small = omega (arith, small)
+fits-bytes moment (write.ValueCleared key) is = tt
+fits-bytes moment (write.Complete key day) told = told-day moment day told.0 told.1
+fits-bytes moment (write.Uncomplete key) is = tt
+fits-bytes moment (write.EventWritten event) is = absurd is
+fits-bytes moment (write.EventDeleted id) is = tt
+fits-bytes moment (write.EnrollmentWritten enrollment) is = absurd is
+fits-bytes moment (write.EnrollmentDeleted id) is = tt
+fits-bytes moment (write.EntityWritten entity) is = absurd is
+fits-bytes moment (write.EntityDeleted id) is = tt
+fits-bytes moment (write.Approve key) is = tt
+fits-bytes moment (write.Unapprove key) is = tt
+fits-bytes moment (write.Accept key) is = tt
+fits-bytes moment (write.Unaccept key) is = tt
+
+each-fits : (moment : ℤ) (ws : List Write) → AllByRecursion (IsValueWrite (day_of moment)) ws → AllByRecursion WriteFits ws
+each-fits moment [] all = tt
+each-fits moment (w ∷ ws) all = (fits-bytes moment w all.0, each-fits moment ws all.1)
+
+-- ---- a verdict that is told
+
+of-verdict : (P : List Write → Type 0) (v told : Verdict) → v ≡ told → P told.writes → P v.writes
+of-verdict P v told is holds = subst (λ (w : Verdict). P w.writes) (sym is) holds
+
+pub set-writes : (facts : Facts) (r : Records) (who : Who) (moment : ℤ) (set : ValueSet) (result : Result Verdict Memory) → IfOk result (λ v. v ≡ verdict_of facts r who moment set)
+    → IfOk result (λ v. All (IsValueWrite (day_of moment)) v.writes)
+set-writes facts r who moment set (Ok v) is = of-verdict (All (IsValueWrite (day_of moment))) v _ is (All-from_recursion (IsValueWrite (day_of moment)) _ (verdict_of-writes facts r who moment set))
+set-writes facts r who moment set (Err memory) is = tt
+
+pub set-fits : (facts : Facts) (r : Records) (who : Who) (moment : ℤ) (set : ValueSet) (result : Result Verdict Memory) → IfOk result (λ v. v ≡ verdict_of facts r who moment set)
+    → IfOk result (λ v. All WriteFits v.writes)
+set-fits facts r who moment set (Ok v) is = of-verdict (All WriteFits) v _ is (All-from_recursion WriteFits _ (each-fits moment _ (verdict_of-writes facts r who moment set)))
+set-fits facts r who moment set (Err memory) is = tt
+
+pub set-dry : (facts : Facts) (r : Records) (who : Who) (moment : ℤ) (set : ValueSet) (result : Result Verdict Memory) → IfOk result (λ v. v ≡ verdict_of facts r who moment set)
+    → set.params.dry ≡ true → IfOk result (λ v. v.writes ≡ [])
+set-dry facts r who moment set (Ok v) is dry = ap (λ (w : Verdict). w.writes) is ∙ verdict_of-dry facts r who moment set dry
+set-dry facts r who moment set (Err memory) is dry = tt
+
+pub list-writes : (facts : Facts) (r : Records) (who : Who) (moment : ℤ) (list : List Completion) (result : Result Verdict Memory)
+    → IfOk result (λ v. v ≡ completions_verdict_of facts r who moment list)
+    → IfOk result (λ v. All (IsValueWrite (day_of moment)) v.writes)
+list-writes facts r who moment list (Ok v) is =
+    of-verdict (All (IsValueWrite (day_of moment))) v _ is (All-from_recursion (IsValueWrite (day_of moment)) _ (completions_verdict_of-writes facts r who moment list))
+list-writes facts r who moment list (Err memory) is = tt
+
+pub list-fits : (facts : Facts) (r : Records) (who : Who) (moment : ℤ) (list : List Completion) (result : Result Verdict Memory)
+    → IfOk result (λ v. v ≡ completions_verdict_of facts r who moment list)
+    → IfOk result (λ v. All WriteFits v.writes)
+list-fits facts r who moment list (Ok v) is = of-verdict (All WriteFits) v _ is (All-from_recursion WriteFits _ (each-fits moment _ (completions_verdict_of-writes facts r who moment list)))
+list-fits facts r who moment list (Err memory) is = tt

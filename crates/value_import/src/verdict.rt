@@ -1,9 +1,13 @@
 //! The verdict on a data value set and on completions.
 
-ghost use Rattle.std.specs.Prelude.{◌≡◌, ◌+◌, ◌<◌, ◌^◌, length, OnOk, IfOk};
+ghost use Rattle.std.specs.Prelude.{◌≡◌, ◌+◌, ◌<◌, ◌^◌, [], length, IsTrue, OnOk, IfOk};
+ghost use Rattle.std.specs.List.{All};
+ghost use Rattle.change_bytes.specs.Forms.{WriteFits};
+ghost use Rattle.moment_days.specs.Days.{day_of};
 ghost use Rattle.record_index.specs.World.{facts};
 ghost use Rattle.value_import.specs.Outcomes.{nothing, taken, finished, AreAtMost, IsKnown};
 ghost use Rattle.value_import.specs.Said.{AreSaid};
+ghost use Rattle.value_import.specs.Sizes.{IsValueWrite};
 ghost use Rattle.value_import.specs.Verdicts.{with_value, with_values, with_date, verdict_of, with_completion, with_completions, completions_verdict_of};
 
 use crate::batch::{Batch, empty_batch, take_in};
@@ -101,10 +105,8 @@ fn finished(alloc: Global, dry: bool, mut verdict: Verdict) -> Verdict
     verdict
 }
 
-/// The verdict on a data value set. Each value is judged by what holds after the log and the writes
-/// accepted before it in the set. A user is named by a number of the metadata.
 #[tactic(auto, unfolding(crate::specs::Verdicts::verdict_of))]
-pub fn verdict(
+fn judged_set(
     alloc: Global,
     world: &World,
     meta: &Metadata,
@@ -129,6 +131,26 @@ pub fn verdict(
     )?;
     with_date(alloc, world, meta, who, today, set, &mut batch)?;
     Ok(finished(alloc, set.params.dry, batch.verdict))
+}
+
+/// The verdict on a data value set. Each value is judged by what holds after the log and the writes
+/// accepted before it in the set. A user is named by a number of the metadata. Each write fits the
+/// bytes of a change.
+pub fn verdict(
+    alloc: Global,
+    world: &World,
+    meta: &Metadata,
+    who: Who,
+    moment: i64,
+    set: &ValueSet,
+) -> Result<Verdict, Memory>
+    requires { IsKnown meta.now who }
+    ensures value { IfOk result (λ verdict. verdict ≡ verdict_of (facts world.now) meta.now who moment set.now) }
+    ensures writes { IfOk result (λ verdict. All (IsValueWrite (day_of moment)) verdict.writes) }
+    ensures fits { IfOk result (λ verdict. All WriteFits verdict.writes) }
+    ensures dry { IsTrue set.now.params.dry → IfOk result (λ verdict. verdict.writes ≡ []) }
+{
+    judged_set(alloc, world, meta, who, moment, set)
 }
 
 #[tactic(auto, unfolding(crate::specs::Verdicts::with_completion))]
@@ -174,10 +196,8 @@ fn with_completions(
     Ok(())
 }
 
-/// The verdict on completions. Each is judged by what holds after the log and the writes accepted
-/// before it in the list. A user is named by a number of the metadata.
 #[tactic(auto, unfolding(crate::specs::Verdicts::completions_verdict_of))]
-pub fn judge_completions(
+fn judged_list(
     alloc: Global,
     world: &World,
     meta: &Metadata,
@@ -192,4 +212,23 @@ pub fn judge_completions(
     let mut batch = empty_batch(alloc);
     with_completions(world, meta, who, today, list, &mut batch)?;
     Ok(batch.verdict)
+}
+
+/// The verdict on completions. Each is judged by what holds after the log and the writes accepted
+/// before it in the list. A user is named by a number of the metadata. Each write fits the bytes of a
+/// change.
+pub fn judge_completions(
+    alloc: Global,
+    world: &World,
+    meta: &Metadata,
+    who: Who,
+    moment: i64,
+    list: &[Completion],
+) -> Result<Verdict, Memory>
+    requires { IsKnown meta.now who }
+    ensures value { IfOk result (λ verdict. verdict ≡ completions_verdict_of (facts world.now) meta.now who moment list.now) }
+    ensures writes { IfOk result (λ verdict. All (IsValueWrite (day_of moment)) verdict.writes) }
+    ensures fits { IfOk result (λ verdict. All WriteFits verdict.writes) }
+{
+    judged_list(alloc, world, meta, who, moment, list)
 }
