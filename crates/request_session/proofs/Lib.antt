@@ -1,3 +1,5 @@
+pub mod AlongLemmas
+pub mod CodeLaws
 pub mod ReplyLemmas
 pub mod RequestLemmas
 pub mod SendLemmas

@@ -1,3 +1,5 @@
+pub mod Along
+pub mod Codes
 pub mod Replies
 pub mod Session
 pub mod SoFar

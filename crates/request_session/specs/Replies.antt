@@ -4,6 +4,11 @@ use Rattle.http_wire.specs.Reply.{head_of}
 use Rattle.dh_base.specs.Codes.{status_of}
 use Rattle.dh_base.specs.declared.codes.Code.{Code}
 use Rattle.reply_bodies.specs.Bodies.{error_text, memory_text}
+use Rattle.request_session.specs.declared.reply.Reply.{Reply}
+
+-- all the bytes of a reply
+abbrev pub text_in : Reply → List ℕ
+text_in reply = reply.head ++ reply.body.items
 
 -- a whole reply: its head, which tells how long the body is, and the body
 unfoldable pub reply_text : ℕ → Option ℕ → Option ℕ → Bool → List ℕ → List ℕ

@@ -4,7 +4,9 @@
 #![tactic(auto)]
 
 mod ended;
+mod laws;
 mod machine;
+mod reply;
 mod send;
 mod session;
 #[cfg(test)]
@@ -13,6 +15,8 @@ mod texts;
 mod turn;
 
 pub use ended::Ended;
+pub use laws::{refusals_are_of_the_wire, runs_carry_over, sessions_agree};
 pub use machine::Machine;
+pub use reply::Reply;
 pub use session::serve_requests;
 pub use texts::whole_reply;

@@ -1,7 +1,8 @@
 ghost use Rattle.std.specs.Prelude.{ℕ, Bool, List, IfOk, OnErr};
 ghost use Rattle.http_wire.specs.declared.request.Request.{Request as Asked};
-ghost use Rattle.request_session.specs.Replies.{memory_reply};
+ghost use Rattle.request_session.specs.Replies.{memory_reply, text_in};
 
+use crate::reply::Reply;
 use dh_base::memory::Memory;
 use http_wire::Request;
 use std::alloc::Global;
@@ -13,8 +14,9 @@ pub trait Machine {
     /// those that it may give, and the relation says what the state is then.
     ghost step: { Self → Asked → Bool → List ℕ → Self → Type 0 };
 
-    /// The reply to a request. Where it finds no memory, the reply for want of memory stands in its place.
-    fn reply(&mut self, alloc: Global, request: &Request, keep: bool) -> Result<Vec<u8>, Memory>
-        ensures replies { IfOk result (λ text. step self.old request.now keep text.items self.new) }
+    /// The reply to a request. Where it finds no memory, the reply for want of memory stands in its place. Head
+    /// and body stand apart, so that a machine that has changed needs no memory to join them.
+    fn reply(&mut self, alloc: Global, request: &Request, keep: bool) -> Result<Reply, Memory>
+        ensures replies { IfOk result (λ reply. step self.old request.now keep (text_in reply) self.new) }
         ensures memory { OnErr result (step self.old request.now keep (memory_reply keep) self.new) };
 }

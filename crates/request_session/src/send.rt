@@ -3,10 +3,11 @@ ghost use Rattle.std.specs.Prelude.{◌≡◌, ◌≤◌, ◌++◌, List, ℕ, O
 ghost use Rattle.dh_outside.specs.Faults.{Rose};
 ghost use Rattle.reply_bodies.specs.Bodies.{memory_text};
 ghost use Rattle.http_wire.specs.Reply.{head_of};
-ghost use Rattle.request_session.specs.Replies.{memory_reply, RefusesBy};
+ghost use Rattle.request_session.specs.Replies.{memory_reply, RefusesBy, text_in};
 ghost use Rattle.request_session.specs.Turn.{Sent};
 
 use crate::machine::Machine;
+use crate::reply::Reply;
 use crate::texts::refused_reply;
 use dh_base::codes::Code;
 use dh_outside::{Failed, Sink, write_all};
@@ -56,6 +57,15 @@ fn send_memory<O: Sink>(output: &mut O, keep: bool) -> Result<(), Failed>
     send_both(output, head.bytes(), memory_body())
 }
 
+// Writes a reply: its head, and then its body.
+fn send_reply<O: Sink>(output: &mut O, reply: &Reply) -> Result<(), Failed>
+    ensures sent { Sent result (O.written output.old) (O.written output.new) (text_in reply.now) }
+    ensures failed { OnErr result (Rose (O.sink_faults output.old) (O.sink_faults output.new)) }
+    ensures keeps { O.sink_faults output.old ≤ O.sink_faults output.new }
+{
+    send_both(output, reply.head.bytes(), reply.body.as_slice())
+}
+
 /// Writes the machine's reply to a request.
 pub(crate) fn answer<M: Machine, O: Sink>(
     alloc: Global,
@@ -69,7 +79,7 @@ pub(crate) fn answer<M: Machine, O: Sink>(
     ensures keeps { O.sink_faults output.old ≤ O.sink_faults output.new }
 {
     match machine.reply(alloc, request, keep) {
-        Ok(reply) => send(output, reply.as_slice()),
+        Ok(reply) => send_reply(output, &reply),
         Err(_) => send_memory(output, keep),
     }
 }
@@ -81,7 +91,7 @@ pub(crate) fn refuse<O: Sink>(alloc: Global, output: &mut O, code: Code) -> Resu
     ensures keeps { O.sink_faults output.old ≤ O.sink_faults output.new }
 {
     match refused_reply(alloc, code) {
-        Ok(text) => send(output, text.as_slice()),
+        Ok(refusal) => send_reply(output, &refusal),
         Err(_) => send_memory(output, false),
     }
 }

@@ -16,8 +16,9 @@ impl Machine for Paths {
     ghost step = { λ _ _ _ _ _. ⊤ };
 
     #[tactic(auto, using(crate::proofs::ReplyLemmas::ok_status))]
-    fn reply(&mut self, alloc: Global, request: &Request, keep: bool) -> Result<Vec<u8>, Memory> {
-        whole_reply(alloc, 200, None, None, keep, request.path.as_slice())
+    fn reply(&mut self, alloc: Global, request: &Request, keep: bool) -> Result<Reply, Memory> {
+        let body = request.path.as_slice().to_vec(alloc)?;
+        Ok(whole_reply(200, None, None, keep, body))
     }
 }
 

@@ -1,8 +1,9 @@
 // The texts of replies.
 ghost use Rattle.std.specs.Prelude.{◌≡◌, true, IfOk};
 ghost use Rattle.http_wire.specs.Reply.{is_reply_status};
-ghost use Rattle.request_session.specs.Replies.{reply_text, refused_text};
+ghost use Rattle.request_session.specs.Replies.{text_in, reply_text, refused_text};
 
+use crate::reply::Reply;
 use dh_base::codes::{Code, Refusal};
 use dh_base::items::Items;
 use dh_base::memory::Memory;
@@ -10,34 +11,31 @@ use http_wire::reply::head;
 use reply_bodies::error_body;
 use std::alloc::Global;
 
-/// A whole reply: its head, which tells how long the body is, and the body.
+/// A whole reply: its head, which tells how long the body is, and the body. This takes no memory.
 #[tactic(auto, unfolding(crate::specs::Replies::reply_text))]
 pub fn whole_reply(
-    alloc: Global,
     status: u16,
     published: Option<u64>,
     change: Option<u64>,
     keep: bool,
-    body: &[u8],
-) -> Result<Vec<u8>, Memory>
+    body: Vec<u8>,
+) -> Reply
     requires { is_reply_status status ≡ true }
-    ensures { IfOk result (λ text. text.items ≡ reply_text status published change keep body.now) }
+    ensures { text_in result ≡ reply_text status published change keep body.items }
 {
     let head = head(status, body.len() as u64, published, change, keep);
-    let mut text = head.bytes().to_vec(alloc)?;
-    text.extend_from_slice(body)?;
-    Ok(text)
+    Reply { head, body }
 }
 
 /// The reply that refuses what isn't a request, behind which the connection ends.
 #[tactic(auto, using(crate::proofs::ReplyLemmas::has_reply), unfolding(crate::specs::Replies::refused_text))]
-pub(crate) fn refused_reply(alloc: Global, code: Code) -> Result<Vec<u8>, Memory>
-    ensures { IfOk result (λ text. text.items ≡ refused_text code) }
+pub(crate) fn refused_reply(alloc: Global, code: Code) -> Result<Reply, Memory>
+    ensures { IfOk result (λ reply. text_in reply ≡ refused_text code) }
 {
     let refusal = Refusal {
         code,
         detail: Items::new(alloc),
     };
     let body = error_body(alloc, &refusal)?;
-    whole_reply(alloc, code.status(), None, None, false, body.as_slice())
+    Ok(whole_reply(code.status(), None, None, false, body))
 }

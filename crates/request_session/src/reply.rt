@@ -1,0 +1,10 @@
+use http_wire::Head;
+
+/// A reply: its head, which tells how long the body is, and the body.
+#[derive(Drop)]
+pub struct Reply {
+    /// The head, with the empty line that ends it.
+    pub head: Head,
+    /// As many bytes as the head says.
+    pub body: Vec<u8>,
+}
