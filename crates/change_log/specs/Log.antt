@@ -72,3 +72,7 @@ Appends old change (Err StoreFault) new =
     (passed old.limits (old.changes ++ change ∷ []) ≡ None)
     × (Rose old.faults new.faults × ((old.faults ≤ new.faults) × (new ≡ record old { faults = new.faults })))
 Appends old change (Err Memory) new = new ≡ old
+
+-- keepers of this kind count no fault
+abbrev pub NeverFails : {K : Type 0} → (K → ℕ) → Type 0
+NeverFails {K} count = (keeper : K) → count keeper ≡ 0

@@ -4,7 +4,7 @@ ghost use Rattle.std.specs.List.{All};
 ghost use Rattle.change_bytes.specs.Forms.{WriteFits};
 ghost use Rattle.record_index.specs.World.{facts};
 ghost use Rattle.record_index.specs.Facts.{facts_in};
-ghost use Rattle.change_log.specs.Log.{writes_of, IsWhole, AreLimits, Appends};
+ghost use Rattle.change_log.specs.Log.{writes_of, IsWhole, AreLimits, Appends, NeverFails};
 
 use crate::held::{Held, bring, count_of, nothing_held};
 use crate::limits::{AppendFault, Limits};
@@ -63,6 +63,7 @@ impl<K: Keeper> ChangeLog<K> {
         requires some { 0 < length writes }
         requires fits { All WriteFits writes }
         ensures appends { Appends self.old (record { user = user; moment = moment; writes = writes }) result self.new }
+        ensures sure { NeverFails K.keeper_faults → self.old.faults ≡ 0 → self.new.faults ≡ 0 }
         ensures whole { IsWhole self.new }
     {
         let change = Change {

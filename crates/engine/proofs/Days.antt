@@ -1,40 +1,16 @@
--- Which writes have bytes and days.
-use Rattle.std.proofs.Common.{◌≡◌, List, [], ◌∷◌, ◌++◌, length, ap, refl, true}
+-- Writes that have bytes are of days.
+use Rattle.std.proofs.Common.{◌≡◌, List, [], ◌∷◌, ◌++◌, ap, refl, true}
 use Rattle.std.specs.Prelude.{ℤ, Option, None, Some, IfSome}
 use Rattle.std.specs.List.{All, AllByRecursion, list_all}
-use Rattle.std.proofs.lemmas.Bool.{ltb-true, and_parts, and_from}
-use Rattle.std.proofs.lemmas.List.Elements.{All-from_recursion, recursion_from_All}
+use Rattle.std.proofs.lemmas.Bool.{and_from}
+use Rattle.std.proofs.lemmas.List.Elements.{recursion_from_All}
 use Rattle.dh_changes.specs.declared.change.Change.{Change}
 use Rattle.dh_changes.specs.declared.change.Write.{Write}
 use Rattle.dh_changes.specs.declared.change.Write.TheVariants as write
 use Rattle.change_bytes.specs.Forms.{WriteFits, IsDay}
 use Rattle.change_log.specs.Log.{writes_of}
-use Rattle.engine.specs.Requests.{is_fitting}
 use Rattle.table_rows.specs.Events.{is_day_if_any}
 use Rattle.log_rows.specs.Log as rows
-
-fitting-fits : (w : Write) → is_fitting w ≡ true → WriteFits w
-fitting-fits (write.ValueSet key value) h = ltb-true (length value) 65536 h
-fitting-fits (write.ValueCleared key) h = tt
-fitting-fits (write.Complete key day) h = h
-fitting-fits (write.Uncomplete key) h = tt
-fitting-fits (write.EventWritten event) h = cc
-fitting-fits (write.EventDeleted id) h = tt
-fitting-fits (write.EnrollmentWritten enrollment) h = cc
-fitting-fits (write.EnrollmentDeleted id) h = tt
-fitting-fits (write.EntityWritten entity) h = cc
-fitting-fits (write.EntityDeleted id) h = tt
-fitting-fits (write.Approve key) h = tt
-fitting-fits (write.Unapprove key) h = tt
-fitting-fits (write.Accept key) h = tt
-fitting-fits (write.Unaccept key) h = tt
-
-each-fits : (ws : List Write) → list_all is_fitting ws ≡ true → AllByRecursion WriteFits ws
-each-fits [] h = tt
-each-fits (w ∷ ws) h = let p = and_parts (is_fitting w) (list_all is_fitting ws) h in (fitting-fits w p.0, each-fits ws p.1)
-
-pub all-fit : (ws : List Write) → list_all is_fitting ws ≡ true → All WriteFits ws
-all-fit ws h = All-from_recursion WriteFits ws (each-fits ws h)
 
 day-if-any : (day : Option ℤ) → IfSome day IsDay → is_day_if_any day ≡ true
 day-if-any None h = refl

@@ -1,8 +1,6 @@
 -- What a request to change comes to: the writes, and the reply's body and status.
-use Rattle.std.specs.Prelude.{Bool, true, false, nat_lt, ℕ, ℤ, List, length, slice_get, Option, None, option_map}
+use Rattle.std.specs.Prelude.{ℕ, ℤ, List, slice_get, Option, None, option_map}
 use Rattle.dh_changes.specs.declared.change.Write.{Write}
-use Rattle.dh_changes.specs.declared.change.Write.TheVariants as write
-use Rattle.change_bytes.specs.Fields.{is_day}
 use Rattle.meta_parts.specs.declared.held.Records.{Records}
 use Rattle.meta_parts.specs.declared.records.User.{User}
 use Rattle.record_index.specs.declared.outcome.Who.{Who}
@@ -32,11 +30,3 @@ judged_by facts meta asker moment (Completion list) = imported (completions_verd
 -- over a log of these writes
 unfoldable pub judged : Records → List Write → Who → ℤ → ChangeRequest → Judged
 judged meta writes asker moment request = judged_by (facts_in writes) meta asker moment request
-
--- of the writes that an import makes, those that have bytes: a value of fewer than 65,536 bytes, a day of the years 1900 to 2100
-abbrev pub is_fitting : Write → Bool
-is_fitting (write.ValueSet key value) = nat_lt (length value) 65536
-is_fitting (write.ValueCleared key) = true
-is_fitting (write.Complete key day) = is_day day
-is_fitting (write.Uncomplete key) = true
-is_fitting _ = false

@@ -1,7 +1,8 @@
 //! A change, from the request to the log.
 ghost use Rattle.std.specs.List.{All};
 ghost use Rattle.change_bytes.specs.Forms.{WriteFits};
-ghost use Rattle.change_log.specs.Log.{IsWhole};
+ghost use Rattle.std.specs.Prelude.{◌≡◌};
+ghost use Rattle.change_log.specs.Log.{IsWhole, NeverFails};
 ghost use Rattle.value_import.specs.Outcomes.{IsKnown};
 ghost use Rattle.engine.specs.Machine.{ChangeStep};
 ghost use Rattle.engine.specs.Seen.{seen_of, state_of, AreParts, Puts, Brings, Brought};
@@ -29,6 +30,7 @@ fn put<K: Keeper>(
     requires fits { All WriteFits judged.writes }
     ensures puts { Puts log.old (record { user = user; moment = moment; writes = judged.writes }) judged result log.new }
     ensures whole { IsWhole log.new }
+    ensures sure { NeverFails K.keeper_faults → log.old.faults ≡ 0 → log.new.faults ≡ 0 }
 {
     let Judged {
         writes,
@@ -68,6 +70,7 @@ fn bring<K: Keeper>(
     requires known { IsKnown meta.now who }
     ensures brings { Brings meta.now log.old (record { who = who; moment = moment; request = request.now }) result log.new }
     ensures whole { IsWhole log.new }
+    ensures sure { NeverFails K.keeper_faults → log.old.faults ≡ 0 → log.new.faults ≡ 0 }
 {
     let user = maker_of(meta, who);
     match judge(alloc, log.world(), meta, who, moment, request) {
@@ -91,6 +94,7 @@ pub(crate) fn change<K: Keeper>(
     ensures step { ChangeStep meta.now log.old.limits (state_of log.old.changes shown.now) (record { who = who; moment = moment; request = request.now }) result (state_of log.new.changes shown.now) }
     ensures brought { Brought (seen_of log.old meta.now shown.now) (record { who = who; moment = moment; request = request.now }) result (seen_of log.new meta.now shown.now) }
     ensures parts { AreParts log.new meta.now shown.now }
+    ensures sure { NeverFails K.keeper_faults → log.old.faults ≡ 0 → log.new.faults ≡ 0 }
 {
     bring(alloc, log, meta, who, moment, request)
 }

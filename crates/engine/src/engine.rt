@@ -1,7 +1,7 @@
 ghost use Rattle.std.specs.Prelude.{◌≡◌, ◌≤◌, [], length, take, option_map, IfOk};
 ghost use Rattle.std.specs.Arc.{arc_value};
 ghost use Rattle.dh_base.specs.declared.plain.CutKind.TheVariants.{Full};
-ghost use Rattle.change_log.specs.Log.{AreLimits};
+ghost use Rattle.change_log.specs.Log.{AreLimits, NeverFails};
 ghost use Rattle.value_import.specs.Outcomes.{IsKnown};
 ghost use Rattle.engine.specs.Machine.{start, IsOwned, ChangeStep, CutStep, SwapStep, DropStep, LookStep};
 ghost use Rattle.engine.specs.Tables.{tables_of};
@@ -82,6 +82,7 @@ impl<K: Keeper> Engine<K> {
         requires { IsKnown self.old.meta who }
         ensures step { ChangeStep self.old.meta self.old.limits self.old.state (record { who = who; moment = moment; request = request.now }) result self.new.state }
         ensures brought { Brought self.old (record { who = who; moment = moment; request = request.now }) result self.new }
+        ensures sure { NeverFails K.keeper_faults → self.old.faults ≡ 0 → self.new.faults ≡ 0 }
         ensures sound { IsSound self.new }
     {
         change(

@@ -1,10 +1,9 @@
 //! What a request comes to.
 ghost use Rattle.std.specs.Prelude.{◌≡◌, IfOk};
-ghost use Rattle.std.specs.List.{All, list_all};
+ghost use Rattle.std.specs.List.{All};
 ghost use Rattle.change_bytes.specs.Forms.{WriteFits};
 ghost use Rattle.record_index.specs.World.{facts};
-ghost use Rattle.change_bytes.specs.Fields.{is_day};
-ghost use Rattle.engine.specs.Requests.{imported, is_fitting, judged_by};
+ghost use Rattle.engine.specs.Requests.{imported, judged_by};
 ghost use Rattle.value_import.specs.Outcomes.{IsKnown};
 
 use crate::machine::ChangeRequest;
@@ -26,39 +25,12 @@ pub struct Judged {
     pub status: u16,
 }
 
-// Days are those of the years 1900 to 2100, counted from 1 January 1970.
-fn is_day(day: i32) -> bool
-    ensures { result ≡ is_day day }
-{
-    (-25567..=47846).contains(&day)
-}
-
-// The write has bytes. Those that an import makes have.
-fn is_fitting(write: &Write) -> bool
-    ensures { result ≡ is_fitting write.now }
-{
-    match write {
-        Write::ValueSet { value, .. } => value.len() < 65536,
-        Write::ValueCleared { .. } => true,
-        Write::Complete { day, .. } => is_day(*day),
-        Write::Uncomplete { .. } => true,
-        _ => false,
-    }
-}
-
-fn all_fitting(writes: &[Write]) -> bool
-    ensures { result ≡ list_all is_fitting writes.now }
-{
-    writes.iter().all(|write| is_fitting(write))
-}
-
+// An import's reply is its summary.
 fn imported(alloc: Global, verdict: Verdict) -> Result<Judged, Memory>
+    requires { All WriteFits verdict.writes }
     ensures value { IfOk result (λ judged. judged ≡ imported verdict) }
     ensures fits { IfOk result (λ judged. All WriteFits judged.writes) }
 {
-    if !all_fitting(verdict.writes.as_slice()) {
-        return Err(Memory);
-    }
     let body = Items::from(summary_body(alloc, &verdict)?);
     let status = summary_status(&verdict);
     Ok(Judged {

@@ -20,12 +20,12 @@ encode-requires g c =
     }
 
 pub keep-requires-clause-some : goal.keep-requires-clause-some
-keep-requires-clause-some g c κs within =
+keep-requires-clause-some g c =
     let are = ap length (c.deref.ensures.value ∙ c.in_ok-bytes.ensures.bytes) in
     omega (arith, are, change-length (c.count_of-number.result + 1) c.args.change)
 
 pub keep-requires-clause-room : goal.keep-requires-clause-room
-keep-requires-clause-room g c κs within =
+keep-requires-clause-room g c =
     let room = within-limits c.args.limits.now (changes_of c.args.held.now) c.args.change c.requires.kept.whole.limits c.requires.within in
     let are = ap length (c.deref.ensures.value ∙ c.in_ok-bytes.ensures.bytes) in
     let same = ap (λ x. length (log_bytes (map arc_value x))) c.make_room.ensures.same in

@@ -5,7 +5,7 @@ use Rattle.engine.proofs.Steps.{brings-of}
 use Rattle.engine.proofs.bring.bring.Goals as goal
 
 pub put-requires-clause-fits : goal.put-requires-clause-fits
-put-requires-clause-fits g c κs within = c.in-Ok.ensures.fits
+put-requires-clause-fits g c = c.in-Ok.ensures.fits
 
 pub returns-in-Ok-clause-brings : goal.returns-in-Ok-clause-brings
 returns-in-Ok-clause-brings g c =

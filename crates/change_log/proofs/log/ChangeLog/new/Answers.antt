@@ -4,8 +4,8 @@ use Rattle.change_log.proofs.log.ChangeLog.new.Goals as goal
 pub invariant_of-result : goal.invariant_of-result
 invariant_of-result g c = record {
   held = c.nothing_held.ensures.held;
-  whole = rw c.nothing_held.ensures.none (whole-nothing _ _ _ _ c.requires.empty ((g.met.K.Keeper g.world.𝓛 g.world.𝓜 g.world.𝓡 ((λ s x. x), (λ x. x), (λ x. x), λ x. x)).told_len c.args.keeper) c.requires.limits);
+  whole = rw c.nothing_held.ensures.none (whole-nothing _ _ _ _ c.requires.empty (g.met.K.Keeper.told_len c.args.keeper) c.requires.limits);
 }
 
 pub returns-clause-whole : goal.returns-clause-whole
-returns-clause-whole g c = rw c.nothing_held.ensures.none (whole-nothing _ _ _ _ c.requires.empty ((g.met.K.Keeper g.world.𝓛 g.world.𝓜 g.world.𝓡 ((λ s x. x), (λ x. x), (λ x. x), λ x. x)).told_len c.args.keeper) c.requires.limits)
+returns-clause-whole g c = rw c.nothing_held.ensures.none (whole-nothing _ _ _ _ c.requires.empty (g.met.K.Keeper.told_len c.args.keeper) c.requires.limits)
