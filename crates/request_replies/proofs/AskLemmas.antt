@@ -1,15 +1,13 @@
 -- A query that is read can be answered.
-use Rattle.std.proofs.Common.{◌≡◌, ◌∙◌, ℕ, ℤ, zero, suc, ◌<◌, Bool, true, false, not, ◌&&◌, ◌||◌, cond, List, [], ◌∷◌, length, nat_lt, Option, None, Some, Result, Ok, Err, refl, sym, ap, arith, IsTrue, slice_get}
+use Rattle.std.proofs.Common.{◌≡◌, ◌∙◌, ℕ, zero, suc, ◌<◌, Bool, true, false, not, ◌&&◌, ◌||◌, cond, List, [], ◌∷◌, length, nat_lt, Option, None, Some, refl, ap, arith, slice_get}
 use Rattle.std.specs.List.{AllByRecursion, list_all, list_any}
 use Rattle.std.specs.Option.{option_map_or}
-use Rattle.std.proofs.lemmas.Option.{slice_get_past}
 use Rattle.expr_lang.specs.declared.expr.Expr.{Expr}
 use Rattle.expr_lang.specs.declared.tree.Item.{Item}
 use Rattle.expr_lang.specs.declared.tree.Item.TheVariants as item
 use Rattle.expr_lang.specs.Expr.{items_in}
 use Rattle.meta_parts.specs.declared.held.Records.{Records}
 use Rattle.meta_parts.specs.declared.records.Indicator.{Indicator}
-use Rattle.meta_model.specs.Linked.{AreBelow}
 use Rattle.query_parts.specs.declared.Dx.{Dx}
 use Rattle.query_parts.specs.declared.DxKind.{DxKind}
 use Rattle.query_parts.specs.declared.DxKind.TheVariants as dx

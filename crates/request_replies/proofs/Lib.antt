@@ -5,4 +5,4 @@ pub mod ReplyLemmas
 pub mod KeepLaws
 pub mod TellLemmas
 pub mod StepLemmas
-pub mod ChangeLemmas
+pub mod Unseen

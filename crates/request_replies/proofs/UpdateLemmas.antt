@@ -6,7 +6,7 @@ use Rattle.change_log.specs.declared.limits.Limits.{Limits}
 use Rattle.engine.specs.declared.machine.Staged.{Staged}
 use Rattle.engine.specs.declared.machine.Cut.{Cut}
 use Rattle.engine.specs.declared.machine.CutFault.{CutFault}
-use Rattle.engine.specs.Machine.{State, IsStaged, IsSwapReply, SwapStep, CutStep, DropStep, IsOwned}
+use Rattle.engine.specs.Machine.{State, IsStaged, IsSwapReply, SwapStep, CutStep, IsOwned}
 use Rattle.engine.specs.Seen.{Seen, issued_in}
 use Rattle.request_replies.specs.Texts.{IsCutText}
 use Rattle.request_replies.specs.Updates.{Ends}

@@ -6,13 +6,13 @@ use Rattle.engine.specs.declared.machine.ChangeRequest.{ChangeRequest}
 use Rattle.record_index.specs.declared.outcome.Who.TheVariants.{User}
 use Rattle.engine.specs.declared.machine.Report.{Report}
 use Rattle.engine.specs.declared.machine.ChangeFault.{ChangeFault}
-use Rattle.request_replies.specs.Texts.{IsChangeText, room_of, count_in}
+use Rattle.request_replies.specs.Texts.{IsChangeText}
 
 pub record ChangeReply (old : Seen) (asked : Asked) (keep : Bool) (text : Option (List ℕ)) (new : Seen) : Type 0 where
   pub found : Result Report ChangeFault
   pub steps : ChangeStep old.meta old.limits old.state asked found new.state
   pub brought : Brought old asked found new
-  pub tells : IsChangeText (room_of (count_in asked.request)) keep found text
+  pub tells : IsChangeText keep found text
 
 -- a user asks for it at a moment
 abbrev pub asking : ℤ → ℕ → ChangeRequest → Asked

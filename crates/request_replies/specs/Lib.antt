@@ -3,3 +3,4 @@ pub mod Queries
 pub mod Changes
 pub mod Updates
 pub mod Steps
+pub mod Unseen

@@ -1,12 +1,13 @@
 -- The reply to a request, and what it does to the machine.
-use Rattle.std.specs.Prelude.{◌≡◌, ◌≤◌, ℕ, ℤ, Bool, List, Option, None, Some, Result, Ok, Err}
+use Rattle.std.specs.Prelude.{◌≡◌, ◌≤◌, ℕ, ℤ, Bool, List, Option, None, Result, Ok, Err}
 use Rattle.dh_base.specs.declared.codes.Refusal.{Refusal}
 use Rattle.http_wire.specs.declared.request.Request.{Request}
 use Rattle.moment_days.specs.Days.{day_of}
 use Rattle.web_routes.specs.Calls.{routed}
 use Rattle.web_routes.specs.declared.call.Call.{Call}
 use Rattle.web_routes.specs.declared.call.Call.TheVariants as call
-use Rattle.engine.specs.Seen.{Seen}
+use Rattle.change_log.specs.Log.{NeverFails}
+use Rattle.engine.specs.Seen.{Seen, IsSound}
 use Rattle.engine.specs.declared.machine.ChangeRequest.TheVariants.{Values, Completion}
 use Rattle.request_replies.specs.Texts.{text_of, IsTold, refusal_reply}
 use Rattle.request_replies.specs.Queries.{QueryReply}
@@ -37,11 +38,20 @@ pub record ReplyStep (shows : ℤ → Type 0) (old : Seen) (request : Request) (
   pub replies : ReplyAt old moment request keep made new
   pub text_is : text ≡ text_of keep made
 
+-- A step of a machine that answers by a clock, over keepers that count their faults: its reply is one that it may give, and the clock
+-- stays; it stays sound; and with keepers that never fail the count of faults stays at 0.
+pub record MachineStep {K C : Type 0} (count : K → ℕ) (shows : C → ℤ → Type 0) (before after : C) (old : Seen) (request : Request) (keep : Bool) (text : List ℕ) (new : Seen) : Type 0 where
+  pub replies : ReplyStep (shows before) old request keep text new
+  pub clock : after ≡ before
+  pub sound : IsSound old → IsSound new
+  pub sure : NeverFails count → old.faults ≡ 0 → new.faults ≡ 0
+
 -- What holds behind every reply: metadata and limits stay, the keeper's count of faults doesn't fall, no update is left begun, and
--- where memory is wanting the tables that are published stay.
+-- where memory is wanting the log stays, and so do the tables that are published.
 pub record Keeps (old : Seen) (made : Option (List ℕ)) (new : Seen) : Type 0 where
   pub meta : new.meta ≡ old.meta
   pub limits : new.limits ≡ old.limits
   pub faults : old.faults ≤ new.faults
   pub free : old.state.staged ≡ None → new.state.staged ≡ None
+  pub log : made ≡ None → new.state.log ≡ old.state.log
   pub published : made ≡ None → new.state.published ≡ old.state.published

@@ -1,6 +1,5 @@
 -- The texts of replies by what the machine answered. `None` stands for want of memory.
-use Rattle.std.specs.Prelude.{◌≡◌, ◌<◌, ◌≤◌, ◌+◌, ◌*◌, ℕ, nat_le, if◌then◌else◌, Bool, List, [], length, decimal, Option, None, Some, Result, Ok, Err, Vec, ⊤}
-use Rattle.std.specs.declared.alloc.Global.{Global}
+use Rattle.std.specs.Prelude.{◌≡◌, ℕ, Bool, List, [], decimal, Option, None, Some, Result, Ok, Err, ⊤}
 use Rattle.serde_json.specs.Data.{Data}
 use Rattle.serde_json.specs.Written.{compact_text}
 use Rattle.dh_base.specs.Codes.{status_of}
@@ -10,19 +9,17 @@ use Rattle.dh_base.specs.declared.memory.Memory.{Memory}
 use Rattle.dh_base.specs.declared.plain.CutKind.{CutKind}
 use Rattle.query_forms.specs.Given.{refusal}
 use Rattle.reply_bodies.specs.Bodies.{error_text, update_text}
-use Rattle.request_session.specs.Replies.{reply_text, memory_reply}
-use Rattle.engine.specs.Machine.{Issued}
-use Rattle.engine.specs.declared.machine.ChangeRequest.{ChangeRequest}
-use Rattle.engine.specs.declared.machine.ChangeRequest.TheVariants.{Values, Completion}
+use Rattle.request_session.specs.Replies.{text_in, reply_text, memory_reply}
+use Rattle.request_session.specs.declared.reply.Reply.{Reply}
 use Rattle.engine.specs.declared.machine.Report.{Report}
 use Rattle.engine.specs.declared.machine.ChangeFault.{ChangeFault}
 use Rattle.engine.specs.declared.machine.ChangeFault.TheVariants as change
 use Rattle.engine.specs.declared.machine.CutFault.{CutFault}
 use Rattle.engine.specs.declared.machine.CutFault.TheVariants as cut
 
--- the text that a call answered, or none where memory was wanting
-abbrev pub told : Result (Vec ℕ Global) Memory → Option (List ℕ)
-told (Ok text) = Some text.items
+-- the text of the reply that a call answered, or none where memory was wanting
+abbrev pub told : Result Reply Memory → Option (List ℕ)
+told (Ok reply) = Some (text_in reply)
 told (Err fault) = None
 
 -- the text that stands for it
@@ -61,23 +58,12 @@ full_reply limit keep = refusal_reply None keep (refusal F22 (decimal limit))
 abbrev pub store_reply : Bool → List ℕ
 store_reply keep = refusal_reply None keep (refusal F23 [])
 
--- the values or completions that a request has
-abbrev pub count_in : ChangeRequest → ℕ
-count_in (Values set) = length set.values
-count_in (Completion list) = length list
-
--- How many bytes are kept free for the reply to a change before it is made, by the number of values or completions: 1,024, and
--- 40 for each, which may be a conflict. There are no more of them than a body has bytes.
-unfoldable pub room_of : ℕ → ℕ
-room_of count = if nat_le count 16777216 then 1024 + 40 * count else 1024
-
--- Where memory is wanting for a change that was made, its reply is longer than the room that was kept free.
-abbrev pub IsChangeText : ℕ → Bool → Result Report ChangeFault → Option (List ℕ) → Type 0
-IsChangeText room keep (Ok report) (Some text) = text ≡ report_reply keep report
-IsChangeText room keep (Ok report) None = room < length (report_reply keep report)
-IsChangeText room keep (Err (change.LogFull limit)) text = IsTold text (full_reply limit keep)
-IsChangeText room keep (Err change.StoreFault) text = IsTold text (store_reply keep)
-IsChangeText room keep (Err change.Memory) text = text ≡ None
+-- a change that was made has its report told: want of memory never stands in its place
+abbrev pub IsChangeText : Bool → Result Report ChangeFault → Option (List ℕ) → Type 0
+IsChangeText keep (Ok report) text = text ≡ Some (report_reply keep report)
+IsChangeText keep (Err (change.LogFull limit)) text = IsTold text (full_reply limit keep)
+IsChangeText keep (Err change.StoreFault) text = IsTold text (store_reply keep)
+IsChangeText keep (Err change.Memory) text = text ≡ None
 
 -- ---- an update
 

@@ -8,7 +8,7 @@ ghost use Rattle.query_answer.specs.Answer.{answer_of};
 ghost use Rattle.query_lang.specs.Askable.{IsAskable};
 ghost use Rattle.query_forms.specs.Given.{refusal};
 ghost use Rattle.seen_rows.specs.Seen.{seen};
-ghost use Rattle.request_session.specs.Replies.{reply_text};
+ghost use Rattle.request_session.specs.Replies.{text_in, reply_text};
 ghost use Rattle.request_replies.specs.Texts.{told, answer_reply, refusal_reply};
 ghost use Rattle.request_replies.specs.Queries.{QueryReply, IsLookText};
 ghost use Rattle.dh_base.specs.declared.codes.Code.TheVariants.{F18};
@@ -22,21 +22,21 @@ use engine::{Engine, LookFault, View};
 use meta_model::metadata::Metadata;
 use query_answer::{AnswerFault, answer};
 use query_parts::Query;
-use request_session::whole_reply;
+use request_session::{Reply, whole_reply};
 use seen_rows::Seer;
 use std::alloc::Global;
 use table_rows::ListRows;
 
 // The answer is told.
 #[tactic(auto, using(crate::proofs::Statuses::ok_status))]
-fn answered(alloc: Global, published: u64, keep: bool, body: &[u8]) -> Result<Vec<u8>, Memory>
-    ensures { IfOk result (λ text. text.items ≡ reply_text 200 (Some published) None keep body.now) }
+fn answered(published: u64, keep: bool, body: Vec<u8>) -> Reply
+    ensures { text_in result ≡ reply_text 200 (Some published) None keep body.items }
 {
-    whole_reply(alloc, 200, Some(published), None, keep, body)
+    whole_reply(200, Some(published), None, keep, body)
 }
 
-fn too_wide(alloc: Global, published: u64, keep: bool, id: Items<u8>) -> Result<Vec<u8>, Memory>
-    ensures { IfOk result (λ text. text.items ≡ refusal_reply (Some published) keep (refusal F18 id)) }
+fn too_wide(alloc: Global, published: u64, keep: bool, id: Items<u8>) -> Result<Reply, Memory>
+    ensures { IfOk result (λ reply. text_in reply ≡ refusal_reply (Some published) keep (refusal F18 id)) }
 {
     let refused = Refusal {
         code: Code::F18,
@@ -55,14 +55,14 @@ fn over_rows(
     query: &Query,
     published: u64,
     keep: bool,
-) -> Result<Vec<u8>, Memory>
+) -> Result<Reply, Memory>
     requires user { user < length meta.now.users }
     requires query { CanAnswer meta.now query.now }
-    ensures { IfOk result (λ text. text.items ≡ answer_reply published keep (answer_of meta.now query.now (seen meta.now user store.now.rows))) }
+    ensures { IfOk result (λ reply. text_in reply ≡ answer_reply published keep (answer_of meta.now query.now (seen meta.now user store.now.rows))) }
 {
     let seer = Seer::of(alloc, meta, user)?;
     match answer(alloc, meta, store, &seer, query) {
-        Ok(body) => answered(alloc, published, keep, body.as_slice()),
+        Ok(body) => Ok(answered(published, keep, body)),
         Err(AnswerFault::Wide { id }) => too_wide(alloc, published, keep, id),
         Err(AnswerFault::Memory) => Err(Memory),
     }
@@ -77,7 +77,7 @@ fn tell<K: Keeper>(
     found: Result<View, LookFault>,
     query: &Query,
     keep: bool,
-) -> Result<Vec<u8>, Memory>
+) -> Result<Reply, Memory>
     requires user { user < length engine.now.meta.users }
     requires query { CanAnswer engine.now.meta query.now }
     requires tables { IfOk found (λ view. arc_value view.tables ≡ tables_of engine.now.meta (take view.published engine.now.state.log)) }
@@ -107,7 +107,7 @@ pub(crate) fn reply_to_query<K: Keeper>(
     asked: u64,
     query: &Query,
     keep: bool,
-) -> Result<Vec<u8>, Memory>
+) -> Result<Reply, Memory>
     requires user { user < length engine.now.meta.users }
     requires query { IsAskable engine.now.meta user query.now }
     ensures { QueryReply engine.now.meta engine.now.state user asked query.now keep (told result) }

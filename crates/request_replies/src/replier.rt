@@ -1,10 +1,10 @@
 //! What answers requests.
-ghost use Rattle.std.specs.Prelude.{◌≡◌, IfOk, OnErr};
-ghost use Rattle.request_session.specs.Replies.{memory_reply};
+ghost use Rattle.std.specs.Prelude.{◌≡◌};
+ghost use Rattle.change_log.specs.Log.{NeverFails};
 ghost use Rattle.engine.specs.Seen.{IsSound};
 ghost use Rattle.web_routes.specs.Calls.{IsSound as IsSoundCall};
 ghost use Rattle.request_replies.specs.Texts.{told};
-ghost use Rattle.request_replies.specs.Steps.{ReplyAt, CallReply, ReplyStep};
+ghost use Rattle.request_replies.specs.Steps.{ReplyAt, CallReply};
 
 use crate::change::reply_to_change;
 use crate::query::reply_to_query;
@@ -15,6 +15,7 @@ use dh_outside::{Clock, Keeper};
 use engine::{ChangeRequest, Engine};
 use http_wire::Request;
 use moment_days::day_of;
+use request_session::{Machine, Reply};
 use std::alloc::Global;
 use web_routes::RouteFault;
 use web_routes::call::Call;
@@ -27,10 +28,11 @@ fn reply_to_call<K: Keeper>(
     moment: i64,
     call: Call,
     keep: bool,
-) -> Result<Vec<u8>, Memory>
+) -> Result<Reply, Memory>
     requires sound { IsSoundCall engine.old.meta call }
     ensures replies { CallReply engine.old moment call keep (told result) engine.new }
     ensures sound { IsSound engine.old → IsSound engine.new }
+    ensures sure { NeverFails K.keeper_faults → engine.old.faults ≡ 0 → engine.new.faults ≡ 0 }
 {
     match call {
         Call::Query { user, asked, query } => {
@@ -64,9 +66,10 @@ fn reply_at<K: Keeper>(
     moment: i64,
     request: &Request,
     keep: bool,
-) -> Result<Vec<u8>, Memory>
+) -> Result<Reply, Memory>
     ensures replies { ReplyAt engine.old moment request.now keep (told result) engine.new }
     ensures sound { IsSound engine.old → IsSound engine.new }
+    ensures sure { NeverFails K.keeper_faults → engine.old.faults ≡ 0 → engine.new.faults ≡ 0 }
 {
     match route(alloc, request, engine.meta(), day_of(moment)) {
         Ok(call) => reply_to_call(alloc, engine, moment, call, keep),
@@ -75,33 +78,30 @@ fn reply_at<K: Keeper>(
     }
 }
 
-/// An engine that answers requests by a clock.
+/// An engine that answers requests by a clock that is lent to it.
 #[derive(Drop)]
-pub struct Replier<K: Keeper, C: Clock> {
+pub struct Replier<'a, K: Keeper, C: Clock> {
     pub engine: Engine<K>,
-    pub clock: C,
+    pub clock: &'a C,
 }
 
-impl<K: Keeper, C: Clock> Replier<K, C> {
+impl<'a, K: Keeper, C: Clock> Replier<'a, K, C> {
     /// The engine and the clock by which it answers.
-    pub fn of(engine: Engine<K>, clock: C) -> Replier<K, C>
+    pub fn of(engine: Engine<K>, clock: &'a C) -> Replier<'a, K, C>
         ensures engine { result.engine ≡ engine }
-        ensures clock { result.clock ≡ clock }
+        ensures clock { result.clock.now ≡ clock.now }
     {
         Replier { engine, clock }
     }
+}
 
-    /// The reply to a request. Where it finds no memory, the reply for want of memory stands in its place.
+impl<'a, K: Keeper, C: Clock> Machine for Replier<'a, K, C> {
+    ghost use Rattle.request_replies.specs.Steps.{MachineStep};
+
+    ghost step = { λ old request keep text new. MachineStep K.keeper_faults C.shows old.clock.now new.clock.now old.engine request keep text new.engine };
+
     #[tactic(auto, using(crate::proofs::StepLemmas::step_told, crate::proofs::StepLemmas::step_wanting))]
-    pub fn answer(
-        &mut self,
-        alloc: Global,
-        request: &Request,
-        keep: bool,
-    ) -> Result<Vec<u8>, Memory>
-        ensures replies { IfOk result (λ text. ReplyStep (C.shows self.old.clock) self.old.engine request.now keep text.items self.new.engine × ((self.new.clock ≡ self.old.clock) × (IsSound self.old.engine → IsSound self.new.engine))) }
-        ensures memory { OnErr result (ReplyStep (C.shows self.old.clock) self.old.engine request.now keep (memory_reply keep) self.new.engine × ((self.new.clock ≡ self.old.clock) × (IsSound self.old.engine → IsSound self.new.engine))) }
-    {
+    fn reply(&mut self, alloc: Global, request: &Request, keep: bool) -> Result<Reply, Memory> {
         let moment = self.clock.now();
         reply_at(alloc, &mut self.engine, moment, request, keep)
     }

@@ -1,6 +1,7 @@
 // The texts of replies.
 ghost use Rattle.std.specs.Prelude.{◌≡◌, decimal, None, IfOk};
 ghost use Rattle.query_forms.specs.Given.{refusal};
+ghost use Rattle.request_session.specs.Replies.{text_in};
 ghost use Rattle.request_replies.specs.Texts.{refusal_reply, update_reply};
 
 use dh_base::codes::{Code, Refusal};
@@ -8,7 +9,7 @@ use dh_base::items::Items;
 use dh_base::memory::Memory;
 use dh_base::plain::CutKind;
 use reply_bodies::{error_body, update_body};
-use request_session::whole_reply;
+use request_session::{Reply, whole_reply};
 use std::alloc::Global;
 
 /// The refusal with a number as its detail.
@@ -26,18 +27,11 @@ pub(crate) fn refusal_reply(
     published: Option<u64>,
     keep: bool,
     refused: &Refusal,
-) -> Result<Vec<u8>, Memory>
-    ensures { IfOk result (λ text. text.items ≡ refusal_reply published keep refused.now) }
+) -> Result<Reply, Memory>
+    ensures { IfOk result (λ reply. text_in reply ≡ refusal_reply published keep refused.now) }
 {
     let body = error_body(alloc, refused)?;
-    whole_reply(
-        alloc,
-        refused.code.status(),
-        published,
-        None,
-        keep,
-        body.as_slice(),
-    )
+    Ok(whole_reply(refused.code.status(), published, None, keep, body))
 }
 
 /// The same with a number as its detail.
@@ -46,8 +40,8 @@ pub(crate) fn number_reply(
     keep: bool,
     code: Code,
     number: u64,
-) -> Result<Vec<u8>, Memory>
-    ensures { IfOk result (λ text. text.items ≡ refusal_reply None keep (refusal code (decimal number))) }
+) -> Result<Reply, Memory>
+    ensures { IfOk result (λ reply. text_in reply ≡ refusal_reply None keep (refusal code (decimal number))) }
 {
     let refused = numbered(alloc, code, number)?;
     refusal_reply(alloc, None, keep, &refused)
@@ -60,9 +54,9 @@ pub(crate) fn update_reply(
     published: u64,
     keep: bool,
     kind: CutKind,
-) -> Result<Vec<u8>, Memory>
-    ensures { IfOk result (λ text. text.items ≡ update_reply published keep kind) }
+) -> Result<Reply, Memory>
+    ensures { IfOk result (λ reply. text_in reply ≡ update_reply published keep kind) }
 {
-    let body = update_body(kind, published);
-    whole_reply(alloc, 200, Some(published), None, keep, body.bytes())
+    let body = update_body(kind, published).bytes().to_vec(alloc)?;
+    Ok(whole_reply(200, Some(published), None, keep, body))
 }

@@ -4,6 +4,7 @@ ghost use Rattle.dh_base.specs.declared.memory.Memory.{Memory as Wanting};
 ghost use Rattle.dh_base.specs.declared.plain.CutKind.TheVariants.{Full};
 ghost use Rattle.engine.specs.Machine.{IsOwned, IsStaged, SwapStep, DropStep};
 ghost use Rattle.engine.specs.Seen.{IsSound, issued_in};
+ghost use Rattle.request_session.specs.Replies.{text_in};
 ghost use Rattle.request_replies.specs.Texts.{told, IsCutText, update_reply};
 ghost use Rattle.request_replies.specs.Updates.{UpdateReply, Ends};
 
@@ -13,11 +14,12 @@ use dh_base::memory::Memory;
 use dh_base::plain::CutKind;
 use dh_outside::Keeper;
 use engine::{Cut, CutFault, Engine};
+use request_session::Reply;
 use std::alloc::Global;
 
 // Why no update was begun is told.
 #[tactic(auto, using(crate::proofs::TellLemmas::is_told))]
-fn not_begun(alloc: Global, fault: CutFault, keep: bool) -> Result<Vec<u8>, Memory>
+fn not_begun(alloc: Global, fault: CutFault, keep: bool) -> Result<Reply, Memory>
     ensures { IsCutText keep fault (told result) }
 {
     match fault {
@@ -28,7 +30,7 @@ fn not_begun(alloc: Global, fault: CutFault, keep: bool) -> Result<Vec<u8>, Memo
 }
 
 // Memory is wanting: the update is dropped.
-fn give_up<K: Keeper>(engine: &mut Engine<K>, ticket: u64) -> Result<Vec<u8>, Memory>
+fn give_up<K: Keeper>(engine: &mut Engine<K>, ticket: u64) -> Result<Reply, Memory>
     requires { IsOwned engine.old.state ticket }
     ensures none { told result ≡ None }
     ensures dropped { DropStep engine.old.state ticket engine.new.state }
@@ -47,18 +49,18 @@ fn publish<K: Keeper>(
     ticket: u64,
     number: u64,
     kind: CutKind,
-    text: Vec<u8>,
-) -> Result<Vec<u8>, Memory>
+    reply: Reply,
+) -> Result<Reply, Memory>
     requires staged { IsStaged engine.old.state (record { ticket = ticket; kind = kind; number = number }) }
     ensures swapped { IfOk result (λ made. SwapStep {E = Wanting} engine.old.state ticket (Ok number) engine.new.state) }
-    ensures text { IfOk result (λ made. made.items ≡ text.items) }
+    ensures text { IfOk result (λ made. text_in made ≡ text_in reply) }
     ensures dropped { OnErr result (DropStep engine.old.state ticket engine.new.state) }
     ensures same { engine.new ≡ record engine.old { state = engine.new.state } }
     ensures sound { IsSound engine.new }
 {
     let _parts = (number, kind);
     match engine.swap(alloc, ticket) {
-        Ok(_published) => Ok(text),
+        Ok(_published) => Ok(reply),
         Err(_) => give_up(engine, ticket),
     }
 }
@@ -72,14 +74,14 @@ fn finish<K: Keeper>(
     number: u64,
     kind: CutKind,
     keep: bool,
-) -> Result<Vec<u8>, Memory>
+) -> Result<Reply, Memory>
     requires staged { IsStaged engine.old.state (record { ticket = ticket; kind = kind; number = number }) }
     ensures ends { Ends keep kind (Ok (record { ticket = ticket; number = number })) engine.old.state (told result) engine.new.state }
     ensures same { engine.new ≡ record engine.old { state = engine.new.state } }
     ensures sound { IsSound engine.new }
 {
     match update_reply(alloc, number, keep, kind) {
-        Ok(text) => publish(alloc, engine, ticket, number, kind, text),
+        Ok(reply) => publish(alloc, engine, ticket, number, kind, reply),
         Err(_) => give_up(engine, ticket),
     }
 }
@@ -92,7 +94,7 @@ fn end<K: Keeper>(
     found: Result<Cut, CutFault>,
     kind: CutKind,
     keep: bool,
-) -> Result<Vec<u8>, Memory>
+) -> Result<Reply, Memory>
     requires staged { IfOk found (λ begun. IsStaged engine.old.state (record { ticket = begun.ticket; kind = kind; number = begun.number })) }
     ensures ends { Ends keep kind (issued_in found) engine.old.state (told result) engine.new.state }
     ensures same { engine.new ≡ record engine.old { state = engine.new.state } }
@@ -112,9 +114,10 @@ pub(crate) fn reply_to_update<K: Keeper>(
     engine: &mut Engine<K>,
     kind: CutKind,
     keep: bool,
-) -> Result<Vec<u8>, Memory>
+) -> Result<Reply, Memory>
     requires { kind ≡ Full }
     ensures replies { UpdateReply engine.old kind keep (told result) engine.new }
+    ensures faults { engine.new.faults ≡ engine.old.faults }
     ensures sound { IsSound engine.new }
 {
     let found = engine.cut(alloc, kind);
