@@ -1,0 +1,4 @@
+pub mod SmallLemmas
+pub mod LoadLemmas
+pub mod ReportLemmas
+pub mod GeneratedLemmas
