@@ -1,37 +1,35 @@
 -- Replies over the input, and those that need none.
-use Rattle.std.proofs.Common.{◌≡◌, ◌∙◌, ℕ, ℤ, ◌<◌, ◌+◌, false, List, [], ◌∷◌, length, length-append, Bor, map, get_or, zero, suc, Option, Some, None, IfSome, Result, Ok, Err, refl, sym, ap, arith, subst}
+use Rattle.std.proofs.Common.{◌≡◌, ◌∙◌, ℕ, ℤ, ◌<◌, ◌+◌, Bool, true, false, List, [], ◌∷◌, length, length-append, Bor, map, get_or, zero, suc, Option, Some, None, IfSome, Result, Ok, Err, IfOk, refl, sym, ap, arith, subst}
 use Rattle.std.proofs.KnownBytes.{Consumes-whole}
 use Rattle.std.specs.Io.KnownBytes.{Consumes, IsAtEnd, Appends}
+use Rattle.dh_base.specs.declared.memory.Memory.{Memory}
 use Rattle.meta_reader.specs.File.{most_bytes}
 use Rattle.bundle_reply.specs.declared.reply.Ending.{Ending}
 use Rattle.bundle_reply.specs.declared.reply.Ending.TheVariants as ending
+use Rattle.request_session.specs.declared.ended.Ended.{Ended}
+use Rattle.request_session.specs.declared.ended.Ended.TheVariants as ended
+use Rattle.offline_session.specs.declared.over_file.SessionEnd.{SessionEnd}
+use Rattle.offline_session.specs.declared.over_file.SessionEnd.TheVariants as end
 use Rattle.dhis_main.specs.Words.{command_of}
-use Rattle.dhis_main.specs.Outcome.{reply_without_input, word_at, help_reply, version_reply, usage_reply, outcome_of, IsCommandReply}
-use Rattle.dhis_main.specs.Run.{IsReplyTo, IsReplyToCommand, IsReplyToInput, Prepares, RepliesToInput, Shown, Runs, AnswersTold, RefusesWords, is_usage, is_bad}
+use Rattle.dhis_main.specs.Outcome.{word_at, help_reply, version_reply, usage_reply, outcome_of, IsQueryReplyNow, IsReportNow}
+use Rattle.dhis_main.specs.Shown.{Side, Shown}
+use Rattle.dhis_main.specs.Session.{status_of, status_over, SessionRuns}
+use Rattle.dhis_main.specs.Run.{IsReplyToInput, ReplyRuns, UnreadRuns, QueryRuns, RunsAs, Runs, ReplyAnswers, AnswersAs, AnswersTold, RefusesWords, Delivers, is_usage, is_bad}
 use Rattle.dhis_main.specs.declared.status.Status.{Status}
 use Rattle.dhis_main.specs.declared.status.Status.TheVariants as status
 use Rattle.dhis_main.specs.declared.words.Command.{Command}
 use Rattle.dhis_main.specs.declared.words.Command.TheVariants as command
 use Rattle.dhis_main.specs.declared.reply.Reply.{Reply}
-use Rattle.dhis_main.specs.declared.reply.Fault.{Fault}
-use Rattle.dhis_main.specs.declared.reply.Fault.TheVariants as fault
+use Rattle.dhis_main.proofs.HeldLemmas.{session_answers}
 
--- a command that reads no input has its reply whatever the input is
-pub replies_without : (words : List (List ℕ)) (shows : ℤ → Type 0) (told : Option (List ℕ)) (command : Command) (reply : Reply) → command ≡ command_of words
-    → reply_without_input command ≡ Some reply → IsReplyTo words shows told reply
-replies_without words shows told command reply at is =
-    subst (λ o. IsReplyToCommand o words shows told reply) (sym is ∙ ap reply_without_input at) refl
+-- ---- a reply that was made is written
 
--- a query's reply over the input is the reply to the words
-pub replies_with : (words : List (List ℕ)) (user query : List ℕ) (shows : ℤ → Type 0) (told : Option (List ℕ)) (old new : ℕ) (result : Result Reply Fault)
-    → command.Query ≡ command_of words → word_at words 1 ≡ user → word_at words 2 ≡ query
-    → RepliesToInput user query shows told old new result → Prepares words shows told old new result
-replies_with words user query shows told old new (Ok reply) at second third replied =
-    subst (λ c. IsReplyToCommand (reply_without_input c) words shows told reply) at
-    (subst (λ u. IsReplyToInput u (word_at words 2) shows told reply) (sym second)
-    (subst (λ q. IsReplyToInput user q shows told reply) (sym third) replied))
-replies_with words user query shows told old new (Err fault.Read) at second third replied = replied
-replies_with words user query shows told old new (Err fault.Memory) at second third replied = tt
+pub delivered : (Is : Reply → Type 0) (made : Result Reply Memory) (output : Side) (result : Status) → IfOk made Is → Delivers made output result → ReplyRuns Is output result
+delivered Is (Ok reply) output (status.Done outcome) is sent = (reply, is, sent.0, sent.1)
+delivered Is (Ok reply) output status.ReadFault is sent = absurd sent
+delivered Is (Ok reply) output status.WriteFault is sent = (sent.0, (reply, is, sent.1))
+delivered Is (Ok reply) output status.Memory is sent = absurd sent
+delivered Is (Err wanting) output result is sent = subst (ReplyRuns Is output) (sym sent.0) sent.1
 
 -- the whole of what was told, where it was read to its end
 pub told-whole : (told after : Option (List ℕ)) (bytes : List ℕ) (P : List ℕ → Type 0) → Consumes told after bytes → IsAtEnd after → P bytes → IfSome told P
@@ -52,47 +50,143 @@ word_at-listed [] place none is = sym is
 word_at-listed (word ∷ words) zero none is = refl
 word_at-listed (word ∷ words) (suc place) none is = word_at-listed words place none is
 
--- ---- what a run is, told in the words of the definitions alone
+-- ---- a command with its words
 
-over-told : (command : Option Reply) (words : List (List ℕ)) (shows : ℤ → Type 0) (told : Option (List ℕ)) (reply : Reply)
-    → IsReplyToCommand command words shows told reply → IfSome told (λ bytes. IsCommandReply command words shows bytes reply)
-over-told (Some fixed) words shows None reply is = tt
-over-told (Some fixed) words shows (Some all) reply is = is
-over-told None words shows None reply is = tt
-over-told None words shows (Some all) reply is = is.told_bytes
+-- the query is that of the second and the third word
+pub query_runs : (c : Command) (words : List (List ℕ)) (user query : List ℕ) (shows : ℤ → Type 0) (shown : Shown) (result : Status)
+    → c ≡ command.Query → word_at words 1 ≡ user → word_at words 2 ≡ query → QueryRuns user query shows shown result → RunsAs c words shows shown result
+query_runs c words user query shows shown result at second third run =
+    subst (λ k. RunsAs k words shows shown result) (sym at)
+    (subst (λ u. QueryRuns u (word_at words 2) shows shown result) (sym second)
+    (subst (λ q. QueryRuns user q shows shown result) (sym third) run))
+
+-- the file of a session is the second word
+pub session_runs : (c : Command) (words : List (List ℕ)) (name : List ℕ) (shows : ℤ → Type 0) (shown : Shown) (result : Status)
+    → c ≡ command.Session → word_at words 1 ≡ name → SessionRuns shows name shown result → RunsAs c words shows shown result
+session_runs c words name shows shown result at second run =
+    subst (λ k. RunsAs k words shows shown result) (sym at) (subst (λ n. SessionRuns shows n shown result) (sym second) run)
+
+-- ---- what a run is over told bytes
+
+fixed : (told : Option (List ℕ)) (Is : Reply → Type 0) (reply : Reply) → Is reply → IfSome told (λ bytes. Is reply)
+fixed None Is reply is = tt
+fixed (Some all) Is reply is = is
+
+over-input : (user query : List ℕ) (shows : ℤ → Type 0) (told : Option (List ℕ)) (reply : Reply) → IsReplyToInput user query shows told reply → IfSome told (λ bytes. IsQueryReplyNow user query shows bytes reply)
+over-input user query shows told reply is = is.told_bytes
 
 with-written : (told : Option (List ℕ)) (P : List ℕ → Reply → Type 0) (Q R : Reply → Type 0) (reply : Reply) → IfSome told (λ bytes. P bytes reply) → Q reply → R reply
     → IfSome told (λ bytes. (r : Reply) × P bytes r × Q r × R r)
 with-written None P Q R reply is done written = tt
 with-written (Some all) P Q R reply is done written = (reply, is, done, written)
 
+reply-answers : (Is : Reply → Type 0) (Over : List ℕ → Reply → Type 0) (shown : Shown) (result : Status)
+    → ((reply : Reply) → Is reply → IfSome shown.input.before (λ bytes. Over bytes reply)) → ReplyRuns Is shown.output result → ReplyAnswers Over shown result
+reply-answers Is Over shown (status.Done outcome) over run =
+    with-written shown.input.before Over (λ r. outcome ≡ r.outcome) (λ r. Appends shown.output.before shown.output.after r.text) run.0 (over run.0 run.1) run.2 run.3
+reply-answers Is Over shown status.ReadFault over run = tt
+reply-answers Is Over shown status.WriteFault over run = tt
+reply-answers Is Over shown status.Memory over run = tt
+
+unread-answers : (Is : Reply → Type 0) (shown : Shown) (result : Status) → UnreadRuns Is shown result → ReplyAnswers (λ bytes. Is) shown result
+unread-answers Is shown result run = reply-answers Is (λ bytes. Is) shown result (fixed shown.input.before Is) run.1
+
+query-answers : (user query : List ℕ) (shows : ℤ → Type 0) (shown : Shown) (result : Status) → QueryRuns user query shows shown result
+    → ReplyAnswers (IsQueryReplyNow user query shows) shown result
+query-answers user query shows shown (status.Done outcome) run =
+    reply-answers (IsReplyToInput user query shows shown.input.before) (IsQueryReplyNow user query shows) shown (status.Done outcome) (over-input user query shows shown.input.before) run
+query-answers user query shows shown status.ReadFault run = tt
+query-answers user query shows shown status.WriteFault run = tt
+query-answers user query shows shown status.Memory run = tt
+
+answers-as : (c : Command) (words : List (List ℕ)) (shows : ℤ → Type 0) (shown : Shown) (result : Status) → RunsAs c words shows shown result → AnswersAs c words shows shown result
+answers-as command.Help words shows shown result run = unread-answers (λ reply. reply ≡ help_reply) shown result run
+answers-as command.Version words shows shown result run = unread-answers (λ reply. reply ≡ version_reply) shown result run
+answers-as command.Query words shows shown result run = query-answers (word_at words 1) (word_at words 2) shows shown result run
+answers-as command.Session words shows shown result run = session_answers shows (word_at words 1) shown result run
+answers-as (command.Generate count) words shows shown result run = unread-answers (IsReportNow count shows) shown result run
+answers-as (command.Bad place) words shows shown result run = unread-answers (λ reply. reply ≡ usage_reply place) shown result run
+
 -- a done run over told bytes has the outcome and the text of the reply to the words over them
 pub answers_told : (words : List (List ℕ)) (shows : ℤ → Type 0) (shown : Shown) (result : Status) → Runs words shows shown result → AnswersTold words shows shown result
-answers_told words shows shown (status.Done outcome) run =
-    with-written shown.told (λ bytes r. IsCommandReply (reply_without_input (command_of words)) words shows bytes r)
-    (λ r. outcome ≡ r.outcome) (λ r. Appends shown.written shown.written_after r.text) run.0
-    (over-told (reply_without_input (command_of words)) words shows shown.told run.0 run.1) run.2 run.3
-answers_told words shows shown status.ReadFault run = tt
-answers_told words shows shown status.WriteFault run = tt
-answers_told words shows shown status.Memory run = tt
+answers_told words shows shown result run = answers-as (command_of words) words shows shown result run
 
-ending-no-usage : (end : Ending) → is_usage (outcome_of end) ≡ false
+-- ---- which runs refuse the words
+
+-- the reply says whether the words are refused
+reply-usage : (Is : Reply → Type 0) (bad : Bool) (c : Command) (output : Side) (result : Status) → is_bad c ≡ bad → ((reply : Reply) → Is reply → is_usage reply.outcome ≡ bad)
+    → ReplyRuns Is output result → RefusesWords c result
+reply-usage Is bad c output (status.Done outcome) is says run = ap is_usage run.2 ∙ says run.0 run.1 ∙ sym is
+reply-usage Is bad c output status.ReadFault is says run = absurd run
+reply-usage Is bad c output status.WriteFault is says run = tt
+reply-usage Is bad c output status.Memory is says run = tt
+
+ending-no-usage : (how : Ending) → is_usage (outcome_of how) ≡ false
 ending-no-usage ending.Ok = refl
 ending-no-usage ending.MetaRefused = refl
 ending-no-usage ending.QueryRefused = refl
 ending-no-usage ending.DataRefused = refl
 
--- the outcome is a refusal of the words exactly where these are not in the grammar
-usage-outcome : (c : Command) (words : List (List ℕ)) (shows : ℤ → Type 0) (told : Option (List ℕ)) (reply : Reply)
-    → IsReplyToCommand (reply_without_input c) words shows told reply → is_usage reply.outcome ≡ is_bad c
-unfolding help_reply version_reply usage_reply
-usage-outcome command.Help words shows told reply is = ap (λ (r : Reply). is_usage r.outcome) is
-usage-outcome command.Version words shows told reply is = ap (λ (r : Reply). is_usage r.outcome) is
-usage-outcome command.Query words shows told reply is = ap (λ (r : Reply). is_usage r.outcome) is.is.2.2 ∙ ending-no-usage is.is.2.0.ending
-usage-outcome (command.Bad place) words shows told reply is = ap (λ (r : Reply). is_usage r.outcome) is
+query-usage : (user query : List ℕ) (shows : ℤ → Type 0) (told : Option (List ℕ)) (reply : Reply) → IsReplyToInput user query shows told reply → is_usage reply.outcome ≡ false
+query-usage user query shows told reply is = ap (λ (r : Reply). is_usage r.outcome) is.is.2.2 ∙ ending-no-usage is.is.2.0.ending
 
+report-usage : (count : ℕ) (shows : ℤ → Type 0) (reply : Reply) → IsReportNow count shows reply → is_usage reply.outcome ≡ false
+report-usage count shows reply is = ap (λ (r : Reply). is_usage r.outcome) is.2.2
+
+abbrev usage-in : Status → Bool
+usage-in (status.Done outcome) = is_usage outcome
+usage-in status.ReadFault = false
+usage-in status.WriteFault = false
+usage-in status.Memory = false
+
+ended-no-usage : (how : Ended) → usage-in (status_of how) ≡ false
+ended-no-usage ended.Closed = refl
+ended-no-usage ended.Limit = refl
+ended-no-usage ended.Truncated = refl
+ended-no-usage (ended.Refused code) = refl
+ended-no-usage ended.ReadFault = refl
+ended-no-usage ended.WriteFault = refl
+ended-no-usage ended.Memory = refl
+
+end-no-usage : (how : SessionEnd) → usage-in (status_over how) ≡ false
+end-no-usage end.Refused = refl
+end-no-usage end.Unwritten = refl
+end-no-usage (end.Ended how) = ended-no-usage how
+end-no-usage end.Memory = refl
+
+session-usage : (shows : ℤ → Type 0) (name : List ℕ) (shown : Shown) (result : Status) → SessionRuns shows name shown result → RefusesWords command.Session result
+session-usage shows name shown (status.Done outcome) came = ap usage-in came.status_is ∙ end-no-usage came.how
+session-usage shows name shown status.ReadFault came = refl
+session-usage shows name shown status.WriteFault came = tt
+session-usage shows name shown status.Memory came = tt
+
+queried-usage : (user query : List ℕ) (shows : ℤ → Type 0) (shown : Shown) (result : Status) → QueryRuns user query shows shown result → RefusesWords command.Query result
+queried-usage user query shows shown (status.Done outcome) run =
+    reply-usage (IsReplyToInput user query shows shown.input.before) false command.Query shown.output (status.Done outcome) refl (query-usage user query shows shown.input.before) run
+queried-usage user query shows shown status.ReadFault run = refl
+queried-usage user query shows shown status.WriteFault run = tt
+queried-usage user query shows shown status.Memory run = tt
+
+help-usage : (reply : Reply) → reply ≡ help_reply → is_usage reply.outcome ≡ false
+unfolding help_reply
+help-usage reply is = ap (λ (r : Reply). is_usage r.outcome) is
+
+version-usage : (reply : Reply) → reply ≡ version_reply → is_usage reply.outcome ≡ false
+unfolding version_reply
+version-usage reply is = ap (λ (r : Reply). is_usage r.outcome) is
+
+bad-usage : (place : ℕ) (reply : Reply) → reply ≡ usage_reply place → is_usage reply.outcome ≡ true
+unfolding usage_reply
+bad-usage place reply is = ap (λ (r : Reply). is_usage r.outcome) is
+
+refuses-as : (c : Command) (words : List (List ℕ)) (shows : ℤ → Type 0) (shown : Shown) (result : Status) → RunsAs c words shows shown result → RefusesWords c result
+refuses-as command.Help words shows shown result run = reply-usage (λ reply. reply ≡ help_reply) false command.Help shown.output result refl help-usage run.1
+refuses-as command.Version words shows shown result run = reply-usage (λ reply. reply ≡ version_reply) false command.Version shown.output result refl version-usage run.1
+refuses-as command.Query words shows shown result run = queried-usage (word_at words 1) (word_at words 2) shows shown result run
+refuses-as command.Session words shows shown result run = session-usage shows (word_at words 1) shown result run
+refuses-as (command.Generate count) words shows shown result run = reply-usage (IsReportNow count shows) false (command.Generate count) shown.output result refl (report-usage count shows) run.1
+refuses-as (command.Bad place) words shows shown result run = reply-usage (λ reply. reply ≡ usage_reply place) true (command.Bad place) shown.output result refl (bad-usage place) run.1
+
+-- the outcome is a refusal of the words exactly where these are not in the grammar
 pub refuses_words : (words : List (List ℕ)) (shows : ℤ → Type 0) (shown : Shown) (result : Status) → Runs words shows shown result → RefusesWords (command_of words) result
-refuses_words words shows shown (status.Done outcome) run = ap is_usage run.2 ∙ usage-outcome (command_of words) words shows shown.told run.0 run.1
-refuses_words words shows shown status.ReadFault run = run.2
-refuses_words words shows shown status.WriteFault run = tt
-refuses_words words shows shown status.Memory run = tt
+refuses_words words shows shown result run = refuses-as (command_of words) words shows shown result run

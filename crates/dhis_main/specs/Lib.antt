@@ -1,4 +1,6 @@
 pub mod Code
 pub mod Words
+pub mod Shown
 pub mod Outcome
+pub mod Session
 pub mod Run

@@ -1,10 +1,11 @@
--- What the program answers: its status, and the text that it writes.
-use Rattle.std.specs.Prelude.{◌≡◌, ℕ, ℤ, List, [], ◌∷◌, ◌++◌, zero, suc, Option, Some, None, codes}
+-- What the program answers: its outcome, and the text that it writes.
+use Rattle.std.specs.Prelude.{◌≡◌, ℕ, ℤ, List, [], ◌∷◌, ◌++◌, zero, suc, codes}
 use Rattle.std.specs.Fmt.{decimal}
 use Rattle.bundle_reply.specs.Bytes.{asked, IsOverBytes}
 use Rattle.bundle_reply.specs.declared.reply.Ending.{Ending}
 use Rattle.bundle_reply.specs.declared.reply.Ending.TheVariants as ending
 use Rattle.bundle_reply.specs.declared.reply.Reply as bundle
+use Rattle.sample_report.specs.Generated.{IsGenerated}
 use Rattle.dhis_main.specs.declared.words.Command.{Command}
 use Rattle.dhis_main.specs.declared.words.Command.TheVariants as command
 use Rattle.dhis_main.specs.declared.status.Outcome.{Outcome}
@@ -24,25 +25,31 @@ word_at (word ∷ words) (suc place) = word_at words place
 unfoldable pub usage_reply : ℕ → Reply
 usage_reply place = record { outcome = outcome.Usage; text = line (codes "dhis: usage: bad word " ++ decimal place) }
 
+-- how each command is written
+unfoldable pub usage_lines : List ℕ
+usage_lines =
+    line (codes "usage: dhis query USER QUERY < BUNDLE")
+    ++ line (codes "       dhis session META < REQUESTS")
+    ++ line (codes "       dhis generate N")
+    ++ line (codes "       dhis --help")
+    ++ line (codes "       dhis --version")
+
+-- what each command does
+unfoldable pub command_lines : List ℕ
+command_lines =
+    line (codes "query reads a bundle of metadata and values, and writes the analytics body of QUERY for USER.")
+    ++ line (codes "session reads the metadata file META, answers the HTTP requests of its input, and writes the replies.")
+    ++ line (codes "generate brings N values of its own, from 1 to 200000, and writes what they come to.")
+
+-- what the other words do
+unfoldable pub flag_lines : List ℕ
+flag_lines = line (codes "--help writes this text.") ++ line (codes "--version writes the version.")
+
 unfoldable pub help_reply : Reply
-help_reply = record {
-  outcome = outcome.Ok;
-  text =
-      line (codes "usage: dhis query USER QUERY < BUNDLE")
-      ++ line (codes "       dhis --help")
-      ++ line (codes "       dhis --version")
-      ++ line (codes "query reads a bundle of metadata and values, and writes the analytics body of QUERY for USER.");
-}
+help_reply = record { outcome = outcome.Ok; text = usage_lines ++ command_lines ++ flag_lines }
 
 unfoldable pub version_reply : Reply
 version_reply = record { outcome = outcome.Ok; text = line (codes "dhis 0.1.0") }
-
--- the reply to a command that reads no input
-abbrev pub reply_without_input : Command → Option Reply
-reply_without_input command.Help = Some help_reply
-reply_without_input command.Version = Some version_reply
-reply_without_input command.Query = None
-reply_without_input (command.Bad place) = Some (usage_reply place)
 
 -- ---- queries
 
@@ -64,7 +71,23 @@ IsQueryReply user query moment bytes reply = (made : bundle.Reply) × IsOverByte
 abbrev pub IsQueryReplyNow : List ℕ → List ℕ → (ℤ → Type 0) → List ℕ → Reply → Type 0
 IsQueryReplyNow user query shows bytes reply = (moment : ℤ) × shows moment × IsQueryReply user query moment bytes reply
 
--- the reply to a command over the bytes of the input
-abbrev pub IsCommandReply : Option Reply → List (List ℕ) → (ℤ → Type 0) → List ℕ → Reply → Type 0
-IsCommandReply (Some fixed) words shows bytes reply = reply ≡ fixed
-IsCommandReply None words shows bytes reply = IsQueryReplyNow (word_at words 1) (word_at words 2) shows bytes reply
+-- ---- the generator
+
+-- the report on so many generated values, which come at a moment
+abbrev pub IsReport : ℕ → ℤ → Reply → Type 0
+IsReport count moment reply = (text : List ℕ) × IsGenerated count moment text × (reply ≡ record { outcome = outcome.Ok; text = text })
+
+-- at a moment that the clock shows
+abbrev pub IsReportNow : ℕ → (ℤ → Type 0) → Reply → Type 0
+IsReportNow count shows reply = (moment : ℤ) × shows moment × IsReport count moment reply
+
+-- ---- all commands but sessions, which have no text of their own
+
+-- the reply to a command over the bytes of the input, which only a query reads
+abbrev pub IsCommandReply : Command → List (List ℕ) → (ℤ → Type 0) → List ℕ → Reply → Type 0
+IsCommandReply command.Help words shows bytes reply = reply ≡ help_reply
+IsCommandReply command.Version words shows bytes reply = reply ≡ version_reply
+IsCommandReply command.Query words shows bytes reply = IsQueryReplyNow (word_at words 1) (word_at words 2) shows bytes reply
+IsCommandReply command.Session words shows bytes reply = ⊥
+IsCommandReply (command.Generate count) words shows bytes reply = IsReportNow count shows reply
+IsCommandReply (command.Bad place) words shows bytes reply = reply ≡ usage_reply place

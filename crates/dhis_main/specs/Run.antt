@@ -1,9 +1,12 @@
 -- What a run of a command may do.
-use Rattle.std.specs.Prelude.{◌≡◌, ◌≤◌, ℕ, ℤ, Bool, true, false, List, length, take, Option, Some, None, IfSome, Result, Ok, Err, ⊤}
+use Rattle.std.specs.Prelude.{◌≡◌, ℕ, ℤ, Bool, true, false, List, Option, IfSome, Result, Ok, Err, ⊤}
 use Rattle.std.specs.Io.KnownBytes.{Appends, Keeps}
+use Rattle.dh_base.specs.declared.memory.Memory.{Memory}
 use Rattle.dh_outside.specs.Faults.{Rose}
 use Rattle.dhis_main.specs.Words.{command_of}
-use Rattle.dhis_main.specs.Outcome.{word_at, reply_without_input, IsQueryReplyNow, IsCommandReply}
+use Rattle.dhis_main.specs.Shown.{Side, Shown, WritesFront}
+use Rattle.dhis_main.specs.Outcome.{word_at, help_reply, version_reply, usage_reply, IsQueryReplyNow, IsReportNow, IsCommandReply}
+use Rattle.dhis_main.specs.Session.{SessionRuns, SessionAnswers}
 use Rattle.dhis_main.specs.declared.words.Command.{Command}
 use Rattle.dhis_main.specs.declared.words.Command.TheVariants as command
 use Rattle.dhis_main.specs.declared.status.Outcome.{Outcome}
@@ -19,6 +22,8 @@ abbrev pub is_bad : Command → Bool
 is_bad command.Help = false
 is_bad command.Version = false
 is_bad command.Query = false
+is_bad command.Session = false
+is_bad (command.Generate count) = false
 is_bad (command.Bad place) = true
 
 abbrev pub is_usage : Outcome → Bool
@@ -27,6 +32,24 @@ is_usage outcome.Usage = true
 is_usage outcome.MetaRefused = false
 is_usage outcome.QueryRefused = false
 is_usage outcome.DataRefused = false
+is_usage outcome.RequestLimit = false
+is_usage outcome.Truncated = false
+is_usage outcome.WireRefused = false
+
+-- ---- commands that write one reply
+
+-- A reply that is so was made and written. Writing failed only where the output counted a fault, and then a front of the
+-- text was written. Where memory is wanting nothing was written.
+abbrev pub ReplyRuns : (Reply → Type 0) → Side → Status → Type 0
+ReplyRuns Is output (status.Done outcome) = (reply : Reply) × Is reply × (outcome ≡ reply.outcome) × Appends output.before output.after reply.text
+ReplyRuns Is output status.ReadFault = ⊥
+ReplyRuns Is output status.WriteFault =
+    Rose output.faults output.faults_after × ((reply : Reply) × Is reply × WritesFront output reply.text)
+ReplyRuns Is output status.Memory = Keeps output.before output.after
+
+-- the command reads nothing of the input
+abbrev pub UnreadRuns : (Reply → Type 0) → Shown → Status → Type 0
+UnreadRuns Is shown result = (shown.input.after ≡ shown.input.before) × ReplyRuns Is shown.output result
 
 -- the reply is that to a query over some bytes: over the input's, where these are told
 pub record IsReplyToInput (user query : List ℕ) (shows : ℤ → Type 0) (told : Option (List ℕ)) (reply : Reply) : Type 0 where
@@ -34,71 +57,53 @@ pub record IsReplyToInput (user query : List ℕ) (shows : ℤ → Type 0) (told
   pub is : IsQueryReplyNow user query shows bytes reply
   pub told_bytes : IfSome told (λ all. IsQueryReplyNow user query shows all reply)
 
-abbrev pub IsReplyToCommand : Option Reply → List (List ℕ) → (ℤ → Type 0) → Option (List ℕ) → Reply → Type 0
-IsReplyToCommand (Some fixed) words shows told reply = reply ≡ fixed
-IsReplyToCommand None words shows told reply = IsReplyToInput (word_at words 1) (word_at words 2) shows told reply
-
--- the reply is that to the words, over the input where the command reads it
-abbrev pub IsReplyTo : List (List ℕ) → (ℤ → Type 0) → Option (List ℕ) → Reply → Type 0
-IsReplyTo words shows told reply = IsReplyToCommand (reply_without_input (command_of words)) words shows told reply
-
--- what making a reply answers
-abbrev pub Prepares : List (List ℕ) → (ℤ → Type 0) → Option (List ℕ) → ℕ → ℕ → Result Reply Fault → Type 0
-Prepares words shows told old new (Ok reply) = IsReplyTo words shows told reply
-Prepares words shows told old new (Err fault.Read) = Rose old new
-Prepares words shows told old new (Err fault.Memory) = ⊤
-
 -- what making a reply to a query answers
 abbrev pub RepliesToInput : List ℕ → List ℕ → (ℤ → Type 0) → Option (List ℕ) → ℕ → ℕ → Result Reply Fault → Type 0
 RepliesToInput user query shows told old new (Ok reply) = IsReplyToInput user query shows told reply
 RepliesToInput user query shows told old new (Err fault.Read) = Rose old new
 RepliesToInput user query shows told old new (Err fault.Memory) = ⊤
 
--- what the outside shows of a run: the bytes of the input where they are told, the bytes written before and after, and
--- the counts of the faults of input and output before and after
-pub record Shown : Type 0 where
-  pub told : Option (List ℕ)
-  pub written : Option (List ℕ)
-  pub written_after : Option (List ℕ)
-  pub read_faults : ℕ
-  pub read_faults_after : ℕ
-  pub write_faults : ℕ
-  pub write_faults_after : ℕ
+-- a query reads the input; reading failed only where the input counted a fault, and then nothing was written
+abbrev pub QueryRuns : List ℕ → List ℕ → (ℤ → Type 0) → Shown → Status → Type 0
+QueryRuns user query shows shown (status.Done outcome) = ReplyRuns (IsReplyToInput user query shows shown.input.before) shown.output (status.Done outcome)
+QueryRuns user query shows shown status.ReadFault =
+    Rose shown.input.faults shown.input.faults_after × Keeps shown.output.before shown.output.after
+QueryRuns user query shows shown status.WriteFault = ReplyRuns (IsReplyToInput user query shows shown.input.before) shown.output status.WriteFault
+QueryRuns user query shows shown status.Memory = ReplyRuns (IsReplyToInput user query shows shown.input.before) shown.output status.Memory
 
-abbrev pub shown : Option (List ℕ) → Option (List ℕ) → Option (List ℕ) → ℕ → ℕ → ℕ → ℕ → Shown
-shown told old new reads reads_after writes writes_after = record {
-  told = told;
-  written = old;
-  written_after = new;
-  read_faults = reads;
-  read_faults_after = reads_after;
-  write_faults = writes;
-  write_faults_after = writes_after;
-}
+-- ---- all commands
 
--- a front of a text was written
-abbrev pub WritesFront : Shown → List ℕ → Type 0
-WritesFront shown text = (count : ℕ) × (count ≤ length text) × Appends shown.written shown.written_after (take count text)
+abbrev pub RunsAs : Command → List (List ℕ) → (ℤ → Type 0) → Shown → Status → Type 0
+RunsAs command.Help words shows shown result = UnreadRuns (λ reply. reply ≡ help_reply) shown result
+RunsAs command.Version words shows shown result = UnreadRuns (λ reply. reply ≡ version_reply) shown result
+RunsAs command.Query words shows shown result = QueryRuns (word_at words 1) (word_at words 2) shows shown result
+RunsAs command.Session words shows shown result = SessionRuns shows (word_at words 1) shown result
+RunsAs (command.Generate count) words shows shown result = UnreadRuns (IsReportNow count shows) shown result
+RunsAs (command.Bad place) words shows shown result = UnreadRuns (λ reply. reply ≡ usage_reply place) shown result
 
--- A run is done with the outcome of its reply, whose text it wrote. Reading failed only where the input counted a fault, and
--- then nothing was written. Writing failed only where the output counted one, and then a front of the text was written.
+-- what a run of these words may do
 abbrev pub Runs : List (List ℕ) → (ℤ → Type 0) → Shown → Status → Type 0
-Runs words shows shown (status.Done outcome) =
-    (reply : Reply) × IsReplyTo words shows shown.told reply × (outcome ≡ reply.outcome) × Appends shown.written shown.written_after reply.text
-Runs words shows shown status.ReadFault =
-    Rose shown.read_faults shown.read_faults_after × Keeps shown.written shown.written_after × (is_bad (command_of words) ≡ false)
-Runs words shows shown status.WriteFault =
-    Rose shown.write_faults shown.write_faults_after × ((reply : Reply) × IsReplyTo words shows shown.told reply × WritesFront shown reply.text)
-Runs words shows shown status.Memory = Keeps shown.written shown.written_after
+Runs words shows shown result = RunsAs (command_of words) words shows shown result
 
--- a done run over told bytes has the outcome and the text of the reply to the words over them, at a moment of the clock
+-- over told bytes, a run that is done has the outcome and the text of the reply over them
+abbrev pub ReplyAnswers : (List ℕ → Reply → Type 0) → Shown → Status → Type 0
+ReplyAnswers Is shown (status.Done outcome) = IfSome shown.input.before (λ bytes.
+    (reply : Reply) × Is bytes reply × (outcome ≡ reply.outcome) × Appends shown.output.before shown.output.after reply.text)
+ReplyAnswers Is shown status.ReadFault = ⊤
+ReplyAnswers Is shown status.WriteFault = ⊤
+ReplyAnswers Is shown status.Memory = ⊤
+
+abbrev pub AnswersAs : Command → List (List ℕ) → (ℤ → Type 0) → Shown → Status → Type 0
+AnswersAs command.Help words shows shown result = ReplyAnswers (IsCommandReply command.Help words shows) shown result
+AnswersAs command.Version words shows shown result = ReplyAnswers (IsCommandReply command.Version words shows) shown result
+AnswersAs command.Query words shows shown result = ReplyAnswers (IsCommandReply command.Query words shows) shown result
+AnswersAs command.Session words shows shown result = SessionAnswers shows (word_at words 1) shown result
+AnswersAs (command.Generate count) words shows shown result = ReplyAnswers (IsCommandReply (command.Generate count) words shows) shown result
+AnswersAs (command.Bad place) words shows shown result = ReplyAnswers (IsCommandReply (command.Bad place) words shows) shown result
+
+-- over bytes that are told, a run that is done is the reply to the words over them, at a moment of the clock, or the session
 abbrev pub AnswersTold : List (List ℕ) → (ℤ → Type 0) → Shown → Status → Type 0
-AnswersTold words shows shown (status.Done outcome) = IfSome shown.told (λ bytes.
-    (reply : Reply) × IsCommandReply (reply_without_input (command_of words)) words shows bytes reply
-    × (outcome ≡ reply.outcome) × Appends shown.written shown.written_after reply.text)
-AnswersTold words shows shown status.ReadFault = ⊤
-AnswersTold words shows shown status.WriteFault = ⊤
-AnswersTold words shows shown status.Memory = ⊤
+AnswersTold words shows shown result = AnswersAs (command_of words) words shows shown result
 
 -- a done run refuses the words exactly where they are not in the grammar
 abbrev pub RefusesWords : Command → Status → Type 0
@@ -107,9 +112,16 @@ RefusesWords command status.ReadFault = is_bad command ≡ false
 RefusesWords command status.WriteFault = ⊤
 RefusesWords command status.Memory = ⊤
 
+-- ---- writing a reply
+
 -- what sending a reply answers
-abbrev pub Sends : Reply → Shown → Status → Type 0
-Sends reply shown (status.Done outcome) = (outcome ≡ reply.outcome) × Appends shown.written shown.written_after reply.text
-Sends reply shown status.ReadFault = ⊥
-Sends reply shown status.WriteFault = Rose shown.write_faults shown.write_faults_after × WritesFront shown reply.text
-Sends reply shown status.Memory = ⊥
+abbrev pub Sends : Reply → Side → Status → Type 0
+Sends reply output (status.Done outcome) = (outcome ≡ reply.outcome) × Appends output.before output.after reply.text
+Sends reply output status.ReadFault = ⊥
+Sends reply output status.WriteFault = Rose output.faults output.faults_after × WritesFront output reply.text
+Sends reply output status.Memory = ⊥
+
+-- what sending a reply answers where it may not have been made
+abbrev pub Delivers : Result Reply Memory → Side → Status → Type 0
+Delivers (Ok reply) output result = Sends reply output result
+Delivers (Err wanting) output result = (result ≡ status.Memory) × Keeps output.before output.after

@@ -1,6 +1,9 @@
--- The grammar of the command line: `query USER QUERY`, `--help` and `--version`.
-use Rattle.std.specs.Prelude.{ℕ, Bool, true, false, cond, ◌&&◌, List, [], ◌∷◌, length, nat_eq, nat_le, codes}
+-- The grammar of the command line: `query USER QUERY`, `session META`, `generate N`, `--help` and `--version`.
+use Rattle.std.specs.Prelude.{◌≡◌, ◌≤◌, ⊤, ℕ, ◌+◌, min, Bool, true, false, cond, not, ◌&&◌, List, [], ◌∷◌, length, nat_eq, nat_le, nat_lt, codes, Option, None, Some}
+use Rattle.std.specs.List.{list_all}
+use Rattle.std.specs.Char.{is_ascii_digit}
 use Rattle.std.specs.Cmp.Lexicographic.{pointwise}
+use Rattle.std.specs.Str.Parse.{digits_value}
 use Rattle.dhis_main.specs.declared.words.Command.{Command}
 use Rattle.dhis_main.specs.declared.words.Command.TheVariants as command
 
@@ -22,13 +25,72 @@ query_words (user ∷ []) = command.Bad 3
 query_words (user ∷ query ∷ []) = cond (fits_query query) command.Query (command.Bad 3)
 query_words (user ∷ query ∷ other ∷ rest) = cond (fits_query query) (command.Bad 4) (command.Bad 3)
 
+-- the words behind `session`
+abbrev pub session_words : List (List ℕ) → Command
+session_words [] = command.Bad 2
+session_words (meta ∷ []) = command.Session
+session_words (meta ∷ other ∷ rest) = command.Bad 3
+
+-- 1 to 6 digits, the first of them not 0
+abbrev pub begins_with_zero : List ℕ → Bool
+begins_with_zero [] = false
+begins_with_zero (first ∷ rest) = nat_eq first 48
+
+unfoldable pub is_plain_number : List ℕ → Bool
+is_plain_number word = nat_lt 0 (length word) && (nat_le (length word) 6 && (list_all is_ascii_digit word && not (begins_with_zero word)))
+
+-- the most values that are generated
+abbrev pub most_values : ℕ
+most_values = 200000
+
+abbrev pub count_within : ℕ → Option ℕ
+count_within count = cond (nat_le count most_values) (Some count) None
+
+-- a number of values, from 1 to the most
+unfoldable pub count_of : List ℕ → Option ℕ
+count_of word = cond (is_plain_number word) (count_within (digits_value 10 word)) None
+
+abbrev pub counted : Option ℕ → Command
+counted (Some count) = command.Generate count
+counted None = command.Bad 2
+
+abbrev pub one_too_many : Option ℕ → Command
+one_too_many (Some count) = command.Bad 3
+one_too_many None = command.Bad 2
+
+-- the words behind `generate`
+abbrev pub generate_words : List (List ℕ) → Command
+generate_words [] = command.Bad 2
+generate_words (count ∷ []) = counted (count_of count)
+generate_words (count ∷ other ∷ rest) = one_too_many (count_of count)
+
 -- the words behind the first
 abbrev pub command_behind : List ℕ → List (List ℕ) → Command
 command_behind first rest =
     cond (is_word first (codes "query")) (query_words rest)
+    (cond (is_word first (codes "session")) (session_words rest)
+    (cond (is_word first (codes "generate")) (generate_words rest)
     (cond (is_word first (codes "--help") && is_last rest) command.Help
-    (cond (is_word first (codes "--version") && is_last rest) command.Version (command.Bad 1)))
+    (cond (is_word first (codes "--version") && is_last rest) command.Version (command.Bad 1)))))
 
 unfoldable pub command_of : List (List ℕ) → Command
 command_of [] = command.Bad 1
 command_of (first ∷ rest) = command_behind first rest
+
+-- what a command needs of its words, by how many they are: a word for each name, and a number within the most
+abbrev pub IsFit : Command → ℕ → Type 0
+IsFit command.Help words = ⊤
+IsFit command.Version words = ⊤
+IsFit command.Query words = words ≡ 3
+IsFit command.Session words = words ≡ 2
+IsFit (command.Generate count) words = count ≤ most_values
+IsFit (command.Bad place) words = ⊤
+
+-- the place of the first word that doesn't fit, where the word behind so many isn't UTF-8 and fits nowhere
+abbrev pub bad_place : Command → ℕ → ℕ
+bad_place (command.Bad place) words = min place (words + 1)
+bad_place command.Help words = words + 1
+bad_place command.Version words = words + 1
+bad_place command.Query words = words + 1
+bad_place command.Session words = words + 1
+bad_place (command.Generate count) words = words + 1

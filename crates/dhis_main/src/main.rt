@@ -1,9 +1,13 @@
 //! The program. `dhis query USER QUERY` reads a bundle of metadata and values from standard input and
-//! writes the analytics body of the query.
+//! writes the analytics body of the query. `dhis session META` answers the HTTP requests of standard input
+//! over a metadata file. `dhis generate N` brings values of its own and writes what they come to.
 #![tactic(auto)]
 
 mod reply;
 mod run;
+mod session;
+#[cfg(test)]
+mod session_tests;
 mod status;
 #[cfg(test)]
 mod tests;

@@ -1,17 +1,16 @@
-ghost use Rattle.std.specs.Prelude.{◌≡◌, ◌<◌, ◌≤◌, ◌++◌, ℕ, ℤ, List, length, map, IfOk, IfErr, OnOk, false};
+ghost use Rattle.std.specs.Prelude.{◌≡◌, ◌<◌, ◌≤◌, ◌++◌, ℕ, ℤ, List, length, IfOk, OnOk};
 ghost use Rattle.meta_reader.specs.File.{most_bytes};
-ghost use Rattle.dhis_main.specs.Words.{command_of};
-ghost use Rattle.dhis_main.specs.Outcome.{line, usage_reply, help_reply, version_reply, outcome_of, told_as, IsQueryReply};
-ghost use Rattle.dhis_main.specs.Run.{Prepares, RepliesToInput, is_bad};
+ghost use Rattle.dhis_main.specs.Outcome.{line, usage_reply, usage_lines, command_lines, flag_lines, help_reply, version_reply, outcome_of, told_as, IsQueryReply, IsReport};
+ghost use Rattle.dhis_main.specs.Run.{RepliesToInput};
 ghost use Rattle.dhis_main.specs.declared.reply.Fault.TheVariants.{Memory as OutOfMemory};
 
 use crate::status::Outcome;
-use crate::words::{Command, read_words};
 use bundle_reply::bytes::{reply_to_bytes, reply_to_long};
 use bundle_reply::reply::{Ending, Reply as BundleReply};
 use dh_base::items::Items;
 use dh_base::memory::Memory;
 use dh_outside::{Clock, FileFault, Source, read_all};
+use sample_report::generated;
 use std::alloc::{AllocError, AllocFailed, Global};
 
 /// What the program writes, and what it came to.
@@ -87,6 +86,7 @@ fn told_as(made: BundleReply) -> Reply
     }
 }
 
+/// The refusal of a command line, by the place of the word that doesn't fit.
 #[tactic(auto, unfolding(crate::specs::Outcome::usage_reply))]
 pub fn usage_reply(alloc: Global, place: usize) -> Result<Reply, Memory>
     ensures { IfOk result (λ reply. reply ≡ usage_reply place) }
@@ -98,8 +98,9 @@ pub fn usage_reply(alloc: Global, place: usize) -> Result<Reply, Memory>
     })
 }
 
+/// The name of the program and its version.
 #[tactic(auto, unfolding(crate::specs::Outcome::version_reply))]
-fn version_reply(alloc: Global) -> Result<Reply, Memory>
+pub fn version_reply(alloc: Global) -> Result<Reply, Memory>
     ensures { IfOk result (λ reply. reply ≡ version_reply) }
 {
     Ok(Reply {
@@ -108,21 +109,69 @@ fn version_reply(alloc: Global) -> Result<Reply, Memory>
     })
 }
 
+#[tactic(auto, unfolding(crate::specs::Outcome::usage_lines))]
+fn push_usage(text: &mut Vec<u8>) -> Result<(), Memory>
+    ensures { OnOk result (text.new.items ≡ text.old.items ++ usage_lines) }
+{
+    push_line(text, "usage: dhis query USER QUERY < BUNDLE")?;
+    push_line(text, "       dhis session META < REQUESTS")?;
+    push_line(text, "       dhis generate N")?;
+    push_line(text, "       dhis --help")?;
+    push_line(text, "       dhis --version")?;
+    Ok(())
+}
+
+#[tactic(auto, unfolding(crate::specs::Outcome::command_lines))]
+fn push_commands(text: &mut Vec<u8>) -> Result<(), Memory>
+    ensures { OnOk result (text.new.items ≡ text.old.items ++ command_lines) }
+{
+    push_line(
+        text,
+        "query reads a bundle of metadata and values, and writes the analytics body of QUERY for USER.",
+    )?;
+    push_line(
+        text,
+        "session reads the metadata file META, answers the HTTP requests of its input, and writes the replies.",
+    )?;
+    push_line(
+        text,
+        "generate brings N values of its own, from 1 to 200000, and writes what they come to.",
+    )?;
+    Ok(())
+}
+
+#[tactic(auto, unfolding(crate::specs::Outcome::flag_lines))]
+fn push_flags(text: &mut Vec<u8>) -> Result<(), Memory>
+    ensures { OnOk result (text.new.items ≡ text.old.items ++ flag_lines) }
+{
+    push_line(text, "--help writes this text.")?;
+    push_line(text, "--version writes the version.")?;
+    Ok(())
+}
+
+/// How each command is written, and what it does.
 #[tactic(auto, unfolding(crate::specs::Outcome::help_reply))]
-fn help_reply(alloc: Global) -> Result<Reply, Memory>
+pub fn help_reply(alloc: Global) -> Result<Reply, Memory>
     ensures { IfOk result (λ reply. reply ≡ help_reply) }
 {
     let mut text = Vec::new(alloc);
-    push_line(&mut text, "usage: dhis query USER QUERY < BUNDLE")?;
-    push_line(&mut text, "       dhis --help")?;
-    push_line(&mut text, "       dhis --version")?;
-    push_line(
-        &mut text,
-        "query reads a bundle of metadata and values, and writes the analytics body of QUERY for USER.",
-    )?;
+    push_usage(&mut text)?;
+    push_commands(&mut text)?;
+    push_flags(&mut text)?;
     Ok(Reply {
         outcome: Outcome::Ok,
         text: Items::from(text),
+    })
+}
+
+/// The report on so many generated values, which come at a moment.
+pub fn report_reply(alloc: Global, count: u32, moment: i64) -> Result<Reply, Memory>
+    requires { count ≤ 200000 }
+    ensures { IfOk result (IsReport count moment) }
+{
+    Ok(Reply {
+        outcome: Outcome::Ok,
+        text: generated(alloc, count, moment)?,
     })
 }
 
@@ -156,8 +205,8 @@ fn reply_to_too_long(alloc: Global) -> Result<Reply, Memory>
     Ok(told_as(made))
 }
 
-// Reads the whole input and makes the reply to a query over it.
-fn reply_to_input<S: Source, C: Clock>(
+/// Reads the whole input and makes the reply to a query over it.
+pub fn reply_to_input<S: Source, C: Clock>(
     alloc: Global,
     user: &str,
     query: &str,
@@ -173,23 +222,5 @@ fn reply_to_input<S: Source, C: Clock>(
         Err(FileFault::TooLong) => Ok(reply_to_too_long(alloc)?),
         Err(FileFault::Failed) => Err(Fault::Read),
         Err(FileFault::Memory) => Err(Fault::Memory),
-    }
-}
-
-/// The reply to the words of a command line. The input is read where the command does.
-pub fn prepare<S: Source, C: Clock>(
-    alloc: Global,
-    words: &[&str],
-    input: &mut S,
-    clock: &C,
-) -> Result<Reply, Fault>
-    ensures reply { Prepares (map (λ word. word.now) words.now) (C.shows clock.now) (S.left input.old) (S.source_faults input.old) (S.source_faults input.new) result }
-    ensures idle { IfErr result (λ fault. fault ≡ Fault.Read → is_bad (command_of (map (λ word. word.now) words.now)) ≡ false) }
-{
-    match read_words(words) {
-        Command::Help => Ok(help_reply(alloc)?),
-        Command::Version => Ok(version_reply(alloc)?),
-        Command::Bad(place) => Ok(usage_reply(alloc, place)?),
-        Command::Query => reply_to_input(alloc, words[1], words[2], input, clock),
     }
 }

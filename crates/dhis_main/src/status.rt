@@ -14,12 +14,18 @@ pub enum Outcome {
     QueryRefused,
     /// The values of the bundle are refused.
     DataRefused,
+    /// A session answered as many requests as it may.
+    RequestLimit,
+    /// The input of a session ended inside a request.
+    Truncated,
+    /// The input of a session has something that isn't a request.
+    WireRefused,
 }
 
 /// How the program ended.
 #[derive(Clone, Copy, Debug, Drop, PartialEq, Eq)]
 pub enum Status {
-    /// A reply was written whole.
+    /// What the command replies was written whole.
     Done(Outcome),
     /// The input or a file failed.
     ReadFault,
@@ -39,10 +45,13 @@ impl Status {
             Status::Done(Outcome::Usage) => 2,
             Status::Done(Outcome::MetaRefused) => 3,
             Status::Done(Outcome::QueryRefused) => 4,
-            Status::Done(Outcome::DataRefused) => 11,
             Status::ReadFault => 5,
             Status::WriteFault => 6,
             Status::Memory => 7,
+            Status::Done(Outcome::DataRefused) => 11,
+            Status::Done(Outcome::RequestLimit) => 12,
+            Status::Done(Outcome::Truncated) => 13,
+            Status::Done(Outcome::WireRefused) => 14,
         }
     }
 }

@@ -10,10 +10,10 @@ const QUERY: &str =
 const BUNDLE: &str =
     r#"{"apiTokens":[{"token":"tok-country","user":{"id":"UsCountry01"}},{"token":"tok-district","user":{"id":"UsDistrictA"}},{"token":"tok-viewer","user":{"id":"UsViewer001"}}],"dataElements":[{"aggregationType":"SUM","id":"DeFormsRecv","name":"Forms received","valueType":"NUMBER"},{"aggregationType":"SUM","id":"DeFormsSent","name":"Forms sent","sharing":{"public":"--------"},"valueType":"NUMBER"}],"dataSets":[{"dataSetElements":[{"dataElement":{"id":"DeFormsRecv"}},{"dataElement":{"id":"DeFormsSent"}}],"id":"DsMonthly01","organisationUnits":[{"id":"OuFacilityA"},{"id":"OuFacilityB"},{"id":"OuFacilityC"}],"periodType":"Monthly"}],"organisationUnits":[{"id":"OuCountry01"},{"id":"OuDistrictA","parent":{"id":"OuCountry01"}},{"id":"OuDistrictB","parent":{"id":"OuCountry01"}},{"id":"OuFacilityA","parent":{"id":"OuDistrictA"}},{"id":"OuFacilityB","parent":{"id":"OuDistrictA"}},{"id":"OuFacilityC","parent":{"id":"OuDistrictB"}}],"userRoles":[{"authorities":["ALL"],"id":"RoSuperUser"},{"authorities":["F_DATAVALUE_ADD","F_APPROVE_DATA"],"id":"RoDistrict1"}],"users":[{"id":"UsCountry01","organisationUnits":[{"id":"OuCountry01"}],"userRoles":[{"id":"RoSuperUser"}]},{"id":"UsDistrictA","organisationUnits":[{"id":"OuDistrictA"}],"userRoles":[{"id":"RoDistrict1"}]},{"id":"UsViewer001","dataViewOrganisationUnits":[{"id":"OuCountry01"}]}],"dataValues":[{"dataElement":"DeFormsRecv","period":"202401","orgUnit":"OuFacilityA","value":"12"},{"dataElement":"DeFormsRecv","period":"202402","orgUnit":"OuFacilityB","value":"5"}]}"#;
 
-const EMPTY: &str =
+pub(crate) const EMPTY: &str =
     r#"{"apiTokens":[{"token":"tok-country","user":{"id":"UsCountry01"}},{"token":"tok-district","user":{"id":"UsDistrictA"}},{"token":"tok-viewer","user":{"id":"UsViewer001"}}],"dataElements":[{"aggregationType":"SUM","id":"DeFormsRecv","name":"Forms received","valueType":"NUMBER"},{"aggregationType":"SUM","id":"DeFormsSent","name":"Forms sent","sharing":{"public":"--------"},"valueType":"NUMBER"}],"dataSets":[{"dataSetElements":[{"dataElement":{"id":"DeFormsRecv"}},{"dataElement":{"id":"DeFormsSent"}}],"id":"DsMonthly01","organisationUnits":[{"id":"OuFacilityA"},{"id":"OuFacilityB"},{"id":"OuFacilityC"}],"periodType":"Monthly"}],"organisationUnits":[{"id":"OuCountry01"},{"id":"OuDistrictA","parent":{"id":"OuCountry01"}},{"id":"OuDistrictB","parent":{"id":"OuCountry01"}},{"id":"OuFacilityA","parent":{"id":"OuDistrictA"}},{"id":"OuFacilityB","parent":{"id":"OuDistrictA"}},{"id":"OuFacilityC","parent":{"id":"OuDistrictB"}}],"userRoles":[{"authorities":["ALL"],"id":"RoSuperUser"},{"authorities":["F_DATAVALUE_ADD","F_APPROVE_DATA"],"id":"RoDistrict1"}],"users":[{"id":"UsCountry01","organisationUnits":[{"id":"OuCountry01"}],"userRoles":[{"id":"RoSuperUser"}]},{"id":"UsDistrictA","organisationUnits":[{"id":"OuDistrictA"}],"userRoles":[{"id":"RoDistrict1"}]},{"id":"UsViewer001","dataViewOrganisationUnits":[{"id":"OuCountry01"}]}],"dataValues":[]}"#;
 
-const BODY: &str =
+pub(crate) const BODY: &str =
     r#"{"headerWidth":4,"headers":[{"column":"Data","hidden":false,"meta":true,"name":"dx","type":"java.lang.String","valueType":"TEXT"},{"column":"Period","hidden":false,"meta":true,"name":"pe","type":"java.lang.String","valueType":"TEXT"},{"column":"Organisation unit","hidden":false,"meta":true,"name":"ou","type":"java.lang.String","valueType":"TEXT"},{"column":"Value","hidden":false,"meta":false,"name":"value","type":"java.lang.Double","valueType":"NUMBER"}],"height":1,"metaData":{},"rows":[["DeFormsRecv","2024Q1","OuDistrictA","17"]],"width":4}"#;
 
 const NO_ROWS: &str =
@@ -101,6 +101,52 @@ fn each_refusal_has_its_line(rt: HostRuntime) -> Result<(), Fail> {
     let (status, sink) = run(alloc, &["--version"], BUNDLE, false, false)?;
     assert_eq!(rt; status.code(), 0);
     assert_eq!(rt; sink.written(), b"dhis 0.1.0\n".as_slice());
+    Ok(())
+}
+
+// Words, and the place of the first that doesn't fit.
+const BAD_WORDS: &str = "session|2
+session a b|3
+generate|2
+generate x|2
+generate 0|2
+generate 03|2
+generate +3|2
+generate 200001|2
+generate 1000000|2
+generate 5 6|3
+generate x 6|2
+sessions a|1
+--help x|1";
+
+#[test]
+fn words_that_do_not_fit_are_told_by_their_place(rt: HostRuntime) -> Result<(), Fail> {
+    let alloc = rt.alloc();
+    for line in BAD_WORDS.lines() {
+        let mut parts = line.split('|');
+        let text = parts.next().unwrap_or("");
+        let place = parts.next().unwrap_or("");
+        let mut words = Vec::new(alloc);
+        for word in text.split(' ') {
+            words.push(word)?;
+        }
+        let (status, sink) = run(alloc, &words, EMPTY, false, false)?;
+        assert_eq!(rt; status, Status::Done(Outcome::Usage), "in {line}");
+        let expected = format!(in alloc; "dhis: usage: bad word {place}\n")?;
+        assert_eq!(rt; sink.written(), expected.as_bytes(), "in {line}");
+    }
+    Ok(())
+}
+
+#[test]
+fn generated_values_are_reported(rt: HostRuntime) -> Result<(), Fail> {
+    let alloc = rt.alloc();
+    let (status, sink) = run(alloc, &["generate", "3"], "", true, false)?;
+    assert_eq!(rt; status, Status::Done(Outcome::Ok));
+    assert_eq!(rt;
+        sink.written(),
+        b"values 3\nrecords 3\nchanges 1\ntotal 955\n".as_slice()
+    );
     Ok(())
 }
 

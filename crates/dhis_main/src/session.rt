@@ -1,0 +1,59 @@
+ghost use Rattle.std.specs.Prelude.{◌≡◌};
+ghost use Rattle.dhis_main.specs.Shown.{shown, side, folder};
+ghost use Rattle.dhis_main.specs.Session.{status_of, status_over, SessionRuns};
+
+use crate::status::{Outcome, Status};
+use dh_outside::{Clock, FileFault, FileSet, Sink, Source};
+use offline_session::{SessionEnd, refuse_long, session_over};
+use request_session::Ended;
+use std::alloc::Global;
+
+// The most bytes that a metadata file may have.
+const MOST_BYTES: u64 = 67_108_864;
+
+fn status_of(ended: Ended) -> Status
+    ensures { result ≡ status_of ended }
+{
+    match ended {
+        Ended::Closed => Status::Done(Outcome::Ok),
+        Ended::Limit => Status::Done(Outcome::RequestLimit),
+        Ended::Truncated => Status::Done(Outcome::Truncated),
+        Ended::Refused(_) => Status::Done(Outcome::WireRefused),
+        Ended::ReadFault => Status::ReadFault,
+        Ended::WriteFault => Status::WriteFault,
+        Ended::Memory => Status::Memory,
+    }
+}
+
+fn status_over(end: SessionEnd) -> Status
+    ensures { result ≡ status_over end }
+{
+    match end {
+        SessionEnd::Refused => Status::Done(Outcome::MetaRefused),
+        SessionEnd::Unwritten => Status::WriteFault,
+        SessionEnd::Ended(ended) => status_of(ended),
+        SessionEnd::Memory => Status::Memory,
+    }
+}
+
+/// Reads a metadata file, and then answers the requests of the input over it.
+pub fn hold_session<S: Source, O: Sink, F: FileSet, C: Clock>(
+    alloc: Global,
+    name: &str,
+    input: &mut S,
+    output: &mut O,
+    files: &mut F,
+    clock: &C,
+) -> Status
+    ensures { SessionRuns (C.shows clock.now) name.now (shown
+        (side (S.left input.old) (S.left input.new) (S.source_faults input.old) (S.source_faults input.new))
+        (side (O.written output.old) (O.written output.new) (O.sink_faults output.old) (O.sink_faults output.new))
+        (folder (F.file files.old) (F.file_faults files.old) (F.file_faults files.new))) result }
+{
+    match files.read_file(alloc, name, MOST_BYTES) {
+        Ok(file) => status_over(session_over(alloc, &file, input, output, clock)),
+        Err(FileFault::TooLong) => status_over(refuse_long(alloc, output)),
+        Err(FileFault::Failed) => Status::ReadFault,
+        Err(FileFault::Memory) => Status::Memory,
+    }
+}
