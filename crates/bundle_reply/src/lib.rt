@@ -5,3 +5,5 @@ pub mod bytes;
 mod load;
 mod over;
 pub mod reply;
+#[cfg(test)]
+mod tests;

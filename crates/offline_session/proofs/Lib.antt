@@ -1,2 +1,3 @@
 pub mod ServeLemmas
 pub mod OverLemmas
+pub mod OwnLemmas

@@ -3,6 +3,8 @@
 #![tactic(auto)]
 
 mod keeper;
+#[cfg(test)]
+mod machine_tests;
 mod over_file;
 mod serving;
 #[cfg(test)]
