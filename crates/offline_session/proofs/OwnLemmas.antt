@@ -1,5 +1,5 @@
 -- Facts on updates that are begun.
-use Rattle.std.proofs.Common.{◌≡◌, ℕ, Option, Some, None, option_map, absurd, refl}
+use Rattle.std.proofs.Common.{◌≡◌, ℕ, Option, Some, None, option_map, refl}
 use Rattle.engine.specs.declared.machine.Staged.{Staged}
 use Rattle.engine.specs.Machine.{State, IsOwned}
 
