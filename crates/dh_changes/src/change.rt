@@ -28,7 +28,7 @@ pub enum Write {
 pub struct Change {
     /// Who made it, or `None` for the loader.
     pub user: Option<Uid>,
-    /// Microseconds since 1 January 1970.
+    /// Seconds since 1 January 1970.
     pub moment: i64,
     /// The writes in their order.
     pub writes: Items<Write>,

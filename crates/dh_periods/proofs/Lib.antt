@@ -8,6 +8,7 @@ pub mod HeldLemmas
 pub mod InverseLemmas
 pub mod PlaceLemmas
 pub mod ContainingLemmas
+pub mod OrderLemmas
 pub mod RunLemmas
 pub mod CivilLemmas
 pub mod TypeLemmas

@@ -8,3 +8,4 @@ pub mod Places
 pub mod Relative
 pub mod Civil
 pub mod Keys
+pub mod Order

@@ -4,6 +4,8 @@ ghost use Rattle.dh_periods.specs.declared.name.PeriodName.{PeriodName};
 ghost use Rattle.dh_periods.specs.Places.{year_of, ordinal_of, nth_period, containing_of, Has};
 ghost use Rattle.dh_periods.specs.Texts.{period_of, period_text, IsTextOf};
 ghost use Rattle.dh_periods.specs.Days.{first_day, last_day, listed, is_listed, is_inside};
+ghost use Rattle.dh_periods.specs.Order.{period_order};
+ghost use Rattle.std.specs.declared.cmp.Ordering.TheVariants.{Equal};
 
 use crate::days::{FIRST_YEAR, span_of};
 use crate::kind::{PeriodType, Shape, shape_of};
@@ -13,6 +15,7 @@ use crate::print::print_name;
 use crate::read::read_name;
 use dh_base::memory::Memory;
 use std::alloc::Global;
+use std::cmp::Ordering;
 use std::marker::Model;
 
 /// 30 September 2101, the last day of all periods.
@@ -196,6 +199,15 @@ impl Period {
         ensures { result ≡ is_inside self other }
     {
         other.first <= self.first && self.last <= other.last
+    }
+
+    /// Where it stands to the other one: by the last day, then by the first day, then by the type.
+    /// Two periods that stand at one place are one.
+    pub fn order(self, other: Period) -> Ordering
+        ensures value { result ≡ period_order self other }
+        ensures same { result ≡ Equal → self ≡ other }
+    {
+        self.cmp(&other)
     }
 
     /// Its text. What it gives is read again as the same period.
