@@ -8,7 +8,8 @@ ghost use Rattle.meta_exprs.specs.Read.{text_fault_of, missing_place, ReadAs};
 use crate::fault::TextFault;
 use crate::names::is_missing;
 use dh_base::uid::Uid;
-use expr_lang::{Expr, Place, Sort, parse_sorted};
+use expr_grammar::parse_sorted;
+use expr_lang::{Expr, Place, Sort};
 use meta_ids::ids::Ids;
 use std::alloc::Global;
 
