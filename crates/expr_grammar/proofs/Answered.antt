@@ -17,15 +17,15 @@ use Rattle.expr_lang.specs.Shape.{Shape, shape_of}
 use Rattle.expr_lang.specs.Survey.{survey_of, misfit_of}
 use Rattle.expr_lang.specs.Build.{shapes_behind}
 use Rattle.expr_lang.specs.Expr.{items_in, places_in}
-use Rattle.expr_lang.specs.Items.{occurrences, Lists}
-use Rattle.expr_grammar.specs.Items.{items_of, Different}
+use Rattle.expr_lang.specs.Items.{Occurrence, occurrences, Lists}
+use Rattle.expr_grammar.specs.Items.{items_of, Different, ListsItems}
 use Rattle.expr_grammar.specs.Grammar.{tree_of}
 use Rattle.expr_grammar.specs.Laws.{OneTree}
 use Rattle.expr_grammar.proofs.Listed.{items_at, items_so, different_so}
 use Rattle.expr_grammar.specs.Limits.{AnswersBy}
 use Rattle.expr_grammar.proofs.Limits.{answered}
 use Rattle.expr_grammar.proofs.Sound.{text_sound}
-use Rattle.expr_grammar.proofs.Texts.{text_read}
+use Rattle.expr_grammar.proofs.Texts.{text_read, text_told}
 
 cut_fails : (r : Result Nodes ℕ) (nodes : Nodes) → cut_short r ≡ Ok nodes → ⊥
 cut_fails (Ok m) nodes e = cc
@@ -96,3 +96,20 @@ module _ (p : Place) (days : List (List ℕ)) (wanted : Option Sort) (text : Lis
 
   pub items_are : (r : Result Expr ExprFault) → Accepts (IsOf text days) r (accepted p days wanted text) → IfOk r (λ expr. Different (items_of (shape_of expr.tree)) [] (items_in expr))
   items_are r h = items_from r (accepted p days wanted text) refl h
+
+  -- and their places are those in the form
+  places_of_one : (expr : Expr) (nodes : Nodes) → accepted p days wanted text ≡ Ok nodes → IsOf text days expr nodes → ListsItems p days text expr
+  unfolding accepted
+  places_of_one expr nodes e is F isF =
+      let n = nodes_read p text nodes (text_ok text days wanted (nodes_of_text p text) nodes e) in
+      let t = text_told p days text n.0 F isF in
+      let same : nodes ≡ t.whole.nodes = ok_is nodes t.whole.nodes (sym n.1 ∙ t.whole.read) in
+      subst (λ (l : List Occurrence). Lists l (items_in expr) (places_in expr)) (ap (λ (x : Nodes). occurrences text days x.nodes) same ∙ t.lists) is.items
+
+  places_from : (r : Result Expr ExprFault) (a : Result Nodes ExprFault) → accepted p days wanted text ≡ a → Accepts (IsOf text days) r a → IfOk r (λ expr. ListsItems p days text expr)
+  places_from (Ok expr) (Ok nodes) e h = places_of_one expr nodes e h
+  places_from (Ok expr) (Err f) e h = absurd h
+  places_from (Err f) a e h = tt
+
+  pub places_are : (r : Result Expr ExprFault) → Accepts (IsOf text days) r (accepted p days wanted text) → IfOk r (λ expr. ListsItems p days text expr)
+  places_are r h = places_from r (accepted p days wanted text) refl h

@@ -15,13 +15,12 @@ use Rattle.expr_lang.specs.declared.reading.Expect.{Expect}
 use Rattle.expr_lang.specs.declared.reading.Expect.TheVariants as expect
 use Rattle.expr_lang.specs.declared.reading.Reader.{Reader}
 use Rattle.expr_lang.specs.Reading.{least_arguments, most_arguments, nodes_reduced, spot_of, call_frame, joined, node_of_call, counted_of, later_argument, is_list_of, first_argument}
-use Rattle.expr_lang.specs.Shape.{Shape}
 use Rattle.expr_lang.specs.Words.{text_of}
-use Rattle.expr_grammar.specs.Grammar.{Form, Number, Item, Arguments, Apply, IsBlank, IsCall, IsForm, is_plain, all_plain, symbol_text, number_value, spelled, applied, tree_of}
+use Rattle.expr_grammar.specs.Grammar.{Form, Number, Item, Arguments, Apply, IsBlank, IsCall, IsForm, is_plain, all_plain, symbol_text, number_value, spelled, applied}
 use Rattle.expr_grammar.proofs.Words.{both}
 use Rattle.expr_grammar.proofs.Steps.{At, Goes, at_past}
 use Rattle.expr_grammar.proofs.Moves.{rd, IsOpen, Comes, name_move, close_move, more_move, plain_number, plain_item}
-use Rattle.expr_grammar.proofs.Completed.{Follows, calm_follows, close_calm, comma_calm, Evals, evals_one, evals_two, evals_number, evals_item}
+use Rattle.expr_grammar.proofs.Completed.{Told, told_of, Tells, Follows, calm_follows, close_calm, comma_calm, evals_one, evals_two, evals_number, evals_item}
 use Rattle.expr_grammar.proofs.Productions.{Reading, Reads, whole, both_come}
 use Rattle.expr_grammar.proofs.Calls.{joins, counted_some, then_close, Listing, Lists}
 
@@ -54,7 +53,7 @@ named_far text at past b name d behind here there =
 
 module _ (p : Place) (days : List (List ℕ)) (text : List ℕ) where
   -- items and numbers alone
-  pub record Plains (fs : List Frame) (ns : List Spot) (q : Bool) (r : Reader) (at : ℕ) (bytes rest : List ℕ) (shape : Shape) : Type 0 where
+  pub record Plains (fs : List Frame) (ns : List Spot) (q : Bool) (r : Reader) (at : ℕ) (bytes rest : List ℕ) (told : Told) : Type 0 where
     pub nodes : List Spot
     pub own : List Spot
     pub last : CallFrame
@@ -63,10 +62,10 @@ module _ (p : Place) (days : List (List ℕ)) (text : List ℕ) where
     pub comes : Comes p text r at bytes (rd expect.More (frame.Call last ∷ fs) nodes opened crowded q) rest
     pub call : last.call ≡ call.FirstNonNull
     pub list : joined last nodes ≡ ns ++ own
-    pub tree : Evals text days own shape
+    pub tree : Tells text days own told
 
   plain_leaf : (F : Form) (L : ℕ) (fs : List Frame) (ns : List Spot) (o : ℕ) (c : Option ℕ) (q : Bool) (at : ℕ) (rest : List ℕ) → is_plain F ≡ true → IsForm p q L F → Follows rest → At text at (spelled F rest)
-      → (s : Spot) × Comes p text (rd expect.Plain fs ns o c q) at (spelled F rest) (rd expect.More fs (ns ++ s ∷ []) o c q) rest × Evals text days (s ∷ []) (tree_of days F)
+      → (s : Spot) × Comes p text (rd expect.Plain fs ns o c q) at (spelled F rest) (rd expect.More fs (ns ++ s ∷ []) o c q) rest × Tells text days (s ∷ []) (told_of days (length text) F rest)
   plain_leaf (Number b digits decimals) L fs ns o c q at rest plain is follows here =
       (spot_of (at + length b) (node.Number (number_value digits decimals)), plain_number p text fs ns o c at b rest is.0 q digits decimals is.1 follows.0 follows.1 here, evals_number text days (at + length b) (number_value digits decimals))
   plain_leaf (Item b f word) L fs ns o c q at rest plain is follows here =
@@ -74,13 +73,13 @@ module _ (p : Place) (days : List (List ℕ)) (text : List ℕ) where
   plain_leaf F L fs ns o c q at rest plain is follows here = absurd cc
 
   first_plain : (F : Form) (k : ℕ) (fs : List Frame) (ns : List Spot) (o : ℕ) (c : Option ℕ) (q : Bool) (at : ℕ) (rest : List ℕ) → is_plain F ≡ true → IsForm p q 0 F → Follows rest → At text at (spelled F rest)
-      → Plains fs ns q (rd expect.Plain (frame.Call (call_frame k call.FirstNonNull 0) ∷ fs) ns o c q) at (spelled F rest) rest (tree_of days F)
+      → Plains fs ns q (rd expect.Plain (frame.Call (call_frame k call.FirstNonNull 0) ∷ fs) ns o c q) at (spelled F rest) rest (told_of days (length text) F rest)
   first_plain F k fs ns o c q at rest plain is follows here =
       let one = plain_leaf F 0 (frame.Call (call_frame k call.FirstNonNull 0) ∷ fs) ns o c q at rest plain is follows here in
       record { nodes = ns ++ one.0 ∷ []; own = one.0 ∷ []; last = call_frame k call.FirstNonNull 0; opened = o; crowded = c; comes = one.1; call = refl; list = refl; tree = one.2 }
 
   next_plain : (first : Form) (b : List ℕ) (last : Form) (fs : List Frame) (ns : List Spot) (q : Bool) (r : Reader) (at : ℕ) (bytes rest : List ℕ) → is_plain last ≡ true → IsForm p q 1 last → IsBlank b → Follows rest
-      → (one : Plains fs ns q r at bytes (symbol_text b symbol.Comma (spelled last rest)) (tree_of days first)) → Plains fs ns q r at bytes rest (tree_of days (Arguments first b last))
+      → (one : Plains fs ns q r at bytes (symbol_text b symbol.Comma (spelled last rest)) (told_of days (length text) first (symbol_text b symbol.Comma (spelled last rest)))) → Plains fs ns q r at bytes rest (told_of days (length text) (Arguments first b last) rest)
   next_plain first b last fs ns q r at bytes rest plain is blank follows one =
       let move = more_move p text fs one.nodes one.opened one.crowded one.comes.0 b (spelled last rest) blank q one.last one.comes.1.stands in
       let r1 = rd expect.More (frame.Call one.last ∷ fs) one.nodes one.opened one.crowded q in
@@ -99,11 +98,11 @@ module _ (p : Place) (days : List (List ℕ)) (text : List ℕ) where
         comes = both_come p days text r at bytes r1 one.comes.0 (symbol_text b symbol.Comma (spelled last rest)) _ rest one.comes.1 (both_come p days text r1 one.comes.0 (symbol_text b symbol.Comma (spelled last rest)) r2 move.0 (spelled last rest) _ rest there leaf.1);
         call = one.call;
         list = joins (counted_of one.last) ((ns ++ one.own) ++ s ∷ []) (counted_some one.last).0 (ap is_list_of one.call) ∙ simp append_assoc;
-        tree = evals_two text days one.own (s ∷ []) one.last.at binary.Comma (tree_of days first) (tree_of days last) one.tree leaf.2;
+        tree = evals_two text days one.own (s ∷ []) one.last.at binary.Comma (told_of days (length text) first (symbol_text b symbol.Comma (spelled last rest))) (told_of days (length text) last rest) one.tree leaf.2;
       }
 
   pub plains : (F : Form) (k : ℕ) (fs : List Frame) (ns : List Spot) (o : ℕ) (c : Option ℕ) (q : Bool) (at : ℕ) (rest : List ℕ) → all_plain F ≡ true → IsForm p q 0 F → Follows rest → At text at (spelled F rest)
-      → Plains fs ns q (rd expect.Plain (frame.Call (call_frame k call.FirstNonNull 0) ∷ fs) ns o c q) at (spelled F rest) rest (tree_of days F)
+      → Plains fs ns q (rd expect.Plain (frame.Call (call_frame k call.FirstNonNull 0) ∷ fs) ns o c q) at (spelled F rest) rest (told_of days (length text) F rest)
   plains (Arguments first b last) k fs ns o c q at rest plain is follows here =
       let parts = both (all_plain first) (is_plain last) plain in
       next_plain first b last fs ns q (rd expect.Plain (frame.Call (call_frame k call.FirstNonNull 0) ∷ fs) ns o c q) at (spelled (Arguments first b last) rest) rest parts.1 is.3 is.2 follows
@@ -114,14 +113,14 @@ module _ (p : Place) (days : List (List ℕ)) (text : List ℕ) where
 
   -- a call that is done
   pub called : (b : List ℕ) (name : Call) (d : List ℕ) (F : Form) (g : List ℕ) (L k : ℕ) (fs : List Frame) (ns : List Spot) (q : Bool) (r : Reader) (at : ℕ) (rest : List ℕ) (o : ℕ) (c : Option ℕ) (nodes own : List Spot) (u : Node)
-      → nodes ≡ ns ++ own → u ≡ node.Unary (applied name) → Evals text days own (tree_of days F) → Comes p text r at (spelled (Apply b name d F g) rest) (rd (expect.Operator true) fs (nodes ++ spot_of k u ∷ []) o c q) rest
-      → Reading p days text L fs ns q r at (spelled (Apply b name d F g) rest) rest (tree_of days (Apply b name d F g))
+      → nodes ≡ ns ++ own → u ≡ node.Unary (applied name) → Tells text days own (told_of days (length text) F (symbol_text g symbol.Close rest)) → Comes p text r at (spelled (Apply b name d F g) rest) (rd (expect.Operator true) fs (nodes ++ spot_of k u ∷ []) o c q) rest
+      → Reading p days text L fs ns q r at (spelled (Apply b name d F g) rest) rest (told_of days (length text) (Apply b name d F g) rest)
   called b name d F g L k fs ns q r at rest o c nodes own u same is tree comes =
       let s = spot_of k (node.Unary (applied name)) in
       let all : nodes ++ spot_of k u ∷ [] ≡ ns ++ (own ++ s ∷ []) = ap (λ (x : List Spot). x ++ spot_of k u ∷ []) same ∙ ap (λ (x : Node). (ns ++ own) ++ spot_of k x ∷ []) is ∙ append_assoc ns own (s ∷ []) in
       whole p days text L fs ns q r at (spelled (Apply b name d F g) rest) rest _ o c (own ++ s ∷ [])
       (subst (λ (x : List Spot). Comes p text r at (spelled (Apply b name d F g) rest) (rd (expect.Operator true) fs x o c q) rest) all comes)
-      (evals_one text days own k (applied name) (tree_of days F) tree)
+      (evals_one text days own k (applied name) (told_of days (length text) F (symbol_text g symbol.Close rest)) tree)
 
   pub record IsOne (name : Call) : Type 0 where
     pub first : first_argument name ≡ expect.Operand
@@ -131,7 +130,7 @@ module _ (p : Place) (days : List (List ℕ)) (text : List ℕ) where
 
   pub apply_one : (b : List ℕ) (name : Call) (d : List ℕ) (F : Form) (g : List ℕ) → IsOne name → Reads p days text F → (L : ℕ) (e : Expect) (fs : List Frame) (ns : List Spot) (o : ℕ) (c : Option ℕ) (q : Bool) (at : ℕ) (rest : List ℕ)
       → IsOpen e → IsCall p name → IsBlank b → IsBlank d → IsForm p q 1 F → IsBlank g → At text at (spelled (Apply b name d F g) rest)
-      → Reading p days text L fs ns q (rd e fs ns o c q) at (spelled (Apply b name d F g) rest) rest (tree_of days (Apply b name d F g))
+      → Reading p days text L fs ns q (rd e fs ns o c q) at (spelled (Apply b name d F g) rest) rest (told_of days (length text) (Apply b name d F g) rest)
   apply_one b name d F g one ih L e fs ns o c q at rest h is blank blank' form blank'' here =
       let k = at + length b in
       let cf = call_frame k name 0 in
@@ -154,8 +153,8 @@ module _ (p : Place) (days : List (List ℕ)) (text : List ℕ) where
 
   close_list : (b : List ℕ) (name : Call) (d : List ℕ) (F : Form) (g : List ℕ) → IsList name → (L : ℕ) (e : Expect) (fs : List Frame) (ns : List Spot) (o : ℕ) (c : Option ℕ) (q : Bool) (at : ℕ) (rest : List ℕ) (k : ℕ) (r : Reader) (past : ℕ) → IsBlank g
       → Goes p text (rd e fs ns o c q) at (spelled (Apply b name d F g) rest) r past (spelled F (symbol_text g symbol.Close rest))
-      → (z : Listing p days text (call_frame k name 0) fs ns q r past (spelled F (symbol_text g symbol.Close rest)) (symbol_text g symbol.Close rest) (tree_of days F))
-      → Reading p days text L fs ns q (rd e fs ns o c q) at (spelled (Apply b name d F g) rest) rest (tree_of days (Apply b name d F g))
+      → (z : Listing p days text (call_frame k name 0) fs ns q r past (spelled F (symbol_text g symbol.Close rest)) (symbol_text g symbol.Close rest) (told_of days (length text) F (symbol_text g symbol.Close rest)))
+      → Reading p days text L fs ns q (rd e fs ns o c q) at (spelled (Apply b name d F g) rest) rest (told_of days (length text) (Apply b name d F g) rest)
   close_list b name d F g one L e fs ns o c q at rest k r past blank there z =
       let least : least_arguments z.last.call ≡ 1 = ap least_arguments z.call ∙ one.least in
       let move = close_move p text z.power z.frames z.nodes z.opened z.crowded q z.past g rest blank z.last fs (nodes_reduced 1 z.frames z.nodes) z.outer z.reduced refl (omega (arith, least)) z.goes.stands in
@@ -165,7 +164,7 @@ module _ (p : Place) (days : List (List ℕ)) (text : List ℕ) where
 
   pub apply_list : (b : List ℕ) (name : Call) (d : List ℕ) (F : Form) (g : List ℕ) → IsList name → Lists p days text F → (L : ℕ) (e : Expect) (fs : List Frame) (ns : List Spot) (o : ℕ) (c : Option ℕ) (q : Bool) (at : ℕ) (rest : List ℕ)
       → IsOpen e → IsCall p name → IsBlank b → IsBlank d → IsForm p q 0 F → IsBlank g → At text at (spelled (Apply b name d F g) rest)
-      → Reading p days text L fs ns q (rd e fs ns o c q) at (spelled (Apply b name d F g) rest) rest (tree_of days (Apply b name d F g))
+      → Reading p days text L fs ns q (rd e fs ns o c q) at (spelled (Apply b name d F g) rest) rest (told_of days (length text) (Apply b name d F g) rest)
   apply_list b name d F g one ih L e fs ns o c q at rest h is blank blank' form blank'' here =
       let k = at + length b in
       let cf = call_frame k name 0 in

@@ -16,12 +16,11 @@ use Rattle.expr_lang.specs.declared.reading.Expect.{Expect}
 use Rattle.expr_lang.specs.declared.reading.Expect.TheVariants as expect
 use Rattle.expr_lang.specs.declared.reading.Reader.{Reader}
 use Rattle.expr_lang.specs.Reading.{enclosing_of, least_arguments, most_arguments, frames_reduced, nodes_reduced, spot_of, call_frame, joined, node_of_call, counted_of, later_argument, is_list_of}
-use Rattle.expr_lang.specs.Shape.{Shape}
 use Rattle.expr_lang.specs.Words.{text_of}
-use Rattle.expr_grammar.specs.Grammar.{Form, Arguments, If, Condition, DaysBetween, IsBlank, IsForm, symbol_text, spelled, tree_of}
+use Rattle.expr_grammar.specs.Grammar.{Form, Arguments, If, Condition, DaysBetween, IsBlank, IsForm, symbol_text, spelled}
 use Rattle.expr_grammar.proofs.Steps.{At, Goes, then_goes, at_past}
 use Rattle.expr_grammar.proofs.Moves.{rd, Comes, name_move, comma_move, close_move, unquote_move, quote_move, behind_quote_move}
-use Rattle.expr_grammar.proofs.Completed.{Follows, calm_follows, close_calm, comma_calm, quote_calm, Evals, evals_two, evals_three}
+use Rattle.expr_grammar.proofs.Completed.{Told, told_of, Tells, Follows, calm_follows, close_calm, comma_calm, quote_calm, evals_two, evals_three}
 use Rattle.expr_grammar.proofs.Productions.{Reading, Reads, whole, both_come}
 
 pub counted_some : (cf : CallFrame) → (1 ≤ (counted_of cf).count) × ((counted_of cf).count ≤ cf.count + 1)
@@ -37,33 +36,33 @@ joins cf nodes some list = let t : nat_lt 0 cf.count ≡ true = grind (arith, na
 
 module _ (p : Place) (days : List (List ℕ)) (text : List ℕ) where
   -- an argument and the comma behind it
-  pub record Comma (cf : CallFrame) (fs : List Frame) (ns : List Spot) (q : Bool) (r : Reader) (at : ℕ) (bytes rest : List ℕ) (shape : Shape) : Type 0 where
+  pub record Comma (cf : CallFrame) (fs : List Frame) (ns : List Spot) (q : Bool) (r : Reader) (at : ℕ) (bytes rest : List ℕ) (told : Told) : Type 0 where
     pub own : List Spot
     pub opened : ℕ
     pub crowded : Option ℕ
     pub comes : Comes p text r at bytes (rd (later_argument cf.call) (frame.Call (counted_of cf) ∷ fs) (joined cf (ns ++ own)) opened crowded q) rest
-    pub tree : Evals text days own shape
+    pub tree : Tells text days own told
 
-  pub record Last (cf : CallFrame) (fs : List Frame) (ns : List Spot) (q : Bool) (r : Reader) (at : ℕ) (bytes rest : List ℕ) (shape : Shape) : Type 0 where
+  pub record Last (cf : CallFrame) (fs : List Frame) (ns : List Spot) (q : Bool) (r : Reader) (at : ℕ) (bytes rest : List ℕ) (told : Told) : Type 0 where
     pub own : List Spot
     pub opened : ℕ
     pub crowded : Option ℕ
     pub comes : Comes p text r at bytes (rd (expect.Operator true) fs (joined cf (ns ++ own) ++ spot_of cf.at (node_of_call cf.call) ∷ []) opened crowded q) rest
-    pub tree : Evals text days own shape
+    pub tree : Tells text days own told
 
   pub argument : (F : Form) → Reads p days text F → (cf : CallFrame) (fs : List Frame) (ns : List Spot) (o : ℕ) (c : Option ℕ) (q : Bool) (at : ℕ) (rest : List ℕ) → IsForm p q 1 F → Follows rest → At text at (spelled F rest)
-      → Reading p days text 1 (frame.Call cf ∷ fs) ns q (rd expect.Operand (frame.Call cf ∷ fs) ns o c q) at (spelled F rest) rest (tree_of days F)
+      → Reading p days text 1 (frame.Call cf ∷ fs) ns q (rd expect.Operand (frame.Call cf ∷ fs) ns o c q) at (spelled F rest) rest (told_of days (length text) F rest)
   argument F ih cf fs ns o c q at rest is follows here = ih 1 expect.Operand (frame.Call cf ∷ fs) ns o c q at rest tt (omega arith) is (λ le. tt) (λ le. refl) follows here
 
   pub then_comma : (F : Form) → Reads p days text F → (cf : CallFrame) (fs : List Frame) (ns : List Spot) (o : ℕ) (c : Option ℕ) (q : Bool) (at : ℕ) (b rest : List ℕ) → IsForm p q 1 F → IsBlank b → cf.count + 1 < most_arguments cf.call → At text at (spelled F (symbol_text b symbol.Comma rest))
-      → Comma cf fs ns q (rd expect.Operand (frame.Call cf ∷ fs) ns o c q) at (spelled F (symbol_text b symbol.Comma rest)) rest (tree_of days F)
+      → Comma cf fs ns q (rd expect.Operand (frame.Call cf ∷ fs) ns o c q) at (spelled F (symbol_text b symbol.Comma rest)) rest (told_of days (length text) F (symbol_text b symbol.Comma rest))
   then_comma F ih cf fs ns o c q at b rest is blank few here =
       let one = argument F ih cf fs ns o c q at (symbol_text b symbol.Comma rest) is (calm_follows b (text_of symbol.Comma) rest blank comma_calm) here in
       let two = comma_move p text one.power one.frames one.nodes one.opened one.crowded q one.past b rest blank cf fs (ns ++ one.own) one.after.outer (one.after.reduced 1 (omega arith)) (one.after.whole 1 (omega arith)) few one.goes.stands in
       record { own = one.own; opened = one.opened; crowded = one.crowded; comes = both_come p days text _ at _ _ one.past (symbol_text b symbol.Comma rest) _ rest one.goes two; tree = one.tree }
 
   pub then_close : (F : Form) → Reads p days text F → (cf : CallFrame) (fs : List Frame) (ns : List Spot) (o : ℕ) (c : Option ℕ) (q : Bool) (at : ℕ) (b rest : List ℕ) → IsForm p q 1 F → IsBlank b → least_arguments cf.call ≤ cf.count + 1 → At text at (spelled F (symbol_text b symbol.Close rest))
-      → Last cf fs ns q (rd expect.Operand (frame.Call cf ∷ fs) ns o c q) at (spelled F (symbol_text b symbol.Close rest)) rest (tree_of days F)
+      → Last cf fs ns q (rd expect.Operand (frame.Call cf ∷ fs) ns o c q) at (spelled F (symbol_text b symbol.Close rest)) rest (told_of days (length text) F (symbol_text b symbol.Close rest))
   then_close F ih cf fs ns o c q at b rest is blank many here =
       let one = argument F ih cf fs ns o c q at (symbol_text b symbol.Close rest) is (calm_follows b (text_of symbol.Close) rest blank close_calm) here in
       let two = close_move p text one.power one.frames one.nodes one.opened one.crowded q one.past b rest blank cf fs (ns ++ one.own) one.after.outer (one.after.reduced 1 (omega arith)) (one.after.whole 1 (omega arith)) many one.goes.stands in
@@ -87,7 +86,7 @@ module _ (p : Place) (days : List (List ℕ)) (text : List ℕ) where
       (both_come p days text _ w.1.0 first _ x.comes.0 second _ rest x.comes.1 (both_come p days text _ x.comes.0 second _ y.comes.0 third _ rest y.comes.1 z.comes)) in
       whole p days text L fs ns q (rd e fs ns o c q) at (spelled (If b d test f one g other i) rest) rest _ z.opened z.crowded (((x.own ++ y.own) ++ z.own) ++ s ∷ [])
       (subst (λ (l : List Spot). Comes p text (rd e fs ns o c q) at (spelled (If b d test f one g other i) rest) (rd (expect.Operator true) fs l z.opened z.crowded q) rest) nodes all)
-      (evals_three text days x.own y.own z.own k (tree_of days test) (tree_of days one) (tree_of days other) x.tree y.tree z.tree)
+      (evals_three text days x.own y.own z.own k (told_of days (length text) test (symbol_text f symbol.Comma second)) (told_of days (length text) one (symbol_text g symbol.Comma third)) (told_of days (length text) other tail) x.tree y.tree z.tree)
 
   pub reads_between : (b d : List ℕ) (one : Form) (f : List ℕ) (other : Form) (g : List ℕ) → Reads p days text one → Reads p days text other → Reads p days text (DaysBetween b d one f other g)
   reads_between b d one f other g iho ihe L e fs ns o c q at rest h some is loose single follows here =
@@ -105,7 +104,7 @@ module _ (p : Place) (days : List (List ℕ)) (text : List ℕ) where
       (both_come p days text _ w.1.0 first _ x.comes.0 second _ rest x.comes.1 z.comes) in
       whole p days text L fs ns q (rd e fs ns o c q) at (spelled (DaysBetween b d one f other g) rest) rest _ z.opened z.crowded ((x.own ++ z.own) ++ s ∷ [])
       (subst (λ (l : List Spot). Comes p text (rd e fs ns o c q) at (spelled (DaysBetween b d one f other g) rest) (rd (expect.Operator true) fs l z.opened z.crowded q) rest) nodes all)
-      (evals_two text days x.own z.own k binary.DaysBetween (tree_of days one) (tree_of days other) x.tree z.tree)
+      (evals_two text days x.own z.own k binary.DaysBetween (told_of days (length text) one (symbol_text f symbol.Comma second)) (told_of days (length text) other tail) x.tree z.tree)
 
   pub reads_condition : (b d f : List ℕ) (test : Form) (g i : List ℕ) (one : Form) (j : List ℕ) (other : Form) (l : List ℕ) → Reads p days text test → Reads p days text one → Reads p days text other → Reads p days text (Condition b d f test g i one j other l)
   reads_condition b d f test g i one j other l iht iho ihe L e fs ns o c true at rest h some is loose single follows here = let no = is.1 in absurd cc
@@ -137,10 +136,10 @@ module _ (p : Place) (days : List (List ℕ)) (text : List ℕ) where
       let all = both_come p days text (rd e fs ns o c false) at bytes r1 w.1.0 quote _ rest w.1.1 (both_come p days text r1 w.1.0 quote r2 v.0 first _ rest v.1 middle) in
       whole p days text L fs ns false (rd e fs ns o c false) at bytes rest _ z.opened z.crowded (((t.own ++ y.own) ++ z.own) ++ s ∷ [])
       (subst (λ (x : List Spot). Comes p text (rd e fs ns o c false) at bytes (rd (expect.Operator true) fs x z.opened z.crowded false) rest) nodes all)
-      (evals_three text days t.own y.own z.own k (tree_of days test) (tree_of days one) (tree_of days other) t.tree y.tree z.tree)
+      (evals_three text days t.own y.own z.own k (told_of days (length text) test unquote) (told_of days (length text) one (symbol_text j symbol.Comma third)) (told_of days (length text) other tail) t.tree y.tree z.tree)
 
   -- the arguments of a call that takes a list of them
-  pub record Listing (cf : CallFrame) (fs : List Frame) (ns : List Spot) (q : Bool) (r : Reader) (at : ℕ) (bytes rest : List ℕ) (shape : Shape) : Type 0 where
+  pub record Listing (cf : CallFrame) (fs : List Frame) (ns : List Spot) (q : Bool) (r : Reader) (at : ℕ) (bytes rest : List ℕ) (told : Told) : Type 0 where
     pub power : Bool
     pub frames : List Frame
     pub nodes : List Spot
@@ -155,12 +154,12 @@ module _ (p : Place) (days : List (List ℕ)) (text : List ℕ) where
     pub outer : enclosing_of frames ≡ Some (frame.Call last)
     pub reduced : frames_reduced 1 frames ≡ frame.Call last ∷ fs
     pub list : joined last (nodes_reduced 1 frames nodes) ≡ ns ++ own
-    pub tree : Evals text days own shape
+    pub tree : Tells text days own told
 
   abbrev pub Lists : Form → Type 0
   Lists F = (name : Call) (k : ℕ) (fs : List Frame) (ns : List Spot) (o : ℕ) (c : Option ℕ) (q : Bool) (at : ℕ) (rest : List ℕ)
       → is_list_of name ≡ true → later_argument name ≡ expect.Operand → most_arguments name ≡ 4096 → IsForm p q 0 F → 2 ≤ at → Follows rest → At text at (spelled F rest)
-      → Listing (call_frame k name 0) fs ns q (rd expect.Operand (frame.Call (call_frame k name 0) ∷ fs) ns o c q) at (spelled F rest) rest (tree_of days F)
+      → Listing (call_frame k name 0) fs ns q (rd expect.Operand (frame.Call (call_frame k name 0) ∷ fs) ns o c q) at (spelled F rest) rest (told_of days (length text) F rest)
 
   -- one argument
   pub lists_one : (F : Form) → Reads p days text F → ((q : Bool) → IsForm p q 0 F → IsForm p q 1 F) → Lists F
@@ -190,7 +189,7 @@ module _ (p : Place) (days : List (List ℕ)) (text : List ℕ) where
     at_within at bytes here = omega (arith, here.all)
 
     -- the comma behind arguments
-    more_argument : (name : Call) (k : ℕ) (fs : List Frame) (ns : List Spot) (q : Bool) (r : Reader) (at : ℕ) (bytes b behind : List ℕ) (shape : Shape) → later_argument name ≡ expect.Operand → most_arguments name ≡ 4096 → IsBlank b
+    more_argument : (name : Call) (k : ℕ) (fs : List Frame) (ns : List Spot) (q : Bool) (r : Reader) (at : ℕ) (bytes b behind : List ℕ) (shape : Told) → later_argument name ≡ expect.Operand → most_arguments name ≡ 4096 → IsBlank b
         → (one : Listing (call_frame k name 0) fs ns q r at bytes (symbol_text b symbol.Comma behind) shape)
         → (past : ℕ) × Goes p text (rd (expect.Operator one.power) one.frames one.nodes one.opened one.crowded q) one.past (symbol_text b symbol.Comma behind) (rd expect.Operand (frame.Call (counted_of one.last) ∷ fs) (ns ++ one.own) one.opened one.crowded q) past behind × (one.past + 1 ≤ past)
     unfolding text_of
@@ -210,11 +209,11 @@ module _ (p : Place) (days : List (List ℕ)) (text : List ℕ) where
     list_joined cf ns xs ys nodes some list e = joins cf nodes some list ∙ ap (λ (l : List Spot). l ++ spot_of cf.at (node.Binary binary.Comma) ∷ []) e ∙ simp append_assoc
 
     list_on : (first : Form) (b : List ℕ) (last : Form) (name : Call) (k : ℕ) (fs : List Frame) (ns : List Spot) (q : Bool) (r : Reader) (at : ℕ) (bytes rest : List ℕ) → is_list_of name ≡ true
-        → (one : Listing (call_frame k name 0) fs ns q r at bytes (symbol_text b symbol.Comma (spelled last rest)) (tree_of days first)) (past : ℕ)
+        → (one : Listing (call_frame k name 0) fs ns q r at bytes (symbol_text b symbol.Comma (spelled last rest)) (told_of days (length text) first (symbol_text b symbol.Comma (spelled last rest)))) (past : ℕ)
         → Goes p text (rd (expect.Operator one.power) one.frames one.nodes one.opened one.crowded q) one.past (symbol_text b symbol.Comma (spelled last rest)) (rd expect.Operand (frame.Call (counted_of one.last) ∷ fs) (ns ++ one.own) one.opened one.crowded q) past (spelled last rest)
         → one.past + 1 ≤ past
-        → Reading p days text 1 (frame.Call (counted_of one.last) ∷ fs) (ns ++ one.own) q (rd expect.Operand (frame.Call (counted_of one.last) ∷ fs) (ns ++ one.own) one.opened one.crowded q) past (spelled last rest) rest (tree_of days last)
-        → Listing (call_frame k name 0) fs ns q r at bytes rest (tree_of days (Arguments first b last))
+        → Reading p days text 1 (frame.Call (counted_of one.last) ∷ fs) (ns ++ one.own) q (rd expect.Operand (frame.Call (counted_of one.last) ∷ fs) (ns ++ one.own) one.opened one.crowded q) past (spelled last rest) rest (told_of days (length text) last rest)
+        → Listing (call_frame k name 0) fs ns q r at bytes rest (told_of days (length text) (Arguments first b last) rest)
     list_on first b last name k fs ns q r at bytes rest list one past move passed three =
         let some = counted_some one.last in
         record {
@@ -233,17 +232,17 @@ module _ (p : Place) (days : List (List ℕ)) (text : List ℕ) where
           outer = three.after.outer;
           reduced = three.after.reduced 1 (omega arith);
           list = list_joined (counted_of one.last) ns one.own three.own (nodes_reduced 1 three.frames three.nodes) some.0 (ap is_list_of one.call ∙ list) (three.after.whole 1 (omega arith));
-          tree = evals_two text days one.own three.own one.last.at binary.Comma (tree_of days first) (tree_of days last) one.tree three.tree;
+          tree = evals_two text days one.own three.own one.last.at binary.Comma (told_of days (length text) first (symbol_text b symbol.Comma (spelled last rest))) (told_of days (length text) last rest) one.tree three.tree;
         }
 
     pub lists_more : (first : Form) (b : List ℕ) (last : Form) → Lists first → Reads p days text last → Lists (Arguments first b last)
     lists_more first b last ihf ihl name k fs ns o c q at rest list later most is two follows here =
         let one = ihf name k fs ns o c q at (symbol_text b symbol.Comma (spelled last rest)) list later most is.1 two (calm_follows b (text_of symbol.Comma) (spelled last rest) is.2 comma_calm) here in
-        then_list one (more_argument name k fs ns q (rd expect.Operand (frame.Call (call_frame k name 0) ∷ fs) ns o c q) at (spelled first (symbol_text b symbol.Comma (spelled last rest))) b (spelled last rest) (tree_of days first) later most is.2 one)
+        then_list one (more_argument name k fs ns q (rd expect.Operand (frame.Call (call_frame k name 0) ∷ fs) ns o c q) at (spelled first (symbol_text b symbol.Comma (spelled last rest))) b (spelled last rest) (told_of days (length text) first (symbol_text b symbol.Comma (spelled last rest))) later most is.2 one)
       where
-        then_list : (one : Listing (call_frame k name 0) fs ns q (rd expect.Operand (frame.Call (call_frame k name 0) ∷ fs) ns o c q) at (spelled first (symbol_text b symbol.Comma (spelled last rest))) (symbol_text b symbol.Comma (spelled last rest)) (tree_of days first))
+        then_list : (one : Listing (call_frame k name 0) fs ns q (rd expect.Operand (frame.Call (call_frame k name 0) ∷ fs) ns o c q) at (spelled first (symbol_text b symbol.Comma (spelled last rest))) (symbol_text b symbol.Comma (spelled last rest)) (told_of days (length text) first (symbol_text b symbol.Comma (spelled last rest))))
             → (past : ℕ) × Goes p text (rd (expect.Operator one.power) one.frames one.nodes one.opened one.crowded q) one.past (symbol_text b symbol.Comma (spelled last rest)) (rd expect.Operand (frame.Call (counted_of one.last) ∷ fs) (ns ++ one.own) one.opened one.crowded q) past (spelled last rest) × (one.past + 1 ≤ past)
-            → Listing (call_frame k name 0) fs ns q (rd expect.Operand (frame.Call (call_frame k name 0) ∷ fs) ns o c q) at (spelled (Arguments first b last) rest) rest (tree_of days (Arguments first b last))
+            → Listing (call_frame k name 0) fs ns q (rd expect.Operand (frame.Call (call_frame k name 0) ∷ fs) ns o c q) at (spelled (Arguments first b last) rest) rest (told_of days (length text) (Arguments first b last) rest)
         then_list one move =
             list_on first b last name k fs ns q (rd expect.Operand (frame.Call (call_frame k name 0) ∷ fs) ns o c q) at (spelled (Arguments first b last) rest) rest list one move.0 move.1 move.2
             (argument last ihl (counted_of one.last) fs (ns ++ one.own) one.opened one.crowded q move.0 rest is.3 follows move.1.stands)

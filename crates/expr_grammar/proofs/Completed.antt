@@ -1,5 +1,5 @@
 -- Each form of the grammar is read, and its nodes are those of its tree.
-use Rattle.std.proofs.Common.{◌≡◌, ℕ, ◌+◌, ◌<◌, ◌≤◌, Bool, true, false, List, [], ◌∷◌, ◌++◌, length, Option, refl, sym, ap, subst, ◌∙◌, inl, inr, arith}
+use Rattle.std.proofs.Common.{◌≡◌, ℕ, ◌+◌, ◌-◌, ◌<◌, ◌≤◌, Bool, true, false, List, [], ◌∷◌, ◌++◌, length, drop, Some, None, Option, refl, sym, ap, subst, ◌∙◌, inl, inr, arith}
 use Rattle.std.specs.Prelude.{◌&&◌, ◌||◌, not, nat_eq, nat_le}
 use Rattle.std.specs.Char.{is_ascii_digit}
 use Rattle.std.proofs.lemmas.Bool.Decides.{nat_tests}
@@ -27,6 +27,10 @@ use Rattle.expr_lang.specs.Reading.{is_blank_of, level_of, node_level, frames_re
 use Rattle.expr_lang.specs.Shape.{Shape, Operand, One, Two, Choice}
 use Rattle.expr_lang.specs.Token.{is_comparison_of}
 use Rattle.expr_lang.specs.Words.{text_of, items_of_place}
+use Rattle.expr_lang.specs.Items.{Occurrence, item_of_leaf_of, with_occurrence, occurrences}
+use Rattle.expr_lang.specs.Leaves.{leaf_of_node}
+use Rattle.expr_grammar.specs.Grammar.{tree_of}
+use Rattle.expr_grammar.specs.Items.{occurrences_of}
 use Rattle.expr_grammar.specs.Grammar.{Form, Number, Item, Bracket, Power, Sign, Chain, Arguments, If, Condition, DaysBetween, Apply, IsBlank, IsDigits, IsWord, IsForm, sign_text, after_blanks, behind_point, spelled}
 use Rattle.expr_grammar.proofs.Words.{first_is, all_of, among_all, both, same_number, literal_fits, or_cases, word_long}
 use Rattle.expr_grammar.proofs.Steps.{At, at_past}
@@ -219,27 +223,71 @@ behind_both text days (x ∷ xs) ys stack = behind_both text days xs ys (shapes_
 pub record Evals (text : List ℕ) (days : List (List ℕ)) (nodes : List Spot) (tree : Shape) : Type 0 where
   pub is : (stack : List Shape) → shapes_behind text days nodes stack ≡ tree ∷ stack
 
+occur_both : (text : List ℕ) (days : List (List ℕ)) (xs ys : List Spot) → occurrences text days (xs ++ ys) ≡ occurrences text days xs ++ occurrences text days ys
+occur_both text days [] ys = refl
+occur_both text days (x ∷ xs) ys =
+    ap (with_occurrence (item_of_leaf_of (leaf_of_node text days x.at x.node)) x.at) (occur_both text days xs ys)
+    ∙ shifted (item_of_leaf_of (leaf_of_node text days x.at x.node))
+  where
+    shifted : (i : Option Item') → with_occurrence i x.at (occurrences text days xs ++ occurrences text days ys) ≡ with_occurrence i x.at (occurrences text days xs) ++ occurrences text days ys
+    shifted None = refl
+    shifted (Some i) = refl
+
+no_more : (xs : List Occurrence) → xs ++ [] ≡ xs
+no_more [] = refl
+no_more (x ∷ xs) = ap (λ (l : List Occurrence). x ∷ l) (no_more xs)
+
+-- a tree, and the occurrences of items in it
+pub record Told : Type 0 where
+  pub tree : Shape
+  pub items : List Occurrence
+
+abbrev pub told_of : List (List ℕ) → ℕ → Form → List ℕ → Told
+told_of days total F rest = record { tree = tree_of days F; items = occurrences_of days total F rest }
+
+pub record Tells (text : List ℕ) (days : List (List ℕ)) (nodes : List Spot) (told : Told) : Type 0 where
+  pub evals : Evals text days nodes told.tree
+  pub lists : occurrences text days nodes ≡ told.items
+
 module _ (text : List ℕ) (days : List (List ℕ)) where
-  pub evals_one : (xs : List Spot) (at : ℕ) (o : Unary) (x : Shape) → Evals text days xs x → Evals text days (xs ++ spot_of at (node.Unary o) ∷ []) (One o x)
-  evals_one xs at o x h = record { is = λ stack. behind_both text days xs (spot_of at (node.Unary o) ∷ []) stack ∙ ap (shapes_behind text days (spot_of at (node.Unary o) ∷ [])) (h.is stack) }
+  pub evals_one : (xs : List Spot) (at : ℕ) (o : Unary) (x : Told) → Tells text days xs x → Tells text days (xs ++ spot_of at (node.Unary o) ∷ []) (record { tree = One o x.tree; items = x.items })
+  evals_one xs at o x h = record {
+    evals = record { is = λ stack. behind_both text days xs (spot_of at (node.Unary o) ∷ []) stack ∙ ap (shapes_behind text days (spot_of at (node.Unary o) ∷ [])) (h.evals.is stack) };
+    lists = occur_both text days xs (spot_of at (node.Unary o) ∷ []) ∙ no_more (occurrences text days xs) ∙ h.lists;
+  }
 
-  pub evals_two : (xs ys : List Spot) (at : ℕ) (o : Binary) (x y : Shape) → Evals text days xs x → Evals text days ys y → Evals text days ((xs ++ ys) ++ spot_of at (node.Binary o) ∷ []) (Two o x y)
+  pub evals_two : (xs ys : List Spot) (at : ℕ) (o : Binary) (x y : Told) → Tells text days xs x → Tells text days ys y → Tells text days ((xs ++ ys) ++ spot_of at (node.Binary o) ∷ []) (record { tree = Two o x.tree y.tree; items = x.items ++ y.items })
   evals_two xs ys at o x y h g = record {
-    is = λ stack. behind_both text days (xs ++ ys) (spot_of at (node.Binary o) ∷ []) stack
-        ∙ ap (shapes_behind text days (spot_of at (node.Binary o) ∷ [])) (behind_both text days xs ys stack ∙ ap (shapes_behind text days ys) (h.is stack) ∙ g.is (x ∷ stack));
+    evals = record {
+      is = λ stack. behind_both text days (xs ++ ys) (spot_of at (node.Binary o) ∷ []) stack
+          ∙ ap (shapes_behind text days (spot_of at (node.Binary o) ∷ [])) (behind_both text days xs ys stack ∙ ap (shapes_behind text days ys) (h.evals.is stack) ∙ g.evals.is (x.tree ∷ stack));
+    };
+    lists = occur_both text days (xs ++ ys) (spot_of at (node.Binary o) ∷ []) ∙ no_more (occurrences text days (xs ++ ys)) ∙ occur_both text days xs ys
+        ∙ ap (λ (l : List Occurrence). l ++ occurrences text days ys) h.lists ∙ ap (λ (l : List Occurrence). x.items ++ l) g.lists;
   }
 
-  pub evals_three : (xs ys zs : List Spot) (at : ℕ) (x y z : Shape) → Evals text days xs x → Evals text days ys y → Evals text days zs z → Evals text days (((xs ++ ys) ++ zs) ++ spot_of at node.If ∷ []) (Choice x y z)
+  pub evals_three : (xs ys zs : List Spot) (at : ℕ) (x y z : Told) → Tells text days xs x → Tells text days ys y → Tells text days zs z → Tells text days (((xs ++ ys) ++ zs) ++ spot_of at node.If ∷ []) (record { tree = Choice x.tree y.tree z.tree; items = (x.items ++ y.items) ++ z.items })
   evals_three xs ys zs at x y z h g f = record {
-    is = λ stack. behind_both text days ((xs ++ ys) ++ zs) (spot_of at node.If ∷ []) stack
-        ∙ ap (shapes_behind text days (spot_of at node.If ∷ []))
-        (behind_both text days (xs ++ ys) zs stack ∙ ap (shapes_behind text days zs) (behind_both text days xs ys stack ∙ ap (shapes_behind text days ys) (h.is stack) ∙ g.is (x ∷ stack)) ∙ f.is (y ∷ x ∷ stack));
+    evals = record {
+      is = λ stack. behind_both text days ((xs ++ ys) ++ zs) (spot_of at node.If ∷ []) stack
+          ∙ ap (shapes_behind text days (spot_of at node.If ∷ []))
+          (behind_both text days (xs ++ ys) zs stack ∙ ap (shapes_behind text days zs) (behind_both text days xs ys stack ∙ ap (shapes_behind text days ys) (h.evals.is stack) ∙ g.evals.is (x.tree ∷ stack)) ∙ f.evals.is (y.tree ∷ x.tree ∷ stack));
+    };
+    lists = occur_both text days ((xs ++ ys) ++ zs) (spot_of at node.If ∷ []) ∙ no_more (occurrences text days ((xs ++ ys) ++ zs)) ∙ occur_both text days (xs ++ ys) zs
+        ∙ ap (λ (l : List Occurrence). l ++ occurrences text days zs) (occur_both text days xs ys ∙ ap (λ (l : List Occurrence). l ++ occurrences text days ys) h.lists ∙ ap (λ (l : List Occurrence). x.items ++ l) g.lists)
+        ∙ ap (λ (l : List Occurrence). (x.items ++ y.items) ++ l) f.lists;
   }
 
-  pub evals_number : (at n : ℕ) → Evals text days (spot_of at (node.Number n) ∷ []) (Operand (leaf.Number n))
-  evals_number at n = record { is = λ stack. refl }
+  pub evals_number : (at n : ℕ) → Tells text days (spot_of at (node.Number n) ∷ []) (record { tree = Operand (leaf.Number n); items = [] })
+  evals_number at n = record { evals = record { is = λ stack. refl }; lists = refl }
 
-  pub evals_item : (at : ℕ) (b : List ℕ) (f : ItemForm) (word rest : List ℕ) → IsWord (text_of (symbol.Item f)) word → At text at (after_blanks b word rest) → Evals text days (spot_of (at + length b) (node.Item f) ∷ []) (Operand (item_leaf days (item_from f word)))
+  pub evals_item : (at : ℕ) (b : List ℕ) (f : ItemForm) (word rest : List ℕ) → IsWord (text_of (symbol.Item f)) word → At text at (after_blanks b word rest) → Tells text days (spot_of (at + length b) (node.Item f) ∷ []) (told_of days (length text) (Item b f word) rest)
   evals_item at b f word rest is here =
       let there = at_past text at b (word ++ rest) here in
-      record { is = λ stack. ap (λ (l : List ℕ). Operand (item_leaf days (item_from f l)) ∷ stack) there.rest ∙ ap (λ (o : Option Item'). Operand (item_leaf days o) ∷ stack) (item_local f word rest (word_long (text_of (symbol.Item f)) word is)) }
+      let item : item_from f (drop (at + length b) text) ≡ item_from f word = ap (item_from f) there.rest ∙ item_local f word rest (word_long (text_of (symbol.Item f)) word is) in
+      let place : at + length b ≡ length text - length (word ++ rest) = omega (arith, there.all) in
+      record {
+        evals = record { is = λ stack. ap (λ (o : Option Item'). Operand (item_leaf days o) ∷ stack) item };
+        lists = ap (λ (o : Option Item'). with_occurrence (item_of_leaf_of (item_leaf days o)) (at + length b) []) item
+            ∙ ap (λ (k : ℕ). with_occurrence (item_of_leaf_of (item_leaf days (item_from f word))) k []) place;
+      }

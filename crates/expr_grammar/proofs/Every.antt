@@ -13,10 +13,10 @@ use Rattle.expr_lang.specs.declared.reading.Expect.TheVariants as expect
 use Rattle.expr_lang.specs.declared.reading.Reader.{Reader}
 use Rattle.expr_lang.specs.Reading.{spot_of, call_frame, joined, node_of_call, is_list_of, first_argument}
 use Rattle.expr_lang.specs.Words.{text_of}
-use Rattle.expr_grammar.specs.Grammar.{Form, Number, Item, Bracket, Power, Sign, Chain, Arguments, If, Condition, DaysBetween, Apply, IsBlank, IsCall, IsForm, is_item, all_plain, after_blanks, symbol_text, spelled, applied, tree_of}
+use Rattle.expr_grammar.specs.Grammar.{Form, Number, Item, Bracket, Power, Sign, Chain, Arguments, If, Condition, DaysBetween, Apply, IsBlank, IsCall, IsForm, is_item, all_plain, after_blanks, symbol_text, spelled, applied}
 use Rattle.expr_grammar.proofs.Steps.{At, Goes}
 use Rattle.expr_grammar.proofs.Moves.{rd, IsOpen, name_move, last_move, lone_move, lone_item}
-use Rattle.expr_grammar.proofs.Completed.{calm_follows, close_calm, evals_item}
+use Rattle.expr_grammar.proofs.Completed.{told_of, calm_follows, close_calm, evals_item}
 use Rattle.expr_grammar.proofs.Productions.{Reading, Reads, both_come, reads_number, reads_item, reads_bracket, reads_power, reads_sign, reads_chain}
 use Rattle.expr_grammar.proofs.Calls.{reads_if, reads_between, reads_condition, Lists, lists_one, lists_more}
 use Rattle.expr_grammar.proofs.Applied.{Plains, plains, called, apply_one, apply_list}
@@ -25,13 +25,13 @@ module _ (p : Place) (days : List (List ℕ)) (text : List ℕ) where
   -- with items and numbers for arguments
   apply_plain : (b d : List ℕ) (F : Form) (g : List ℕ) (L : ℕ) (e : Expect) (fs : List Frame) (ns : List Spot) (o : ℕ) (c : Option ℕ) (q : Bool) (at : ℕ) (rest : List ℕ)
       → IsOpen e → IsCall p call.FirstNonNull → IsBlank b → IsBlank d → IsForm p q 0 F → all_plain F ≡ true → IsBlank g → At text at (spelled (Apply b call.FirstNonNull d F g) rest)
-      → Reading p days text L fs ns q (rd e fs ns o c q) at (spelled (Apply b call.FirstNonNull d F g) rest) rest (tree_of days (Apply b call.FirstNonNull d F g))
+      → Reading p days text L fs ns q (rd e fs ns o c q) at (spelled (Apply b call.FirstNonNull d F g) rest) rest (told_of days (length text) (Apply b call.FirstNonNull d F g) rest)
   apply_plain b d F g L e fs ns o c q at rest h is blank blank' form plain blank'' here =
       let w = name_move p text e fs ns o c q at b call.FirstNonNull d (spelled F (symbol_text g symbol.Close rest)) h blank is blank' here in
       close w.1.0 w.1.1 (plains p days text F (at + length b) fs ns (o + 1) w.0 q w.1.0 (symbol_text g symbol.Close rest) plain form (calm_follows g (text_of symbol.Close) rest blank'' close_calm) w.1.1.stands)
     where
-      close : {r : Reader} (past : ℕ) → Goes p text (rd e fs ns o c q) at (spelled (Apply b call.FirstNonNull d F g) rest) r past (spelled F (symbol_text g symbol.Close rest)) → Plains p days text fs ns q r past (spelled F (symbol_text g symbol.Close rest)) (symbol_text g symbol.Close rest) (tree_of days F)
-          → Reading p days text L fs ns q (rd e fs ns o c q) at (spelled (Apply b call.FirstNonNull d F g) rest) rest (tree_of days (Apply b call.FirstNonNull d F g))
+      close : {r : Reader} (past : ℕ) → Goes p text (rd e fs ns o c q) at (spelled (Apply b call.FirstNonNull d F g) rest) r past (spelled F (symbol_text g symbol.Close rest)) → Plains p days text fs ns q r past (spelled F (symbol_text g symbol.Close rest)) (symbol_text g symbol.Close rest) (told_of days (length text) F (symbol_text g symbol.Close rest))
+          → Reading p days text L fs ns q (rd e fs ns o c q) at (spelled (Apply b call.FirstNonNull d F g) rest) rest (told_of days (length text) (Apply b call.FirstNonNull d F g) rest)
       close {r} past goes z =
           let move = last_move p text fs z.nodes z.opened z.crowded z.comes.0 g rest blank'' q z.last z.comes.1.stands in
           called p days text b call.FirstNonNull d F g L z.last.at fs ns q (rd e fs ns o c q) at rest (z.opened - 1) z.crowded (joined z.last z.nodes) z.own (node_of_call z.last.call) z.list (ap node_of_call z.call) z.tree
@@ -46,7 +46,7 @@ module _ (p : Place) (days : List (List ℕ)) (text : List ℕ) where
   -- with an item
   apply_item : (b : List ℕ) (name : Call) (d : List ℕ) (F : Form) (g : List ℕ) → IsLone name → (L : ℕ) (e : Expect) (fs : List Frame) (ns : List Spot) (o : ℕ) (c : Option ℕ) (q : Bool) (at : ℕ) (rest : List ℕ)
       → IsOpen e → IsCall p name → IsBlank b → IsBlank d → IsForm p q 1 F → is_item F ≡ true → IsBlank g → At text at (spelled (Apply b name d F g) rest)
-      → Reading p days text L fs ns q (rd e fs ns o c q) at (spelled (Apply b name d F g) rest) rest (tree_of days (Apply b name d F g))
+      → Reading p days text L fs ns q (rd e fs ns o c q) at (spelled (Apply b name d F g) rest) rest (told_of days (length text) (Apply b name d F g) rest)
   apply_item b name d (Item a f word) g one L e fs ns o c q at rest h is blank blank' form item blank'' here =
       let k = at + length b in
       let cf = call_frame k name 0 in

@@ -89,8 +89,11 @@ read_again tree printed is p days wanted text F nodes whole same e =
 
 -- and so each text that is accepted
 pub accepted_again : (tree : Shape) (printed : List ℕ) → printed ≡ text_from 0 tree → IsReadAgain tree printed
-accepted_again tree printed is p days wanted text nodes e same =
-    let w = was_read p days wanted text nodes e in
-    let F = text_sound p text w.from w.read in
-    let a = accepted_only p days wanted text F.0 nodes F.1 e in
-    read_again tree printed is p days wanted text F.0 nodes F.1 (sym a.3 ∙ same) e
+accepted_again tree printed is = record { read = again }
+  where
+    again : (p : Place) (days : List (List ℕ)) (wanted : Option Sort) (text : List ℕ) (nodes : Nodes) → accepted p days wanted text ≡ Ok nodes → built text days nodes.nodes ≡ tree → (again : Nodes) × (accepted p days wanted printed ≡ Ok again) × (built printed days again.nodes ≡ tree)
+    again p days wanted text nodes e same =
+        let w = was_read p days wanted text nodes e in
+        let F = text_sound p text w.from w.read in
+        let a = accepted_only p days wanted text F.0 nodes F.1 e in
+        read_again tree printed is p days wanted text F.0 nodes F.1 (sym a.3 ∙ same) e

@@ -18,12 +18,11 @@ use Rattle.expr_lang.specs.declared.reading.Expect.TheVariants as expect
 use Rattle.expr_lang.specs.declared.reading.Reader.{Reader}
 use Rattle.expr_lang.specs.Print.{left_level_of, right_level_of}
 use Rattle.expr_lang.specs.Reading.{level_of, enclosing_of, compares, frames_reduced, nodes_reduced, spot_of, crowded_at}
-use Rattle.expr_lang.specs.Shape.{Shape}
 use Rattle.expr_lang.specs.Words.{text_of}
-use Rattle.expr_grammar.specs.Grammar.{Form, Number, Item, Bracket, Power, Sign, Chain, IsForm, after_blanks, symbol_text, number_value, spelled, tree_of}
+use Rattle.expr_grammar.specs.Grammar.{Form, Number, Item, Bracket, Power, Sign, Chain, IsForm, after_blanks, symbol_text, number_value, spelled}
 use Rattle.expr_grammar.proofs.Steps.{At, Goes, then_goes}
 use Rattle.expr_grammar.proofs.Moves.{rd, IsOpen, Comes, number_move, item_move, open_move, sign_move, caret_move, exponent_move, operator_move, bracket_move}
-use Rattle.expr_grammar.proofs.Completed.{Follows, calm_follows, close_calm, caret_calm, operator_calm, form_starts, Loose, loose_up, loose_same, levels, Evals, evals_one, evals_two, evals_number, evals_item}
+use Rattle.expr_grammar.proofs.Completed.{Told, told_of, Tells, Follows, calm_follows, close_calm, caret_calm, operator_calm, form_starts, Loose, loose_up, loose_same, levels, evals_one, evals_two, evals_number, evals_item}
 
 -- the reader behind a form that stands where these frames and nodes were
 pub record After (L : ℕ) (fs : List Frame) (ns : List Spot) (power : Bool) (frames : List Frame) (nodes own : List Spot) : Type 0 where
@@ -35,7 +34,7 @@ pub record After (L : ℕ) (fs : List Frame) (ns : List Spot) (power : Bool) (fr
 
 module _ (p : Place) (days : List (List ℕ)) (text : List ℕ) where
   -- a form is read as a tree
-  pub record Reading (L : ℕ) (fs : List Frame) (ns : List Spot) (q : Bool) (r : Reader) (at : ℕ) (bytes rest : List ℕ) (shape : Shape) : Type 0 where
+  pub record Reading (L : ℕ) (fs : List Frame) (ns : List Spot) (q : Bool) (r : Reader) (at : ℕ) (bytes rest : List ℕ) (told : Told) : Type 0 where
     pub power : Bool
     pub frames : List Frame
     pub nodes : List Spot
@@ -45,17 +44,17 @@ module _ (p : Place) (days : List (List ℕ)) (text : List ℕ) where
     pub own : List Spot
     pub goes : Goes p text r at bytes (rd (expect.Operator power) frames nodes opened crowded q) past rest
     pub after : After L fs ns power frames nodes own
-    pub tree : Evals text days own shape
+    pub tree : Tells text days own told
 
   abbrev pub Reads : Form → Type 0
   Reads F = (L : ℕ) (e : Expect) (fs : List Frame) (ns : List Spot) (o : ℕ) (c : Option ℕ) (q : Bool) (at : ℕ) (rest : List ℕ) → IsOpen e → 1 ≤ L → IsForm p q L F → (L ≤ 5 → Loose L fs) → (L ≤ 3 → compares fs ≡ false) → Follows rest → At text at (spelled F rest)
-      → Reading L fs ns q (rd e fs ns o c q) at (spelled F rest) rest (tree_of days F)
+      → Reading L fs ns q (rd e fs ns o c q) at (spelled F rest) rest (told_of days (length text) F rest)
 
   same_after : (L : ℕ) (fs : List Frame) (ns own : List Spot) → After L fs ns true fs (ns ++ own) own
   same_after L fs ns own = record { atom = λ le. (refl, refl, refl); outer = refl; reduced = λ k le. refl; whole = λ k le. refl; compared = λ le. refl }
 
   -- an atom leaves no frame behind
-  pub whole : (L : ℕ) (fs : List Frame) (ns : List Spot) (q : Bool) (r : Reader) (at : ℕ) (bytes rest : List ℕ) (tree : Shape) (o : ℕ) (c : Option ℕ) (own : List Spot) → Comes p text r at bytes (rd (expect.Operator true) fs (ns ++ own) o c q) rest → Evals text days own tree → Reading L fs ns q r at bytes rest tree
+  pub whole : (L : ℕ) (fs : List Frame) (ns : List Spot) (q : Bool) (r : Reader) (at : ℕ) (bytes rest : List ℕ) (tree : Told) (o : ℕ) (c : Option ℕ) (own : List Spot) → Comes p text r at bytes (rd (expect.Operator true) fs (ns ++ own) o c q) rest → Tells text days own tree → Reading L fs ns q r at bytes rest tree
   whole L fs ns q r at bytes rest tree o c own g h = record { power = true; frames = fs; nodes = ns ++ own; opened = o; crowded = c; past = g.0; own = own; goes = g.1; after = same_after L fs ns own; tree = h }
 
   -- two parts of the way
@@ -111,7 +110,7 @@ module _ (p : Place) (days : List (List ℕ)) (text : List ℕ) where
         own = one.own ++ s ∷ [];
         goes = all.1;
         after = record { atom = λ le. absurd (omega (arith, is.0)); outer = refl; reduced = λ k le. refl; whole = λ k le. ap (nodes_reduced k fs) (append_assoc ns one.own (s ∷ [])); compared = λ le. refl };
-        tree = evals_one text days one.own (one.past + length b) (unary.Power (digits_value 10 digits)) (tree_of days atom) one.tree;
+        tree = evals_one text days one.own (one.past + length b) (unary.Power (digits_value 10 digits)) (told_of days (length text) atom more) one.tree;
       }
 
   pub reads_sign : (b : List ℕ) (sign : Unary) (operand : Form) → Reads operand → Reads (Sign b sign operand)
@@ -139,7 +138,7 @@ module _ (p : Place) (days : List (List ℕ)) (text : List ℕ) where
               ∙ ap (nodes_reduced k fs) (append_assoc ns two.own (s ∷ [])));
           compared = λ le. two.after.compared (omega arith);
         };
-        tree = evals_one text days two.own (at + length b) sign (tree_of days operand) two.tree;
+        tree = evals_one text days two.own (at + length b) sign (told_of days (length text) operand rest) two.tree;
       }
 
   pub reads_chain : (left : Form) (b : List ℕ) (op : Binary) (right : Form) → Reads left → Reads right → Reads (Chain left b op right)
@@ -184,5 +183,5 @@ module _ (p : Place) (days : List (List ℕ)) (text : List ℕ) where
           compared = λ le. (let t : nat_eq (level_of op) 3 ≡ false = (let high : 4 ≤ level_of op = omega (arith, is.1) in grind (arith, nat_tests)) in
               three.after.compared (omega (arith, is.1, v.right)) ∙ ap (λ (x : Bool). x || compares fs) t);
         };
-        tree = evals_two text days one.own three.own (one.past + length b) op (tree_of days left) (tree_of days right) one.tree three.tree;
+        tree = evals_two text days one.own three.own (one.past + length b) op (told_of days (length text) left more) (told_of days (length text) right rest) one.tree three.tree;
       }

@@ -11,16 +11,17 @@ use Rattle.expr_lang.specs.declared.reading.Expect.TheVariants as expect
 use Rattle.expr_lang.specs.declared.reading.Reader.{Reader}
 use Rattle.expr_lang.specs.Reading.{enclosing_of, nodes_reduced, spot_of}
 use Rattle.expr_lang.specs.Shape.{Shape}
+use Rattle.expr_lang.specs.Items.{occurrences}
 use Rattle.expr_grammar.specs.Grammar.{Form, Number, Item, Bracket, Power, Sign, Chain, Arguments, If, Condition, DaysBetween, Apply, IsBlank, IsForm, spelled, tree_of}
 use Rattle.expr_grammar.proofs.Steps.{At, Goes}
 use Rattle.expr_grammar.proofs.Moves.{rd}
-use Rattle.expr_grammar.proofs.Completed.{Follows, Evals, evals_item}
+use Rattle.expr_grammar.proofs.Completed.{Told, told_of, Tells, Follows, Evals, evals_item}
 use Rattle.expr_grammar.proofs.Productions.{whole}
 use Rattle.expr_lang.specs.declared.reading.Nodes.{Nodes}
 use Rattle.expr_lang.specs.Build.{built, top_shape}
 use Rattle.std.specs.Prelude.{is_none}
 use Rattle.expr_grammar.proofs.Words.{drop_front}
-use Rattle.expr_grammar.proofs.Completed.{blank_calm}
+use Rattle.expr_grammar.proofs.Completed.{Told, told_of, Tells, blank_calm}
 use Rattle.expr_lang.specs.Reading.{blank_count, token_from, go_on, ended, read_rest, read_text, most_words, new_reader, is_count_of}
 use Rattle.expr_grammar.specs.Grammar.{IsWhole, IsTextOf}
 use Rattle.expr_grammar.proofs.Every.{reads}
@@ -57,6 +58,11 @@ pub record ReadAs (p : Place) (days : List (List ℕ)) (text : List ℕ) (shape 
   pub tree : built text days nodes.nodes ≡ shape
   pub evals : Evals text days nodes.nodes shape
 
+-- and the occurrences of its items
+pub record ReadTold (p : Place) (days : List (List ℕ)) (text : List ℕ) (told : Told) : Type 0 where
+  pub whole : ReadAs p days text told.tree
+  pub lists : occurrences text days whole.nodes.nodes ≡ told.items
+
 module _ (p : Place) (days : List (List ℕ)) (text : List ℕ) (short : length text ≤ 4096) where
   built_is : (own : List Spot) (shape : Shape) → Evals text days own shape → built text days own ≡ shape
   unfolding built
@@ -65,15 +71,18 @@ module _ (p : Place) (days : List (List ℕ)) (text : List ℕ) (short : length 
   start_at : At text 0 text
   start_at = record { rest = refl; all = omega arith }
 
-  ends : (to : Reader) (past : ℕ) (blanks : List ℕ) (nodes : Nodes) (shape : Shape) → IsBlank blanks → Goes p text (rd expect.Start [] [] 0 None false) 0 text to past blanks → ended to (past + length blanks) ≡ Ok nodes → Evals text days nodes.nodes shape → ReadAs p days text shape
+  ends : (to : Reader) (past : ℕ) (blanks : List ℕ) (nodes : Nodes) (told : Told) → IsBlank blanks → Goes p text (rd expect.Start [] [] 0 None false) 0 text to past blanks → ended to (past + length blanks) ≡ Ok nodes → Tells text days nodes.nodes told → ReadTold p days text told
   unfolding read_text
-  ends to past blanks nodes shape blank goes done tree =
+  ends to past blanks nodes told blank goes done tells =
       let fuel : most_words ≡ goes.count + suc (4096 - goes.count) = omega (arith, words_limit, goes.far, goes.stands.all) in
       record {
-        nodes = nodes;
-        read = ap (λ (k : ℕ). read_rest p k new_reader 0 text) fuel ∙ goes.goes (suc (4096 - goes.count)) ∙ read_end p (4096 - goes.count) to past blanks blank ∙ done;
-        tree = built_is nodes.nodes shape tree;
-        evals = tree;
+        whole = record {
+          nodes = nodes;
+          read = ap (λ (k : ℕ). read_rest p k new_reader 0 text) fuel ∙ goes.goes (suc (4096 - goes.count)) ∙ read_end p (4096 - goes.count) to past blanks blank ∙ done;
+          tree = built_is nodes.nodes told.tree tells.evals;
+          evals = tells.evals;
+        };
+        lists = tells.lists;
       }
 
   done_operator : (power : Bool) (frames : List Frame) (nodes own : List Spot) (o : ℕ) (c : Option ℕ) (at : ℕ) → enclosing_of frames ≡ None → nodes_reduced 1 frames nodes ≡ own → ended (rd (expect.Operator power) frames nodes o c false) at ≡ Ok (record { nodes = own; crowded = c })
@@ -81,10 +90,10 @@ module _ (p : Place) (days : List (List ℕ)) (text : List ℕ) (short : length 
       ap (λ (x : Option Frame). cond (is_none x) (Ok (record { nodes = nodes_reduced 1 frames nodes; crowded = c })) (Err at)) outer
       ∙ ap (λ (x : List Spot). Ok (record { nodes = x; crowded = c })) whole
 
-  expression : (F : Form) (blanks : List ℕ) → IsForm p false 1 F → IsBlank blanks → text ≡ spelled F blanks → ReadAs p days text (tree_of days F)
+  expression : (F : Form) (blanks : List ℕ) → IsForm p false 1 F → IsBlank blanks → text ≡ spelled F blanks → ReadTold p days text (told_of days (length text) F blanks)
   expression F blanks is blank same =
       let one = (reads p days text short F).0 1 expect.Start [] [] 0 None false 0 blanks tt (omega arith) is (λ le. tt) (λ le. refl) (no_follow blanks blank) (subst (At text 0) same start_at) in
-      ends (rd (expect.Operator one.power) one.frames one.nodes one.opened one.crowded false) one.past blanks (record { nodes = one.own; crowded = one.crowded }) (tree_of days F) blank
+      ends (rd (expect.Operator one.power) one.frames one.nodes one.opened one.crowded false) one.past blanks (record { nodes = one.own; crowded = one.crowded }) (told_of days (length text) F blanks) blank
       (subst (λ (l : List ℕ). Goes p text (rd expect.Start [] [] 0 None false) 0 l (rd (expect.Operator one.power) one.frames one.nodes one.opened one.crowded false) one.past blanks) (sym same) one.goes)
       (done_operator one.power one.frames one.nodes one.own one.opened one.crowded (one.past + length blanks) one.after.outer (one.after.whole 1 (omega arith)))
       one.tree
@@ -93,7 +102,7 @@ module _ (p : Place) (days : List (List ℕ)) (text : List ℕ) (short : length 
   ended_item true s at = refl
   ended_item false s at = refl
 
-  item : (b : List ℕ) (f : ItemForm) (word blanks : List ℕ) → IsWhole p (Item b f word) → IsBlank blanks → text ≡ spelled (Item b f word) blanks → ReadAs p days text (tree_of days (Item b f word))
+  item : (b : List ℕ) (f : ItemForm) (word blanks : List ℕ) → IsWhole p (Item b f word) → IsBlank blanks → text ≡ spelled (Item b f word) blanks → ReadTold p days text (told_of days (length text) (Item b f word) blanks)
   item b f word blanks is blank same =
       let here = subst (At text 0) same start_at in
       let s = spot_of (0 + length b) (node.Item f) in
@@ -101,21 +110,24 @@ module _ (p : Place) (days : List (List ℕ)) (text : List ℕ) (short : length 
       let to = rd (cond (is_count_of (node.Item f)) expect.End (expect.Operator true)) [] (s ∷ []) 0 None false in
       let there : Goes p text (rd expect.Start [] [] 0 None false) 0 (spelled (Item b f word) blanks) to (0 + length b + length word) blanks =
       subst (λ (x : Reader). Goes p text (rd expect.Start [] [] 0 None false) 0 (spelled (Item b f word) blanks) x (0 + length b + length word) blanks) (item_token expect.Start (0 + length b) f [] [] 0 None false tt) one in
-      ends to (0 + length b + length word) blanks (record { nodes = s ∷ []; crowded = None }) (tree_of days (Item b f word)) blank
+      ends to (0 + length b + length word) blanks (record { nodes = s ∷ []; crowded = None }) (told_of days (length text) (Item b f word) blanks) blank
       (subst (λ (l : List ℕ). Goes p text (rd expect.Start [] [] 0 None false) 0 l to (0 + length b + length word) blanks) (sym same) there)
       (ended_item (is_count_of (node.Item f)) s (0 + length b + length word + length blanks))
       (evals_item text days 0 b f word blanks is.2 here)
 
-  -- each text of the grammar is read, as the tree of its form
+  -- each text of the grammar is read, as the tree of its form, with its items
+  pub text_told : (F : Form) (is : IsTextOf p text F) → ReadTold p days text (told_of days (length text) F is.1)
+  text_told (Item b f word) is = item b f word is.1 is.0 is.2 is.3
+  text_told (Number b digits decimals) is = expression (Number b digits decimals) is.1 is.0 is.2 is.3
+  text_told (Bracket b inner d) is = expression (Bracket b inner d) is.1 is.0 is.2 is.3
+  text_told (Power atom b d digits) is = expression (Power atom b d digits) is.1 is.0 is.2 is.3
+  text_told (Sign b sign operand) is = expression (Sign b sign operand) is.1 is.0 is.2 is.3
+  text_told (Chain left b op right) is = expression (Chain left b op right) is.1 is.0 is.2 is.3
+  text_told (Arguments first b last) is = expression (Arguments first b last) is.1 is.0 is.2 is.3
+  text_told (If b d test f one g other i) is = expression (If b d test f one g other i) is.1 is.0 is.2 is.3
+  text_told (Condition b d f test g i one j other l) is = expression (Condition b d f test g i one j other l) is.1 is.0 is.2 is.3
+  text_told (DaysBetween b d one f other g) is = expression (DaysBetween b d one f other g) is.1 is.0 is.2 is.3
+  text_told (Apply b name d arguments g) is = expression (Apply b name d arguments g) is.1 is.0 is.2 is.3
+
   pub text_read : (F : Form) → IsTextOf p text F → ReadAs p days text (tree_of days F)
-  text_read (Item b f word) is = item b f word is.1 is.0 is.2 is.3
-  text_read (Number b digits decimals) is = expression (Number b digits decimals) is.1 is.0 is.2 is.3
-  text_read (Bracket b inner d) is = expression (Bracket b inner d) is.1 is.0 is.2 is.3
-  text_read (Power atom b d digits) is = expression (Power atom b d digits) is.1 is.0 is.2 is.3
-  text_read (Sign b sign operand) is = expression (Sign b sign operand) is.1 is.0 is.2 is.3
-  text_read (Chain left b op right) is = expression (Chain left b op right) is.1 is.0 is.2 is.3
-  text_read (Arguments first b last) is = expression (Arguments first b last) is.1 is.0 is.2 is.3
-  text_read (If b d test f one g other i) is = expression (If b d test f one g other i) is.1 is.0 is.2 is.3
-  text_read (Condition b d f test g i one j other l) is = expression (Condition b d f test g i one j other l) is.1 is.0 is.2 is.3
-  text_read (DaysBetween b d one f other g) is = expression (DaysBetween b d one f other g) is.1 is.0 is.2 is.3
-  text_read (Apply b name d arguments g) is = expression (Apply b name d arguments g) is.1 is.0 is.2 is.3
+  text_read F is = (text_told F is).whole

@@ -48,8 +48,7 @@ IsPrintedAgain tree text =
     (place : Place) (days : List (List ℕ)) (form : Form) → IsWhole place form → tree_of days form ≡ tree → IsPrinted place days tree text
 
 -- A text is accepted as this tree where any text is.
-abbrev pub IsReadAgain : Shape → List ℕ → Type 0
-IsReadAgain tree text =
-    (place : Place) (days : List (List ℕ)) (wanted : Option Sort) (other : List ℕ) (nodes : Nodes)
-    → accepted place days wanted other ≡ Ok nodes → built other days nodes.nodes ≡ tree
-    → (again : Nodes) × (accepted place days wanted text ≡ Ok again) × (built text days again.nodes ≡ tree)
+pub record IsReadAgain (tree : Shape) (text : List ℕ) : Type 0 where
+  pub read : (place : Place) (days : List (List ℕ)) (wanted : Option Sort) (other : List ℕ) (nodes : Nodes)
+      → accepted place days wanted other ≡ Ok nodes → built other days nodes.nodes ≡ tree
+      → (again : Nodes) × (accepted place days wanted text ≡ Ok again) × (built text days again.nodes ≡ tree)

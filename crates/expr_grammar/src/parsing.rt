@@ -2,7 +2,7 @@
 
 ghost use Rattle.std.specs.Prelude.{◌≡◌, [], Some, None, IfOk, IfErr};
 ghost use Rattle.expr_grammar.specs.Continues.{GoesOnAt};
-ghost use Rattle.expr_grammar.specs.Items.{items_of, Different};
+ghost use Rattle.expr_grammar.specs.Items.{items_of, Different, ListsItems};
 ghost use Rattle.expr_grammar.specs.Laws.{OneTree};
 ghost use Rattle.expr_grammar.specs.Limits.{AnswersBy};
 ghost use Rattle.expr_lang.specs.Expr.{IsOf, items_in};
@@ -28,6 +28,8 @@ pub fn parse(alloc: Global, text: &[u8], place: Place, days: &[Uid]) -> Result<E
     ensures one { IfOk result (λ expr. OneTree place days.now text.now (shape_of expr.tree)) }
     // Its items are those of the tree, in order of their first occurrence.
     ensures items { IfOk result (λ expr. Different (items_of (shape_of expr.tree)) [] (items_in expr)) }
+    // The place of an item is where its first occurrence stands in the form.
+    ensures places { IfOk result (λ expr. ListsItems place days.now text.now expr) }
 {
     expr_lang::parse(alloc, text, place, days)
 }
@@ -46,6 +48,7 @@ pub fn parse_sorted(
     ensures read { AnswersBy place days.now (Some wanted) text.now result }
     ensures one { IfOk result (λ expr. OneTree place days.now text.now (shape_of expr.tree)) }
     ensures items { IfOk result (λ expr. Different (items_of (shape_of expr.tree)) [] (items_in expr)) }
+    ensures places { IfOk result (λ expr. ListsItems place days.now text.now expr) }
 {
     expr_lang::parse_sorted(alloc, text, place, days, wanted)
 }
