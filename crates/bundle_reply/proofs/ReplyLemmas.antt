@@ -4,7 +4,8 @@ use Rattle.serde_json.specs.Data.{Data}
 use Rattle.dh_base.specs.declared.codes.Code.TheVariants.{F22}
 use Rattle.std.specs.Fmt.{decimal}
 use Rattle.meta_parts.specs.declared.held.Records.{Records}
-use Rattle.meta_reader.specs.File.{document_of, most_bytes}
+use Rattle.json_data.specs.Bytes.{document_of}
+use Rattle.meta_reader.specs.File.{most_bytes}
 use Rattle.metadata_reader.specs.Line.{line_of}
 use Rattle.dh_metadata.specs.declared.fault.MetaFault.TheVariants.{Limit}
 use Rattle.dh_metadata.specs.declared.fault.Which.TheVariants.{Bytes}
@@ -39,11 +40,9 @@ unfolding IsOverBytes
 long_reply ask bytes reply long is = subst (λ b. IsOverLength ask bytes b reply) (sym (lt-test most_bytes (length bytes) long)) is
 
 -- a bundle that isn't too long is replied to by its document
-pub short_reply : (ask : Asked) (bytes : List ℕ) (document : Option Data) (reply : Reply) → length bytes ≤ most_bytes → document ≡ document_of bytes
-    → IsOverDocument ask document reply → IsOverBytes ask bytes reply
+pub short_reply : (ask : Asked) (bytes : List ℕ) (reply : Reply) → length bytes ≤ most_bytes → IsOverDocument ask (document_of bytes) reply → IsOverBytes ask bytes reply
 unfolding IsOverBytes
-short_reply ask bytes document reply short is over =
-    subst (λ b. IsOverLength ask bytes b reply) (sym (ge-test most_bytes (length bytes) short)) (subst (λ d. IsOverDocument ask d reply) is over)
+short_reply ask bytes reply short over = subst (λ b. IsOverLength ask bytes b reply) (sym (ge-test most_bytes (length bytes) short)) over
 
 -- the limit is told
 pub full_reply : (r : Records) (user : ℕ) (text : List ℕ) (moment : ℤ) (verdict : Verdict) (limit : ℕ) → Some limit ≡ limit_of (loading moment verdict)

@@ -1,5 +1,5 @@
 -- What the steps of a reply hand on.
-use Rattle.std.specs.Prelude.{◌≡◌, Result, Ok, Err, ⊤}
+use Rattle.std.specs.Prelude.{◌≡◌, Option, None, Some, Result, Ok, Err, ⊤}
 use Rattle.serde_json.specs.Data.{Data}
 use Rattle.json_forms.specs.Given.{Gives}
 use Rattle.json_forms.specs.declared.fault.FormFault.{FormFault}
@@ -13,3 +13,10 @@ abbrev pub AreForms : Data → Result Forms FormFault → Type 0
 AreForms json (Ok forms) = (parts_of json ≡ Ok forms.parts) × Gives (values_of json) forms.values
 AreForms json (Err (form.At path)) = parts_of json ≡ Err path
 AreForms json (Err form.Memory) = ⊤
+
+-- the same of bytes; there are none where these are no JSON
+abbrev pub AreFormsIn : Option Data → Option (Result Forms FormFault) → Type 0
+AreFormsIn None None = ⊤
+AreFormsIn None (Some read) = ⊥
+AreFormsIn (Some json) None = ⊥
+AreFormsIn (Some json) (Some read) = AreForms json read

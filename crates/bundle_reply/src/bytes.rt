@@ -1,20 +1,22 @@
 //! The reply over the bytes of a bundle.
 
-ghost use Rattle.std.specs.Prelude.{◌≡◌, ◌<◌, ℕ, List, Some, length, IfOk, option_map};
-ghost use Rattle.serde_json.specs.View.{view};
-ghost use Rattle.meta_reader.specs.File.{document_of, most_bytes};
+ghost use Rattle.std.specs.Prelude.{◌<◌, ℕ, List, length, IfOk};
+ghost use Rattle.json_data.specs.Bytes.{document_of};
+ghost use Rattle.json_data.specs.Views.{data_of};
+ghost use Rattle.meta_reader.specs.File.{most_bytes};
 ghost use Rattle.bundle_reply.specs.Bytes.{Asked, asked, IsOverDocument, IsOverBytes};
-ghost use Rattle.bundle_reply.specs.Steps.{AreForms};
+ghost use Rattle.bundle_reply.specs.Steps.{AreForms, AreFormsIn};
 
 use crate::over::over_forms;
 use crate::reply::{Reply, meta_refused};
 use dh_base::items::Items;
 use dh_base::memory::Memory;
 use dh_metadata::fault::{MetaFault, Which};
+use json::{Scratch, Value};
+use json_data::read::read;
 use json_forms::fault::FormFault;
 use meta_forms::parts::read_parts;
 use meta_parts::parts::MetaParts;
-use serde_json::Value;
 use std::alloc::Global;
 use value_forms::set::{SetValue, read_values};
 
@@ -28,29 +30,24 @@ pub(crate) struct Forms {
     pub values: Result<Items<SetValue>, FormFault>,
 }
 
-// The JSON data of a bundle, if it is JSON.
-fn document(alloc: Global, bytes: &[u8]) -> Result<Option<Value>, Memory>
-    ensures { IfOk result (λ value. option_map view value ≡ document_of bytes.now) }
+// What the data says.
+fn forms_of(alloc: Global, json: &Value<'_>) -> Result<Forms, FormFault>
+    ensures { AreForms (data_of json.now) result }
 {
-    match Value::from_slice(alloc, bytes) {
-        Ok(value) => Ok(Some(value)),
-        Err(error) => {
-            if error.is_memory() {
-                Err(Memory)
-            } else {
-                Ok(None)
-            }
-        }
-    }
+    let values = read_values(alloc, json);
+    let parts = read_parts(alloc, json)?;
+    Ok(Forms { parts, values })
 }
 
-// What the data says. The data is dropped here, before metadata is made.
-fn forms_of(alloc: Global, json: Value) -> Result<Forms, FormFault>
-    ensures { AreForms (view json) result }
+// What the bytes say, if they are JSON. Their data is dropped here, before metadata is made.
+fn forms_in(alloc: Global, bytes: &[u8]) -> Result<Option<Result<Forms, FormFault>>, Memory>
+    ensures { IfOk result (AreFormsIn (document_of bytes.now)) }
 {
-    let values = read_values(alloc, &json);
-    let parts = read_parts(alloc, &json)?;
-    Ok(Forms { parts, values })
+    let mut scratch = Scratch::new(alloc);
+    match read(alloc, bytes, &mut scratch)? {
+        Some(json) => Ok(Some(forms_of(alloc, &json))),
+        None => Ok(None),
+    }
 }
 
 fn over_document(
@@ -58,14 +55,15 @@ fn over_document(
     user: &[u8],
     query: &[u8],
     moment: i64,
-    json: Value,
+    bytes: &[u8],
 ) -> Result<Reply, Memory>
-    ensures { IfOk result (IsOverDocument (asked user.now query.now moment) (Some (view json))) }
+    ensures { IfOk result (IsOverDocument (asked user.now query.now moment) (document_of bytes.now)) }
 {
-    match forms_of(alloc, json) {
-        Ok(forms) => over_forms(alloc, user, query, moment, forms),
-        Err(FormFault::At(path)) => meta_refused(alloc, &MetaFault::Shape { path }),
-        Err(FormFault::Memory) => Err(Memory),
+    match forms_in(alloc, bytes)? {
+        Some(Ok(forms)) => over_forms(alloc, user, query, moment, forms),
+        Some(Err(FormFault::At(path))) => meta_refused(alloc, &MetaFault::Shape { path }),
+        Some(Err(FormFault::Memory)) => Err(Memory),
+        None => meta_refused(alloc, &MetaFault::NotJson),
     }
 }
 
@@ -97,8 +95,5 @@ pub fn reply_to_bytes(
     if bytes.len() > MOST_BYTES {
         return reply_to_long(alloc);
     }
-    match document(alloc, bytes)? {
-        Some(json) => over_document(alloc, user, query, moment, json),
-        None => meta_refused(alloc, &MetaFault::NotJson),
-    }
+    over_document(alloc, user, query, moment, bytes)
 }

@@ -1,7 +1,7 @@
 ghost use Rattle.std.specs.Prelude.{◌≡◌, ℕ, ◌+◌, ◌<◌, ◌^◌, List, [], ◌∷◌, ◌++◌, Result, Ok, Err, IfOk, map, drop};
 ghost use Rattle.std.specs.Fmt.{decimal};
 ghost use Rattle.serde_json.specs.Data.{Data};
-ghost use Rattle.serde_json.specs.View.{view, items_view};
+ghost use Rattle.json_data.specs.Views.{data_of, items_data};
 ghost use Rattle.serde_json.specs.Find.{get};
 ghost use Rattle.json_forms.specs.Forms.{behind, at_step, text_of, truth_of, identifier_of, each_of, list_of, field_of, optional_of, listed_of, field_or_of};
 ghost use Rattle.json_forms.specs.Given.{Gives, IsSeenFrom, IsAt, IsObject};
@@ -9,7 +9,8 @@ ghost use Rattle.json_forms.specs.Given.{Gives, IsSeenFrom, IsAt, IsObject};
 use crate::fault::FormFault;
 use dh_base::items::Items;
 use dh_base::uid::Uid;
-use serde_json::Value;
+use json::Value;
+use json_data::look::{is_object, items, member, text, truth};
 use std::alloc::{AllocError, Global};
 
 /// A record that is read from JSON data.
@@ -18,8 +19,8 @@ pub trait ReadJson: Sized + Drop {
     ghost form: { Data → Result Self (List ℕ) };
 
     /// Reads the record.
-    fn read(alloc: Global, value: &Value) -> Result<Self, FormFault>
-        ensures { Gives (form (view value.now)) result };
+    fn read(alloc: Global, value: &Value<'_>) -> Result<Self, FormFault>
+        ensures { Gives (form (data_of value.now)) result };
 }
 
 // The path of the data itself.
@@ -56,9 +57,9 @@ fn joined(alloc: Global, step: &[u8], path: &[u8]) -> Result<Vec<u8>, AllocError
 impl ReadJson for Items<u8> {
     ghost form = { text_of };
 
-    fn read(alloc: Global, value: &Value) -> Result<Items<u8>, FormFault> {
-        match value.as_str() {
-            Some(text) => Ok(Items::from(text.as_bytes().to_vec(alloc)?)),
+    fn read(alloc: Global, value: &Value<'_>) -> Result<Items<u8>, FormFault> {
+        match text(value) {
+            Some(found) => Ok(Items::from(found.as_bytes().to_vec(alloc)?)),
             None => Err(here(alloc)),
         }
     }
@@ -67,9 +68,9 @@ impl ReadJson for Items<u8> {
 impl ReadJson for bool {
     ghost form = { truth_of };
 
-    fn read(alloc: Global, value: &Value) -> Result<bool, FormFault> {
-        match value.as_bool() {
-            Some(truth) => Ok(truth),
+    fn read(alloc: Global, value: &Value<'_>) -> Result<bool, FormFault> {
+        match truth(value) {
+            Some(found) => Ok(found),
             None => Err(here(alloc)),
         }
     }
@@ -78,9 +79,9 @@ impl ReadJson for bool {
 impl ReadJson for Uid {
     ghost form = { identifier_of };
 
-    fn read(alloc: Global, value: &Value) -> Result<Uid, FormFault> {
-        let found = match value.as_str() {
-            Some(text) => Uid::parse(text.as_bytes()),
+    fn read(alloc: Global, value: &Value<'_>) -> Result<Uid, FormFault> {
+        let found = match text(value) {
+            Some(found) => Uid::parse(found.as_bytes()),
             None => None,
         };
         match found {
@@ -97,8 +98,8 @@ fn step_of(alloc: Global, place: usize) -> Result<Vec<u8>, AllocError>
 }
 
 // The value at a place of a list.
-fn read_at<T: ReadJson>(alloc: Global, place: usize, value: &Value) -> Result<T, FormFault>
-    ensures { Gives (at_step (decimal place) (T.form (view value.now))) result }
+fn read_at<T: ReadJson>(alloc: Global, place: usize, value: &Value<'_>) -> Result<T, FormFault>
+    ensures { Gives (at_step (decimal place) (T.form (data_of value.now))) result }
 {
     match T::read(alloc, value) {
         Ok(read) => Ok(read),
@@ -110,8 +111,8 @@ fn read_at<T: ReadJson>(alloc: Global, place: usize, value: &Value) -> Result<T,
 }
 
 // The values of a list.
-fn read_each<T: ReadJson>(alloc: Global, values: &[Value]) -> Result<Items<T>, FormFault>
-    ensures { Gives (each_of T.form 0 (items_view values.now)) result }
+fn read_each<T: ReadJson>(alloc: Global, values: &[Value<'_>]) -> Result<Items<T>, FormFault>
+    ensures { Gives (each_of T.form 0 (items_data values.now)) result }
 {
     let mut all = Vec::new(alloc);
     let mut place = 0;
@@ -123,18 +124,18 @@ fn read_each<T: ReadJson>(alloc: Global, values: &[Value]) -> Result<Items<T>, F
 }
 
 /// A list of records. Data that is no list is at fault.
-pub fn read_list<T: ReadJson>(alloc: Global, value: &Value) -> Result<Items<T>, FormFault>
-    ensures { Gives (list_of T.form (view value.now)) result }
+pub fn read_list<T: ReadJson>(alloc: Global, value: &Value<'_>) -> Result<Items<T>, FormFault>
+    ensures { Gives (list_of T.form (data_of value.now)) result }
 {
-    match value.as_array() {
+    match items(value) {
         Some(values) => read_each(alloc, values),
         None => Err(here(alloc)),
     }
 }
 
 // What stands behind a key.
-fn read_behind<T: ReadJson>(alloc: Global, key: &str, value: &Value) -> Result<T, FormFault>
-    ensures { Gives (at_step key.now (T.form (view value.now))) result }
+fn read_behind<T: ReadJson>(alloc: Global, key: &str, value: &Value<'_>) -> Result<T, FormFault>
+    ensures { Gives (at_step key.now (T.form (data_of value.now))) result }
 {
     match T::read(alloc, value) {
         Ok(read) => Ok(read),
@@ -153,10 +154,10 @@ fn absent(alloc: Global, key: &str) -> FormFault
 }
 
 /// A field that has to be there.
-pub fn field<T: ReadJson>(alloc: Global, value: &Value, key: &str) -> Result<T, FormFault>
-    ensures { Gives (field_of key.now T.form (view value.now)) result }
+pub fn field<T: ReadJson>(alloc: Global, value: &Value<'_>, key: &str) -> Result<T, FormFault>
+    ensures { Gives (field_of key.now T.form (data_of value.now)) result }
 {
-    match value.get(key) {
+    match member(value, key) {
         Some(found) => read_behind(alloc, key, found),
         None => Err(absent(alloc, key)),
     }
@@ -165,13 +166,13 @@ pub fn field<T: ReadJson>(alloc: Global, value: &Value, key: &str) -> Result<T, 
 /// A field that has a default.
 pub fn field_or<T: ReadJson>(
     alloc: Global,
-    value: &Value,
+    value: &Value<'_>,
     key: &str,
     default: T,
 ) -> Result<T, FormFault>
-    ensures { Gives (field_or_of key.now T.form default (view value.now)) result }
+    ensures { Gives (field_or_of key.now T.form default (data_of value.now)) result }
 {
-    match value.get(key) {
+    match member(value, key) {
         Some(found) => read_behind(alloc, key, found),
         None => Ok(default),
     }
@@ -180,22 +181,26 @@ pub fn field_or<T: ReadJson>(
 /// A field that may be absent.
 pub fn optional<T: ReadJson>(
     alloc: Global,
-    value: &Value,
+    value: &Value<'_>,
     key: &str,
 ) -> Result<Option<T>, FormFault>
-    ensures { Gives (optional_of key.now T.form (view value.now)) result }
+    ensures { Gives (optional_of key.now T.form (data_of value.now)) result }
 {
-    match value.get(key) {
+    match member(value, key) {
         Some(found) => Ok(Some(read_behind(alloc, key, found)?)),
         None => Ok(None),
     }
 }
 
 /// A list of records under a key, empty where the key is absent.
-pub fn listed<T: ReadJson>(alloc: Global, value: &Value, key: &str) -> Result<Items<T>, FormFault>
-    ensures { Gives (listed_of key.now T.form (view value.now)) result }
+pub fn listed<T: ReadJson>(
+    alloc: Global,
+    value: &Value<'_>,
+    key: &str,
+) -> Result<Items<T>, FormFault>
+    ensures { Gives (listed_of key.now T.form (data_of value.now)) result }
 {
-    match value.get(key) {
+    match member(value, key) {
         Some(found) => match read_list(alloc, found) {
             Ok(read) => Ok(read),
             Err(fault) => Err(seen_from(alloc, key.as_bytes(), fault)),
@@ -205,24 +210,25 @@ pub fn listed<T: ReadJson>(alloc: Global, value: &Value, key: &str) -> Result<It
 }
 
 /// Refuses data that is no object.
-pub fn require_object(alloc: Global, value: &Value) -> Result<(), FormFault>
-    ensures { IsObject (view value.now) result }
+pub fn require_object(alloc: Global, value: &Value<'_>) -> Result<(), FormFault>
+    ensures { IsObject (data_of value.now) result }
 {
-    match value.as_object() {
-        Some(_) => Ok(()),
-        None => Err(here(alloc)),
+    if is_object(value) {
+        Ok(())
+    } else {
+        Err(here(alloc))
     }
 }
 
 /// A list under a key that has to be there.
 pub fn required_list<T: ReadJson>(
     alloc: Global,
-    value: &Value,
+    value: &Value<'_>,
     key: &str,
 ) -> Result<Items<T>, FormFault>
-    ensures { Gives (field_of key.now (list_of T.form) (view value.now)) result }
+    ensures { Gives (field_of key.now (list_of T.form) (data_of value.now)) result }
 {
-    match value.get(key) {
+    match member(value, key) {
         Some(found) => match read_list(alloc, found) {
             Ok(read) => Ok(read),
             Err(fault) => Err(seen_from(alloc, key.as_bytes(), fault)),

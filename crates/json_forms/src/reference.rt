@@ -3,7 +3,7 @@ ghost use Rattle.json_forms.specs.Given.{Gives};
 use crate::fault::FormFault;
 use crate::form::{ReadJson, field, require_object};
 use dh_base::uid::Uid;
-use serde_json::Value;
+use json::Value;
 use std::alloc::Global;
 
 /// A reference to another object, as `{"id":"OuCountry01"}`.
@@ -17,7 +17,7 @@ impl ReadJson for Reference {
 
     ghost form = { reference_of };
 
-    fn read(alloc: Global, value: &Value) -> Result<Reference, FormFault> {
+    fn read(alloc: Global, value: &Value<'_>) -> Result<Reference, FormFault> {
         require_object(alloc, value)?;
         Ok(Reference {
             id: field(alloc, value, "id")?,

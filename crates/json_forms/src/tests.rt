@@ -3,7 +3,8 @@ use crate::form::{ReadJson, field, listed, optional, read_list};
 use crate::reference::Reference;
 use dh_base::items::Items;
 use dh_base::uid::Uid;
-use serde_json::Value;
+use json::Scratch;
+use json_data::read::read;
 use std::test::Fail;
 
 fn is_fault_at(read: &Result<Items<Reference>, FormFault>, path: &[u8]) -> bool {
@@ -18,7 +19,8 @@ fn a_fault_has_the_path_to_its_place(rt: HostRuntime) -> Result<(), Fail> {
     let alloc = rt.alloc();
     let text =
         r#"{"units":[{"id":"OuCountry01"},{"id":"OuDistrictA"},{"id":"1"}],"name":"N","open":true}"#;
-    let value = Value::from_str(alloc, text)?;
+    let mut scratch = Scratch::new(alloc);
+    let value = read(alloc, text.as_bytes(), &mut scratch)?.ok_or("JSON")?;
     let name: Items<u8> = field(alloc, &value, "name")?;
     assert_eq!(rt; name.as_slice(), b"N".as_slice());
     let open: bool = field(alloc, &value, "open")?;

@@ -1,6 +1,6 @@
 //! Data elements, approval, and data sets.
 
-ghost use Rattle.serde_json.specs.View.{view};
+ghost use Rattle.json_data.specs.Views.{data_of};
 ghost use Rattle.json_forms.specs.Given.{Gives};
 ghost use Rattle.meta_forms.specs.Table.{element_values_of, set_content_of, set_rules_of};
 
@@ -13,12 +13,12 @@ use dh_base::items::Items;
 use dh_base::plain::AggType;
 use dh_base::uid::Uid;
 use dh_periods::PeriodType;
+use json::Value;
 use json_forms::fault::FormFault;
 use json_forms::form::field_or;
 use meta_parts::built_in::default_combo;
 use meta_parts::names::ValueType;
 use meta_parts::raw::{RawApprovalLevel, RawDataSet, RawElement, RawWorkflow};
-use serde_json::Value;
 use std::alloc::Global;
 
 // What the values of a data element are.
@@ -31,8 +31,8 @@ pub(crate) struct ElementValues {
 }
 
 #[tactic(auto, unfolding(crate::specs::Table::element_values_of))]
-fn read_element_values(alloc: Global, value: &Value) -> Result<ElementValues, FormFault>
-    ensures { Gives (element_values_of (view value.now)) result }
+fn read_element_values(alloc: Global, value: &Value<'_>) -> Result<ElementValues, FormFault>
+    ensures { Gives (element_values_of (data_of value.now)) result }
 {
     let value_type = named_else(alloc, value, "valueType", ValueType::Text)?;
     let aggregation_type = named_or_else(
@@ -58,7 +58,12 @@ impl ReadObject for RawElement {
     ghost form = { element_of };
 
     #[tactic(auto, unfolding(crate::specs::Table::element_of))]
-    fn read(alloc: Global, place: u32, id: Uid, value: &Value) -> Result<RawElement, FormFault> {
+    fn read(
+        alloc: Global,
+        place: u32,
+        id: Uid,
+        value: &Value<'_>,
+    ) -> Result<RawElement, FormFault> {
         let name = name(alloc, id, value)?;
         let values = read_element_values(alloc, value)?;
         let sharing = sharing(alloc, value)?;
@@ -85,7 +90,7 @@ impl ReadObject for RawApprovalLevel {
         alloc: Global,
         place: u32,
         id: Uid,
-        value: &Value,
+        value: &Value<'_>,
     ) -> Result<RawApprovalLevel, FormFault> {
         let name = name(alloc, id, value)?;
         let level = whole(alloc, value, "level", 1, 1000)?;
@@ -106,7 +111,12 @@ impl ReadObject for RawWorkflow {
     ghost form = { workflow_of };
 
     #[tactic(auto, unfolding(crate::specs::Table::workflow_of))]
-    fn read(alloc: Global, place: u32, id: Uid, value: &Value) -> Result<RawWorkflow, FormFault> {
+    fn read(
+        alloc: Global,
+        place: u32,
+        id: Uid,
+        value: &Value<'_>,
+    ) -> Result<RawWorkflow, FormFault> {
         let name = name(alloc, id, value)?;
         let period_type = named_at(alloc, value, "periodType")?;
         let data_approval_levels = references(alloc, value, "dataApprovalLevels")?;
@@ -130,8 +140,8 @@ pub(crate) struct SetContent {
 }
 
 #[tactic(auto, unfolding(crate::specs::Table::set_content_of))]
-fn read_set_content(alloc: Global, value: &Value) -> Result<SetContent, FormFault>
-    ensures { Gives (set_content_of (view value.now)) result }
+fn read_set_content(alloc: Global, value: &Value<'_>) -> Result<SetContent, FormFault>
+    ensures { Gives (set_content_of (data_of value.now)) result }
 {
     let period_type = named_at(alloc, value, "periodType")?;
     let elements = set_elements(alloc, value)?;
@@ -155,8 +165,8 @@ pub(crate) struct SetRules {
 }
 
 #[tactic(auto, unfolding(crate::specs::Table::set_rules_of))]
-fn read_set_rules(alloc: Global, value: &Value) -> Result<SetRules, FormFault>
-    ensures { Gives (set_rules_of (view value.now)) result }
+fn read_set_rules(alloc: Global, value: &Value<'_>) -> Result<SetRules, FormFault>
+    ensures { Gives (set_rules_of (data_of value.now)) result }
 {
     let workflow = optional_reference(alloc, value, "workflow")?;
     let open_future_periods = whole_or(alloc, value, "openFuturePeriods", 0, 100_000, 0)?;
@@ -176,7 +186,12 @@ impl ReadObject for RawDataSet {
     ghost form = { data_set_of };
 
     #[tactic(auto, unfolding(crate::specs::Table::data_set_of))]
-    fn read(alloc: Global, place: u32, id: Uid, value: &Value) -> Result<RawDataSet, FormFault> {
+    fn read(
+        alloc: Global,
+        place: u32,
+        id: Uid,
+        value: &Value<'_>,
+    ) -> Result<RawDataSet, FormFault> {
         let name = name(alloc, id, value)?;
         let content = read_set_content(alloc, value)?;
         let rules = read_set_rules(alloc, value)?;

@@ -4,7 +4,7 @@
 ghost use Rattle.std.specs.Prelude.{◌≡◌, ℕ, ℤ, IfOk, codes, map, option_map};
 ghost use Rattle.std.specs.Fmt.{signed_decimal};
 ghost use Rattle.std.specs.List.{list_all};
-ghost use Rattle.serde_json.specs.View.{view};
+ghost use Rattle.json_data.specs.Views.{data_of};
 ghost use Rattle.json_forms.specs.Forms.{text_of, listed_of, field_or_of};
 ghost use Rattle.json_forms.specs.Given.{Gives};
 ghost use Rattle.dh_base.specs.Decimals.{decimal_of};
@@ -17,9 +17,10 @@ use dh_base::decimal::{Micros, read_decimal};
 use dh_base::items::Items;
 use dh_base::plain::Strategy;
 use dh_base::uid::Uid;
+use json::Value;
+use json_data::look::{integer, text};
 use json_forms::fault::FormFault;
 use json_forms::form::{ReadJson, field, field_or, listed, require_object};
-use serde_json::Value;
 use std::alloc::{AllocError, Global};
 
 /// An element of a data set, and the category combination that is named beside it.
@@ -79,7 +80,7 @@ impl ReadJson for SetElement {
     ghost form = { set_element_of };
 
     #[tactic(auto, unfolding(crate::specs::Entries::set_element_of))]
-    fn read(alloc: Global, value: &Value) -> Result<SetElement, FormFault> {
+    fn read(alloc: Global, value: &Value<'_>) -> Result<SetElement, FormFault> {
         require_object(alloc, value)?;
         let element = reference(alloc, value, "dataElement")?;
         let combo = optional_reference(alloc, value, "categoryCombo")?;
@@ -93,7 +94,7 @@ impl ReadJson for ProgramAttribute {
     ghost form = { attribute_of };
 
     #[tactic(auto, unfolding(crate::specs::Entries::attribute_of))]
-    fn read(alloc: Global, value: &Value) -> Result<ProgramAttribute, FormFault> {
+    fn read(alloc: Global, value: &Value<'_>) -> Result<ProgramAttribute, FormFault> {
         require_object(alloc, value)?;
         let attribute = reference(alloc, value, "trackedEntityAttribute")?;
         Ok(ProgramAttribute { attribute })
@@ -106,7 +107,7 @@ impl ReadJson for StageElement {
     ghost form = { stage_element_of };
 
     #[tactic(auto, unfolding(crate::specs::Entries::stage_element_of))]
-    fn read(alloc: Global, value: &Value) -> Result<StageElement, FormFault> {
+    fn read(alloc: Global, value: &Value<'_>) -> Result<StageElement, FormFault> {
         require_object(alloc, value)?;
         let element = reference(alloc, value, "dataElement")?;
         Ok(StageElement { element })
@@ -119,7 +120,7 @@ impl ReadJson for Side {
     ghost form = { side_form };
 
     #[tactic(auto, unfolding(crate::specs::Entries::side_form))]
-    fn read(alloc: Global, value: &Value) -> Result<Side, FormFault> {
+    fn read(alloc: Global, value: &Value<'_>) -> Result<Side, FormFault> {
         require_object(alloc, value)?;
         let expression = field(alloc, value, "expression")?;
         let strategy = named_or(alloc, value, "missingValueStrategy", Strategy::Never)?;
@@ -144,12 +145,12 @@ fn number_read(alloc: Global, number: i64) -> Result<Option<Micros>, AllocError>
 }
 
 #[tactic(auto, unfolding(crate::specs::Entries::constant_of))]
-fn constant_of(alloc: Global, value: &Value) -> Result<Option<Micros>, AllocError>
-    ensures { IfOk result (λ found. found ≡ constant_of (view value.now)) }
+fn constant_of(alloc: Global, value: &Value<'_>) -> Result<Option<Micros>, AllocError>
+    ensures { IfOk result (λ found. found ≡ constant_of (data_of value.now)) }
 {
-    match value.as_str() {
-        Some(text) => Ok(read_decimal(text.as_bytes())),
-        None => match value.as_i64() {
+    match text(value) {
+        Some(digits) => Ok(read_decimal(digits.as_bytes())),
+        None => match integer(value) {
             Some(number) => number_read(alloc, number),
             None => Ok(None),
         },
@@ -161,7 +162,7 @@ impl ReadJson for ConstantValue {
 
     ghost form = { constant_form };
 
-    fn read(alloc: Global, value: &Value) -> Result<ConstantValue, FormFault> {
+    fn read(alloc: Global, value: &Value<'_>) -> Result<ConstantValue, FormFault> {
         match constant_of(alloc, value)? {
             Some(value) => Ok(ConstantValue { value }),
             None => Err(here(alloc)),
@@ -188,11 +189,11 @@ fn is_token(text: &[u8]) -> bool
     1 <= text.len() && text.len() <= 64 && all_visible(text)
 }
 
-fn token_in<'a>(value: &'a Value) -> Option<&'a [u8]>
-    ensures { option_map (λ text. text.now) result ≡ token_in (view value.now) }
+fn token_in<'a>(value: &'a Value<'_>) -> Option<&'a [u8]>
+    ensures { option_map (λ text. text.now) result ≡ token_in (data_of value.now) }
 {
-    let text = value.as_str()?.as_bytes();
-    if is_token(text) { Some(text) } else { None }
+    let token = text(value)?.as_bytes();
+    if is_token(token) { Some(token) } else { None }
 }
 
 impl ReadJson for TokenText {
@@ -200,7 +201,7 @@ impl ReadJson for TokenText {
 
     ghost form = { token_text_of };
 
-    fn read(alloc: Global, value: &Value) -> Result<TokenText, FormFault> {
+    fn read(alloc: Global, value: &Value<'_>) -> Result<TokenText, FormFault> {
         match token_in(value) {
             Some(text) => Ok(TokenText {
                 text: Items::from(text.to_vec(alloc)?),
@@ -216,7 +217,7 @@ impl ReadJson for Token {
     ghost form = { token_of };
 
     #[tactic(auto, unfolding(crate::specs::Entries::token_of))]
-    fn read(alloc: Global, value: &Value) -> Result<Token, FormFault> {
+    fn read(alloc: Global, value: &Value<'_>) -> Result<Token, FormFault> {
         require_object(alloc, value)?;
         let token = field(alloc, value, "token")?;
         let user = reference(alloc, value, "user")?;
@@ -230,7 +231,7 @@ impl ReadJson for Settings {
     ghost form = { settings_of };
 
     #[tactic(auto, unfolding(crate::specs::Entries::settings_of))]
-    fn read(alloc: Global, value: &Value) -> Result<Settings, FormFault> {
+    fn read(alloc: Global, value: &Value<'_>) -> Result<Settings, FormFault> {
         require_object(alloc, value)?;
         let acceptance_required = field_or(
             alloc,
@@ -257,8 +258,11 @@ fn set_pairs(alloc: Global, entries: &[SetElement]) -> Result<Items<(Uid, Option
 
 /// The elements of a data set.
 #[tactic(auto, unfolding(crate::specs::Entries::set_elements_of))]
-pub fn set_elements(alloc: Global, value: &Value) -> Result<Items<(Uid, Option<Uid>)>, FormFault>
-    ensures { Gives (set_elements_of (view value.now)) result }
+pub fn set_elements(
+    alloc: Global,
+    value: &Value<'_>,
+) -> Result<Items<(Uid, Option<Uid>)>, FormFault>
+    ensures { Gives (set_elements_of (data_of value.now)) result }
 {
     let found: Items<SetElement> = listed(alloc, value, "dataSetElements")?;
     Ok(set_pairs(alloc, found.as_slice())?)
@@ -274,8 +278,8 @@ fn attribute_ids(alloc: Global, entries: &[ProgramAttribute]) -> Result<Items<Ui
 
 /// The attributes of a program.
 #[tactic(auto, unfolding(crate::specs::Entries::attributes_of))]
-pub fn attributes(alloc: Global, value: &Value) -> Result<Items<Uid>, FormFault>
-    ensures { Gives (attributes_of (view value.now)) result }
+pub fn attributes(alloc: Global, value: &Value<'_>) -> Result<Items<Uid>, FormFault>
+    ensures { Gives (attributes_of (data_of value.now)) result }
 {
     let found: Items<ProgramAttribute> = listed(alloc, value, "programTrackedEntityAttributes")?;
     Ok(attribute_ids(alloc, found.as_slice())?)
@@ -291,8 +295,8 @@ fn stage_element_ids(alloc: Global, entries: &[StageElement]) -> Result<Items<Ui
 
 /// The elements of a program stage.
 #[tactic(auto, unfolding(crate::specs::Entries::stage_elements_of))]
-pub fn stage_elements(alloc: Global, value: &Value) -> Result<Items<Uid>, FormFault>
-    ensures { Gives (stage_elements_of (view value.now)) result }
+pub fn stage_elements(alloc: Global, value: &Value<'_>) -> Result<Items<Uid>, FormFault>
+    ensures { Gives (stage_elements_of (data_of value.now)) result }
 {
     let found: Items<StageElement> = listed(alloc, value, "programStageDataElements")?;
     Ok(stage_element_ids(alloc, found.as_slice())?)
@@ -302,10 +306,10 @@ pub fn stage_elements(alloc: Global, value: &Value) -> Result<Items<Uid>, FormFa
 #[tactic(auto, unfolding(crate::specs::Entries::side_of))]
 pub fn rule_side(
     alloc: Global,
-    value: &Value,
+    value: &Value<'_>,
     key: &str,
 ) -> Result<(Items<u8>, Strategy), FormFault>
-    ensures { Gives (side_of key.now (view value.now)) result }
+    ensures { Gives (side_of key.now (data_of value.now)) result }
 {
     let side: Side = field(alloc, value, key)?;
     Ok((side.expression, side.strategy))
@@ -325,8 +329,8 @@ fn token_pairs(alloc: Global, tokens: Items<Token>) -> Result<Items<(Items<u8>, 
 
 /// The tokens, each with the identifier of its user.
 #[tactic(auto, unfolding(crate::specs::Entries::tokens_of))]
-pub fn tokens(alloc: Global, value: &Value) -> Result<Items<(Items<u8>, Uid)>, FormFault>
-    ensures { Gives (tokens_of (view value.now)) result }
+pub fn tokens(alloc: Global, value: &Value<'_>) -> Result<Items<(Items<u8>, Uid)>, FormFault>
+    ensures { Gives (tokens_of (data_of value.now)) result }
 {
     let found: Items<Token> = listed(alloc, value, "apiTokens")?;
     Ok(token_pairs(alloc, found)?)
@@ -334,8 +338,8 @@ pub fn tokens(alloc: Global, value: &Value) -> Result<Items<(Items<u8>, Uid)>, F
 
 /// Whether an approval has to be accepted before the level above may approve.
 #[tactic(auto, unfolding(crate::specs::Entries::acceptance_of))]
-pub fn acceptance_required(alloc: Global, value: &Value) -> Result<bool, FormFault>
-    ensures { Gives (acceptance_of (view value.now)) result }
+pub fn acceptance_required(alloc: Global, value: &Value<'_>) -> Result<bool, FormFault>
+    ensures { Gives (acceptance_of (data_of value.now)) result }
 {
     let default = Settings {
         acceptance_required: false,

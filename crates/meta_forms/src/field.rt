@@ -1,7 +1,7 @@
 //! Fields of objects: names of objects, references, whole numbers.
 
 ghost use Rattle.std.specs.Prelude.{◌≡◌, ℤ, IfOk, map};
-ghost use Rattle.serde_json.specs.View.{view};
+ghost use Rattle.json_data.specs.Views.{data_of};
 ghost use Rattle.json_forms.specs.Forms.{field_of, field_or_of};
 ghost use Rattle.json_forms.specs.Given.{Gives};
 ghost use Rattle.meta_forms.specs.Fields.{name_of, reference_at, reference_or_at, optional_reference_at, references_at, whole_within, whole_of};
@@ -9,16 +9,17 @@ ghost use Rattle.meta_forms.specs.Fields.{name_of, reference_at, reference_or_at
 use crate::path::{at_key, found_at};
 use dh_base::items::Items;
 use dh_base::uid::Uid;
+use json::Value;
+use json_data::look::{integer, member};
 use json_forms::fault::FormFault;
 use json_forms::form::{field, field_or, listed, optional};
 use json_forms::reference::Reference;
-use serde_json::Value;
 use std::alloc::{AllocError, Global};
 
 /// The name of an object, which by default is its identifier.
 #[tactic(auto, unfolding(crate::specs::Fields::name_of))]
-pub fn name(alloc: Global, id: Uid, value: &Value) -> Result<Items<u8>, FormFault>
-    ensures { Gives (name_of id (view value.now)) result }
+pub fn name(alloc: Global, id: Uid, value: &Value<'_>) -> Result<Items<u8>, FormFault>
+    ensures { Gives (name_of id (data_of value.now)) result }
 {
     let default = id.bytes().to_vec(alloc)?;
     field_or(alloc, value, "name", Items::from(default))
@@ -26,8 +27,8 @@ pub fn name(alloc: Global, id: Uid, value: &Value) -> Result<Items<u8>, FormFaul
 
 /// A reference that has to be there.
 #[tactic(auto, unfolding(crate::specs::Fields::reference_at))]
-pub fn reference(alloc: Global, value: &Value, key: &str) -> Result<Uid, FormFault>
-    ensures { Gives (reference_at key.now (view value.now)) result }
+pub fn reference(alloc: Global, value: &Value<'_>, key: &str) -> Result<Uid, FormFault>
+    ensures { Gives (reference_at key.now (data_of value.now)) result }
 {
     let found: Reference = field(alloc, value, key)?;
     Ok(found.id)
@@ -35,8 +36,13 @@ pub fn reference(alloc: Global, value: &Value, key: &str) -> Result<Uid, FormFau
 
 /// A reference that has a default.
 #[tactic(auto, unfolding(crate::specs::Fields::reference_or_at))]
-pub fn reference_or(alloc: Global, value: &Value, key: &str, default: Uid) -> Result<Uid, FormFault>
-    ensures { Gives (reference_or_at key.now default (view value.now)) result }
+pub fn reference_or(
+    alloc: Global,
+    value: &Value<'_>,
+    key: &str,
+    default: Uid,
+) -> Result<Uid, FormFault>
+    ensures { Gives (reference_or_at key.now default (data_of value.now)) result }
 {
     let found: Reference = field_or(alloc, value, key, Reference { id: default })?;
     Ok(found.id)
@@ -44,8 +50,12 @@ pub fn reference_or(alloc: Global, value: &Value, key: &str, default: Uid) -> Re
 
 /// A reference that may be absent.
 #[tactic(auto, unfolding(crate::specs::Fields::optional_reference_at))]
-pub fn optional_reference(alloc: Global, value: &Value, key: &str) -> Result<Option<Uid>, FormFault>
-    ensures { Gives (optional_reference_at key.now (view value.now)) result }
+pub fn optional_reference(
+    alloc: Global,
+    value: &Value<'_>,
+    key: &str,
+) -> Result<Option<Uid>, FormFault>
+    ensures { Gives (optional_reference_at key.now (data_of value.now)) result }
 {
     let found: Option<Reference> = optional(alloc, value, key)?;
     Ok(found.map(|reference| reference.id))
@@ -64,18 +74,18 @@ fn ids_of(alloc: Global, references: &[Reference]) -> Result<Items<Uid>, AllocEr
 
 /// A list of references.
 #[tactic(auto, unfolding(crate::specs::Fields::references_at))]
-pub fn references(alloc: Global, value: &Value, key: &str) -> Result<Items<Uid>, FormFault>
-    ensures { Gives (references_at key.now (view value.now)) result }
+pub fn references(alloc: Global, value: &Value<'_>, key: &str) -> Result<Items<Uid>, FormFault>
+    ensures { Gives (references_at key.now (data_of value.now)) result }
 {
     let found: Items<Reference> = listed(alloc, value, key)?;
     Ok(ids_of(alloc, found.as_slice())?)
 }
 
 #[tactic(auto, unfolding(crate::specs::Fields::whole_within))]
-fn whole_within(value: &Value, low: i64, high: i64) -> Option<i64>
-    ensures { result ≡ whole_within low high (view value.now) }
+fn whole_within(value: &Value<'_>, low: i64, high: i64) -> Option<i64>
+    ensures { result ≡ whole_within low high (data_of value.now) }
 {
-    let number = value.as_i64()?;
+    let number = integer(value)?;
     if low <= number && number <= high {
         Some(number)
     } else {
@@ -84,10 +94,16 @@ fn whole_within(value: &Value, low: i64, high: i64) -> Option<i64>
 }
 
 /// A whole number from `low` to `high` that has to be there.
-pub fn whole(alloc: Global, value: &Value, key: &str, low: i64, high: i64) -> Result<i64, FormFault>
-    ensures { Gives (field_of key.now (whole_of low high) (view value.now)) result }
+pub fn whole(
+    alloc: Global,
+    value: &Value<'_>,
+    key: &str,
+    low: i64,
+    high: i64,
+) -> Result<i64, FormFault>
+    ensures { Gives (field_of key.now (whole_of low high) (data_of value.now)) result }
 {
-    match value.get(key) {
+    match member(value, key) {
         Some(found) => found_at(alloc, key, whole_within(found, low, high)),
         None => Err(at_key(alloc, key)),
     }
@@ -96,15 +112,15 @@ pub fn whole(alloc: Global, value: &Value, key: &str, low: i64, high: i64) -> Re
 /// A whole number from `low` to `high` that has a default.
 pub fn whole_or(
     alloc: Global,
-    value: &Value,
+    value: &Value<'_>,
     key: &str,
     low: i64,
     high: i64,
     default: i64,
 ) -> Result<i64, FormFault>
-    ensures { Gives (field_or_of key.now (whole_of low high) default (view value.now)) result }
+    ensures { Gives (field_or_of key.now (whole_of low high) default (data_of value.now)) result }
 {
-    match value.get(key) {
+    match member(value, key) {
         Some(found) => found_at(alloc, key, whole_within(found, low, high)),
         None => Ok(default),
     }

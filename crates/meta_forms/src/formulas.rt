@@ -1,6 +1,6 @@
 //! Constants, indicators and validation rules.
 
-ghost use Rattle.serde_json.specs.View.{view};
+ghost use Rattle.json_data.specs.Views.{data_of};
 ghost use Rattle.json_forms.specs.Given.{Gives};
 ghost use Rattle.meta_forms.specs.Table.{ratio_of, comparison_of};
 
@@ -13,11 +13,11 @@ use dh_base::items::Items;
 use dh_base::plain::Strategy;
 use dh_base::uid::Uid;
 use dh_periods::PeriodType;
+use json::Value;
 use json_forms::fault::FormFault;
 use json_forms::form::{field, field_or};
 use meta_parts::names::Operator;
 use meta_parts::raw::{RawConstant, RawIndicator, RawIndicatorType, RawRule};
-use serde_json::Value;
 use std::alloc::Global;
 
 impl ReadObject for RawConstant {
@@ -26,7 +26,12 @@ impl ReadObject for RawConstant {
     ghost form = { constant_object_of };
 
     #[tactic(auto, unfolding(crate::specs::Table::constant_object_of))]
-    fn read(alloc: Global, place: u32, id: Uid, value: &Value) -> Result<RawConstant, FormFault> {
+    fn read(
+        alloc: Global,
+        place: u32,
+        id: Uid,
+        value: &Value<'_>,
+    ) -> Result<RawConstant, FormFault> {
         let name = name(alloc, id, value)?;
         let constant: ConstantValue = field(alloc, value, "value")?;
         Ok(RawConstant {
@@ -48,7 +53,7 @@ impl ReadObject for RawIndicatorType {
         alloc: Global,
         place: u32,
         id: Uid,
-        value: &Value,
+        value: &Value<'_>,
     ) -> Result<RawIndicatorType, FormFault> {
         let name = name(alloc, id, value)?;
         let factor = whole(alloc, value, "factor", -1_000_000_000, 1_000_000_000)?;
@@ -71,8 +76,8 @@ pub(crate) struct Ratio {
 }
 
 #[tactic(auto, unfolding(crate::specs::Table::ratio_of))]
-fn read_ratio(alloc: Global, value: &Value) -> Result<Ratio, FormFault>
-    ensures { Gives (ratio_of (view value.now)) result }
+fn read_ratio(alloc: Global, value: &Value<'_>) -> Result<Ratio, FormFault>
+    ensures { Gives (ratio_of (data_of value.now)) result }
 {
     let numerator = field(alloc, value, "numerator")?;
     let denominator = field(alloc, value, "denominator")?;
@@ -92,7 +97,12 @@ impl ReadObject for RawIndicator {
     ghost form = { indicator_of };
 
     #[tactic(auto, unfolding(crate::specs::Table::indicator_of))]
-    fn read(alloc: Global, place: u32, id: Uid, value: &Value) -> Result<RawIndicator, FormFault> {
+    fn read(
+        alloc: Global,
+        place: u32,
+        id: Uid,
+        value: &Value<'_>,
+    ) -> Result<RawIndicator, FormFault> {
         let name = name(alloc, id, value)?;
         let ratio = read_ratio(alloc, value)?;
         let decimals = whole_or(alloc, value, "decimals", 0, 5, 1)?;
@@ -121,8 +131,8 @@ pub(crate) struct Comparison {
 }
 
 #[tactic(auto, unfolding(crate::specs::Table::comparison_of))]
-fn read_comparison(alloc: Global, value: &Value) -> Result<Comparison, FormFault>
-    ensures { Gives (comparison_of (view value.now)) result }
+fn read_comparison(alloc: Global, value: &Value<'_>) -> Result<Comparison, FormFault>
+    ensures { Gives (comparison_of (data_of value.now)) result }
 {
     let operator = named_at(alloc, value, "operator")?;
     let period_type = named_at(alloc, value, "periodType")?;
@@ -142,7 +152,7 @@ impl ReadObject for RawRule {
     ghost form = { rule_of };
 
     #[tactic(auto, unfolding(crate::specs::Table::rule_of))]
-    fn read(alloc: Global, place: u32, id: Uid, value: &Value) -> Result<RawRule, FormFault> {
+    fn read(alloc: Global, place: u32, id: Uid, value: &Value<'_>) -> Result<RawRule, FormFault> {
         let name = name(alloc, id, value)?;
         let comparison = read_comparison(alloc, value)?;
         let sharing = sharing(alloc, value)?;

@@ -1,7 +1,7 @@
 //! Fields whose texts are names of a table.
 
 ghost use Rattle.std.specs.Prelude.{◌≡◌, ℕ, List, Option, option_and_then, option_map};
-ghost use Rattle.serde_json.specs.View.{view};
+ghost use Rattle.json_data.specs.Views.{data_of};
 ghost use Rattle.serde_json.specs.Find.{as_str};
 ghost use Rattle.json_forms.specs.Forms.{field_of, field_or_of};
 ghost use Rattle.json_forms.specs.Given.{Gives};
@@ -11,12 +11,13 @@ use crate::path::{at_key, found_at};
 use dh_base::plain::{AggType, Strategy};
 use dh_periods::PeriodType;
 use dh_sharing::access::Access;
+use json::Value;
+use json_data::look::{member, text};
 use json_forms::fault::FormFault;
 use meta_parts::names::{
     AnalyticsType, Operator, ProgramType, ValueType, aggregation_named, analytics_type_named,
     operator_named, program_type_named, strategy_named, value_type_named,
 };
-use serde_json::Value;
 use std::alloc::Global;
 
 /// A value that a file writes as a name of a table.
@@ -109,20 +110,20 @@ impl Named for Access {
     }
 }
 
-fn name_of<T: Named>(value: &Value) -> Option<T>
-    ensures { result ≡ named_in T.meaning (view value.now) }
+fn name_of<T: Named>(value: &Value<'_>) -> Option<T>
+    ensures { result ≡ named_in T.meaning (data_of value.now) }
 {
-    match value.as_str() {
-        Some(text) => T::of_name(text.as_bytes()),
+    match text(value) {
+        Some(name) => T::of_name(name.as_bytes()),
         None => None,
     }
 }
 
 /// A name that has to be there.
-pub fn named_at<T: Named>(alloc: Global, value: &Value, key: &str) -> Result<T, FormFault>
-    ensures { Gives (field_of key.now (name_of_table T.meaning) (view value.now)) result }
+pub fn named_at<T: Named>(alloc: Global, value: &Value<'_>, key: &str) -> Result<T, FormFault>
+    ensures { Gives (field_of key.now (name_of_table T.meaning) (data_of value.now)) result }
 {
-    match value.get(key) {
+    match member(value, key) {
         Some(found) => found_at(alloc, key, name_of(found)),
         None => Err(at_key(alloc, key)),
     }
@@ -131,23 +132,23 @@ pub fn named_at<T: Named>(alloc: Global, value: &Value, key: &str) -> Result<T, 
 /// A name that has a default.
 pub fn named_or<T: Named>(
     alloc: Global,
-    value: &Value,
+    value: &Value<'_>,
     key: &str,
     default: T,
 ) -> Result<T, FormFault>
-    ensures { Gives (field_or_of key.now (name_of_table T.meaning) default (view value.now)) result }
+    ensures { Gives (field_or_of key.now (name_of_table T.meaning) default (data_of value.now)) result }
 {
-    match value.get(key) {
+    match member(value, key) {
         Some(found) => found_at(alloc, key, name_of(found)),
         None => Ok(default),
     }
 }
 
-fn name_or<T: Named>(value: &Value, other: T) -> Option<T>
-    ensures { result ≡ listed_or T.meaning other (view value.now) }
+fn name_or<T: Named>(value: &Value<'_>, other: T) -> Option<T>
+    ensures { result ≡ listed_or T.meaning other (data_of value.now) }
 {
-    match value.as_str() {
-        Some(text) => match T::of_name(text.as_bytes()) {
+    match text(value) {
+        Some(name) => match T::of_name(name.as_bytes()) {
             Some(found) => Some(found),
             None => Some(other),
         },
@@ -158,13 +159,13 @@ fn name_or<T: Named>(value: &Value, other: T) -> Option<T>
 /// A name that has to be there; one that the table doesn't have means `other`.
 pub fn named_else<T: Named>(
     alloc: Global,
-    value: &Value,
+    value: &Value<'_>,
     key: &str,
     other: T,
 ) -> Result<T, FormFault>
-    ensures { Gives (field_of key.now (name_or_other T.meaning other) (view value.now)) result }
+    ensures { Gives (field_of key.now (name_or_other T.meaning other) (data_of value.now)) result }
 {
-    match value.get(key) {
+    match member(value, key) {
         Some(found) => found_at(alloc, key, name_or(found, other)),
         None => Err(at_key(alloc, key)),
     }
@@ -173,14 +174,14 @@ pub fn named_else<T: Named>(
 /// A name that has a default; one that the table doesn't have means `other`.
 pub fn named_or_else<T: Named>(
     alloc: Global,
-    value: &Value,
+    value: &Value<'_>,
     key: &str,
     default: T,
     other: T,
 ) -> Result<T, FormFault>
-    ensures { Gives (field_or_of key.now (name_or_other T.meaning other) default (view value.now)) result }
+    ensures { Gives (field_or_of key.now (name_or_other T.meaning other) default (data_of value.now)) result }
 {
-    match value.get(key) {
+    match member(value, key) {
         Some(found) => found_at(alloc, key, name_or(found, other)),
         None => Ok(default),
     }

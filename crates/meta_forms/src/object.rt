@@ -3,7 +3,7 @@
 ghost use Rattle.std.specs.Prelude.{◌≡◌, ℕ, ◌+◌, ◌<◌, ◌^◌, List, [], ◌∷◌, ◌++◌, Option, Result, Ok, Err, IfOk, map, drop};
 ghost use Rattle.std.specs.Fmt.{decimal};
 ghost use Rattle.serde_json.specs.Data.{Data};
-ghost use Rattle.serde_json.specs.View.{view, items_view};
+ghost use Rattle.json_data.specs.Views.{data_of, items_data};
 ghost use Rattle.json_forms.specs.Forms.{at_step, field_or_of};
 ghost use Rattle.json_forms.specs.Given.{Gives};
 ghost use Rattle.meta_forms.specs.Objects.{IsPlace, object_of, objects_of, list_of, objects_at};
@@ -11,10 +11,11 @@ ghost use Rattle.meta_forms.specs.Objects.{IsPlace, object_of, objects_of, list_
 use crate::path::{here, seen_from};
 use dh_base::items::Items;
 use dh_base::uid::Uid;
+use json::Value;
+use json_data::look::{items, member};
 use json_forms::fault::FormFault;
 use json_forms::form::{field, require_object};
 use meta_parts::built_in::is_built_in;
-use serde_json::Value;
 use std::alloc::{AllocError, Global};
 
 /// A record of an object that stands at a place of a key's list and has an identifier.
@@ -23,8 +24,8 @@ pub trait ReadObject: Sized + Drop {
     ghost form: { ℕ → List ℕ → Data → Result Self (List ℕ) };
 
     /// Reads what is behind the identifier.
-    fn read(alloc: Global, place: u32, id: Uid, value: &Value) -> Result<Self, FormFault>
-        ensures { Gives (form place id (view value.now)) result };
+    fn read(alloc: Global, place: u32, id: Uid, value: &Value<'_>) -> Result<Self, FormFault>
+        ensures { Gives (form place id (data_of value.now)) result };
 }
 
 // The number of a place. A list of 2^32 values and more takes more memory than there is.
@@ -40,9 +41,9 @@ fn place_of(place: usize) -> Result<u32, FormFault>
 fn read_object<T: ReadObject>(
     alloc: Global,
     place: usize,
-    value: &Value,
+    value: &Value<'_>,
 ) -> Result<Option<T>, FormFault>
-    ensures { Gives (object_of T.form place (view value.now)) result }
+    ensures { Gives (object_of T.form place (data_of value.now)) result }
 {
     require_object(alloc, value)?;
     let id: Uid = field(alloc, value, "id")?;
@@ -62,9 +63,9 @@ fn step_of(alloc: Global, place: usize) -> Result<Vec<u8>, AllocError>
 fn read_at<T: ReadObject>(
     alloc: Global,
     place: usize,
-    value: &Value,
+    value: &Value<'_>,
 ) -> Result<Option<T>, FormFault>
-    ensures { Gives (at_step (decimal place) (object_of T.form place (view value.now))) result }
+    ensures { Gives (at_step (decimal place) (object_of T.form place (data_of value.now))) result }
 {
     match read_object(alloc, place, value) {
         Ok(read) => Ok(read),
@@ -75,8 +76,8 @@ fn read_at<T: ReadObject>(
     }
 }
 
-fn read_each<T: ReadObject>(alloc: Global, values: &[Value]) -> Result<Items<T>, FormFault>
-    ensures { Gives (objects_of T.form 0 (items_view values.now)) result }
+fn read_each<T: ReadObject>(alloc: Global, values: &[Value<'_>]) -> Result<Items<T>, FormFault>
+    ensures { Gives (objects_of T.form 0 (items_data values.now)) result }
 {
     let mut all = Vec::new(alloc);
     let mut place = 0;
@@ -89,10 +90,10 @@ fn read_each<T: ReadObject>(alloc: Global, values: &[Value]) -> Result<Items<T>,
     Ok(Items::from(all))
 }
 
-fn read_list<T: ReadObject>(alloc: Global, value: &Value) -> Result<Items<T>, FormFault>
-    ensures { Gives (list_of T.form (view value.now)) result }
+fn read_list<T: ReadObject>(alloc: Global, value: &Value<'_>) -> Result<Items<T>, FormFault>
+    ensures { Gives (list_of T.form (data_of value.now)) result }
 {
-    match value.as_array() {
+    match items(value) {
         Some(values) => read_each(alloc, values),
         None => Err(here(alloc)),
     }
@@ -101,12 +102,12 @@ fn read_list<T: ReadObject>(alloc: Global, value: &Value) -> Result<Items<T>, Fo
 /// The objects under a key.
 pub fn objects<T: ReadObject>(
     alloc: Global,
-    value: &Value,
+    value: &Value<'_>,
     key: &str,
 ) -> Result<Items<T>, FormFault>
-    ensures { Gives (objects_at key.now T.form (view value.now)) result }
+    ensures { Gives (objects_at key.now T.form (data_of value.now)) result }
 {
-    match value.get(key) {
+    match member(value, key) {
         Some(found) => match read_list(alloc, found) {
             Ok(read) => Ok(read),
             Err(fault) => Err(seen_from(alloc, key.as_bytes(), fault)),

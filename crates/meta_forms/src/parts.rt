@@ -1,7 +1,7 @@
 //! All that a metadata file says.
 
 ghost use Rattle.std.specs.Prelude.{◌≡◌};
-ghost use Rattle.serde_json.specs.View.{view};
+ghost use Rattle.json_data.specs.Views.{data_of};
 ghost use Rattle.json_forms.specs.Given.{Gives};
 ghost use Rattle.meta_forms.specs.Parts.{hierarchy_of, elements_of, sets_of, indicators_of, programs_of, users_of, aggregate_of, tracked_of, joined, parts_of};
 
@@ -9,6 +9,7 @@ use crate::entry::{acceptance_required, tokens};
 use crate::object::objects;
 use dh_base::items::Items;
 use dh_base::uid::Uid;
+use json::Value;
 use json_forms::fault::FormFault;
 use json_forms::form::require_object;
 use meta_parts::parts::MetaParts;
@@ -18,7 +19,6 @@ use meta_parts::raw::{
     RawProgram, RawProgramIndicator, RawRole, RawRule, RawStage, RawUnit, RawUnitGroup, RawUser,
     RawUserGroup, RawWorkflow,
 };
-use serde_json::Value;
 use std::alloc::Global;
 
 // The units, and what categories are made of.
@@ -31,8 +31,8 @@ pub(crate) struct Hierarchy {
 }
 
 #[tactic(auto, unfolding(crate::specs::Parts::hierarchy_of))]
-fn read_hierarchy(alloc: Global, value: &Value) -> Result<Hierarchy, FormFault>
-    ensures { Gives (hierarchy_of (view value.now)) result }
+fn read_hierarchy(alloc: Global, value: &Value<'_>) -> Result<Hierarchy, FormFault>
+    ensures { Gives (hierarchy_of (data_of value.now)) result }
 {
     let organisation_units = objects(alloc, value, "organisationUnits")?;
     let organisation_unit_groups = objects(alloc, value, "organisationUnitGroups")?;
@@ -56,8 +56,8 @@ pub(crate) struct Elements {
 }
 
 #[tactic(auto, unfolding(crate::specs::Parts::elements_of))]
-fn read_elements(alloc: Global, value: &Value) -> Result<Elements, FormFault>
-    ensures { Gives (elements_of (view value.now)) result }
+fn read_elements(alloc: Global, value: &Value<'_>) -> Result<Elements, FormFault>
+    ensures { Gives (elements_of (data_of value.now)) result }
 {
     let category_combos = objects(alloc, value, "categoryCombos")?;
     let category_option_combos = objects(alloc, value, "categoryOptionCombos")?;
@@ -81,8 +81,8 @@ pub(crate) struct Sets {
 }
 
 #[tactic(auto, unfolding(crate::specs::Parts::sets_of))]
-fn read_sets(alloc: Global, value: &Value) -> Result<Sets, FormFault>
-    ensures { Gives (sets_of (view value.now)) result }
+fn read_sets(alloc: Global, value: &Value<'_>) -> Result<Sets, FormFault>
+    ensures { Gives (sets_of (data_of value.now)) result }
 {
     let data_approval_workflows = objects(alloc, value, "dataApprovalWorkflows")?;
     let data_sets = objects(alloc, value, "dataSets")?;
@@ -106,8 +106,8 @@ pub(crate) struct Indicators {
 }
 
 #[tactic(auto, unfolding(crate::specs::Parts::indicators_of))]
-fn read_indicators(alloc: Global, value: &Value) -> Result<Indicators, FormFault>
-    ensures { Gives (indicators_of (view value.now)) result }
+fn read_indicators(alloc: Global, value: &Value<'_>) -> Result<Indicators, FormFault>
+    ensures { Gives (indicators_of (data_of value.now)) result }
 {
     let indicators = objects(alloc, value, "indicators")?;
     let validation_rules = objects(alloc, value, "validationRules")?;
@@ -131,8 +131,8 @@ pub(crate) struct Programs {
 }
 
 #[tactic(auto, unfolding(crate::specs::Parts::programs_of))]
-fn read_programs(alloc: Global, value: &Value) -> Result<Programs, FormFault>
-    ensures { Gives (programs_of (view value.now)) result }
+fn read_programs(alloc: Global, value: &Value<'_>) -> Result<Programs, FormFault>
+    ensures { Gives (programs_of (data_of value.now)) result }
 {
     let programs = objects(alloc, value, "programs")?;
     let program_stages = objects(alloc, value, "programStages")?;
@@ -156,8 +156,8 @@ pub(crate) struct Users {
 }
 
 #[tactic(auto, unfolding(crate::specs::Parts::users_of))]
-fn read_users(alloc: Global, value: &Value) -> Result<Users, FormFault>
-    ensures { Gives (users_of (view value.now)) result }
+fn read_users(alloc: Global, value: &Value<'_>) -> Result<Users, FormFault>
+    ensures { Gives (users_of (data_of value.now)) result }
 {
     let users = objects(alloc, value, "users")?;
     let user_groups = objects(alloc, value, "userGroups")?;
@@ -180,8 +180,8 @@ pub(crate) struct Aggregate {
 }
 
 #[tactic(auto, unfolding(crate::specs::Parts::aggregate_of))]
-fn read_aggregate(alloc: Global, value: &Value) -> Result<Aggregate, FormFault>
-    ensures { Gives (aggregate_of (view value.now)) result }
+fn read_aggregate(alloc: Global, value: &Value<'_>) -> Result<Aggregate, FormFault>
+    ensures { Gives (aggregate_of (data_of value.now)) result }
 {
     let hierarchy = read_hierarchy(alloc, value)?;
     let elements = read_elements(alloc, value)?;
@@ -202,8 +202,8 @@ pub(crate) struct Tracked {
 }
 
 #[tactic(auto, unfolding(crate::specs::Parts::tracked_of))]
-fn read_tracked(alloc: Global, value: &Value) -> Result<Tracked, FormFault>
-    ensures { Gives (tracked_of (view value.now)) result }
+fn read_tracked(alloc: Global, value: &Value<'_>) -> Result<Tracked, FormFault>
+    ensures { Gives (tracked_of (data_of value.now)) result }
 {
     let indicators = read_indicators(alloc, value)?;
     let programs = read_programs(alloc, value)?;
@@ -297,8 +297,8 @@ fn joined(first: Aggregate, second: Tracked) -> MetaParts
 /// in the form of the file: by the order of the keys, then that of the objects in the file, then `id`,
 /// `name` and the order of the fields.
 #[tactic(auto, unfolding(crate::specs::Parts::parts_of))]
-pub fn read_parts(alloc: Global, value: &Value) -> Result<MetaParts, FormFault>
-    ensures { Gives (parts_of (view value.now)) result }
+pub fn read_parts(alloc: Global, value: &Value<'_>) -> Result<MetaParts, FormFault>
+    ensures { Gives (parts_of (data_of value.now)) result }
 {
     require_object(alloc, value)?;
     let first = read_aggregate(alloc, value)?;

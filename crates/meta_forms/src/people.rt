@@ -1,6 +1,6 @@
 //! Users, their roles and groups.
 
-ghost use Rattle.serde_json.specs.View.{view};
+ghost use Rattle.json_data.specs.Views.{data_of};
 ghost use Rattle.json_forms.specs.Given.{Gives};
 ghost use Rattle.meta_forms.specs.Table.{user_units_of};
 
@@ -8,10 +8,10 @@ use crate::field::{name, references};
 use crate::object::ReadObject;
 use dh_base::items::Items;
 use dh_base::uid::Uid;
+use json::Value;
 use json_forms::fault::FormFault;
 use json_forms::form::listed;
 use meta_parts::raw::{RawRole, RawUser, RawUserGroup};
-use serde_json::Value;
 use std::alloc::Global;
 
 impl ReadObject for RawRole {
@@ -20,7 +20,7 @@ impl ReadObject for RawRole {
     ghost form = { role_of };
 
     #[tactic(auto, unfolding(crate::specs::Table::role_of))]
-    fn read(alloc: Global, place: u32, id: Uid, value: &Value) -> Result<RawRole, FormFault> {
+    fn read(alloc: Global, place: u32, id: Uid, value: &Value<'_>) -> Result<RawRole, FormFault> {
         let name = name(alloc, id, value)?;
         let authorities = listed(alloc, value, "authorities")?;
         Ok(RawRole {
@@ -40,8 +40,8 @@ pub(crate) struct UserUnits {
 }
 
 #[tactic(auto, unfolding(crate::specs::Table::user_units_of))]
-fn read_user_units(alloc: Global, value: &Value) -> Result<UserUnits, FormFault>
-    ensures { Gives (user_units_of (view value.now)) result }
+fn read_user_units(alloc: Global, value: &Value<'_>) -> Result<UserUnits, FormFault>
+    ensures { Gives (user_units_of (data_of value.now)) result }
 {
     let organisation_units = references(alloc, value, "organisationUnits")?;
     let data_view_organisation_units = references(alloc, value, "dataViewOrganisationUnits")?;
@@ -57,7 +57,7 @@ impl ReadObject for RawUser {
     ghost form = { user_of };
 
     #[tactic(auto, unfolding(crate::specs::Table::user_of))]
-    fn read(alloc: Global, place: u32, id: Uid, value: &Value) -> Result<RawUser, FormFault> {
+    fn read(alloc: Global, place: u32, id: Uid, value: &Value<'_>) -> Result<RawUser, FormFault> {
         let name = name(alloc, id, value)?;
         let units = read_user_units(alloc, value)?;
         let user_roles = references(alloc, value, "userRoles")?;
@@ -78,7 +78,12 @@ impl ReadObject for RawUserGroup {
     ghost form = { user_group_of };
 
     #[tactic(auto, unfolding(crate::specs::Table::user_group_of))]
-    fn read(alloc: Global, place: u32, id: Uid, value: &Value) -> Result<RawUserGroup, FormFault> {
+    fn read(
+        alloc: Global,
+        place: u32,
+        id: Uid,
+        value: &Value<'_>,
+    ) -> Result<RawUserGroup, FormFault> {
         let name = name(alloc, id, value)?;
         let users = references(alloc, value, "users")?;
         Ok(RawUserGroup {

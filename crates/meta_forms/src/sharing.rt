@@ -1,7 +1,7 @@
 //! How objects are shared.
 
 ghost use Rattle.std.specs.Prelude.{◌≡◌, IfOk, codes};
-ghost use Rattle.serde_json.specs.View.{view, members_view};
+ghost use Rattle.json_data.specs.Views.{data_of, members_data};
 ghost use Rattle.json_forms.specs.Forms.{at_step};
 ghost use Rattle.json_forms.specs.Given.{Gives};
 ghost use Rattle.meta_forms.specs.Sharing.{open_access, open_sharing, member_of, step_of, members_of, members_in, members_at, sharing_fields_of, sharing_form, sharing_of};
@@ -11,11 +11,13 @@ use crate::path::{at_key, seen_from};
 use dh_base::items::Items;
 use dh_base::uid::Uid;
 use dh_sharing::access::Access;
+use json::Value;
+use json_data::look::{self, member};
 use json_forms::fault::FormFault;
 use json_forms::form::{field, optional, require_object};
 use meta_parts::raw::RawSharing;
-use serde_json::{Map, Value};
 use std::alloc::{AllocError, Global};
+use std::collections::BTreeMap;
 
 // The access `rwrw----`.
 fn open_access() -> Access
@@ -33,9 +35,9 @@ fn open_access() -> Access
 fn read_member(
     alloc: Global,
     key: &str,
-    value: &Value,
+    value: &Value<'_>,
 ) -> Result<(Items<u8>, Uid, Access), FormFault>
-    ensures { Gives (member_of key.now (view value.now)) result }
+    ensures { Gives (member_of key.now (data_of value.now)) result }
 {
     require_object(alloc, value)?;
     let id = field(alloc, value, "id")?;
@@ -57,9 +59,9 @@ fn member_behind(
     alloc: Global,
     outer: &str,
     key: &str,
-    value: &Value,
+    value: &Value<'_>,
 ) -> Result<(Items<u8>, Uid, Access), FormFault>
-    ensures { Gives (at_step (step_of outer.now key.now) (member_of key.now (view value.now))) result }
+    ensures { Gives (at_step (step_of outer.now key.now) (member_of key.now (data_of value.now))) result }
 {
     match read_member(alloc, key, value) {
         Ok(read) => Ok(read),
@@ -74,13 +76,13 @@ fn member_behind(
 fn read_members(
     alloc: Global,
     outer: &str,
-    members: &Map<String, Value>,
+    members: &BTreeMap<&str, &Value<'_>>,
 ) -> Result<Items<(Items<u8>, Uid, Access)>, FormFault>
-    ensures { Gives (members_of outer.now (members_view members.now.entries)) result }
+    ensures { Gives (members_of outer.now (members_data members.now.entries)) result }
 {
     let mut all = Vec::new(alloc);
     for (key, value) in members.iter() {
-        all.push(member_behind(alloc, outer, key.as_str(), value)?)?;
+        all.push(member_behind(alloc, outer, key, value)?)?;
     }
     Ok(Items::from(all))
 }
@@ -88,32 +90,33 @@ fn read_members(
 fn read_object(
     alloc: Global,
     outer: &str,
-    value: &Value,
+    value: &Value<'_>,
 ) -> Result<Items<(Items<u8>, Uid, Access)>, FormFault>
-    ensures { Gives (members_in outer.now (view value.now)) result }
+    ensures { Gives (members_in outer.now (data_of value.now)) result }
 {
-    match value.as_object() {
-        Some(members) => read_members(alloc, outer, members),
-        None => Err(at_key(alloc, outer)),
+    match look::members(alloc, value) {
+        Ok(Some(map)) => read_members(alloc, outer, &map),
+        Ok(None) => Err(at_key(alloc, outer)),
+        Err(_) => Err(FormFault::Memory),
     }
 }
 
 fn members(
     alloc: Global,
-    value: &Value,
+    value: &Value<'_>,
     key: &str,
 ) -> Result<Items<(Items<u8>, Uid, Access)>, FormFault>
-    ensures { Gives (members_at key.now (view value.now)) result }
+    ensures { Gives (members_at key.now (data_of value.now)) result }
 {
-    match value.get(key) {
+    match member(value, key) {
         Some(found) => read_object(alloc, key, found),
         None => Ok(Items::new(alloc)),
     }
 }
 
 #[tactic(auto, unfolding(crate::specs::Sharing::sharing_fields_of))]
-fn read_fields(alloc: Global, value: &Value) -> Result<RawSharing, FormFault>
-    ensures { Gives (sharing_fields_of (view value.now)) result }
+fn read_fields(alloc: Global, value: &Value<'_>) -> Result<RawSharing, FormFault>
+    ensures { Gives (sharing_fields_of (data_of value.now)) result }
 {
     let owner = optional(alloc, value, "owner")?;
     let public = named_or(alloc, value, "public", open_access())?;
@@ -127,8 +130,8 @@ fn read_fields(alloc: Global, value: &Value) -> Result<RawSharing, FormFault>
     })
 }
 
-fn read_sharing(alloc: Global, value: &Value) -> Result<RawSharing, FormFault>
-    ensures { Gives (sharing_form (view value.now)) result }
+fn read_sharing(alloc: Global, value: &Value<'_>) -> Result<RawSharing, FormFault>
+    ensures { Gives (sharing_form (data_of value.now)) result }
 {
     require_object(alloc, value)?;
     read_fields(alloc, value)
@@ -147,10 +150,10 @@ fn open_sharing(alloc: Global) -> RawSharing
 
 /// How an object is shared; without a sharing object everyone has the access `rwrw----`.
 #[tactic(auto, unfolding(crate::specs::Sharing::sharing_of))]
-pub fn sharing(alloc: Global, value: &Value) -> Result<RawSharing, FormFault>
-    ensures { Gives (sharing_of (view value.now)) result }
+pub fn sharing(alloc: Global, value: &Value<'_>) -> Result<RawSharing, FormFault>
+    ensures { Gives (sharing_of (data_of value.now)) result }
 {
-    match value.get("sharing") {
+    match member(value, "sharing") {
         Some(found) => match read_sharing(alloc, found) {
             Ok(read) => Ok(read),
             Err(fault) => Err(seen_from(alloc, b"sharing", fault)),

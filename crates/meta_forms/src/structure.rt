@@ -4,11 +4,11 @@ use crate::field::{name, optional_reference, reference, references};
 use crate::object::ReadObject;
 use crate::sharing::sharing;
 use dh_base::uid::Uid;
+use json::Value;
 use json_forms::fault::FormFault;
 use meta_parts::raw::{
     RawCategory, RawCategoryCombo, RawCategoryOption, RawOptionCombo, RawUnit, RawUnitGroup,
 };
-use serde_json::Value;
 use std::alloc::Global;
 
 impl ReadObject for RawUnit {
@@ -17,7 +17,7 @@ impl ReadObject for RawUnit {
     ghost form = { unit_of };
 
     #[tactic(auto, unfolding(crate::specs::Table::unit_of))]
-    fn read(alloc: Global, place: u32, id: Uid, value: &Value) -> Result<RawUnit, FormFault> {
+    fn read(alloc: Global, place: u32, id: Uid, value: &Value<'_>) -> Result<RawUnit, FormFault> {
         let name = name(alloc, id, value)?;
         let parent = optional_reference(alloc, value, "parent")?;
         Ok(RawUnit {
@@ -35,7 +35,12 @@ impl ReadObject for RawUnitGroup {
     ghost form = { unit_group_of };
 
     #[tactic(auto, unfolding(crate::specs::Table::unit_group_of))]
-    fn read(alloc: Global, place: u32, id: Uid, value: &Value) -> Result<RawUnitGroup, FormFault> {
+    fn read(
+        alloc: Global,
+        place: u32,
+        id: Uid,
+        value: &Value<'_>,
+    ) -> Result<RawUnitGroup, FormFault> {
         let name = name(alloc, id, value)?;
         let organisation_units = references(alloc, value, "organisationUnits")?;
         Ok(RawUnitGroup {
@@ -57,7 +62,7 @@ impl ReadObject for RawCategoryOption {
         alloc: Global,
         place: u32,
         id: Uid,
-        value: &Value,
+        value: &Value<'_>,
     ) -> Result<RawCategoryOption, FormFault> {
         let name = name(alloc, id, value)?;
         let sharing = sharing(alloc, value)?;
@@ -76,7 +81,12 @@ impl ReadObject for RawCategory {
     ghost form = { category_of };
 
     #[tactic(auto, unfolding(crate::specs::Table::category_of))]
-    fn read(alloc: Global, place: u32, id: Uid, value: &Value) -> Result<RawCategory, FormFault> {
+    fn read(
+        alloc: Global,
+        place: u32,
+        id: Uid,
+        value: &Value<'_>,
+    ) -> Result<RawCategory, FormFault> {
         let name = name(alloc, id, value)?;
         let category_options = references(alloc, value, "categoryOptions")?;
         Ok(RawCategory {
@@ -98,7 +108,7 @@ impl ReadObject for RawCategoryCombo {
         alloc: Global,
         place: u32,
         id: Uid,
-        value: &Value,
+        value: &Value<'_>,
     ) -> Result<RawCategoryCombo, FormFault> {
         let name = name(alloc, id, value)?;
         let categories = references(alloc, value, "categories")?;
@@ -121,7 +131,7 @@ impl ReadObject for RawOptionCombo {
         alloc: Global,
         place: u32,
         id: Uid,
-        value: &Value,
+        value: &Value<'_>,
     ) -> Result<RawOptionCombo, FormFault> {
         let name = name(alloc, id, value)?;
         let category_combo = reference(alloc, value, "categoryCombo")?;

@@ -1,7 +1,8 @@
 use crate::parts::read_parts;
+use json::Scratch;
+use json_data::read::read;
 use json_forms::fault::FormFault;
 use meta_parts::parts::MetaParts;
-use serde_json::Value;
 use std::alloc::Global;
 use std::process::Abort;
 use std::test::*;
@@ -191,9 +192,10 @@ null|Shape
 "##;
 
 fn outcome(alloc: Global, text: &str) -> Result<String, Fail> {
-    let value = Value::from_str(alloc, text)?;
-    let read = read_parts(alloc, &value);
-    Ok(described(alloc, &read)?)
+    let mut scratch = Scratch::new(alloc);
+    let value = read(alloc, text.as_bytes(), &mut scratch)?.ok_or("JSON")?;
+    let parts = read_parts(alloc, &value);
+    Ok(described(alloc, &parts)?)
 }
 
 fn described(alloc: Global, read: &Result<MetaParts, FormFault>) -> Result<String, Fail> {

@@ -1,6 +1,6 @@
 //! Tracked entities and programs.
 
-ghost use Rattle.serde_json.specs.View.{view};
+ghost use Rattle.json_data.specs.Views.{data_of};
 ghost use Rattle.json_forms.specs.Given.{Gives};
 ghost use Rattle.meta_forms.specs.Table.{subject_of, formula_of, figure_of};
 
@@ -12,11 +12,11 @@ use crate::sharing::sharing;
 use dh_base::items::Items;
 use dh_base::plain::AggType;
 use dh_base::uid::Uid;
+use json::Value;
 use json_forms::fault::FormFault;
 use json_forms::form::{field, optional};
 use meta_parts::names::{AnalyticsType, ProgramType, ValueType};
 use meta_parts::raw::{RawAttribute, RawEntityType, RawProgram, RawProgramIndicator, RawStage};
-use serde_json::Value;
 use std::alloc::Global;
 
 impl ReadObject for RawEntityType {
@@ -25,7 +25,12 @@ impl ReadObject for RawEntityType {
     ghost form = { entity_type_of };
 
     #[tactic(auto, unfolding(crate::specs::Table::entity_type_of))]
-    fn read(alloc: Global, place: u32, id: Uid, value: &Value) -> Result<RawEntityType, FormFault> {
+    fn read(
+        alloc: Global,
+        place: u32,
+        id: Uid,
+        value: &Value<'_>,
+    ) -> Result<RawEntityType, FormFault> {
         let name = name(alloc, id, value)?;
         let sharing = sharing(alloc, value)?;
         Ok(RawEntityType {
@@ -43,7 +48,12 @@ impl ReadObject for RawAttribute {
     ghost form = { tracked_attribute_of };
 
     #[tactic(auto, unfolding(crate::specs::Table::tracked_attribute_of))]
-    fn read(alloc: Global, place: u32, id: Uid, value: &Value) -> Result<RawAttribute, FormFault> {
+    fn read(
+        alloc: Global,
+        place: u32,
+        id: Uid,
+        value: &Value<'_>,
+    ) -> Result<RawAttribute, FormFault> {
         let name = name(alloc, id, value)?;
         let value_type = named_else(alloc, value, "valueType", ValueType::Text)?;
         Ok(RawAttribute {
@@ -64,8 +74,8 @@ pub(crate) struct Subject {
 }
 
 #[tactic(auto, unfolding(crate::specs::Table::subject_of))]
-fn read_subject(alloc: Global, value: &Value) -> Result<Subject, FormFault>
-    ensures { Gives (subject_of (view value.now)) result }
+fn read_subject(alloc: Global, value: &Value<'_>) -> Result<Subject, FormFault>
+    ensures { Gives (subject_of (data_of value.now)) result }
 {
     let program_type = named_at(alloc, value, "programType")?;
     let tracked_entity_type = optional_reference(alloc, value, "trackedEntityType")?;
@@ -83,7 +93,12 @@ impl ReadObject for RawProgram {
     ghost form = { program_of };
 
     #[tactic(auto, unfolding(crate::specs::Table::program_of))]
-    fn read(alloc: Global, place: u32, id: Uid, value: &Value) -> Result<RawProgram, FormFault> {
+    fn read(
+        alloc: Global,
+        place: u32,
+        id: Uid,
+        value: &Value<'_>,
+    ) -> Result<RawProgram, FormFault> {
         let name = name(alloc, id, value)?;
         let subject = read_subject(alloc, value)?;
         let sharing = sharing(alloc, value)?;
@@ -105,7 +120,7 @@ impl ReadObject for RawStage {
     ghost form = { stage_of };
 
     #[tactic(auto, unfolding(crate::specs::Table::stage_of))]
-    fn read(alloc: Global, place: u32, id: Uid, value: &Value) -> Result<RawStage, FormFault> {
+    fn read(alloc: Global, place: u32, id: Uid, value: &Value<'_>) -> Result<RawStage, FormFault> {
         let name = name(alloc, id, value)?;
         let program = reference(alloc, value, "program")?;
         let program_stage_data_elements = stage_elements(alloc, value)?;
@@ -128,8 +143,8 @@ pub(crate) struct Formula {
 }
 
 #[tactic(auto, unfolding(crate::specs::Table::formula_of))]
-fn read_formula(alloc: Global, value: &Value) -> Result<Formula, FormFault>
-    ensures { Gives (formula_of (view value.now)) result }
+fn read_formula(alloc: Global, value: &Value<'_>) -> Result<Formula, FormFault>
+    ensures { Gives (formula_of (data_of value.now)) result }
 {
     let program = reference(alloc, value, "program")?;
     let expression = field(alloc, value, "expression")?;
@@ -150,8 +165,8 @@ pub(crate) struct Figure {
 }
 
 #[tactic(auto, unfolding(crate::specs::Table::figure_of))]
-fn read_figure(alloc: Global, value: &Value) -> Result<Figure, FormFault>
-    ensures { Gives (figure_of (view value.now)) result }
+fn read_figure(alloc: Global, value: &Value<'_>) -> Result<Figure, FormFault>
+    ensures { Gives (figure_of (data_of value.now)) result }
 {
     let aggregation_type = named_or(alloc, value, "aggregationType", AggType::Sum)?;
     let analytics_type = named_or(alloc, value, "analyticsType", AnalyticsType::Event)?;
@@ -173,7 +188,7 @@ impl ReadObject for RawProgramIndicator {
         alloc: Global,
         place: u32,
         id: Uid,
-        value: &Value,
+        value: &Value<'_>,
     ) -> Result<RawProgramIndicator, FormFault> {
         let name = name(alloc, id, value)?;
         let formula = read_formula(alloc, value)?;

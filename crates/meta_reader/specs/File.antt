@@ -1,18 +1,13 @@
 -- What the bytes of a metadata file say.
-use Rattle.std.specs.Prelude.{◌≡◌, ℕ, cond, List, length, nat_lt, Option, None, Result, Ok, Err, ⊤}
+use Rattle.std.specs.Prelude.{◌≡◌, ℕ, cond, List, length, nat_lt, Result, Ok, Err, ⊤}
 use Rattle.std.specs.Option.{option_map_or}
-use Rattle.std.specs.Str.{is_utf8}
 use Rattle.serde_json.specs.Data.{Data}
-use Rattle.serde_json.specs.Read.{read}
+use Rattle.json_data.specs.Bytes.{document_of}
 use Rattle.json_forms.specs.Forms.{Formed}
 use Rattle.meta_parts.specs.declared.parts.MetaParts.{MetaParts}
 use Rattle.meta_forms.specs.Parts.{parts_of}
 use Rattle.meta_reader.specs.declared.fault.FileFault.{FileFault}
 use Rattle.meta_reader.specs.declared.fault.FileFault.TheVariants as fault
-
--- the JSON data of a file: bytes that are UTF-8 and JSON of at most 127 levels
-abbrev pub document_of : List ℕ → Option Data
-document_of bytes = cond (is_utf8 bytes) (read bytes) None
 
 -- data that isn't in the form of the file is at fault
 abbrev pub or_shape : Formed MetaParts → Result MetaParts FileFault

@@ -1,38 +1,21 @@
 //! From the bytes of a file to what it says.
 
-ghost use Rattle.std.specs.Prelude.{◌≡◌, IfOk, option_map};
-ghost use Rattle.serde_json.specs.View.{view};
-ghost use Rattle.meta_reader.specs.File.{document_of, shaped_of, file_of, GivesFile};
+ghost use Rattle.json_data.specs.Views.{data_of};
+ghost use Rattle.meta_reader.specs.File.{shaped_of, file_of, GivesFile};
 
 use crate::fault::FileFault;
-use dh_base::memory::Memory;
+use json::{Scratch, Value};
+use json_data::read::read;
 use json_forms::fault::FormFault;
 use meta_forms::parts::read_parts;
 use meta_parts::parts::MetaParts;
-use serde_json::Value;
 use std::alloc::Global;
 
 /// The most bytes of a file.
 pub const MOST_BYTES: usize = 67_108_864;
 
-// The JSON data of a file, if it is JSON.
-fn document(alloc: Global, bytes: &[u8]) -> Result<Option<Value>, Memory>
-    ensures { IfOk result (λ value. option_map view value ≡ document_of bytes.now) }
-{
-    match Value::from_slice(alloc, bytes) {
-        Ok(value) => Ok(Some(value)),
-        Err(error) => {
-            if error.is_memory() {
-                Err(Memory)
-            } else {
-                Ok(None)
-            }
-        }
-    }
-}
-
-fn shaped(alloc: Global, value: &Value) -> Result<MetaParts, FileFault>
-    ensures { GivesFile (shaped_of (view value.now)) result }
+fn shaped(alloc: Global, value: &Value<'_>) -> Result<MetaParts, FileFault>
+    ensures { GivesFile (shaped_of (data_of value.now)) result }
 {
     match read_parts(alloc, value) {
         Ok(parts) => Ok(parts),
@@ -49,7 +32,8 @@ pub fn read_file(alloc: Global, bytes: &[u8]) -> Result<MetaParts, FileFault>
     if bytes.len() > MOST_BYTES {
         return Err(FileFault::TooLong);
     }
-    match document(alloc, bytes)? {
+    let mut scratch = Scratch::new(alloc);
+    match read(alloc, bytes, &mut scratch)? {
         Some(value) => shaped(alloc, &value),
         None => Err(FileFault::NotJson),
     }

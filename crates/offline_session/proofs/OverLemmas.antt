@@ -4,7 +4,8 @@ use Rattle.std.specs.Option.{option_map_or}
 use Rattle.std.specs.Io.KnownBytes.{Keeps}
 use Rattle.meta_parts.specs.declared.parts.MetaParts.{MetaParts}
 use Rattle.meta_parts.specs.declared.held.Records.{Records}
-use Rattle.meta_reader.specs.File.{most_bytes, file_of, document_of, shaped_of}
+use Rattle.json_data.specs.Bytes.{document_of}
+use Rattle.meta_reader.specs.File.{most_bytes, file_of, shaped_of}
 use Rattle.meta_reader.specs.declared.fault.FileFault.{FileFault}
 use Rattle.meta_reader.specs.declared.fault.FileFault.TheVariants as file
 use Rattle.dh_metadata.specs.Faults.{fault_of, IsMet}

@@ -1,17 +1,12 @@
 -- Bodies of requests, which are JSON data of a stated form.
-use Rattle.std.specs.Prelude.{◌≡◌, ℕ, cond, List, Option, None, Result, Ok, Err, ⊤}
-use Rattle.std.specs.Str.{is_utf8}
+use Rattle.std.specs.Prelude.{◌≡◌, ℕ, List, Result, Ok, Err, ⊤}
 use Rattle.serde_json.specs.Data.{Data}
-use Rattle.serde_json.specs.Read.{read}
+use Rattle.json_data.specs.Bytes.{document_of}
 use Rattle.json_forms.specs.Forms.{Formed, and_then, or_fault}
 use Rattle.json_forms.specs.declared.fault.FormFault.{FormFault}
 use Rattle.json_forms.specs.declared.fault.FormFault.TheVariants as form
 use Rattle.record_index.specs.declared.outcome.BodyFault.{BodyFault}
 use Rattle.record_index.specs.declared.outcome.BodyFault.TheVariants as fault
-
--- the JSON data of a body: bytes that are UTF-8 and JSON of at most 127 levels
-abbrev pub document_of : List ℕ → Option Data
-document_of bytes = cond (is_utf8 bytes) (read bytes) None
 
 -- what a body stands for; the path of a body that isn't JSON is empty
 abbrev pub body_of : {A : Type 0} → (Data → Formed A) → List ℕ → Formed A

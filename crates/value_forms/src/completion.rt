@@ -1,18 +1,19 @@
 //! Complete data set registrations.
 
 ghost use Rattle.std.specs.Prelude.{◌≡◌, IfOk};
-ghost use Rattle.serde_json.specs.View.{view};
+ghost use Rattle.json_data.specs.Views.{data_of};
 ghost use Rattle.json_forms.specs.Given as forms;
 ghost use Rattle.value_forms.specs.Bodies.{body_of, Gives};
 ghost use Rattle.value_forms.specs.Completions.{completion_of, completions_of};
 
-use crate::body::{document, fault_of, no_document};
+use crate::body::{fault_of, no_document};
 use crate::text::{text_in, truth_in};
 use dh_base::items::Items;
+use json::{Scratch, Value};
+use json_data::read::read;
 use json_forms::fault::FormFault;
 use json_forms::form::{ReadJson, require_object, required_list};
 use record_index::outcome::BodyFault;
-use serde_json::Value;
 use std::alloc::{AllocError, Global};
 
 /// A complete data set registration, as it stands in the body.
@@ -31,8 +32,8 @@ pub struct Completion {
 }
 
 #[tactic(auto, unfolding(crate::specs::Completions::completion_of))]
-fn completion_of(alloc: Global, value: &Value) -> Result<Completion, AllocError>
-    ensures { IfOk result (λ found. found ≡ completion_of (view value.now)) }
+fn completion_of(alloc: Global, value: &Value<'_>) -> Result<Completion, AllocError>
+    ensures { IfOk result (λ found. found ≡ completion_of (data_of value.now)) }
 {
     Ok(Completion {
         data_set: text_in(alloc, value, "dataSet")?,
@@ -49,15 +50,15 @@ impl ReadJson for Completion {
 
     ghost form = { completion_form };
 
-    fn read(alloc: Global, value: &Value) -> Result<Completion, FormFault> {
+    fn read(alloc: Global, value: &Value<'_>) -> Result<Completion, FormFault> {
         require_object(alloc, value)?;
         Ok(completion_of(alloc, value)?)
     }
 }
 
 #[tactic(auto, unfolding(crate::specs::Completions::completions_of))]
-fn completions_of(alloc: Global, value: &Value) -> Result<Items<Completion>, FormFault>
-    ensures { forms.Gives (completions_of (view value.now)) result }
+fn completions_of(alloc: Global, value: &Value<'_>) -> Result<Items<Completion>, FormFault>
+    ensures { forms.Gives (completions_of (data_of value.now)) result }
 {
     require_object(alloc, value)?;
     required_list(alloc, value, "completeDataSetRegistrations")
@@ -68,7 +69,8 @@ fn completions_of(alloc: Global, value: &Value) -> Result<Items<Completion>, For
 pub fn read_completions(alloc: Global, body: &[u8]) -> Result<Items<Completion>, BodyFault>
     ensures { Gives (body_of completions_of body.now) result }
 {
-    match document(alloc, body) {
+    let mut scratch = Scratch::new(alloc);
+    match read(alloc, body, &mut scratch) {
         Ok(Some(value)) => match completions_of(alloc, &value) {
             Ok(list) => Ok(list),
             Err(fault) => Err(fault_of(fault)),

@@ -1,18 +1,20 @@
 //! Data value sets.
 
 ghost use Rattle.std.specs.Prelude.{◌≡◌, IfOk, codes};
-ghost use Rattle.serde_json.specs.View.{view};
+ghost use Rattle.json_data.specs.Views.{data_of};
 ghost use Rattle.json_forms.specs.Given as forms;
 ghost use Rattle.value_forms.specs.Bodies.{body_of, Gives};
 ghost use Rattle.value_forms.specs.Sets.{value_of, values_at, place_of, set_of};
 
-use crate::body::{document, fault_of, no_document};
+use crate::body::{fault_of, no_document};
 use crate::text::{text_at, text_in, truth_in, written_in};
 use dh_base::items::Items;
+use json::{Scratch, Value};
+use json_data::look::is_null;
+use json_data::read::read;
 use json_forms::fault::FormFault;
 use json_forms::form::{ReadJson, field_or, read_list, require_object};
 use record_index::outcome::{BodyFault, ImportStrategy};
-use serde_json::Value;
 use std::alloc::{AllocError, Global};
 
 /// How a set is to be imported.
@@ -68,8 +70,8 @@ pub struct ValueSet {
 }
 
 #[tactic(auto, unfolding(crate::specs::Sets::value_of))]
-fn value_of(alloc: Global, value: &Value) -> Result<SetValue, AllocError>
-    ensures { IfOk result (λ found. found ≡ value_of (view value.now)) }
+fn value_of(alloc: Global, value: &Value<'_>) -> Result<SetValue, AllocError>
+    ensures { IfOk result (λ found. found ≡ value_of (data_of value.now)) }
 {
     Ok(SetValue {
         element: text_in(alloc, value, "dataElement")?,
@@ -87,7 +89,7 @@ impl ReadJson for SetValue {
 
     ghost form = { value_form };
 
-    fn read(alloc: Global, value: &Value) -> Result<SetValue, FormFault> {
+    fn read(alloc: Global, value: &Value<'_>) -> Result<SetValue, FormFault> {
         require_object(alloc, value)?;
         Ok(value_of(alloc, value)?)
     }
@@ -99,8 +101,8 @@ impl ReadJson for SetValues {
     ghost form = { values_form };
 
     #[tactic(auto, unfolding(crate::specs::Sets::values_form))]
-    fn read(alloc: Global, value: &Value) -> Result<SetValues, FormFault> {
-        if value.is_null() {
+    fn read(alloc: Global, value: &Value<'_>) -> Result<SetValues, FormFault> {
+        if is_null(value) {
             return Ok(SetValues {
                 values: Items::new(alloc),
             });
@@ -111,8 +113,8 @@ impl ReadJson for SetValues {
 }
 
 #[tactic(auto, unfolding(crate::specs::Sets::values_at))]
-fn values_at(alloc: Global, value: &Value, key: &str) -> Result<Items<SetValue>, FormFault>
-    ensures { forms.Gives (values_at key.now (view value.now)) result }
+fn values_at(alloc: Global, value: &Value<'_>, key: &str) -> Result<Items<SetValue>, FormFault>
+    ensures { forms.Gives (values_at key.now (data_of value.now)) result }
 {
     let none = SetValues {
         values: Items::new(alloc),
@@ -122,8 +124,8 @@ fn values_at(alloc: Global, value: &Value, key: &str) -> Result<Items<SetValue>,
 }
 
 #[tactic(auto, unfolding(crate::specs::Sets::place_of, crate::specs::Texts::text_at))]
-fn place_of(alloc: Global, value: &Value) -> Result<SetPlace, FormFault>
-    ensures { forms.Gives (place_of (view value.now)) result }
+fn place_of(alloc: Global, value: &Value<'_>) -> Result<SetPlace, FormFault>
+    ensures { forms.Gives (place_of (data_of value.now)) result }
 {
     let unit = text_at(alloc, value, "orgUnit")?;
     let attribute = text_at(alloc, value, "attributeOptionCombo")?;
@@ -136,8 +138,8 @@ fn place_of(alloc: Global, value: &Value) -> Result<SetPlace, FormFault>
 }
 
 #[tactic(auto, unfolding(crate::specs::Sets::set_of))]
-fn set_of(alloc: Global, params: SetParams, value: &Value) -> Result<ValueSet, FormFault>
-    ensures { forms.Gives (set_of params (view value.now)) result }
+fn set_of(alloc: Global, params: SetParams, value: &Value<'_>) -> Result<ValueSet, FormFault>
+    ensures { forms.Gives (set_of params (data_of value.now)) result }
 {
     require_object(alloc, value)?;
     let data_set = text_at(alloc, value, "dataSet")?;
@@ -157,8 +159,8 @@ fn set_of(alloc: Global, params: SetParams, value: &Value) -> Result<ValueSet, F
 
 /// The values of a bundle: those under `dataValues`, none where the key is absent or null. No other key is
 /// looked at. A fault has its path from the bundle's top.
-pub fn read_values(alloc: Global, bundle: &Value) -> Result<Items<SetValue>, FormFault>
-    ensures { forms.Gives (values_at (codes "dataValues") (view bundle.now)) result }
+pub fn read_values(alloc: Global, bundle: &Value<'_>) -> Result<Items<SetValue>, FormFault>
+    ensures { forms.Gives (values_at (codes "dataValues") (data_of bundle.now)) result }
 {
     values_at(alloc, bundle, "dataValues")
 }
@@ -169,7 +171,8 @@ pub fn read_values(alloc: Global, bundle: &Value) -> Result<Items<SetValue>, For
 pub fn read_set(alloc: Global, body: &[u8], params: SetParams) -> Result<ValueSet, BodyFault>
     ensures { Gives (body_of (set_of params) body.now) result }
 {
-    match document(alloc, body) {
+    let mut scratch = Scratch::new(alloc);
+    match read(alloc, body, &mut scratch) {
         Ok(Some(value)) => match set_of(alloc, params, &value) {
             Ok(set) => Ok(set),
             Err(fault) => Err(fault_of(fault)),

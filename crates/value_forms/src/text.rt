@@ -2,15 +2,16 @@
 
 ghost use Rattle.std.specs.Prelude.{◌≡◌, IfOk, Some, option_and_then};
 ghost use Rattle.std.specs.Fmt.{decimal, signed_decimal};
-ghost use Rattle.serde_json.specs.View.{view};
+ghost use Rattle.json_data.specs.Views.{data_of};
 ghost use Rattle.serde_json.specs.Find.{as_number};
 ghost use Rattle.json_forms.specs.Given.{Gives};
 ghost use Rattle.value_forms.specs.Texts.{text_at, text_in, truth_in, truth_text, whole_text, written_of, written_in};
 
 use dh_base::items::Items;
+use json::Value;
+use json_data::look::{integer, is_null, member, natural, text, truth};
 use json_forms::fault::FormFault;
 use json_forms::form::{ReadJson, field_or};
-use serde_json::Value;
 use std::alloc::{AllocError, Global};
 
 /// A text that may be absent.
@@ -25,12 +26,12 @@ impl ReadJson for TextOrNull {
     ghost form = { text_or_null_of };
 
     #[tactic(auto, unfolding(crate::specs::Texts::text_or_null_of))]
-    fn read(alloc: Global, value: &Value) -> Result<TextOrNull, FormFault> {
-        if value.is_null() {
+    fn read(alloc: Global, value: &Value<'_>) -> Result<TextOrNull, FormFault> {
+        if is_null(value) {
             return Ok(TextOrNull { text: None });
         }
-        let text: Items<u8> = ReadJson::read(alloc, value)?;
-        Ok(TextOrNull { text: Some(text) })
+        let found: Items<u8> = ReadJson::read(alloc, value)?;
+        Ok(TextOrNull { text: Some(found) })
     }
 }
 
@@ -38,10 +39,10 @@ impl ReadJson for TextOrNull {
 #[tactic(auto, unfolding(crate::specs::Texts::text_at))]
 pub(crate) fn text_at(
     alloc: Global,
-    value: &Value,
+    value: &Value<'_>,
     key: &str,
 ) -> Result<Option<Items<u8>>, FormFault>
-    ensures { Gives (text_at key.now (view value.now)) result }
+    ensures { Gives (text_at key.now (data_of value.now)) result }
 {
     let found: TextOrNull = field_or(alloc, value, key, TextOrNull { text: None })?;
     Ok(found.text)
@@ -56,22 +57,22 @@ fn copied(alloc: Global, text: &str) -> Result<Items<u8>, AllocError>
 /// The text under a key, where data of another type counts as absent.
 pub(crate) fn text_in(
     alloc: Global,
-    value: &Value,
+    value: &Value<'_>,
     key: &str,
 ) -> Result<Option<Items<u8>>, AllocError>
-    ensures { IfOk result (λ text. text ≡ text_in key.now (view value.now)) }
+    ensures { IfOk result (λ text. text ≡ text_in key.now (data_of value.now)) }
 {
-    match value.get(key).and_then(Value::as_str) {
-        Some(text) => Ok(Some(copied(alloc, text)?)),
+    match member(value, key).and_then(text) {
+        Some(found) => Ok(Some(copied(alloc, found)?)),
         None => Ok(None),
     }
 }
 
 /// The truth under a key, where data of another type counts as absent.
-pub(crate) fn truth_in(value: &Value, key: &str) -> Option<bool>
-    ensures { result ≡ truth_in key.now (view value.now) }
+pub(crate) fn truth_in(value: &Value<'_>, key: &str) -> Option<bool>
+    ensures { result ≡ truth_in key.now (data_of value.now) }
 {
-    value.get(key).and_then(Value::as_bool)
+    member(value, key).and_then(truth)
 }
 
 fn truth_text(truth: bool) -> &'static str
@@ -92,26 +93,26 @@ fn signed_text(alloc: Global, number: i64) -> Result<Items<u8>, AllocError>
     Ok(Items::from(format!(in alloc; "{number}")?.into_bytes()))
 }
 
-fn whole_text(alloc: Global, value: &Value) -> Result<Option<Items<u8>>, AllocError>
-    ensures { IfOk result (λ text. text ≡ option_and_then whole_text (as_number (view value.now))) }
+fn whole_text(alloc: Global, value: &Value<'_>) -> Result<Option<Items<u8>>, AllocError>
+    ensures { IfOk result (λ text. text ≡ option_and_then whole_text (as_number (data_of value.now))) }
 {
-    if let Some(number) = value.as_u64() {
+    if let Some(number) = natural(value) {
         return Ok(Some(unsigned_text(alloc, number)?));
     }
-    match value.as_i64() {
+    match integer(value) {
         Some(number) => Ok(Some(signed_text(alloc, number)?)),
         None => Ok(None),
     }
 }
 
-fn written(alloc: Global, value: &Value) -> Result<Option<Items<u8>>, AllocError>
-    ensures { IfOk result (λ text. text ≡ written_of (view value.now)) }
+fn written(alloc: Global, value: &Value<'_>) -> Result<Option<Items<u8>>, AllocError>
+    ensures { IfOk result (λ text. text ≡ written_of (data_of value.now)) }
 {
-    if let Some(text) = value.as_str() {
-        return Ok(Some(copied(alloc, text)?));
+    if let Some(found) = text(value) {
+        return Ok(Some(copied(alloc, found)?));
     }
-    match value.as_bool() {
-        Some(truth) => Ok(Some(copied(alloc, truth_text(truth))?)),
+    match truth(value) {
+        Some(found) => Ok(Some(copied(alloc, truth_text(found))?)),
         None => whole_text(alloc, value),
     }
 }
@@ -120,12 +121,12 @@ fn written(alloc: Global, value: &Value) -> Result<Option<Items<u8>>, AllocError
 /// as absent.
 pub(crate) fn written_in(
     alloc: Global,
-    value: &Value,
+    value: &Value<'_>,
     key: &str,
 ) -> Result<Option<Items<u8>>, AllocError>
-    ensures { IfOk result (λ text. text ≡ written_in key.now (view value.now)) }
+    ensures { IfOk result (λ text. text ≡ written_in key.now (data_of value.now)) }
 {
-    match value.get(key) {
+    match member(value, key) {
         Some(found) => written(alloc, found),
         None => Ok(None),
     }

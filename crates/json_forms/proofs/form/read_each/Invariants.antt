@@ -1,5 +1,5 @@
 use Rattle.std.proofs.Common.{◌≡◌, ◌++◌, drop, Ok}
-use Rattle.serde_json.specs.View.{items_view}
+use Rattle.json_data.specs.Views.{items_data}
 use Rattle.json_forms.specs.Forms.{and_then, each_of}
 use Rattle.json_forms.proofs.form.read_each.Given as goal
 
@@ -7,6 +7,6 @@ use Rattle.json_forms.proofs.form.read_each.Given as goal
 abbrev pub invariant-loop-value : goal.invariant-loop-value
 invariant-loop-value g l = record {
   place : l.place ≡ l.value-index;
-  rest : each_of g.T.ReadJson.form 0 (items_view l.values)
-      ≡ and_then (each_of g.T.ReadJson.form l.place (items_view (drop l.value-index l.values))) (λ more. Ok (l.all.items ++ more));
+  rest : each_of g.T.ReadJson.form 0 (items_data l.values)
+      ≡ and_then (each_of g.T.ReadJson.form l.place (items_data (drop l.value-index l.values))) (λ more. Ok (l.all.items ++ more));
 }

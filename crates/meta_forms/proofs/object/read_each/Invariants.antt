@@ -1,5 +1,5 @@
 use Rattle.std.proofs.Common.{◌≡◌, ◌++◌, drop, Ok}
-use Rattle.serde_json.specs.View.{items_view}
+use Rattle.json_data.specs.Views.{items_data}
 use Rattle.json_forms.specs.Forms.{and_then}
 use Rattle.meta_forms.specs.Objects.{objects_of}
 use Rattle.meta_forms.proofs.object.read_each.Given as goal
@@ -8,6 +8,6 @@ use Rattle.meta_forms.proofs.object.read_each.Given as goal
 abbrev pub invariant-loop-value : goal.invariant-loop-value
 invariant-loop-value g l = record {
   place : l.place ≡ l.value-index;
-  rest : objects_of g.T.ReadObject.form 0 (items_view l.values)
-      ≡ and_then (objects_of g.T.ReadObject.form l.place (items_view (drop l.value-index l.values))) (λ more. Ok (l.all.items ++ more));
+  rest : objects_of g.T.ReadObject.form 0 (items_data l.values)
+      ≡ and_then (objects_of g.T.ReadObject.form l.place (items_data (drop l.value-index l.values))) (λ more. Ok (l.all.items ++ more));
 }

@@ -1,0 +1,3 @@
+pub mod MeantLemmas
+pub mod BytesLemmas
+pub mod LookLemmas

@@ -1,0 +1,3 @@
+pub mod Meant
+pub mod Bytes
+pub mod Views

@@ -1,0 +1,54 @@
+//! The number that a text of JSON writes.
+
+ghost use Rattle.std.specs.Prelude.{◌≡◌, ◌<◌, ◌==◌, true, false, length, slice_index, IsTrue, option_map};
+ghost use Rattle.serde_json.specs.View.{number_view};
+ghost use Rattle.serde_json.specs.Read.{number_of, number_from, float_of};
+
+use fast_float::Numeral;
+use serde_json::Number;
+
+fn has_minus(bytes: &[u8]) -> bool
+    ensures value { result ≡ (slice_index bytes.now 0 == 45) }
+    ensures len { IsTrue result → 0 < length bytes.now }
+{
+    !bytes.is_empty() && bytes[0] == b'-'
+}
+
+fn nearest(negative: bool, numeral: &Numeral<'_>) -> Option<Number>
+    ensures { option_map number_view result ≡ float_of negative numeral.now }
+{
+    Number::from_f64(numeral.to_float::<f64>(negative))
+}
+
+fn unsigned(numeral: &Numeral<'_>) -> Option<Number>
+    ensures { option_map number_view result ≡ number_from false numeral.now }
+{
+    match numeral.to_u64() {
+        Some(number) => Some(Number::from(number)),
+        None => nearest(false, numeral),
+    }
+}
+
+fn negative(numeral: &Numeral<'_>) -> Option<Number>
+    ensures { option_map number_view result ≡ number_from true numeral.now }
+{
+    if let Some(number) = numeral.to_i64(true) {
+        if number < 0 {
+            return Some(Number::from(number));
+        }
+    }
+    nearest(true, numeral)
+}
+
+/// The number that a text writes: a whole one where it is written so and fits 64 bits, else the nearest float. There is none where
+/// that is infinite.
+pub fn number_in(text: &str) -> Option<Number>
+    ensures { option_map number_view result ≡ number_of text.now }
+{
+    let bytes = text.as_bytes();
+    if has_minus(bytes) {
+        negative(&Numeral::scan(&bytes[1..]))
+    } else {
+        unsigned(&Numeral::scan(bytes))
+    }
+}
