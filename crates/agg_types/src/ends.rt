@@ -7,14 +7,14 @@ ghost use Rattle.agg_types.specs.Ends.{order_of, next_run, found_if_any};
 use crate::sample::Sample;
 
 /// Which sample of a series counts.
-#[derive(Clone, Copy, Debug, PartialEq, Eq)]
+#[derive(Clone, Copy, PartialEq, Eq)]
 pub(crate) enum End {
     First,
     Last,
 }
 
 /// The sum over the samples that count, and how many series have one.
-#[derive(Clone, Copy, Debug, PartialEq, Eq)]
+#[derive(Clone, Copy, PartialEq, Eq)]
 pub(crate) struct Found {
     pub micros: i128,
     pub series: u64,

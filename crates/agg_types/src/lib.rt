@@ -6,8 +6,6 @@ mod ends;
 mod kinds;
 mod sample;
 mod sums;
-#[cfg(test)]
-mod tests;
 
 pub use kinds::{aggregate, value_of_sum};
 pub use sample::{Sample, Series, is_sorted};

@@ -10,7 +10,7 @@ use table_rows::Row;
 
 /// What samples of several periods belong to: a data element, its option combination, an attribute
 /// combination and a unit. Series are ordered by these fields.
-#[derive(Clone, Copy, Debug, PartialEq, Eq, PartialOrd, Ord, Hash)]
+#[derive(Clone, Copy, PartialEq, Eq, PartialOrd, Ord)]
 pub struct Series {
     pub element: u32,
     pub combo: u32,

@@ -6,8 +6,8 @@ use Rattle.serde_json.specs.Data.{Data, Members, no_members, member, put}
 use Rattle.serde_json.specs.View.{items_of}
 use Rattle.serde_json.specs.Written.{has_float, items_have_float, members_have_float}
 use Rattle.meta_parts.specs.declared.held.Records.{Records}
-use Rattle.query_parts.specs.declared.Dx.{Dx}
-use Rattle.query_parts.specs.declared.Query.{Query}
+use Rattle.query_forms.specs.declared.plain.Dx.{Dx}
+use Rattle.query_forms.specs.declared.plain.Query.{Query}
 use Rattle.answer_body.specs.declared.rows.AnswerRow.{AnswerRow}
 use Rattle.answer_body.specs.Texts.{texts_of}
 use Rattle.answer_body.specs.Heads.{heads_of, dimension_of, value_column}

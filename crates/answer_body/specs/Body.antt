@@ -4,7 +4,7 @@ use Rattle.std.specs.List.{All}
 use Rattle.serde_json.specs.Data.{Data, number, unsigned, array, object, member, no_members}
 use Rattle.serde_json.specs.View.{items_of}
 use Rattle.meta_parts.specs.declared.held.Records.{Records}
-use Rattle.query_parts.specs.declared.Query.{Query}
+use Rattle.query_forms.specs.declared.plain.Query.{Query}
 use Rattle.answer_body.specs.declared.rows.AnswerRow.{AnswerRow}
 use Rattle.answer_body.specs.Heads.{heads_of}
 use Rattle.answer_body.specs.Rows.{IsRow, rows_of}

@@ -13,12 +13,12 @@ use Rattle.meta_parts.specs.declared.records.Unit.{Unit}
 use Rattle.meta_parts.specs.declared.records.Element.{Element}
 use Rattle.meta_parts.specs.declared.records.Indicator.{Indicator}
 use Rattle.meta_parts.specs.declared.records.ProgramIndicator.{ProgramIndicator}
-use Rattle.meta_model.specs.Linked.{AreBelow}
-use Rattle.meta_model.specs.Objects.{count_of}
-use Rattle.query_parts.specs.declared.Dx.{Dx}
-use Rattle.query_parts.specs.declared.DxKind.{DxKind}
-use Rattle.query_parts.specs.declared.DxKind.TheVariants as dx_kind
-use Rattle.query_parts.specs.declared.Query.{Query}
+use Rattle.dh_metadata.specs.Linked.{AreBelow}
+use Rattle.dh_metadata.specs.Objects.{count_of}
+use Rattle.query_forms.specs.declared.plain.Dx.{Dx}
+use Rattle.query_forms.specs.declared.plain.DxKind.{DxKind}
+use Rattle.query_forms.specs.declared.plain.DxKind.TheVariants as dx_kind
+use Rattle.query_forms.specs.declared.plain.Query.{Query}
 use Rattle.answer_body.specs.Texts.{text_of_bytes}
 use Rattle.answer_body.specs.Rows.{unit_id}
 

@@ -7,8 +7,8 @@ use Rattle.dh_periods.specs.declared.name.PeriodName.{PeriodName}
 use Rattle.dh_periods.specs.Texts.{period_text}
 use Rattle.meta_parts.specs.declared.held.Records.{Records}
 use Rattle.meta_parts.specs.declared.records.Unit.{Unit}
-use Rattle.meta_model.specs.Linked.{IsBelow}
-use Rattle.query_parts.specs.declared.Dx.{Dx}
+use Rattle.dh_metadata.specs.Linked.{IsBelow}
+use Rattle.query_forms.specs.declared.plain.Dx.{Dx}
 use Rattle.answer_body.specs.declared.rows.AnswerRow.{AnswerRow}
 use Rattle.answer_body.specs.Texts.{texts_of}
 

@@ -4,15 +4,15 @@ ghost use Rattle.std.specs.Prelude.{◌≡◌, ◌<◌, [], ◌∷◌, ◌++◌,
 ghost use Rattle.std.specs.List.{All};
 ghost use Rattle.serde_json.specs.View.{view, members_view};
 ghost use Rattle.serde_json.specs.Data.{put as with_member};
-ghost use Rattle.meta_model.specs.Linked.{AreBelow};
+ghost use Rattle.dh_metadata.specs.Linked.{AreBelow};
 ghost use Rattle.answer_body.specs.Texts.{text_of_bytes, texts_of};
 ghost use Rattle.answer_body.specs.Names.{IsThere, AreUnits, dx_name, name_of, put_name, put_names, dx_named, period_named, unit_named, ids_of, dimensions_of, meta_of};
 
 use crate::texts::{push_text, text_value};
 use dh_base::memory::Memory;
+use dh_metadata::metadata::Metadata;
 use dh_periods::Period;
-use meta_model::metadata::Metadata;
-use query_parts::{Dx, DxKind, Query};
+use query_forms::{Dx, DxKind, Query};
 use serde_json::{Map, Value, json, put};
 use std::alloc::{AllocError, Global};
 

@@ -3,16 +3,16 @@
 ghost use Rattle.std.specs.Prelude.{◌≡◌, ◌<◌, [], ◌∷◌, ◌++◌, length, map, slice_index_or, IfOk, OnOk};
 ghost use Rattle.std.specs.List.{All};
 ghost use Rattle.serde_json.specs.View.{view};
-ghost use Rattle.meta_model.specs.Linked.{IsBelow};
+ghost use Rattle.dh_metadata.specs.Linked.{IsBelow};
 ghost use Rattle.answer_body.specs.Texts.{text_of_bytes, texts_of};
 ghost use Rattle.answer_body.specs.Rows.{IsRow, period_texts, unit_texts, unit_id, dx_text, row_texts, row_of, rows_of};
 
 use crate::texts::push_text;
 use dh_base::items::Items;
 use dh_base::memory::Memory;
+use dh_metadata::metadata::Metadata;
 use dh_periods::Period;
-use meta_model::metadata::Metadata;
-use query_parts::Dx;
+use query_forms::Dx;
 use serde_json::Value;
 use std::alloc::Global;
 

@@ -13,8 +13,8 @@ use crate::heads::heads;
 use crate::names::meta_data;
 use crate::rows::{AnswerRow, rows};
 use dh_base::memory::Memory;
-use meta_model::metadata::Metadata;
-use query_parts::Query;
+use dh_metadata::metadata::Metadata;
+use query_forms::Query;
 use serde_json::{Value, json};
 use std::alloc::{AllocError, Global};
 

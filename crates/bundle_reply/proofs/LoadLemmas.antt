@@ -15,7 +15,7 @@ use Rattle.record_index.specs.declared.outcome.ImportStrategy.{ImportStrategy}
 use Rattle.record_index.specs.declared.outcome.Verdict.{Verdict}
 use Rattle.record_index.specs.declared.outcome.Who.{Who}
 use Rattle.record_index.specs.declared.outcome.Who.TheVariants.{Loader}
-use Rattle.moment_days.specs.Days.{day_of}
+use Rattle.dh_periods.specs.Moment.{day_of}
 use Rattle.value_forms.specs.declared.set.SetValue.{SetValue}
 use Rattle.value_forms.specs.declared.set.ValueSet.{ValueSet}
 use Rattle.value_import.specs.declared.judged.Judged.{Judged}
@@ -26,7 +26,7 @@ use Rattle.value_import.specs.Rules.{first_of}
 use Rattle.value_import.specs.Said.{holds_value}
 use Rattle.value_import.specs.Values.{is_delete, is_idle_zero, stored, zeroed, accepted, judged_by, judged_value, conditions, names_of, place_of, key_of}
 use Rattle.value_import.specs.Verdicts.{with_value, with_values, with_date, verdict_of}
-use Rattle.log_rows.specs.Log.{is_of_days}
+use Rattle.table_build.specs.Log.{is_of_days}
 use Rattle.bundle_reply.specs.Load.{set_of, loaded}
 
 -- what is written has days in range

@@ -4,12 +4,12 @@ use Rattle.serde_json.specs.Data.{Data}
 use Rattle.dh_base.specs.declared.codes.Code.TheVariants.{F22}
 use Rattle.std.specs.Fmt.{decimal}
 use Rattle.meta_parts.specs.declared.held.Records.{Records}
-use Rattle.json_data.specs.Bytes.{document_of}
+use Rattle.json_read.specs.Bytes.{document_of}
 use Rattle.meta_reader.specs.File.{most_bytes}
-use Rattle.metadata_reader.specs.Line.{line_of}
-use Rattle.dh_metadata.specs.declared.fault.MetaFault.TheVariants.{Limit}
-use Rattle.dh_metadata.specs.declared.fault.Which.TheVariants.{Bytes}
-use Rattle.moment_days.specs.Days.{day_of}
+use Rattle.meta_reader.specs.Line.{line_of}
+use Rattle.meta_reader.specs.declared.fault.MetaFault.TheVariants.{Limit}
+use Rattle.meta_reader.specs.declared.fault.Which.TheVariants.{Bytes}
+use Rattle.dh_periods.specs.Moment.{day_of}
 use Rattle.record_index.specs.declared.outcome.Verdict.{Verdict}
 use Rattle.reply_bodies.specs.Bodies.{error_text}
 use Rattle.reply_bodies.specs.Summary.{is_clean, summary_text}
@@ -19,12 +19,12 @@ use Rattle.bundle_reply.specs.Load.{limit_of, loading}
 use Rattle.bundle_reply.specs.Answer.{most_cells, reply_to_query, reply_by_conflicts, reply_by_limit, reply_to_load, reply_with_values}
 use Rattle.bundle_reply.specs.Bytes.{Asked, IsOverParts, IsOverDocument, IsOverLength, IsOverBytes}
 use Rattle.dh_base.specs.declared.memory.Memory.{Memory}
-use Rattle.dh_metadata.specs.Faults.{fault_of}
-use Rattle.dh_metadata.specs.Records.{IsMetadata}
+use Rattle.meta_reader.specs.Faults.{fault_of}
+use Rattle.meta_reader.specs.Records.{IsMetadata}
 use Rattle.meta_parts.specs.declared.parts.MetaParts.{MetaParts}
-use Rattle.json_forms.specs.Forms.{Formed}
-use Rattle.json_forms.specs.Given.{Gives}
-use Rattle.json_forms.specs.declared.fault.FormFault.{FormFault}
+use Rattle.json_read.specs.Forms.{Formed}
+use Rattle.json_read.specs.Given.{Gives}
+use Rattle.json_read.specs.declared.fault.FormFault.{FormFault}
 use Rattle.value_forms.specs.declared.set.SetValue.{SetValue}
 use Rattle.bundle_reply.specs.declared.reply.Reply.{Reply}
 

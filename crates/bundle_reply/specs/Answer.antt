@@ -5,20 +5,20 @@ use Rattle.dh_base.specs.Uid.{uid_of}
 use Rattle.dh_base.specs.declared.codes.Code.TheVariants.{F8, F22}
 use Rattle.dh_base.specs.declared.codes.Refusal.{Refusal}
 use Rattle.dh_changes.specs.declared.change.Write.{Write}
-use Rattle.json_forms.specs.Forms.{Formed}
+use Rattle.json_read.specs.Forms.{Formed}
 use Rattle.meta_parts.specs.declared.held.Records.{Records}
 use Rattle.meta_parts.specs.declared.kind.Kind.TheVariants.{User}
-use Rattle.meta_model.specs.Objects.{find_of}
-use Rattle.metadata_reader.specs.Line.{line_of}
-use Rattle.dh_metadata.specs.declared.fault.MetaFault.TheVariants.{Shape}
-use Rattle.moment_days.specs.Days.{day_of}
+use Rattle.dh_metadata.specs.Objects.{find_of}
+use Rattle.meta_reader.specs.Line.{line_of}
+use Rattle.meta_reader.specs.declared.fault.MetaFault.TheVariants.{Shape}
+use Rattle.dh_periods.specs.Moment.{day_of}
 use Rattle.record_index.specs.declared.outcome.Verdict.{Verdict}
 use Rattle.reply_bodies.specs.Bodies.{error_text}
 use Rattle.reply_bodies.specs.Summary.{is_clean, summary_text}
 use Rattle.value_forms.specs.declared.set.SetValue.{SetValue}
-use Rattle.query_parts.specs.declared.Query.{Query}
+use Rattle.query_forms.specs.declared.plain.Query.{Query}
 use Rattle.query_lang.specs.Query.{query_of}
-use Rattle.log_rows.specs.Listed.{listed_in}
+use Rattle.table_build.specs.Listed.{listed_in}
 use Rattle.seen_rows.specs.Seen.{seen}
 use Rattle.query_answer.specs.Answer.{answer_of}
 use Rattle.bundle_reply.specs.Reply.{meta_refused, query_refused, data_refused, answer_reply, refusal}

@@ -1,18 +1,18 @@
 -- The reply to a query over the bytes of a bundle.
 use Rattle.std.specs.Prelude.{◌≡◌, ℕ, ℤ, Bool, true, false, List, length, nat_lt, Option, None, Some, Ok, Err, codes}
 use Rattle.serde_json.specs.Data.{Data}
-use Rattle.json_data.specs.Bytes.{document_of}
-use Rattle.json_forms.specs.Forms.{Formed}
+use Rattle.json_read.specs.Bytes.{document_of}
+use Rattle.json_read.specs.Forms.{Formed}
 use Rattle.meta_parts.specs.declared.parts.MetaParts.{MetaParts}
 use Rattle.meta_parts.specs.declared.held.Records.{Records}
 use Rattle.meta_forms.specs.Parts.{parts_of}
 use Rattle.meta_reader.specs.File.{most_bytes}
-use Rattle.metadata_reader.specs.Line.{line_of}
-use Rattle.dh_metadata.specs.Faults.{fault_of}
-use Rattle.dh_metadata.specs.Records.{IsMetadata}
-use Rattle.dh_metadata.specs.declared.fault.MetaFault.{MetaFault}
-use Rattle.dh_metadata.specs.declared.fault.MetaFault.TheVariants.{NotJson, Shape, Limit}
-use Rattle.dh_metadata.specs.declared.fault.Which.TheVariants.{Bytes}
+use Rattle.meta_reader.specs.Line.{line_of}
+use Rattle.meta_reader.specs.Faults.{fault_of}
+use Rattle.meta_reader.specs.Records.{IsMetadata}
+use Rattle.meta_reader.specs.declared.fault.MetaFault.{MetaFault}
+use Rattle.meta_reader.specs.declared.fault.MetaFault.TheVariants.{NotJson, Shape, Limit}
+use Rattle.meta_reader.specs.declared.fault.Which.TheVariants.{Bytes}
 use Rattle.value_forms.specs.Sets.{values_at}
 use Rattle.value_forms.specs.declared.set.SetValue.{SetValue}
 use Rattle.bundle_reply.specs.Reply.{meta_refused}

@@ -1,9 +1,9 @@
 -- What the steps of a reply hand on.
 use Rattle.std.specs.Prelude.{◌≡◌, Option, None, Some, Result, Ok, Err, ⊤}
 use Rattle.serde_json.specs.Data.{Data}
-use Rattle.json_forms.specs.Given.{Gives}
-use Rattle.json_forms.specs.declared.fault.FormFault.{FormFault}
-use Rattle.json_forms.specs.declared.fault.FormFault.TheVariants as form
+use Rattle.json_read.specs.Given.{Gives}
+use Rattle.json_read.specs.declared.fault.FormFault.{FormFault}
+use Rattle.json_read.specs.declared.fault.FormFault.TheVariants as form
 use Rattle.meta_forms.specs.Parts.{parts_of}
 use Rattle.bundle_reply.specs.Bytes.{values_of}
 use Rattle.bundle_reply.specs.declared.bytes.Forms.{Forms}

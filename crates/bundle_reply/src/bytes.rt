@@ -1,8 +1,8 @@
 //! The reply over the bytes of a bundle.
 
 ghost use Rattle.std.specs.Prelude.{◌<◌, ℕ, List, length, IfOk};
-ghost use Rattle.json_data.specs.Bytes.{document_of};
-ghost use Rattle.json_data.specs.Views.{data_of};
+ghost use Rattle.json_read.specs.Bytes.{document_of};
+ghost use Rattle.json_read.specs.Views.{data_of};
 ghost use Rattle.meta_reader.specs.File.{most_bytes};
 ghost use Rattle.bundle_reply.specs.Bytes.{Asked, asked, IsOverDocument, IsOverBytes};
 ghost use Rattle.bundle_reply.specs.Steps.{AreForms, AreFormsIn};
@@ -11,12 +11,12 @@ use crate::over::over_forms;
 use crate::reply::{Reply, meta_refused};
 use dh_base::items::Items;
 use dh_base::memory::Memory;
-use dh_metadata::fault::{MetaFault, Which};
 use json::{Scratch, Value};
-use json_data::read::read;
-use json_forms::fault::FormFault;
+use json_read::fault::FormFault;
+use json_read::read::read;
 use meta_forms::parts::read_parts;
 use meta_parts::parts::MetaParts;
+use meta_reader::fault::{MetaFault, Which};
 use std::alloc::Global;
 use value_forms::set::{SetValue, read_values};
 

@@ -5,5 +5,3 @@ pub mod bytes;
 mod load;
 mod over;
 pub mod reply;
-#[cfg(test)]
-mod tests;

@@ -2,14 +2,14 @@
 
 ghost use Rattle.std.specs.Prelude.{◌≡◌, ◌≤◌, None, IfOk, IsTrue, length};
 ghost use Rattle.std.specs.List.{list_all};
-ghost use Rattle.log_rows.specs.Log.{is_of_days};
+ghost use Rattle.table_build.specs.Log.{is_of_days};
 ghost use Rattle.bundle_reply.specs.Load.{set_of, loaded, loading, limit_of};
 
 use change_bytes::encoded_len;
 use dh_base::items::Items;
 use dh_base::memory::Memory;
 use dh_changes::change::Change;
-use meta_model::metadata::Metadata;
+use dh_metadata::metadata::Metadata;
 use record_index::outcome::{ImportStrategy, Verdict, Who};
 use record_index::world::World;
 use std::alloc::Global;

@@ -2,18 +2,18 @@
 
 ghost use Rattle.std.specs.Prelude.{◌≡◌, ◌∷◌, ◌++◌, [], IfOk};
 ghost use Rattle.bundle_reply.specs.Reply.{line, meta_refused, query_refused, data_refused, answered, refusal};
-ghost use Rattle.metadata_reader.specs.Line.{line_of};
+ghost use Rattle.meta_reader.specs.Line.{line_of};
 
 use dh_base::codes::{Code, Refusal};
 use dh_base::items::Items;
 use dh_base::memory::Memory;
-use dh_metadata::fault::MetaFault;
-use metadata_reader::line::fault_line;
+use meta_reader::fault::MetaFault;
+use meta_reader::line::fault_line;
 use reply_bodies::error_body;
 use std::alloc::Global;
 
 /// How a query over a bundle ends.
-#[derive(Clone, Copy, Debug, PartialEq, Eq)]
+#[derive(Clone, Copy, PartialEq, Eq)]
 pub enum Ending {
     /// It is answered.
     Ok,

@@ -4,7 +4,7 @@ ghost use Rattle.byte_codec.specs.declared.fault.ReadFault.TheVariants.{Memory a
 use std::alloc::{AllocError, AllocFailed};
 
 /// Why nothing was read.
-#[derive(Clone, Copy, Debug, PartialEq, Eq)]
+#[derive(Clone, Copy, PartialEq, Eq)]
 pub enum ReadFault {
     /// The bytes are too few, or not in the form.
     Bad,

@@ -4,6 +4,4 @@
 
 pub mod fault;
 pub mod read;
-#[cfg(test)]
-mod tests;
 pub mod write;

@@ -14,8 +14,8 @@ use Rattle.dh_periods.specs.declared.name.PeriodName.{PeriodName}
 use Rattle.meta_parts.specs.declared.held.Records.{Records}
 use Rattle.meta_parts.specs.declared.records.Element.{Element}
 use Rattle.meta_parts.specs.declared.kind.Kind.TheVariants.{DataElement}
-use Rattle.meta_model.specs.Approval.{unit_rows}
-use Rattle.meta_model.specs.Users.{may_of}
+use Rattle.dh_metadata.specs.Approval.{unit_rows}
+use Rattle.dh_metadata.specs.Users.{may_of}
 use Rattle.table_rows.specs.declared.row.Row.{Row}
 use Rattle.table_rows.specs.declared.row.Group.{Group}
 use Rattle.table_rows.specs.Cells.{is_of_cell, cell_rows, sum_of_parts, gathered}

@@ -10,8 +10,8 @@ use Rattle.org_tree.specs.Units.{UnitRow, IsTree, order_of}
 use Rattle.org_tree.proofs.CountLemmas.{count_below-agree}
 use Rattle.org_tree.proofs.OrderLemmas.{order-lt}
 use Rattle.meta_parts.specs.declared.held.Records.{Records}
-use Rattle.meta_model.specs.Approval.{unit_rows}
-use Rattle.meta_model.specs.Linked.{AreBelow}
+use Rattle.dh_metadata.specs.Approval.{unit_rows}
+use Rattle.dh_metadata.specs.Linked.{AreBelow}
 use Rattle.seen_rows.specs.Cuts.{HoldsBoth}
 use Rattle.seen_rows.specs.Places.{is_at_some, AreOrdersAt}
 use Rattle.cell_values.specs.Items.{is_group_unit, units_in}

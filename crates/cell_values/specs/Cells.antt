@@ -8,7 +8,7 @@ use Rattle.dh_periods.specs.Days.{is_day_in, is_inside}
 use Rattle.org_tree.specs.Count.{count_below}
 use Rattle.meta_parts.specs.declared.held.Records.{Records}
 use Rattle.meta_parts.specs.declared.records.Element.{Element}
-use Rattle.meta_model.specs.Approval.{unit_rows}
+use Rattle.dh_metadata.specs.Approval.{unit_rows}
 use Rattle.agg_types.specs.declared.sample.Sample.{Sample}
 use Rattle.agg_types.specs.Values.{value_by}
 use Rattle.seen_rows.specs.Places.{is_at_some}

@@ -9,8 +9,8 @@ use Rattle.meta_parts.specs.declared.held.Records.{Records}
 use Rattle.meta_parts.specs.declared.kind.Kind.TheVariants as kind
 use Rattle.meta_parts.specs.declared.records.Constant.{Constant}
 use Rattle.meta_parts.specs.declared.records.UnitGroup.{UnitGroup}
-use Rattle.meta_model.specs.Approval.{unit_rows}
-use Rattle.meta_model.specs.Objects.{find_of}
+use Rattle.dh_metadata.specs.Approval.{unit_rows}
+use Rattle.dh_metadata.specs.Objects.{find_of}
 use Rattle.agg_types.specs.declared.sample.Sample.{Sample}
 use Rattle.seen_rows.specs.Places.{is_at_some}
 use Rattle.cell_values.specs.Cells.{cell_of, days_in, aggregate_of}

@@ -9,7 +9,7 @@ use Rattle.dh_sharing.specs.Ranges.{is_within}
 use Rattle.dh_periods.specs.declared.name.PeriodName.{PeriodName}
 use Rattle.meta_parts.specs.declared.held.Records.{Records}
 use Rattle.meta_parts.specs.declared.kind.Kind.TheVariants.{DataElement}
-use Rattle.meta_model.specs.Users.{may_of}
+use Rattle.dh_metadata.specs.Users.{may_of}
 use Rattle.table_rows.specs.declared.row.Row.{Row}
 use Rattle.table_rows.specs.declared.row.Group.{Group}
 use Rattle.table_rows.specs.declared.sum.Sum.{Sum}

@@ -1,7 +1,7 @@
 //! The value of a data element over a cell.
 ghost use Rattle.std.specs.Prelude.{◌≡◌, ◌≤◌, ◌<◌, length, IfOk};
 ghost use Rattle.dh_sharing.specs.Ranges.{AreApart};
-ghost use Rattle.meta_model.specs.Linked.{AreBelow};
+ghost use Rattle.dh_metadata.specs.Linked.{AreBelow};
 ghost use Rattle.table_rows.specs.Cells.{gathered};
 ghost use Rattle.table_rows.specs.Sums.{sum_over};
 ghost use Rattle.seen_rows.specs.Held.{IsSeer};
@@ -17,8 +17,8 @@ use crate::totals::{totals_of, value_of_totals};
 use dh_base::frac::Frac;
 use dh_base::memory::Memory;
 use dh_base::plain::{AggType, Need};
+use dh_metadata::metadata::Metadata;
 use dh_periods::Period;
-use meta_model::metadata::Metadata;
 use seen_rows::{Seer, seen_ranges};
 use std::alloc::Global;
 use table_rows::{Group, RowStore};

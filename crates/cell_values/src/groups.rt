@@ -8,8 +8,8 @@ ghost use Rattle.cell_values.specs.Cells.{is_named, is_in_some};
 ghost use Rattle.cell_values.specs.Parts.{is_group_asked};
 
 use dh_base::memory::Memory;
+use dh_metadata::metadata::Metadata;
 use dh_periods::Period;
-use meta_model::metadata::Metadata;
 use meta_parts::kind::Kind;
 use seen_rows::Seer;
 use std::alloc::{AllocError, Global};

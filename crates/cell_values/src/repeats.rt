@@ -17,7 +17,7 @@ use std::alloc::{AllocError, Global};
 use table_rows::Sum;
 
 /// Which sample of a series counts.
-#[derive(Clone, Copy, Debug, PartialEq, Eq)]
+#[derive(Clone, Copy, PartialEq, Eq)]
 pub(crate) enum End {
     First,
     Last,

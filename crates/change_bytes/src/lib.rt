@@ -10,8 +10,6 @@ mod encoding;
 mod laws;
 mod lengths;
 mod periods;
-#[cfg(test)]
-mod tests;
 
 pub use decoded::Decoded;
 pub use decoding::decode;

@@ -4,7 +4,7 @@ use dh_base::memory::Memory;
 use thiserror::Error;
 
 /// How large a log may grow, and how many updates its server may make.
-#[derive(Clone, Copy, Debug, PartialEq, Eq)]
+#[derive(Clone, Copy, PartialEq, Eq)]
 pub struct Limits {
     /// Writes in the log, at most 4,194,304.
     pub writes: u64,

@@ -5,7 +5,7 @@ use crate::items::Items;
 /// The product's own error codes, as DHIS2 has its codes E1000 and up.
 ///
 /// An F code refuses a whole request, a C code one data value and a T code one tracker object.
-#[derive(Clone, Copy, Debug, PartialEq, Eq, PartialOrd, Ord, Hash)]
+#[derive(Clone, Copy, Debug, PartialEq, Eq)]
 pub enum Code {
     /// BadHead: the head of the request is malformed.
     F1,
@@ -248,7 +248,7 @@ impl Code {
 
 /// Why a request is refused: its code, and the detail that the code's message carries, empty
 /// where it has none.
-#[derive(Clone, Debug, Drop, PartialEq, Eq, PartialOrd, Ord, Hash)]
+#[derive(Clone, Drop, PartialEq, Eq)]
 pub struct Refusal {
     pub code: Code,
     pub detail: Items<u8>,

@@ -7,7 +7,7 @@ ghost use Rattle.dh_base.specs.Decimals.{decimal_of, size_of, digits_of, decimal
 use std::marker::Model;
 
 /// A value: a whole number of millionths, below 10^18 in size.
-#[derive(Clone, Copy, Debug, PartialEq, Eq, PartialOrd, Ord, Hash)]
+#[derive(Clone, Copy, PartialEq, Eq)]
 pub struct Micros {
     value: i64,
 }

@@ -9,6 +9,4 @@ pub mod items;
 pub mod memory;
 pub mod plain;
 pub mod print;
-#[cfg(test)]
-mod tests;
 pub mod uid;

@@ -1,5 +1,5 @@
 /// Which approval a row has to have.
-#[derive(Clone, Copy, Debug, PartialEq, Eq, PartialOrd, Ord, Hash)]
+#[derive(Clone, Copy, PartialEq, Eq)]
 pub enum Need {
     /// Every row, whether approved or not.
     All,
@@ -8,7 +8,7 @@ pub enum Need {
 }
 
 /// How the values of a cell are made into one.
-#[derive(Clone, Copy, Debug, PartialEq, Eq, PartialOrd, Ord, Hash)]
+#[derive(Clone, Copy, PartialEq, Eq)]
 pub enum AggType {
     Sum,
     Average,
@@ -25,7 +25,7 @@ pub enum AggType {
 }
 
 /// When an expression is skipped for its missing values.
-#[derive(Clone, Copy, Debug, PartialEq, Eq, PartialOrd, Ord, Hash)]
+#[derive(Clone, Copy, PartialEq, Eq)]
 pub enum Strategy {
     SkipIfAny,
     SkipIfAll,
@@ -33,7 +33,7 @@ pub enum Strategy {
 }
 
 /// The figure of a data set that a reporting rate item asks for.
-#[derive(Clone, Copy, Debug, PartialEq, Eq, PartialOrd, Ord, Hash)]
+#[derive(Clone, Copy, PartialEq, Eq)]
 pub enum Rate {
     /// `EXPECTED_REPORTS`
     Expected,
@@ -48,14 +48,14 @@ pub enum Rate {
 }
 
 /// What an update of the tables rebuilds: all years, or the latest part alone.
-#[derive(Clone, Copy, Debug, PartialEq, Eq, PartialOrd, Ord, Hash)]
+#[derive(Clone, Copy, PartialEq, Eq)]
 pub enum CutKind {
     Full,
     Latest,
 }
 
 /// Why a computed number is not there.
-#[derive(Clone, Copy, Debug, PartialEq, Eq, PartialOrd, Ord, Hash)]
+#[derive(Clone, Copy, PartialEq, Eq)]
 pub enum NumFault {
     /// A whole number on the way is 2^127 or more in size.
     Wide,

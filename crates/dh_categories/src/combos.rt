@@ -12,7 +12,7 @@ use std::marker::Model;
 
 /// The option combinations, each named by its place in the list that they were built of. Contracts
 /// see that list: for each its category combination and its options.
-#[derive(Debug, Drop)]
+#[derive(Drop)]
 pub struct Combos {
     option_combos: Vec<(u32, Items<u32>)>,
     singles: Vec<Single>,

@@ -5,5 +5,3 @@ pub mod combos;
 pub mod fault;
 pub mod fits;
 pub mod single;
-#[cfg(test)]
-mod tests;

@@ -5,7 +5,7 @@ use dh_base::items::Items;
 use std::alloc::{AllocError, Global};
 
 /// The option combinations that a category combination has so far.
-#[derive(Clone, Copy, Debug, PartialEq, Eq)]
+#[derive(Clone, Copy, PartialEq, Eq)]
 pub enum Single {
     Absent,
     /// Exactly one, at this place.

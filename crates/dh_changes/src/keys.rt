@@ -9,7 +9,7 @@ use dh_base::uid::Uid;
 use dh_periods::Period;
 
 /// What a data value is of.
-#[derive(Clone, Copy, PartialEq, Eq, PartialOrd, Ord, Hash)]
+#[derive(Clone, Copy, PartialEq, Eq, Hash)]
 pub struct ValueKey {
     /// The data element.
     pub element: Uid,
@@ -23,7 +23,7 @@ pub struct ValueKey {
 }
 
 /// What an approval is of.
-#[derive(Clone, Copy, PartialEq, Eq, PartialOrd, Ord, Hash)]
+#[derive(Clone, Copy, PartialEq, Eq, Hash)]
 pub struct ApprovalKey {
     pub workflow: Uid,
     pub period: Period,

@@ -1,6 +1,7 @@
-pub mod KnownLemmas
-pub mod LinkedLemmas
+pub mod LinkLemmas
+pub mod MemberLemmas
+pub mod HolderLemmas
+pub mod SetLemmas
+pub mod UserLemmas
 pub mod IdLemmas
-pub mod StageLemmas
-pub mod FaultLemmas
-pub mod ReadyLemmas
+pub mod LevelLemmas

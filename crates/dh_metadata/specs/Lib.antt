@@ -1,4 +1,8 @@
-pub mod Records
-pub mod Stages
-pub mod Faults
-pub mod Told
+pub mod Objects
+pub mod Linked
+pub mod Members
+pub mod Sets
+pub mod Users
+pub mod Approval
+pub mod Held
+pub mod Known

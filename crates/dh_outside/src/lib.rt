@@ -9,8 +9,6 @@ mod files;
 mod keeper;
 mod memory;
 mod pieces;
-#[cfg(test)]
-mod tests;
 mod whole;
 
 ghost use Rattle.std.specs.Prelude.{◌≡◌, ◌≤◌, ◌<◌, ℕ, ℤ, List, Option, length, IfOk, OnErr};

@@ -1,3 +1,4 @@
+pub mod Moment
 pub mod Calendar
 pub mod Types
 pub mod Days

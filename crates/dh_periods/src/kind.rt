@@ -5,7 +5,7 @@ ghost use Rattle.dh_periods.specs.declared.kind.Shape.TheVariants.{Months};
 ghost use Rattle.dh_periods.specs.Types.{shape_of, type_name, type_named, IsShape};
 
 /// The types of periods, in the order in which periods of the same days are sorted.
-#[derive(Clone, Copy, PartialEq, Eq, PartialOrd, Ord, Hash, Debug)]
+#[derive(Clone, Copy, PartialEq, Eq, PartialOrd, Ord, Hash)]
 pub enum PeriodType {
     Daily,
     Weekly,

@@ -4,19 +4,17 @@
 mod dates;
 mod days;
 mod kind;
+mod moment;
 mod name;
 mod period;
 mod places;
 mod print;
 mod read;
-#[cfg(test)]
-mod tests;
-#[cfg(test)]
-mod vectors;
 mod windows;
 
 pub use dates::civil;
 pub use kind::PeriodType;
+pub use moment::day_of;
 pub use name::PeriodName;
 pub use period::{Period, containing};
 pub use windows::relative;

@@ -2,7 +2,7 @@
 use crate::kind::PeriodType;
 
 /// What the text of a period says: its type, the year, and which of that year's periods it is.
-#[derive(Clone, Copy, PartialEq, Eq, PartialOrd, Ord, Hash, Debug)]
+#[derive(Clone, Copy, PartialEq, Eq, PartialOrd, Ord, Hash)]
 pub struct PeriodName {
     pub kind: PeriodType,
     /// The year that is written, of a week the year of its Thursday.

@@ -4,8 +4,8 @@ use Rattle.dh_sharing.specs.declared.access.Right.{Right}
 use Rattle.org_tree.specs.Units.{UnitRow}
 use Rattle.meta_parts.specs.declared.held.Records.{Records}
 use Rattle.meta_parts.specs.declared.kind.Kind.{Kind}
-use Rattle.meta_model.specs.Approval.{unit_rows}
-use Rattle.meta_model.specs.Users.{may_of}
+use Rattle.dh_metadata.specs.Approval.{unit_rows}
+use Rattle.dh_metadata.specs.Users.{may_of}
 use Rattle.record_index.specs.Facts.{Facts}
 
 -- the user has the right to the object: no write changes how the metadata shares it

@@ -9,9 +9,9 @@ use Rattle.dh_periods.specs.Places.{containing_of}
 use Rattle.meta_parts.specs.declared.held.Records.{Records}
 use Rattle.meta_parts.specs.declared.records.Unit.{Unit}
 use Rattle.meta_parts.specs.declared.records.Workflow.{Workflow}
-use Rattle.meta_model.specs.Approval.{unit_rows, levels_at}
+use Rattle.dh_metadata.specs.Approval.{unit_rows, levels_at}
 use Rattle.meta_rules.specs.Workflows.{workflow_of}
-use Rattle.meta_model.specs.Objects.{find_of}
+use Rattle.dh_metadata.specs.Objects.{find_of}
 use Rattle.meta_parts.specs.declared.kind.Kind.TheVariants.{OrganisationUnit, DataElement}
 use Rattle.record_index.specs.Facts.{Facts}
 use Rattle.record_index.specs.declared.said.ApprovalState.{ApprovalState}

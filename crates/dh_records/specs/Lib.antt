@@ -1,3 +1,4 @@
+pub mod Values
 pub mod Approved
 pub mod Access
 pub use Rattle.record_index.specs.Facts

@@ -1,10 +1,10 @@
 ghost use Rattle.std.specs.Prelude.{◌≡◌, ◌<◌, true, length};
-ghost use Rattle.meta_model.specs.Objects.{count_of, is_shared};
+ghost use Rattle.dh_metadata.specs.Objects.{count_of, is_shared};
 ghost use Rattle.record_index.specs.World.{facts};
 ghost use Rattle.dh_records.specs.Access as known;
 
+use dh_metadata::metadata::Metadata;
 use dh_sharing::access::Right;
-use meta_model::metadata::Metadata;
 use meta_parts::kind::Kind;
 use org_tree::tree::Tree;
 use record_index::world::World;

@@ -4,8 +4,8 @@ ghost use Rattle.dh_records.specs.Approved as known;
 
 use dh_base::uid::Uid;
 use dh_changes::keys::{ApprovalKey, ValueKey};
+use dh_metadata::metadata::Metadata;
 use dh_periods::{Period, containing};
-use meta_model::metadata::Metadata;
 use meta_parts::kind::Kind;
 use record_index::said::ApprovalState;
 use record_index::world::World;

@@ -3,6 +3,8 @@
 
 pub mod access;
 pub mod approved;
+pub mod number;
+pub mod value;
 
 pub use dh_changes::change::{Change, Write};
 pub use dh_changes::keys::{ApprovalKey, RegKey, ValueKey};

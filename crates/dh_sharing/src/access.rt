@@ -2,7 +2,7 @@ ghost use Rattle.std.specs.Prelude.{◌≡◌};
 ghost use Rattle.dh_sharing.specs.Access.{is_letter_or_dash, is_access, access_of, has};
 
 /// What a user may do with a metadata object.
-#[derive(Clone, Copy, Debug, PartialEq, Eq)]
+#[derive(Clone, Copy, PartialEq, Eq)]
 pub enum Right {
     Read,
     Write,
@@ -11,7 +11,7 @@ pub enum Right {
 }
 
 /// The rights that an entry of a sharing object gives.
-#[derive(Clone, Copy, Debug, PartialEq, Eq, PartialOrd, Ord, Hash)]
+#[derive(Clone, Copy, PartialEq, Eq)]
 pub struct Access {
     pub read: bool,
     pub write: bool,

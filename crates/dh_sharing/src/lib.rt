@@ -5,5 +5,3 @@
 pub mod access;
 pub mod ranges;
 pub mod rule;
-#[cfg(test)]
-mod tests;

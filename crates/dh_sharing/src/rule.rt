@@ -7,7 +7,7 @@ use crate::access::{Access, Right};
 use dh_base::items::Items;
 
 /// What the rule of sharing asks of a user.
-#[derive(Debug, Drop, PartialEq, Eq)]
+#[derive(Drop, PartialEq, Eq)]
 pub struct UserFacts {
     /// The user's number.
     pub number: u32,
@@ -19,7 +19,7 @@ pub struct UserFacts {
 
 /// How a metadata object is shared: with its owner, with everybody, and with single users and user
 /// groups, each named by its number.
-#[derive(Debug, Drop, PartialEq, Eq)]
+#[derive(Drop, PartialEq, Eq)]
 pub struct Sharing {
     pub owner: Option<u32>,
     pub public: Access,

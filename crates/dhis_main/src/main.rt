@@ -6,11 +6,7 @@
 mod reply;
 mod run;
 mod session;
-#[cfg(test)]
-mod session_tests;
 mod status;
-#[cfg(test)]
-mod tests;
 mod words;
 
 use crate::run::{refuse_word, run_offline};

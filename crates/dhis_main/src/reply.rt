@@ -21,7 +21,7 @@ pub struct Reply {
 }
 
 /// Why no reply was made.
-#[derive(Clone, Copy, Debug, Drop, PartialEq, Eq)]
+#[derive(Clone, Copy, Drop)]
 pub enum Fault {
     /// The input failed.
     Read,

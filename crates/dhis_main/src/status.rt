@@ -2,7 +2,7 @@ ghost use Rattle.std.specs.Prelude.{◌≡◌};
 ghost use Rattle.dhis_main.specs.Code.{code_of};
 
 /// What a command that was carried out or refused came to.
-#[derive(Clone, Copy, Debug, Drop, PartialEq, Eq)]
+#[derive(Clone, Copy, Drop)]
 pub enum Outcome {
     /// The command did all that it says.
     Ok,
@@ -23,7 +23,7 @@ pub enum Outcome {
 }
 
 /// How the program ended.
-#[derive(Clone, Copy, Debug, Drop, PartialEq, Eq)]
+#[derive(Clone, Copy, Drop)]
 pub enum Status {
     /// What the command replies was written whole.
     Done(Outcome),

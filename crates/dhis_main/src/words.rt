@@ -5,7 +5,7 @@ ghost use Rattle.std.specs.Str.Parse.{digits_value};
 ghost use Rattle.dhis_main.specs.Words.{fits_query, query_words, session_words, generate_words, counted, one_too_many, command_behind, command_of, begins_with_zero, is_plain_number, count_of, count_within, IsFit};
 
 /// A command of the command line.
-#[derive(Clone, Copy, Debug, Drop, PartialEq, Eq)]
+#[derive(Clone, Copy, Drop)]
 pub enum Command {
     Help,
     Version,

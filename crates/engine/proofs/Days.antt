@@ -10,7 +10,7 @@ use Rattle.dh_changes.specs.declared.change.Write.TheVariants as write
 use Rattle.change_bytes.specs.Forms.{WriteFits, IsDay}
 use Rattle.change_log.specs.Log.{writes_of}
 use Rattle.table_rows.specs.Events.{is_day_if_any}
-use Rattle.log_rows.specs.Log as rows
+use Rattle.table_build.specs.Log as rows
 
 day-if-any : (day : Option ℤ) → IfSome day IsDay → is_day_if_any day ≡ true
 day-if-any None h = refl

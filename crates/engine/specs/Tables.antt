@@ -3,7 +3,7 @@ use Rattle.std.specs.Prelude.{List}
 use Rattle.dh_changes.specs.declared.change.Change.{Change}
 use Rattle.meta_parts.specs.declared.held.Records.{Records}
 use Rattle.table_rows.specs.Store.{Listed}
-use Rattle.log_rows.specs.Listed.{listed_in}
+use Rattle.table_build.specs.Listed.{listed_in}
 use Rattle.change_log.specs.Log.{writes_of}
 
 unfoldable pub tables_of : Records → List Change → Listed

@@ -4,7 +4,7 @@ ghost use Rattle.value_import.specs.Outcomes.{IsKnown};
 ghost use Rattle.engine.specs.Requests.{maker_of};
 
 use dh_base::uid::Uid;
-use meta_model::metadata::Metadata;
+use dh_metadata::metadata::Metadata;
 use record_index::outcome::Who;
 
 // The identifier of who asks, and none for the loader.

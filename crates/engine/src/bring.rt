@@ -13,8 +13,8 @@ use crate::machine::{ChangeFault, ChangeRequest, Report};
 use crate::updates::Shown;
 use change_log::{AppendFault, ChangeLog};
 use dh_base::uid::Uid;
+use dh_metadata::metadata::Metadata;
 use dh_outside::Keeper;
-use meta_model::metadata::Metadata;
 use record_index::outcome::Who;
 use std::alloc::Global;
 

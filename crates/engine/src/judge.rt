@@ -10,7 +10,7 @@ use crate::machine::ChangeRequest;
 use dh_base::items::Items;
 use dh_base::memory::Memory;
 use dh_changes::change::Write;
-use meta_model::metadata::Metadata;
+use dh_metadata::metadata::Metadata;
 use record_index::outcome::{Verdict, Who};
 use record_index::world::World;
 use reply_bodies::{summary_body, summary_status};

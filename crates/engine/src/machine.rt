@@ -18,7 +18,7 @@ pub enum ChangeRequest {
 }
 
 /// What a change that isn't refused came to.
-#[derive(Debug, Drop)]
+#[derive(Drop)]
 pub struct Report {
     /// The body of the reply, and its status.
     pub body: Items<u8>,
@@ -42,7 +42,7 @@ pub enum ChangeFault {
 }
 
 /// An update of the tables that is begun.
-#[derive(Clone, Copy, Debug, PartialEq, Eq)]
+#[derive(Clone, Copy, PartialEq, Eq)]
 pub struct Staged {
     pub ticket: u64,
     pub kind: CutKind,
@@ -96,7 +96,7 @@ pub struct View {
 }
 
 /// How many changes there are, how many of them are published, and the ticket of the update that is begun.
-#[derive(Clone, Copy, Debug, PartialEq, Eq)]
+#[derive(Clone, Copy, PartialEq, Eq)]
 pub struct Standing {
     pub changes: u64,
     pub published: u64,

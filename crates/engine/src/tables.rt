@@ -8,10 +8,10 @@ ghost use Rattle.engine.specs.Tables.{tables_of};
 
 use dh_base::memory::Memory;
 use dh_changes::change::Change;
-use log_rows::listed::build;
-use meta_model::metadata::Metadata;
+use dh_metadata::metadata::Metadata;
 use std::alloc::Global;
 use std::sync::Arc;
+use table_build::listed::build;
 use table_rows::ListRows;
 
 // The tables that stand for these changes.

@@ -17,7 +17,7 @@ use dh_base::items::Items;
 use dh_base::memory::Memory;
 use dh_base::plain::CutKind;
 use dh_changes::change::Change;
-use meta_model::metadata::Metadata;
+use dh_metadata::metadata::Metadata;
 use std::alloc::Global;
 use std::sync::Arc;
 use table_rows::ListRows;

@@ -4,7 +4,7 @@ use dh_base::frac::Frac;
 use expr_lang::{Binary, Unary};
 
 /// One instruction over a stack. A skip says how many of the next instructions are passed.
-#[derive(Clone, Copy, Debug, PartialEq, Eq)]
+#[derive(Clone, Copy)]
 pub enum Instr {
     /// Puts a number on top.
     Number(Frac),
@@ -41,7 +41,7 @@ pub enum Instr {
 }
 
 /// An expression in postfix form, for a list of items that it numbers.
-#[derive(Debug, Drop)]
+#[derive(Drop)]
 pub struct Postfix {
     pub(crate) code: Vec<Instr>,
     /// The plain items, which can be missing.

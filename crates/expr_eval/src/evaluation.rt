@@ -17,7 +17,7 @@ use expr_lang::Stack;
 use std::alloc::Global;
 
 /// What comes of an instruction: so many of the next are passed, or the value is there.
-#[derive(Clone, Copy, Debug, PartialEq, Eq)]
+#[derive(Clone, Copy)]
 pub enum Answer {
     Go(usize),
     Stop(Value),

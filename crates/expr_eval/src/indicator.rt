@@ -6,7 +6,7 @@ use dh_base::memory::Memory;
 use dh_base::plain::AggType;
 
 /// A program indicator, with a number for each object that it names.
-#[derive(Debug, Drop)]
+#[derive(Drop)]
 pub struct PiCode {
     /// The number of the program.
     pub program: u32,
@@ -22,7 +22,7 @@ pub struct PiCode {
 }
 
 /// What a program indicator takes of each event.
-#[derive(Debug, Drop)]
+#[derive(Drop)]
 pub enum PiValue {
     Formula(Postfix),
     /// The number of different events.
@@ -34,7 +34,7 @@ pub enum PiValue {
 }
 
 /// An item of a program indicator.
-#[derive(Clone, Copy, Debug, PartialEq, Eq)]
+#[derive(Clone, Copy)]
 pub enum PiItem {
     /// A constant in millionths.
     Constant(i64),
@@ -47,7 +47,7 @@ pub enum PiItem {
 }
 
 /// Why a program indicator has no value.
-#[derive(Clone, Copy, Debug, PartialEq, Eq)]
+#[derive(Clone, Copy, PartialEq, Eq)]
 pub enum PiFault {
     /// A number on the way is too wide to be computed.
     Wide,

@@ -13,6 +13,3 @@ pub use compiling::compile;
 pub use evaluation::eval;
 pub use indicator::{PiCode, PiFault, PiItem, PiValue};
 pub use value::Value;
-
-#[cfg(test)]
-mod tests;

@@ -3,7 +3,7 @@
 use dh_base::frac::Frac;
 
 /// The value of an expression.
-#[derive(Clone, Copy, Debug, PartialEq, Eq)]
+#[derive(Clone, Copy, PartialEq, Eq)]
 pub enum Value {
     Number(Frac),
     Truth(bool),
@@ -16,7 +16,7 @@ pub enum Value {
 }
 
 /// A value on the stack.
-#[derive(Clone, Copy, Debug, PartialEq, Eq)]
+#[derive(Clone, Copy)]
 pub enum Cell {
     Number(Frac),
     Truth(bool),

@@ -6,8 +6,3 @@ mod printing;
 
 pub use parsing::{parse, parse_sorted};
 pub use printing::print;
-
-#[cfg(test)]
-mod parsing_tests;
-#[cfg(test)]
-mod printing_tests;

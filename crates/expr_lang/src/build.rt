@@ -1,14 +1,15 @@
 //! The tree and the items with given nodes.
 
-ghost use Rattle.std.specs.Prelude.{◌≡◌, ◌∷◌, ◌↔◌, OnOk, IfOk, IsTrue, Contains, vec_len};
+ghost use Rattle.std.specs.Prelude.{◌≡◌, ◌∷◌, ◌↔◌, [], OnOk, IfOk, IsTrue, Contains, vec_len};
 ghost use Rattle.expr_lang.specs.Items.{item_of_leaf_of, occurrences, ListsOne, Lists};
 ghost use Rattle.expr_lang.specs.Leaves.{leaf_of_node};
+ghost use Rattle.expr_lang.specs.declared.reading.Node.TheVariants as node;
 ghost use Rattle.expr_lang.specs.Shape.{Shape, shape_of};
 ghost use Rattle.expr_lang.specs.Build.{shapes_of, top_shape, under_shape, shapes_after, built};
 
 use crate::reading::{Node, Spot};
 use crate::survey::leaf_at;
-use crate::tree::{Item, Leaf, Tree};
+use crate::tree::{Binary, Item, Leaf, Tree, Unary};
 use dh_base::memory::Memory;
 use dh_base::uid::Uid;
 use std::alloc::Global;
@@ -30,6 +31,37 @@ fn put(stack: &mut Vec<Tree>, tree: Tree) -> Result<(), Memory>
     Ok(())
 }
 
+fn take_boxed(alloc: Global, stack: &mut Vec<Tree>) -> Result<Box<Tree>, Memory>
+    ensures top { IfOk result (λ tree. shape_of tree.value ≡ top_shape (shapes_of stack.old.items)) }
+    ensures rest { shapes_of stack.new.items ≡ under_shape (shapes_of stack.old.items) }
+{
+    Ok(Box::new(alloc, take(stack))?)
+}
+
+fn put_unary(alloc: Global, stack: &mut Vec<Tree>, unary: Unary) -> Result<(), Memory>
+    ensures { OnOk result (shapes_of stack.new.items ≡ shapes_after [] [] 0 (node.Unary unary) (shapes_of stack.old.items)) }
+{
+    let operand = take_boxed(alloc, stack)?;
+    put(stack, Tree::Unary(unary, operand))
+}
+
+fn put_binary(alloc: Global, stack: &mut Vec<Tree>, binary: Binary) -> Result<(), Memory>
+    ensures { OnOk result (shapes_of stack.new.items ≡ shapes_after [] [] 0 (node.Binary binary) (shapes_of stack.old.items)) }
+{
+    let right = take_boxed(alloc, stack)?;
+    let left = take_boxed(alloc, stack)?;
+    put(stack, Tree::Binary(binary, left, right))
+}
+
+fn put_choice(alloc: Global, stack: &mut Vec<Tree>) -> Result<(), Memory>
+    ensures { OnOk result (shapes_of stack.new.items ≡ shapes_after [] [] 0 node.If (shapes_of stack.old.items)) }
+{
+    let other = take_boxed(alloc, stack)?;
+    let one = take_boxed(alloc, stack)?;
+    let test = take_boxed(alloc, stack)?;
+    put(stack, Tree::If(test, one, other))
+}
+
 fn advance(
     alloc: Global,
     stack: &mut Vec<Tree>,
@@ -40,21 +72,9 @@ fn advance(
     ensures { OnOk result (shapes_of stack.new.items ≡ shapes_after text.now days.now spot.at spot.node (shapes_of stack.old.items)) }
 {
     match spot.node {
-        Node::Unary(unary) => {
-            let operand = Box::new(alloc, take(stack))?;
-            put(stack, Tree::Unary(unary, operand))
-        }
-        Node::Binary(binary) => {
-            let right = Box::new(alloc, take(stack))?;
-            let left = Box::new(alloc, take(stack))?;
-            put(stack, Tree::Binary(binary, left, right))
-        }
-        Node::If => {
-            let other = Box::new(alloc, take(stack))?;
-            let one = Box::new(alloc, take(stack))?;
-            let test = Box::new(alloc, take(stack))?;
-            put(stack, Tree::If(test, one, other))
-        }
+        Node::Unary(unary) => put_unary(alloc, stack, unary),
+        Node::Binary(binary) => put_binary(alloc, stack, binary),
+        Node::If => put_choice(alloc, stack),
         _ => put(stack, Tree::Leaf(leaf_at(text, days, spot.at, spot.node))),
     }
 }

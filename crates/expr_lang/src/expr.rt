@@ -5,7 +5,7 @@ ghost use Rattle.std.specs.Prelude.{◌≡◌, vec_len};
 use crate::tree::{Item, Tree};
 
 /// An expression that was read.
-#[derive(Debug, Drop)]
+#[derive(Drop)]
 pub struct Expr {
     pub tree: Tree,
     items: Vec<Item>,

@@ -22,7 +22,7 @@ pub enum ExprFault {
 }
 
 /// Why a text has no nodes.
-#[derive(Clone, Copy, Debug, PartialEq, Eq)]
+#[derive(Clone, Copy)]
 pub enum ReadFault {
     Syntax(usize),
     Memory,

@@ -1,7 +1,8 @@
 //! The items that words name.
 
-ghost use Rattle.std.specs.Prelude.{◌≡◌, ◌<◌};
-ghost use Rattle.expr_lang.specs.Item.{uid_from, item_from, is_among_of, is_day_of, leaf_from};
+ghost use Rattle.std.specs.Prelude.{◌≡◌, ◌<◌, Some, None};
+ghost use Rattle.expr_lang.specs.declared.tree.Item.TheVariants as item;
+ghost use Rattle.expr_lang.specs.Item.{uid_from, one_uid, two_uids, three_uids, item_from, is_among_of, is_day_of, leaf_from};
 
 use crate::tree::{Item, Leaf};
 use crate::words::ItemForm;
@@ -17,39 +18,59 @@ fn uid_at(bytes: &[u8], from: usize) -> Option<Uid>
     Uid::parse(&bytes[from..from + 11])
 }
 
+fn plain_element(bytes: &[u8]) -> Option<Item>
+    ensures { result ≡ one_uid (λ element. item.Element element None None) 2 bytes.now }
+{
+    let element = uid_at(bytes, 2)?;
+    Some(Item::Element {
+        element,
+        combo: None,
+        attribute: None,
+    })
+}
+
+fn element_with_combo(bytes: &[u8]) -> Option<Item>
+    ensures { result ≡ two_uids (λ element combo. item.Element element (Some combo) None) bytes.now }
+{
+    let element = uid_at(bytes, 2)?;
+    let combo = uid_at(bytes, 14)?;
+    Some(Item::Element {
+        element,
+        combo: Some(combo),
+        attribute: None,
+    })
+}
+
+fn element_with_combos(bytes: &[u8]) -> Option<Item>
+    ensures { result ≡ three_uids (λ element combo attribute. item.Element element (Some combo) (Some attribute)) bytes.now }
+{
+    let element = uid_at(bytes, 2)?;
+    let combo = uid_at(bytes, 14)?;
+    let attribute = uid_at(bytes, 26)?;
+    Some(Item::Element {
+        element,
+        combo: Some(combo),
+        attribute: Some(attribute),
+    })
+}
+
+fn stage_element(bytes: &[u8]) -> Option<Item>
+    ensures { result ≡ two_uids (λ stage element. item.StageElement stage element) bytes.now }
+{
+    let stage = uid_at(bytes, 2)?;
+    let element = uid_at(bytes, 14)?;
+    Some(Item::StageElement { stage, element })
+}
+
 /// The item that a word of this form names.
 #[tactic(auto, unfolding(crate::specs::Item::item_from))]
 pub fn item_of(form: ItemForm, bytes: &[u8]) -> Option<Item>
     ensures { result ≡ item_from form bytes.now }
 {
     match form {
-        ItemForm::Element => {
-            let element = uid_at(bytes, 2)?;
-            Some(Item::Element {
-                element,
-                combo: None,
-                attribute: None,
-            })
-        }
-        ItemForm::ElementCombo => {
-            let element = uid_at(bytes, 2)?;
-            let combo = uid_at(bytes, 14)?;
-            Some(Item::Element {
-                element,
-                combo: Some(combo),
-                attribute: None,
-            })
-        }
-        ItemForm::ElementCombos => {
-            let element = uid_at(bytes, 2)?;
-            let combo = uid_at(bytes, 14)?;
-            let attribute = uid_at(bytes, 26)?;
-            Some(Item::Element {
-                element,
-                combo: Some(combo),
-                attribute: Some(attribute),
-            })
-        }
+        ItemForm::Element => plain_element(bytes),
+        ItemForm::ElementCombo => element_with_combo(bytes),
+        ItemForm::ElementCombos => element_with_combos(bytes),
         ItemForm::Constant => Some(Item::Constant(uid_at(bytes, 2)?)),
         ItemForm::Group => Some(Item::Group(uid_at(bytes, 4)?)),
         ItemForm::Days => Some(Item::Days),
@@ -57,11 +78,7 @@ pub fn item_of(form: ItemForm, bytes: &[u8]) -> Option<Item>
             let set = uid_at(bytes, 2)?;
             Some(Item::Rate { set, rate })
         }
-        ItemForm::StageElement => {
-            let stage = uid_at(bytes, 2)?;
-            let element = uid_at(bytes, 14)?;
-            Some(Item::StageElement { stage, element })
-        }
+        ItemForm::StageElement => stage_element(bytes),
         ItemForm::Attribute => Some(Item::Attribute(uid_at(bytes, 2)?)),
         ItemForm::EventDate => Some(Item::EventDate),
         ItemForm::EnrollmentDate => Some(Item::EnrollmentDate),

@@ -20,6 +20,3 @@ pub use parsing::{parse, parse_sorted};
 pub use printing::print;
 pub use stack::Stack;
 pub use tree::{Binary, Item, Leaf, Place, Sort, Tree, Unary};
-
-#[cfg(test)]
-mod tests;

@@ -1,6 +1,6 @@
 //! Reading expressions.
 
-ghost use Rattle.std.specs.Prelude.{◌≡◌, Some, None, IfErr};
+ghost use Rattle.std.specs.Prelude.{◌≡◌, Some, None, IfOk, IfErr};
 ghost use Rattle.expr_lang.specs.Expr.{IsOf};
 ghost use Rattle.expr_lang.specs.Faults.{FaultsAtOnce, IfSyntax};
 ghost use Rattle.expr_lang.specs.Parse.{nodes_of_text, judged, accepted, Accepts};
@@ -13,6 +13,7 @@ use crate::fault::{ExprFault, ReadFault};
 use crate::reading::{Nodes, read};
 use crate::survey::{Known, misfit_as, survey};
 use crate::tree::{Place, Sort};
+use dh_base::memory::Memory;
 use dh_base::uid::Uid;
 use std::alloc::Global;
 
@@ -70,6 +71,15 @@ fn accept(
     }
 }
 
+/// The expression of a text with these nodes.
+fn with_nodes(alloc: Global, text: &[u8], days: &[Uid], nodes: &Nodes) -> Result<Expr, Memory>
+    ensures { IfOk result (λ expr. IsOf text.now days.now expr nodes.now) }
+{
+    let tree = build(alloc, text, days, nodes.nodes.as_slice())?;
+    let (items, places) = list_items(alloc, text, days, nodes.nodes.as_slice())?;
+    Ok(Expr::new(tree, items, places))
+}
+
 fn whole(
     alloc: Global,
     text: &[u8],
@@ -80,9 +90,8 @@ fn whole(
     ensures { Accepts (λ expr nodes. IsOf text.now days.now expr nodes) result (accepted place days.now wanted text.now) }
 {
     let nodes = accept(alloc, text, place, days, wanted)?;
-    let tree = build(alloc, text, days, nodes.nodes.as_slice())?;
-    let (items, places) = list_items(alloc, text, days, nodes.nodes.as_slice())?;
-    Ok(Expr::new(tree, items, places))
+    let expr = with_nodes(alloc, text, days, &nodes)?;
+    Ok(expr)
 }
 
 /// The expression that a text is, of any sort. `days` has the elements and attributes whose values

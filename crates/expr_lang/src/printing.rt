@@ -1,6 +1,6 @@
 //! Expressions as text.
 
-ghost use Rattle.std.specs.Prelude.{◌≡◌, ◌++◌, ◌<◌, ◌≤◌, ◌^◌, ◌+◌, [], if◌then◌else◌, OnOk, IfOk};
+ghost use Rattle.std.specs.Prelude.{◌≡◌, ◌++◌, ◌<◌, ◌≤◌, ◌^◌, ◌+◌, [], if◌then◌else◌, OnOk, IfOk, codes, nat_eq};
 ghost use Rattle.std.specs.Fmt.{decimal};
 ghost use Rattle.expr_lang.specs.Print.{decimals_text, number_text, rate_name_of, more_text, named_text, item_text, leaf_text, unary_level_of, binary_level_of, exponent_text, before_of, behind_of, inner_level_of, opening_of, between_of, closing_of, left_level_of, right_level_of, text_from};
 ghost use Rattle.expr_lang.specs.Shape.{shape_of};
@@ -53,15 +53,20 @@ fn binary_level(binary: Binary) -> u8
     }
 }
 
+fn above_comparisons(own: u8) -> u8
+    ensures { result ≡ (if nat_eq own 3 then 4 else own) }
+{
+    if own == 3 { 4 } else { own }
+}
+
 /// Comparisons form no chains.
 fn left_level(binary: Binary) -> u8
     ensures { result ≡ left_level_of binary }
 {
-    if binary == Binary::DaysBetween {
-        return 0;
+    match binary {
+        Binary::DaysBetween => 0,
+        other => above_comparisons(level(other)),
     }
-    let own = level(binary);
-    if own == 3 { 4 } else { own }
 }
 
 /// Chains group to the left.
@@ -157,21 +162,18 @@ fn put_tree(alloc: Global, out: &mut Vec<u8>, least: u8, tree: &Tree) -> Result<
         Tree::Leaf(leaf) => put_leaf(alloc, out, leaf),
         Tree::Unary(unary, operand) => {
             let inside = unary_level(*unary) < least;
-            put_if(out, inside, b"(")?;
-            put(out, before(*unary))?;
+            put_opening(out, inside, before(*unary))?;
             put_tree(alloc, out, inner_level(*unary), operand)?;
             put_behind(out, *unary)?;
             put_if(out, inside, b")")
         }
         Tree::Binary(binary, left, right) => {
             let inside = binary_level(*binary) < least;
-            put_if(out, inside, b"(")?;
-            put(out, opening(*binary))?;
+            put_opening(out, inside, opening(*binary))?;
             put_tree(alloc, out, left_level(*binary), left)?;
             put(out, between(*binary))?;
             put_tree(alloc, out, right_level(*binary), right)?;
-            put(out, closing(*binary))?;
-            put_if(out, inside, b")")
+            put_closing(out, inside, closing(*binary))
         }
         Tree::If(test, one, other) => {
             put(out, b"if(")?;
@@ -183,6 +185,20 @@ fn put_tree(alloc: Global, out: &mut Vec<u8>, least: u8, tree: &Tree) -> Result<
             put(out, b")")
         }
     }
+}
+
+fn put_opening(out: &mut Vec<u8>, inside: bool, text: &[u8]) -> Result<(), Memory>
+    ensures { OnOk result (out.new.items ≡ out.old.items ++ (if inside then codes "(" else []) ++ text.now) }
+{
+    put_if(out, inside, b"(")?;
+    put(out, text)
+}
+
+fn put_closing(out: &mut Vec<u8>, inside: bool, text: &[u8]) -> Result<(), Memory>
+    ensures { OnOk result (out.new.items ≡ out.old.items ++ text.now ++ (if inside then codes ")" else [])) }
+{
+    put(out, text)?;
+    put_if(out, inside, b")")
 }
 
 fn put_if(out: &mut Vec<u8>, needed: bool, text: &[u8]) -> Result<(), Memory>
@@ -298,6 +314,41 @@ fn rate_name(rate: Rate) -> &'static [u8]
     }
 }
 
+fn put_element(
+    out: &mut Vec<u8>,
+    element: Uid,
+    combo: Option<Uid>,
+    attribute: Option<Uid>,
+) -> Result<(), Memory>
+    ensures { OnOk result (out.new.items ≡ out.old.items ++ codes "#{" ++ element ++ more_text combo ++ more_text attribute ++ codes "}") }
+{
+    put(out, b"#{")?;
+    put_uid(out, element)?;
+    put_more(out, combo)?;
+    put_more(out, attribute)?;
+    put(out, b"}")
+}
+
+fn put_rate(out: &mut Vec<u8>, set: Uid, rate: Rate) -> Result<(), Memory>
+    ensures { OnOk result (out.new.items ≡ out.old.items ++ codes "R{" ++ set ++ codes "." ++ rate_name_of rate ++ codes "}") }
+{
+    put(out, b"R{")?;
+    put_uid(out, set)?;
+    put(out, b".")?;
+    put(out, rate_name(rate))?;
+    put(out, b"}")
+}
+
+fn put_stage_element(out: &mut Vec<u8>, stage: Uid, element: Uid) -> Result<(), Memory>
+    ensures { OnOk result (out.new.items ≡ out.old.items ++ codes "#{" ++ stage ++ codes "." ++ element ++ codes "}") }
+{
+    put(out, b"#{")?;
+    put_uid(out, stage)?;
+    put(out, b".")?;
+    put_uid(out, element)?;
+    put(out, b"}")
+}
+
 #[tactic(auto, unfolding(crate::specs::Print::item_text))]
 fn put_item(out: &mut Vec<u8>, item: &Item) -> Result<(), Memory>
     ensures { OnOk result (out.new.items ≡ out.old.items ++ item_text item.now) }
@@ -307,30 +358,12 @@ fn put_item(out: &mut Vec<u8>, item: &Item) -> Result<(), Memory>
             element,
             combo,
             attribute,
-        } => {
-            put(out, b"#{")?;
-            put_uid(out, *element)?;
-            put_more(out, *combo)?;
-            put_more(out, *attribute)?;
-            put(out, b"}")
-        }
+        } => put_element(out, *element, *combo, *attribute),
         Item::Constant(uid) => put_named(out, b"C{", *uid),
         Item::Group(uid) => put_named(out, b"OUG{", *uid),
         Item::Days => put(out, b"[days]"),
-        Item::Rate { set, rate } => {
-            put(out, b"R{")?;
-            put_uid(out, *set)?;
-            put(out, b".")?;
-            put(out, rate_name(*rate))?;
-            put(out, b"}")
-        }
-        Item::StageElement { stage, element } => {
-            put(out, b"#{")?;
-            put_uid(out, *stage)?;
-            put(out, b".")?;
-            put_uid(out, *element)?;
-            put(out, b"}")
-        }
+        Item::Rate { set, rate } => put_rate(out, *set, *rate),
+        Item::StageElement { stage, element } => put_stage_element(out, *stage, *element),
         Item::Attribute(uid) => put_named(out, b"A{", *uid),
         Item::EventDate => put(out, b"V{event_date}"),
         Item::EnrollmentDate => put(out, b"V{enrollment_date}"),

@@ -1,6 +1,6 @@
 //! Reading a text from left to right.
 
-ghost use Rattle.std.specs.Prelude.{◌≡◌, ◌≤◌, ◌<◌, ◌^◌, length, drop, List, OnOk, MatchResult};
+ghost use Rattle.std.specs.Prelude.{◌≡◌, ◌≤◌, ◌<◌, ◌^◌, length, drop, List, OnOk, IfErr, MatchResult, Err, true};
 ghost use Rattle.expr_lang.specs.Reading.{level_of, node_level, enclosing_of, compares, least_arguments, most_arguments, allow, all_allowed, allowed_in, allowed_after, words_for, allowed_for, takes_number, token_from, binding_of, frames_reduced, nodes_reduced, after_leaf_of, is_count_of, with_leaf, with_sign, with_operator, first_argument, after_open_of, with_open, with_call, is_list_of, counted_of, joined, node_of_call, later_argument, with_comma, with_close, with_quote, with_word, with_exponent, with_token, is_blank_of, blank_count, may_end_in, new_reader, ended, Gives, read_text};
 ghost use Rattle.expr_lang.specs.Reading.{number_found as specs_number_found, exponent_found as specs_exponent_found, word_found as specs_word_found};
 ghost use Rattle.expr_lang.specs.Reading.{most_words as words_limit};
@@ -17,13 +17,13 @@ use dh_base::memory::Memory;
 use std::alloc::Global;
 
 /// A node of a tree, with the place of its first byte, or that of its operator.
-#[derive(Clone, Copy, Debug, PartialEq, Eq)]
+#[derive(Clone, Copy)]
 pub struct Spot {
     pub at: usize,
     pub node: Node,
 }
 
-#[derive(Clone, Copy, Debug, PartialEq, Eq)]
+#[derive(Clone, Copy)]
 pub enum Node {
     /// A number of millionths.
     Number(u64),
@@ -35,7 +35,7 @@ pub enum Node {
 }
 
 /// What has been opened or begun, and waits for more.
-#[derive(Clone, Copy, Debug, PartialEq, Eq)]
+#[derive(Clone, Copy)]
 pub enum Frame {
     /// A sign or an operator, which waits for its last operand.
     Pending(Spot),
@@ -45,7 +45,7 @@ pub enum Frame {
     Call(CallFrame),
 }
 
-#[derive(Clone, Copy, Debug, PartialEq, Eq)]
+#[derive(Clone, Copy)]
 pub struct CallFrame {
     pub at: usize,
     pub call: Call,
@@ -53,7 +53,7 @@ pub struct CallFrame {
 }
 
 /// What may come next.
-#[derive(Clone, Copy, Debug, PartialEq, Eq)]
+#[derive(Clone, Copy)]
 pub enum Expect {
     /// The first operand of the whole text.
     Start,
@@ -81,7 +81,7 @@ pub enum Expect {
 }
 
 /// What was read so far.
-#[derive(Debug, Drop)]
+#[derive(Drop)]
 pub struct Reader {
     pub expect: Expect,
     pub frames: Stack<Frame>,
@@ -95,14 +95,14 @@ pub struct Reader {
     pub quoted: bool,
 }
 
-#[derive(Clone, Copy, Debug, PartialEq, Eq)]
+#[derive(Clone, Copy)]
 pub enum Token {
     Word(Symbol),
     Number(u64),
     Exponent(u8),
 }
 
-#[derive(Clone, Copy, Debug, PartialEq, Eq)]
+#[derive(Clone, Copy)]
 pub struct Found {
     pub token: Token,
     pub len: usize,
@@ -429,7 +429,7 @@ fn put_open(reader: &mut Reader, at: usize) -> Result<(), Memory>
         reader.crowded = Some(at);
     }
     reader.opened += 1;
-    if reader.expect == Expect::Bracket {
+    if matches!(reader.expect, Expect::Bracket) {
         reader.expect = after_open(&reader.frames);
     } else {
         reader.frames.push(Frame::Bracket)?;
@@ -505,7 +505,7 @@ fn put_comma(reader: &mut Reader) -> Result<(), Memory>
     if let Some(Frame::Call(frame)) = reader.frames.pop() {
         join(&mut reader.nodes, frame)?;
         reader.frames.push(Frame::Call(counted(frame)))?;
-        reader.expect = if frame.call == Call::FirstNonNull {
+        reader.expect = if matches!(frame.call, Call::FirstNonNull) {
             Expect::Plain
         } else {
             Expect::Operand
@@ -535,7 +535,7 @@ fn put_close(reader: &mut Reader) -> Result<(), Memory>
 fn put_quote(reader: &mut Reader) -> Result<(), Memory>
     ensures { OnOk result (reader.new ≡ with_quote reader.old) }
 {
-    if reader.expect == Expect::Quote {
+    if matches!(reader.expect, Expect::Quote) {
         reader.frames.push(Frame::Quote)?;
         reader.quoted = true;
         reader.expect = Expect::Operand;
@@ -625,29 +625,37 @@ fn may_end(expect: Expect, frames: &Stack<Frame>) -> bool
 }
 
 /// The nodes of a text, each behind its operands, and the first bracket inside 64 others.
-#[derive(Debug, Drop)]
+#[derive(Drop)]
 pub struct Nodes {
     pub nodes: Items<Spot>,
     pub crowded: Option<usize>,
 }
 
-#[tactic(auto)]
-fn finish(reader: Reader, at: usize) -> Result<Nodes, ReadFault>
-    ensures { Gives result (ended reader at) }
+/// Moves what is pending at the end of a text to the nodes.
+fn settle(reader: &mut Reader, at: usize) -> Result<(), ReadFault>
+    ensures whole { OnOk result (may_end_in reader.old.expect reader.old.frames ≡ true) }
+    ensures cut { IfErr result (λ fault. Gives (Err fault) (ended reader.old at)) }
+    ensures nodes { OnOk result (reader.new.nodes ≡ nodes_reduced 1 reader.old.frames reader.old.nodes) }
+    ensures crowded { reader.new.crowded ≡ reader.old.crowded }
 {
     if !may_end(reader.expect, &reader.frames) {
         return Err(ReadFault::Syntax(at));
     }
-    let Reader {
-        expect: _,
-        mut frames,
-        mut nodes,
-        opened: _,
-        crowded,
-        quoted: _,
-    } = reader;
-    reduce(&mut frames, &mut nodes, 1)?;
-    Ok(Nodes { nodes, crowded })
+    reduce(&mut reader.frames, &mut reader.nodes, 1)?;
+    Ok(())
+}
+
+#[tactic(auto)]
+fn finish(mut reader: Reader, at: usize) -> Result<Nodes, ReadFault>
+    ensures { Gives result (ended reader at) }
+{
+    match settle(&mut reader, at) {
+        Ok(()) => Ok(Nodes {
+            nodes: reader.nodes,
+            crowded: reader.crowded,
+        }),
+        Err(fault) => Err(fault),
+    }
 }
 
 /// The text from a place on.

@@ -7,7 +7,7 @@ use dh_base::memory::Memory;
 use std::alloc::Global;
 use std::marker::Model;
 
-#[derive(Debug, Drop)]
+#[derive(Drop)]
 pub struct Stack<T> {
     entries: Vec<T>,
 }

@@ -13,7 +13,7 @@ use dh_base::uid::Uid;
 use std::alloc::Global;
 
 /// What is known of a whole operand.
-#[derive(Clone, Copy, Debug, PartialEq, Eq)]
+#[derive(Clone, Copy)]
 pub struct Known {
     pub depth: u64,
     pub sort: Sort,

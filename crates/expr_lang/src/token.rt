@@ -7,7 +7,7 @@ use crate::tree::Binary;
 use crate::words::{self, Symbol};
 
 /// Which of the words that may follow an operand are allowed.
-#[derive(Clone, Copy, Debug, PartialEq, Eq)]
+#[derive(Clone, Copy)]
 pub struct Allowed {
     pub caret: bool,
     pub close: bool,
@@ -17,7 +17,7 @@ pub struct Allowed {
 }
 
 /// The longest front of some words with which a text begins, and the word that it is, if it is one.
-#[derive(Clone, Copy, Debug, PartialEq, Eq)]
+#[derive(Clone, Copy)]
 pub struct Front {
     pub len: usize,
     pub symbol: Option<Symbol>,

@@ -4,7 +4,7 @@ use dh_base::plain::Rate;
 use dh_base::uid::Uid;
 
 /// Where an expression stands, which decides on its items and calls.
-#[derive(Clone, Copy, Debug, PartialEq, Eq)]
+#[derive(Clone, Copy)]
 pub enum Place {
     /// In an indicator, a validation rule or a predictor: over aggregate data.
     Aggregate,
@@ -13,7 +13,7 @@ pub enum Place {
 }
 
 /// What a value is.
-#[derive(Clone, Copy, Debug, PartialEq, Eq)]
+#[derive(Clone, Copy)]
 pub enum Sort {
     Number,
     Truth,
@@ -21,7 +21,7 @@ pub enum Sort {
 }
 
 /// A named value.
-#[derive(Clone, Copy, Debug, PartialEq, Eq)]
+#[derive(Clone, Copy, PartialEq, Eq)]
 pub enum Item {
     /// `#{element}`, `#{element.combo}` or `#{element.combo.attribute}`
     Element {
@@ -60,7 +60,7 @@ pub enum Item {
 }
 
 /// An operand.
-#[derive(Clone, Copy, Debug, PartialEq, Eq)]
+#[derive(Clone, Copy)]
 pub enum Leaf {
     /// A number of millionths.
     Number(u64),
@@ -71,7 +71,7 @@ pub enum Leaf {
 }
 
 /// What is done to one value, or to the list of a call's arguments.
-#[derive(Clone, Copy, Debug, PartialEq, Eq)]
+#[derive(Clone, Copy)]
 pub enum Unary {
     /// `-x`
     Negate,
@@ -98,7 +98,7 @@ pub enum Unary {
 }
 
 /// What is done to two values.
-#[derive(Clone, Copy, Debug, PartialEq, Eq)]
+#[derive(Clone, Copy)]
 pub enum Binary {
     Or,
     And,
@@ -120,7 +120,7 @@ pub enum Binary {
 }
 
 /// An expression. Its depth is at most 512.
-#[derive(Debug, Drop)]
+#[derive(Drop)]
 pub enum Tree {
     Leaf(Leaf),
     Unary(Unary, Box<Tree>),

@@ -7,7 +7,7 @@ use crate::tree::{Binary, Place};
 use dh_base::plain::Rate;
 
 /// What a word stands for.
-#[derive(Clone, Copy, Debug, PartialEq, Eq)]
+#[derive(Clone, Copy)]
 pub enum Symbol {
     Open,
     Close,
@@ -22,7 +22,7 @@ pub enum Symbol {
 }
 
 /// The calls, by their names.
-#[derive(Clone, Copy, Debug, PartialEq, Eq)]
+#[derive(Clone, Copy)]
 pub enum Call {
     If,
     /// `d2:condition`, an `if` whose condition is quoted.
@@ -39,7 +39,7 @@ pub enum Call {
 }
 
 /// The forms of items.
-#[derive(Clone, Copy, Debug, PartialEq, Eq)]
+#[derive(Clone, Copy)]
 pub enum ItemForm {
     Element,
     ElementCombo,

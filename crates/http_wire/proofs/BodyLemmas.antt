@@ -5,15 +5,15 @@ use Rattle.std.proofs.lemmas.List.{drop-append-le, take-append-le, length-drop}
 use Rattle.std.proofs.Math.Seq.{drop-append_seam}
 use Rattle.std.proofs.lemmas.Bool.Decides.{nat_tests}
 use Rattle.dh_outside.specs.Pieces.{Gains, IsSpent}
-use Rattle.wire_body.specs.Chunks.{Outcome, open_at, and_on, advanced, stepped, step, frame_limit, run, at_first, chunked}
-use Rattle.wire_body.specs.Chunks as body
-use Rattle.wire_body.specs.declared.chunks.Chunks.{Chunks}
-use Rattle.wire_body.specs.declared.chunks.Step.{Step}
-use Rattle.wire_body.specs.declared.chunks.Step.TheVariants as stepping
-use Rattle.wire_body.specs.Fed.{FedTo}
-use Rattle.wire_body.specs.declared.chunks.Fed.{Fed}
-use Rattle.wire_body.specs.declared.chunks.Fed.TheVariants as feeding
-use Rattle.wire_body.proofs.ChunkLemmas.{run_append}
+use Rattle.http_wire.specs.Chunks.{Outcome, open_at, and_on, advanced, stepped, step, frame_limit, run, at_first, chunked}
+use Rattle.http_wire.specs.Chunks as body
+use Rattle.http_wire.specs.declared.chunks.Chunks.{Chunks}
+use Rattle.http_wire.specs.declared.chunks.Step.{Step}
+use Rattle.http_wire.specs.declared.chunks.Step.TheVariants as stepping
+use Rattle.http_wire.specs.Fed.{FedTo}
+use Rattle.http_wire.specs.declared.chunks.Fed.{Fed}
+use Rattle.http_wire.specs.declared.chunks.Fed.TheVariants as feeding
+use Rattle.http_wire.proofs.ChunkLemmas.{run_append}
 use Rattle.wire_head.specs.declared.plan.Plan.TheVariants.{Sized, Chunked}
 use Rattle.dh_base.specs.declared.codes.Code.TheVariants.{F3}
 use Rattle.wire_head.specs.declared.plan.Plan.{Plan}

@@ -1,3 +1,5 @@
+pub mod ChunkLemmas
+pub mod SizeLemmas
 pub mod BodyLemmas
 pub mod FrontLemmas
 pub mod NextLaws

@@ -6,9 +6,9 @@ use Rattle.std.proofs.lemmas.List.{drop-append-le, take-append-le, length-drop}
 use Rattle.std.proofs.lemmas.Bool.Decides.{nat_tests}
 use Rattle.dh_base.specs.declared.codes.Code.{Code}
 use Rattle.dh_base.specs.declared.codes.Code.TheVariants.{F2}
-use Rattle.wire_body.specs.Chunks.{Outcome, open_at, and_on, run, at_first, chunked}
-use Rattle.wire_body.specs.Chunks as body
-use Rattle.wire_body.proofs.ChunkLemmas.{run_append}
+use Rattle.http_wire.specs.Chunks.{Outcome, open_at, and_on, run, at_first, chunked}
+use Rattle.http_wire.specs.Chunks as body
+use Rattle.http_wire.proofs.ChunkLemmas.{run_append}
 use Rattle.wire_head.specs.Lines.{blank_length, opening_of}
 use Rattle.wire_head.specs.Head.{Says}
 use Rattle.wire_head.specs.declared.head.Head.{Head}

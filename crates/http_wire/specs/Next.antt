@@ -9,8 +9,8 @@ use Rattle.wire_head.specs.declared.lines.Opening.{Opening}
 use Rattle.wire_head.specs.declared.lines.Opening.TheVariants.{Nothing, Unfinished, TooLong, Whole}
 use Rattle.wire_head.specs.declared.plan.Plan.{Plan}
 use Rattle.wire_head.specs.declared.plan.Plan.TheVariants.{Sized, Chunked}
-use Rattle.wire_body.specs.Chunks.{Outcome, open_at, chunked}
-use Rattle.wire_body.specs.Chunks as body
+use Rattle.http_wire.specs.Chunks.{Outcome, open_at, chunked}
+use Rattle.http_wire.specs.Chunks as body
 use Rattle.http_wire.specs.declared.request.Request.{Request}
 
 -- a request of this head and body

@@ -9,9 +9,9 @@ use Rattle.wire_head.specs.Head.{Says}
 use Rattle.wire_head.specs.declared.head.Head.{Head}
 use Rattle.wire_head.specs.declared.lines.Opening.TheVariants.{Nothing, Unfinished, TooLong, Whole}
 use Rattle.wire_head.specs.declared.plan.Plan.{Plan}
-use Rattle.wire_body.specs.Chunks.{chunked}
-use Rattle.wire_body.specs.Chunks as body
-use Rattle.wire_body.specs.declared.chunks.Chunks.{Chunks}
+use Rattle.http_wire.specs.Chunks.{chunked}
+use Rattle.http_wire.specs.Chunks as body
+use Rattle.http_wire.specs.declared.chunks.Chunks.{Chunks}
 use Rattle.http_wire.specs.Next.{Found, ended, cut, refused, whole, complete, waiting, wrong, by_chunks, body_of, behind_head, skipped, IsNext, IsOpen}
 use Rattle.http_wire.specs.declared.request.Request.{Request}
 use Rattle.http_wire.specs.declared.request.WireFault.{WireFault}

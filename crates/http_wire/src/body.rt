@@ -6,12 +6,12 @@ ghost use Rattle.wire_head.specs.declared.plan.Plan.TheVariants.{Sized, Chunked}
 ghost use Rattle.http_wire.specs.Reads.{GivesChunks, ReadsBody, is_stop};
 ghost use Rattle.http_wire.specs.declared.request.WireFault.TheVariants.{ReadFault, Truncated};
 
+use crate::chunks::{Chunks, Fed, feed, start};
 use crate::front::{drop_front, take_more};
 use crate::request::WireFault;
 use dh_base::items::Items;
 use dh_outside::Source;
 use std::alloc::{AllocError, Global};
-use wire_body::chunks::{Chunks, Fed, feed, start};
 use wire_head::plan::Plan;
 
 // Reads on until so many bytes are held behind a place.

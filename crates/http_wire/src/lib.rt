@@ -2,7 +2,9 @@
 #![tactic(auto)]
 
 mod body;
+pub mod chunks;
 mod front;
+pub mod line;
 pub mod reply;
 mod request;
 mod rest;

@@ -9,7 +9,7 @@ use std::alloc::AllocError;
 use wire_head::head::{Head, HeadFault};
 
 /// A request. The texts are bytes as they came.
-#[derive(Debug, Drop)]
+#[derive(Drop)]
 pub struct Request {
     pub method: Items<u8>,
     /// The target up to the first question mark.

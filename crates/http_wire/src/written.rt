@@ -3,7 +3,7 @@ ghost use Rattle.std.specs.Prelude.{◌≡◌, ◌≤◌, take};
 use std::marker::Model;
 
 /// The head of a reply, as its bytes.
-#[derive(Debug, Drop)]
+#[derive(Drop)]
 pub struct Head {
     bytes: [u8; 256],
     len: usize,

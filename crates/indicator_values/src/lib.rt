@@ -6,6 +6,3 @@ mod sides;
 
 pub use arithmetic::CellValue;
 pub use sides::{Sides, indicator_value, sides_of};
-
-#[cfg(test)]
-mod tests;

@@ -4,7 +4,7 @@ ghost use Rattle.std.specs.Prelude.{◌≡◌, ◌<◌, IfOk, map, Option};
 ghost use Rattle.dh_base.specs.Fractions.{Fraction};
 ghost use Rattle.expr_lang.specs.Expr.{items_in};
 ghost use Rattle.expr_lang.specs.declared.tree.Item.{Item};
-ghost use Rattle.meta_model.specs.Linked.{IsLinkedIndicator};
+ghost use Rattle.dh_metadata.specs.Linked.{IsLinkedIndicator};
 ghost use Rattle.meta_parts.specs.declared.held.Records.{Records};
 ghost use Rattle.meta_parts.specs.declared.records.Indicator.{Indicator};
 ghost use Rattle.indicator_values.specs.Value.{AreSides, indicator_value_of, value_over};
@@ -13,14 +13,14 @@ use crate::arithmetic::{CellValue, combine};
 use dh_base::frac::Frac;
 use dh_base::memory::Memory;
 use dh_base::plain::Strategy;
+use dh_metadata::metadata::Metadata;
 use expr_eval::{Postfix, compile, eval};
-use meta_model::metadata::Metadata;
 use meta_parts::records::Indicator;
 use std::alloc::Global;
 
 /// The two sides of an indicator in postfix form, and what their quotient is multiplied by. It is
 /// made once a query.
-#[derive(Debug, Drop)]
+#[derive(Drop)]
 pub struct Sides {
     pub numerator: Postfix,
     pub denominator: Postfix,

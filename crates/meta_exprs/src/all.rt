@@ -20,7 +20,7 @@ use meta_parts::records::{
 use std::alloc::Global;
 
 /// The references of the objects that have expressions.
-#[derive(Debug, Drop)]
+#[derive(Drop)]
 pub struct Unread {
     pub indicators: Items<IndicatorLinks>,
     pub validation_rules: Items<Sharing>,
@@ -28,7 +28,7 @@ pub struct Unread {
 }
 
 /// The objects that have expressions.
-#[derive(Debug, Drop)]
+#[derive(Drop)]
 pub struct Expressions {
     pub indicators: Items<Indicator>,
     pub validation_rules: Items<Rule>,

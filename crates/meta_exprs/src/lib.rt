@@ -12,6 +12,4 @@ pub mod program_indicators;
 pub mod read;
 pub mod rules;
 pub mod stages;
-#[cfg(test)]
-mod tests;
 pub mod waiting;

@@ -3,8 +3,8 @@ use Rattle.std.specs.Prelude.{ℕ, ℤ, List, Option, Some, None, option_map, op
 use Rattle.std.specs.Option.{unwrap_or}
 use Rattle.serde_json.specs.Data.{Data}
 use Rattle.serde_json.specs.Find.{as_str, as_number, as_i64}
-use Rattle.json_forms.specs.Forms.{Formed, and_then, or_fault, text_of, field_of, field_or_of, optional_of, listed_of}
-use Rattle.json_forms.specs.Reference.{reference_of}
+use Rattle.json_read.specs.Forms.{Formed, and_then, or_fault, text_of, field_of, field_or_of, optional_of, listed_of}
+use Rattle.json_read.specs.Reference.{reference_of}
 
 -- the name of an object, by default its identifier
 unfoldable pub name_of : List ℕ → Data → Formed (List ℕ)

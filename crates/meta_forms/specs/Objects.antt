@@ -3,10 +3,10 @@ use Rattle.std.specs.Prelude.{◌≡◌, ℕ, ◌+◌, List, [], ◌∷◌, Opti
 use Rattle.std.specs.Fmt.{decimal}
 use Rattle.serde_json.specs.Data.{Data, Items, no_items, item}
 use Rattle.serde_json.specs.Find.{get, as_array}
-use Rattle.json_forms.specs.Forms as forms
-use Rattle.json_forms.specs.Forms.{Formed, and_then, at_step, or_fault, found_of, field_of, identifier_of}
-use Rattle.json_forms.specs.declared.fault.FormFault.{FormFault}
-use Rattle.json_forms.specs.declared.fault.FormFault.TheVariants as fault
+use Rattle.json_read.specs.Forms as forms
+use Rattle.json_read.specs.Forms.{Formed, and_then, at_step, or_fault, found_of, field_of, identifier_of}
+use Rattle.json_read.specs.declared.fault.FormFault.{FormFault}
+use Rattle.json_read.specs.declared.fault.FormFault.TheVariants as fault
 use Rattle.meta_parts.specs.BuiltIn.{is_built_in}
 
 -- the number of a place, or that memory was wanting

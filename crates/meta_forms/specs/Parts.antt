@@ -1,7 +1,7 @@
 -- All that a metadata file says: its keys in their order, an absent one without objects.
 use Rattle.std.specs.Prelude.{codes, Ok}
 use Rattle.serde_json.specs.Data.{Data}
-use Rattle.json_forms.specs.Forms.{Formed, and_then, object_of}
+use Rattle.json_read.specs.Forms.{Formed, and_then, object_of}
 use Rattle.meta_parts.specs.declared.parts.MetaParts.{MetaParts}
 use Rattle.meta_forms.specs.Objects.{objects_at}
 use Rattle.meta_forms.specs.Entries.{tokens_of, acceptance_of}

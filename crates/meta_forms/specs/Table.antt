@@ -3,7 +3,7 @@ use Rattle.std.specs.Prelude.{ℕ, pos, negsuc, false, List, codes, Ok}
 use Rattle.serde_json.specs.Data.{Data}
 use Rattle.dh_base.specs.declared.plain.AggType.TheVariants as aggregation
 use Rattle.dh_periods.specs.Types.{type_named}
-use Rattle.json_forms.specs.Forms.{Formed, and_then, text_of, truth_of, field_of, field_or_of, optional_of, listed_of}
+use Rattle.json_read.specs.Forms.{Formed, and_then, text_of, truth_of, field_of, field_or_of, optional_of, listed_of}
 use Rattle.meta_parts.specs.BuiltIn.{default_combo}
 use Rattle.meta_parts.specs.Names.{value_type_named, aggregation_named, operator_named, program_type_named, analytics_type_named}
 use Rattle.meta_parts.specs.declared.names.ValueType.TheVariants as value_type

@@ -1,7 +1,7 @@
 //! Data elements, approval, and data sets.
 
-ghost use Rattle.json_data.specs.Views.{data_of};
-ghost use Rattle.json_forms.specs.Given.{Gives};
+ghost use Rattle.json_read.specs.Views.{data_of};
+ghost use Rattle.json_read.specs.Given.{Gives};
 ghost use Rattle.meta_forms.specs.Table.{element_values_of, set_content_of, set_rules_of};
 
 use crate::entry::set_elements;
@@ -14,8 +14,8 @@ use dh_base::plain::AggType;
 use dh_base::uid::Uid;
 use dh_periods::PeriodType;
 use json::Value;
-use json_forms::fault::FormFault;
-use json_forms::form::field_or;
+use json_read::fault::FormFault;
+use json_read::form::field_or;
 use meta_parts::built_in::default_combo;
 use meta_parts::names::ValueType;
 use meta_parts::raw::{RawApprovalLevel, RawDataSet, RawElement, RawWorkflow};

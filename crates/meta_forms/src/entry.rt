@@ -4,9 +4,9 @@
 ghost use Rattle.std.specs.Prelude.{◌≡◌, ℕ, ℤ, IfOk, codes, map, option_map};
 ghost use Rattle.std.specs.Fmt.{signed_decimal};
 ghost use Rattle.std.specs.List.{list_all};
-ghost use Rattle.json_data.specs.Views.{data_of};
-ghost use Rattle.json_forms.specs.Forms.{text_of, listed_of, field_or_of};
-ghost use Rattle.json_forms.specs.Given.{Gives};
+ghost use Rattle.json_read.specs.Views.{data_of};
+ghost use Rattle.json_read.specs.Forms.{text_of, listed_of, field_or_of};
+ghost use Rattle.json_read.specs.Given.{Gives};
 ghost use Rattle.dh_base.specs.Decimals.{decimal_of};
 ghost use Rattle.meta_forms.specs.Entries.{is_visible, is_token, token_in, constant_of, acceptance_of, set_elements_of, attributes_of, stage_elements_of, side_of, tokens_of};
 
@@ -18,9 +18,9 @@ use dh_base::items::Items;
 use dh_base::plain::Strategy;
 use dh_base::uid::Uid;
 use json::Value;
-use json_data::look::{integer, text};
-use json_forms::fault::FormFault;
-use json_forms::form::{ReadJson, field, field_or, listed, require_object};
+use json_read::fault::FormFault;
+use json_read::form::{ReadJson, field, field_or, listed, require_object};
+use json_read::look::{integer, text};
 use std::alloc::{AllocError, Global};
 
 /// An element of a data set, and the category combination that is named beside it.

@@ -1,19 +1,19 @@
 //! Fields of objects: names of objects, references, whole numbers.
 
 ghost use Rattle.std.specs.Prelude.{◌≡◌, ℤ, IfOk, map};
-ghost use Rattle.json_data.specs.Views.{data_of};
-ghost use Rattle.json_forms.specs.Forms.{field_of, field_or_of};
-ghost use Rattle.json_forms.specs.Given.{Gives};
+ghost use Rattle.json_read.specs.Views.{data_of};
+ghost use Rattle.json_read.specs.Forms.{field_of, field_or_of};
+ghost use Rattle.json_read.specs.Given.{Gives};
 ghost use Rattle.meta_forms.specs.Fields.{name_of, reference_at, reference_or_at, optional_reference_at, references_at, whole_within, whole_of};
 
 use crate::path::{at_key, found_at};
 use dh_base::items::Items;
 use dh_base::uid::Uid;
 use json::Value;
-use json_data::look::{integer, member};
-use json_forms::fault::FormFault;
-use json_forms::form::{field, field_or, listed, optional};
-use json_forms::reference::Reference;
+use json_read::fault::FormFault;
+use json_read::form::{field, field_or, listed, optional};
+use json_read::look::{integer, member};
+use json_read::reference::Reference;
 use std::alloc::{AllocError, Global};
 
 /// The name of an object, which by default is its identifier.

@@ -1,7 +1,7 @@
 //! Constants, indicators and validation rules.
 
-ghost use Rattle.json_data.specs.Views.{data_of};
-ghost use Rattle.json_forms.specs.Given.{Gives};
+ghost use Rattle.json_read.specs.Views.{data_of};
+ghost use Rattle.json_read.specs.Given.{Gives};
 ghost use Rattle.meta_forms.specs.Table.{ratio_of, comparison_of};
 
 use crate::entry::{ConstantValue, rule_side};
@@ -14,8 +14,8 @@ use dh_base::plain::Strategy;
 use dh_base::uid::Uid;
 use dh_periods::PeriodType;
 use json::Value;
-use json_forms::fault::FormFault;
-use json_forms::form::{field, field_or};
+use json_read::fault::FormFault;
+use json_read::form::{field, field_or};
 use meta_parts::names::Operator;
 use meta_parts::raw::{RawConstant, RawIndicator, RawIndicatorType, RawRule};
 use std::alloc::Global;

@@ -13,6 +13,4 @@ mod path;
 mod people;
 mod sharing;
 mod structure;
-#[cfg(test)]
-mod tests;
 mod tracking;

@@ -1,10 +1,10 @@
 //! Fields whose texts are names of a table.
 
 ghost use Rattle.std.specs.Prelude.{◌≡◌, ℕ, List, Option, option_and_then, option_map};
-ghost use Rattle.json_data.specs.Views.{data_of};
+ghost use Rattle.json_read.specs.Views.{data_of};
 ghost use Rattle.serde_json.specs.Find.{as_str};
-ghost use Rattle.json_forms.specs.Forms.{field_of, field_or_of};
-ghost use Rattle.json_forms.specs.Given.{Gives};
+ghost use Rattle.json_read.specs.Forms.{field_of, field_or_of};
+ghost use Rattle.json_read.specs.Given.{Gives};
 ghost use Rattle.meta_forms.specs.Fields.{named_in, name_of_table, listed_or, name_or_other};
 
 use crate::path::{at_key, found_at};
@@ -12,8 +12,8 @@ use dh_base::plain::{AggType, Strategy};
 use dh_periods::PeriodType;
 use dh_sharing::access::Access;
 use json::Value;
-use json_data::look::{member, text};
-use json_forms::fault::FormFault;
+use json_read::fault::FormFault;
+use json_read::look::{member, text};
 use meta_parts::names::{
     AnalyticsType, Operator, ProgramType, ValueType, aggregation_named, analytics_type_named,
     operator_named, program_type_named, strategy_named, value_type_named,

@@ -3,18 +3,18 @@
 ghost use Rattle.std.specs.Prelude.{◌≡◌, ℕ, ◌+◌, ◌<◌, ◌^◌, List, [], ◌∷◌, ◌++◌, Option, Result, Ok, Err, IfOk, map, drop};
 ghost use Rattle.std.specs.Fmt.{decimal};
 ghost use Rattle.serde_json.specs.Data.{Data};
-ghost use Rattle.json_data.specs.Views.{data_of, items_data};
-ghost use Rattle.json_forms.specs.Forms.{at_step, field_or_of};
-ghost use Rattle.json_forms.specs.Given.{Gives};
+ghost use Rattle.json_read.specs.Views.{data_of, items_data};
+ghost use Rattle.json_read.specs.Forms.{at_step, field_or_of};
+ghost use Rattle.json_read.specs.Given.{Gives};
 ghost use Rattle.meta_forms.specs.Objects.{IsPlace, object_of, objects_of, list_of, objects_at};
 
 use crate::path::{here, seen_from};
 use dh_base::items::Items;
 use dh_base::uid::Uid;
 use json::Value;
-use json_data::look::{items, member};
-use json_forms::fault::FormFault;
-use json_forms::form::{field, require_object};
+use json_read::fault::FormFault;
+use json_read::form::{field, require_object};
+use json_read::look::{items, member};
 use meta_parts::built_in::is_built_in;
 use std::alloc::{AllocError, Global};
 

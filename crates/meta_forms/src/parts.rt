@@ -1,8 +1,8 @@
 //! All that a metadata file says.
 
 ghost use Rattle.std.specs.Prelude.{◌≡◌};
-ghost use Rattle.json_data.specs.Views.{data_of};
-ghost use Rattle.json_forms.specs.Given.{Gives};
+ghost use Rattle.json_read.specs.Views.{data_of};
+ghost use Rattle.json_read.specs.Given.{Gives};
 ghost use Rattle.meta_forms.specs.Parts.{hierarchy_of, elements_of, sets_of, indicators_of, programs_of, users_of, aggregate_of, tracked_of, joined, parts_of};
 
 use crate::entry::{acceptance_required, tokens};
@@ -10,8 +10,8 @@ use crate::object::objects;
 use dh_base::items::Items;
 use dh_base::uid::Uid;
 use json::Value;
-use json_forms::fault::FormFault;
-use json_forms::form::require_object;
+use json_read::fault::FormFault;
+use json_read::form::require_object;
 use meta_parts::parts::MetaParts;
 use meta_parts::raw::{
     RawApprovalLevel, RawAttribute, RawCategory, RawCategoryCombo, RawCategoryOption, RawConstant,

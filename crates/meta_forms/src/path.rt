@@ -1,11 +1,11 @@
 //! Faults as they are seen from before a key or a place.
 
 ghost use Rattle.std.specs.Prelude.{◌≡◌, [], Ok, Err, IfOk};
-ghost use Rattle.json_forms.specs.Forms.{behind, at_step, or_fault};
-ghost use Rattle.json_forms.specs.Given.{Gives, IsSeenFrom, IsAt};
+ghost use Rattle.json_read.specs.Forms.{behind, at_step, or_fault};
+ghost use Rattle.json_read.specs.Given.{Gives, IsSeenFrom, IsAt};
 
 use dh_base::items::Items;
-use json_forms::fault::FormFault;
+use json_read::fault::FormFault;
 use std::alloc::{AllocError, Global};
 
 /// The fault of data that as a whole isn't in its form.

@@ -1,7 +1,7 @@
 //! Users, their roles and groups.
 
-ghost use Rattle.json_data.specs.Views.{data_of};
-ghost use Rattle.json_forms.specs.Given.{Gives};
+ghost use Rattle.json_read.specs.Views.{data_of};
+ghost use Rattle.json_read.specs.Given.{Gives};
 ghost use Rattle.meta_forms.specs.Table.{user_units_of};
 
 use crate::field::{name, references};
@@ -9,8 +9,8 @@ use crate::object::ReadObject;
 use dh_base::items::Items;
 use dh_base::uid::Uid;
 use json::Value;
-use json_forms::fault::FormFault;
-use json_forms::form::listed;
+use json_read::fault::FormFault;
+use json_read::form::listed;
 use meta_parts::raw::{RawRole, RawUser, RawUserGroup};
 use std::alloc::Global;
 

@@ -1,9 +1,9 @@
 //! How objects are shared.
 
 ghost use Rattle.std.specs.Prelude.{◌≡◌, IfOk, codes};
-ghost use Rattle.json_data.specs.Views.{data_of, members_data};
-ghost use Rattle.json_forms.specs.Forms.{at_step};
-ghost use Rattle.json_forms.specs.Given.{Gives};
+ghost use Rattle.json_read.specs.Views.{data_of, members_data};
+ghost use Rattle.json_read.specs.Forms.{at_step};
+ghost use Rattle.json_read.specs.Given.{Gives};
 ghost use Rattle.meta_forms.specs.Sharing.{open_access, open_sharing, member_of, step_of, members_of, members_in, members_at, sharing_fields_of, sharing_form, sharing_of};
 
 use crate::named::{named_at, named_or};
@@ -12,9 +12,9 @@ use dh_base::items::Items;
 use dh_base::uid::Uid;
 use dh_sharing::access::Access;
 use json::Value;
-use json_data::look::{self, member};
-use json_forms::fault::FormFault;
-use json_forms::form::{field, optional, require_object};
+use json_read::fault::FormFault;
+use json_read::form::{field, optional, require_object};
+use json_read::look::{self, member};
 use meta_parts::raw::RawSharing;
 use std::alloc::{AllocError, Global};
 use std::collections::BTreeMap;

@@ -5,7 +5,7 @@ use crate::object::ReadObject;
 use crate::sharing::sharing;
 use dh_base::uid::Uid;
 use json::Value;
-use json_forms::fault::FormFault;
+use json_read::fault::FormFault;
 use meta_parts::raw::{
     RawCategory, RawCategoryCombo, RawCategoryOption, RawOptionCombo, RawUnit, RawUnitGroup,
 };

@@ -1,7 +1,7 @@
 //! Tracked entities and programs.
 
-ghost use Rattle.json_data.specs.Views.{data_of};
-ghost use Rattle.json_forms.specs.Given.{Gives};
+ghost use Rattle.json_read.specs.Views.{data_of};
+ghost use Rattle.json_read.specs.Given.{Gives};
 ghost use Rattle.meta_forms.specs.Table.{subject_of, formula_of, figure_of};
 
 use crate::entry::{attributes, stage_elements};
@@ -13,8 +13,8 @@ use dh_base::items::Items;
 use dh_base::plain::AggType;
 use dh_base::uid::Uid;
 use json::Value;
-use json_forms::fault::FormFault;
-use json_forms::form::{field, optional};
+use json_read::fault::FormFault;
+use json_read::form::{field, optional};
 use meta_parts::names::{AnalyticsType, ProgramType, ValueType};
 use meta_parts::raw::{RawAttribute, RawEntityType, RawProgram, RawProgramIndicator, RawStage};
 use std::alloc::Global;

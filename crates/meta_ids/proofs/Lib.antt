@@ -1,3 +1,5 @@
+pub mod PlacesLemmas
+pub mod DistinctLemmas
 pub mod CutLemmas
 pub mod PlaceLemmas
 pub mod TokenLemmas

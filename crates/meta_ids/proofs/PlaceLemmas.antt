@@ -5,8 +5,8 @@ use Rattle.std.specs.List.{position_from, list_any}
 use Rattle.std.specs.Cmp.Lexicographic.{same_text}
 use Rattle.std.proofs.lemmas.Bool.{cases_lt, lt-leb, le-leb, lt-ltb, le-ltb, and_from, and_right}
 use Rattle.std.proofs.lemmas.List.{get_or-drop, length-drop}
-use Rattle.uid_index.specs.Places.{same_id, place_of, repeat_of, repeat_behind}
-use Rattle.uid_index.proofs.DistinctLemmas.{repeat_of-differ, position_from-below}
+use Rattle.meta_ids.specs.Places.{same_id, place_of, repeat_of, repeat_behind}
+use Rattle.meta_ids.proofs.DistinctLemmas.{repeat_of-differ, position_from-below}
 use Rattle.meta_ids.specs.Cut.{piece, cut, in_piece, AreKinds}
 use Rattle.meta_parts.specs.declared.parts.MetaParts.{MetaParts}
 use Rattle.meta_ids.specs.Ids.{ids_of}

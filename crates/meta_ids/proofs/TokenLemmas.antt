@@ -1,7 +1,7 @@
 -- Tokens of which one stands earlier too.
 use Rattle.std.proofs.Common.{◌≡◌, ◌∙◌, ◌+◌, ◌<◌, ℕ, Bool, true, false, not, cond, List, [], ◌∷◌, ◌++◌, length, get_or, map, take, drop, Option, Some, refl, sym, ap}
 use Rattle.std.proofs.lemmas.List.{map_more, drop_more}
-use Rattle.uid_index.specs.Places.{is_one_of}
+use Rattle.meta_ids.specs.Places.{is_one_of}
 use Rattle.meta_ids.specs.Ids.{user_behind}
 
 pub was_there : (new old : Bool) → new ≡ not old → new ≡ false → old ≡ true

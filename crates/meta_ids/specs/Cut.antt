@@ -1,6 +1,6 @@
 -- A list cut into lists that stand one behind the other.
 use Rattle.std.specs.Prelude.{◌≡◌, ℕ, ◌-◌, ◌≤◌, ◌<◌, ◌^◌, ◌&&◌, cond, nat_le, nat_lt, List, [], ◌∷◌, take, drop, length, Option, None, Some}
-use Rattle.uid_index.specs.Places.{repeat_of}
+use Rattle.meta_ids.specs.Places.{repeat_of}
 
 -- from one place up to another
 abbrev pub piece : {A : Type 0} → ℕ → ℕ → List A → List A

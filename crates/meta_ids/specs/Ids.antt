@@ -2,7 +2,7 @@
 use Rattle.std.specs.Prelude.{ℕ, List, [], ◌∷◌, ◌++◌, cond, map, get_or, Option, None, Some, option_map}
 use Rattle.std.specs.Option.{option_or}
 use Rattle.std.specs.List.{flat_map}
-use Rattle.uid_index.specs.Places.{repeat_of, is_one_of}
+use Rattle.meta_ids.specs.Places.{repeat_of, is_one_of}
 use Rattle.meta_parts.specs.BuiltIn.{default_combo, default_option_combo}
 use Rattle.meta_parts.specs.declared.parts.MetaParts.{MetaParts}
 use Rattle.meta_parts.specs.declared.kind.Kind.{Kind}

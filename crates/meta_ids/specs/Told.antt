@@ -1,9 +1,9 @@
 -- What making the identifiers of a file answers.
 use Rattle.std.specs.Prelude.{◌≡◌, ℕ, List, Option, None, Some, Result, Ok, Err, ⊤}
 use Rattle.meta_parts.specs.declared.parts.MetaParts.{MetaParts}
-use Rattle.uid_index.specs.Places.{repeat_of}
-use Rattle.uid_index.specs.declared.IndexFault.{IndexFault}
-use Rattle.uid_index.specs.declared.IndexFault.TheVariants as index
+use Rattle.meta_ids.specs.Places.{repeat_of}
+use Rattle.meta_ids.specs.declared.index.IndexFault.{IndexFault}
+use Rattle.meta_ids.specs.declared.index.IndexFault.TheVariants as index
 use Rattle.meta_ids.specs.Ids.{ids_of, joined, all_ids, repeated, twice_of}
 use Rattle.meta_ids.specs.declared.fault.IdsFault.{IdsFault}
 use Rattle.meta_ids.specs.declared.fault.IdsFault.TheVariants as fault

@@ -6,7 +6,7 @@ use dh_base::uid::Uid;
 use std::alloc::{AllocError, AllocFailed};
 
 /// Why the identifiers of a file weren't numbered.
-#[derive(Clone, Copy, Debug, Drop, PartialEq, Eq)]
+#[derive(Clone, Copy, Drop, PartialEq, Eq)]
 pub enum IdsFault {
     /// The first object, of whatever kind, that has the identifier of one before it. Where there is none: the
     /// user of the first token that is one of those before it.

@@ -1,5 +1,5 @@
 ghost use Rattle.std.specs.Prelude.{◌≡◌, ◌<◌, ◌^◌, ℕ, List, [], ◌∷◌, length, get_or, None, Some, IfOk, vec_len};
-ghost use Rattle.uid_index.specs.Places.{place_of, repeat_of};
+ghost use Rattle.meta_ids.specs.Places.{place_of, repeat_of};
 ghost use Rattle.meta_ids.specs.Ids.{ids_at, all_ids, kind_place};
 ghost use Rattle.meta_ids.specs.Cut.{cut, AreEnds, AreKinds, in_piece};
 ghost use Rattle.meta_ids.specs.Told.{Numbers, Differs, Indexes};
@@ -8,13 +8,13 @@ use crate::fault::IdsFault;
 use crate::gather::lists_of;
 use crate::lists::Lists;
 use crate::tokens::user_of_repeated;
+use crate::{IndexFault, UidIndex};
 use dh_base::memory::Memory;
 use dh_base::uid::Uid;
 use meta_parts::kind::Kind;
 use meta_parts::parts::MetaParts;
 use std::alloc::Global;
 use std::marker::Model;
-use uid_index::{IndexFault, UidIndex};
 
 /// The identifiers of the objects of each kind by number, all different. Contracts see the lists in
 /// the order of the kinds.

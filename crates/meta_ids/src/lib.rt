@@ -5,8 +5,11 @@
 pub mod fault;
 mod gather;
 pub mod has_id;
+mod id_set;
 pub mod ids;
+mod index;
 mod lists;
-#[cfg(test)]
-mod tests;
 mod tokens;
+
+pub use id_set::UidSet;
+pub use index::{IndexFault, UidIndex};

@@ -1,5 +1,5 @@
 -- All kinds of objects, by their groups.
-use Rattle.std.proofs.Common.{◌≡◌, ◌∙◌, ℕ, List, [], ◌∷◌, ◌++◌, map, Option, None, Some, refl, sym, ap}
+use Rattle.std.proofs.Common.{◌≡◌, ◌∙◌, ℕ, List, [], ◌∷◌, ◌++◌, map, Option, None, Some, Result, Ok, IfOk, OnOk, refl, sym, ap, subst}
 use Rattle.std.specs.List.{flat_map}
 use Rattle.meta_parts.specs.declared.parts.MetaParts.{MetaParts}
 use Rattle.meta_parts.specs.declared.held.Links.{Links}
@@ -96,3 +96,10 @@ links_made ids parts units combos sets rules programs users tokens is_units is_c
     ∙ ap (λ (x : ProgramLinks). assembled (units_held ids parts) (combos_held ids parts) (sets_held ids parts) (rules_held ids parts) x users tokens) is_programs
     ∙ ap (λ (x : UserLinks). assembled (units_held ids parts) (combos_held ids parts) (sets_held ids parts) (rules_held ids parts) (programs_held ids parts) x tokens) is_users
     ∙ ap (λ (x : List (List ℕ × ℕ)). assembled (units_held ids parts) (combos_held ids parts) (sets_held ids parts) (rules_held ids parts) (programs_held ids parts) (users_held ids parts) x) is_tokens
+
+-- what holds of a call's value and what it told, where the value was made
+pub held_by : {A E : Type 0} (Q : A → Type 0) (r : Result A E) (x : A) → r ≡ Ok x → IfOk r Q → Q x
+held_by Q r x is held = subst (λ s. IfOk s Q) is held
+
+pub told_by : {A E : Type 0} (P : Type 0) (r : Result A E) (x : A) → r ≡ Ok x → OnOk r P → P
+told_by P r x is told = subst (λ s. OnOk s P) is told

@@ -2,7 +2,7 @@
 use Rattle.std.specs.Prelude.{ℕ, ◌+◌, Bool, List, [], ◌∷◌, ◌++◌, cond, is_some, Option, None, Some}
 use Rattle.std.specs.Option.{unwrap_or}
 use Rattle.std.specs.Fmt.{decimal}
-use Rattle.uid_index.specs.Places.{place_of}
+use Rattle.meta_ids.specs.Places.{place_of}
 use Rattle.meta_parts.specs.Keys.{key_of}
 use Rattle.meta_parts.specs.declared.kind.Kind.{Kind}
 use Rattle.meta_ids.specs.Ids.{ids_at}

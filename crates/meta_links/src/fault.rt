@@ -7,7 +7,7 @@ use dh_base::uid::Uid;
 use std::alloc::{AllocError, AllocFailed};
 
 /// Why references weren't linked.
-#[derive(Debug, Drop, PartialEq, Eq)]
+#[derive(Drop, PartialEq, Eq)]
 pub enum LinkFault {
     /// The first reference that names no object of its kind, with its path in the file.
     Unknown { uid: Uid, path: Items<u8> },

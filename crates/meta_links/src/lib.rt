@@ -2,6 +2,7 @@
 //! first that names no object is told with its path in the file.
 #![tactic(auto)]
 
+mod both;
 mod built_in;
 mod copies;
 pub mod fault;

@@ -1,6 +1,7 @@
 ghost use Rattle.std.specs.Prelude.{◌≡◌, ◌++◌, IfOk, OnOk};
 ghost use Rattle.meta_links.specs.Told.{Gives};
 
+use crate::both::both;
 use crate::fault::LinkFault;
 use crate::groups::{link_combos, link_programs, link_rules, link_sets, link_units, link_users};
 use crate::tokens::link_tokens;
@@ -20,7 +21,10 @@ pub fn link(alloc: Global, ids: &Ids, parts: &MetaParts) -> Result<Links, LinkFa
     let links = look_up(alloc, ids, &mut unknown, parts)?;
     match unknown.into_first() {
         None => Ok(links),
-        Some((uid, path)) => Err(LinkFault::Unknown { uid, path }),
+        Some((uid, path)) => {
+            drop(links);
+            Err(LinkFault::Unknown { uid, path })
+        }
     }
 }
 
@@ -38,12 +42,13 @@ fn look_up(
     ensures told { OnOk result (unknown.new ≡ after ids.now unknown.old (references parts.now)) }
 {
     let units = link_units(alloc, ids, unknown, parts)?;
-    let combos = link_combos(alloc, ids, unknown, parts)?;
-    let sets = link_sets(alloc, ids, unknown, parts)?;
-    let rules = link_rules(alloc, ids, unknown, parts)?;
-    let programs = link_programs(alloc, ids, unknown, parts)?;
-    let users = link_users(alloc, ids, unknown, parts)?;
-    let api_tokens = link_tokens(alloc, ids, unknown, &parts.api_tokens)?;
+    let two = both(units, link_combos(alloc, ids, unknown, parts))?;
+    let three = both(two, link_sets(alloc, ids, unknown, parts))?;
+    let four = both(three, link_rules(alloc, ids, unknown, parts))?;
+    let five = both(four, link_programs(alloc, ids, unknown, parts))?;
+    let six = both(five, link_users(alloc, ids, unknown, parts))?;
+    let all = both(six, link_tokens(alloc, ids, unknown, &parts.api_tokens))?;
+    let ((((((units, combos), sets), rules), programs), users), api_tokens) = all;
     Ok(Links {
         organisation_units: units.organisation_units,
         organisation_unit_groups: units.organisation_unit_groups,

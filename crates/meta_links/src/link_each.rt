@@ -10,7 +10,7 @@ use meta_ids::ids::Ids;
 use std::alloc::Global;
 
 /// An object whose references are looked up.
-pub trait Link: Drop {
+pub trait Link {
     /// The object as it is held.
     type Held: Drop;
 

@@ -10,7 +10,7 @@ use dh_sharing::rule::Sharing;
 
 /// All objects with their references, where the expressions of indicators, validation rules and
 /// program indicators are not read yet.
-#[derive(Debug, Drop)]
+#[derive(Drop)]
 pub struct Links {
     pub organisation_units: Items<Unit>,
     pub organisation_unit_groups: Items<UnitGroup>,
@@ -39,7 +39,7 @@ pub struct Links {
 }
 
 /// All objects as they are held, in the order of the file, a built-in object before those of its kind.
-#[derive(Debug, Drop)]
+#[derive(Drop)]
 pub struct Records {
     pub organisation_units: Items<Unit>,
     pub organisation_unit_groups: Items<UnitGroup>,

@@ -1,7 +1,7 @@
 //! The kinds of metadata objects.
 
 /// The kinds of metadata objects, in the order in which their keys are tried.
-#[derive(Clone, Copy, Debug, PartialEq, Eq, PartialOrd, Ord, Hash)]
+#[derive(Clone, Copy, PartialEq, Eq)]
 pub enum Kind {
     OrganisationUnit,
     OrganisationUnitGroup,

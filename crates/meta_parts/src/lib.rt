@@ -9,5 +9,3 @@ pub mod names;
 pub mod parts;
 pub mod raw;
 pub mod records;
-#[cfg(test)]
-mod tests;

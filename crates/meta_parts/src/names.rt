@@ -6,7 +6,7 @@ ghost use Rattle.meta_parts.specs.Names.{value_type_name, value_type_named, oper
 use dh_base::plain::{AggType, Strategy};
 
 /// A value type of data elements and attributes.
-#[derive(Clone, Copy, Debug, PartialEq, Eq, PartialOrd, Ord, Hash)]
+#[derive(Clone, Copy, PartialEq, Eq)]
 pub enum ValueType {
     /// `NUMBER`
     Number,
@@ -33,7 +33,7 @@ pub enum ValueType {
 }
 
 /// How the sides of a validation rule have to compare.
-#[derive(Clone, Copy, Debug, PartialEq, Eq, PartialOrd, Ord, Hash)]
+#[derive(Clone, Copy, PartialEq, Eq)]
 pub enum Operator {
     /// `equal_to`
     EqualTo,
@@ -54,7 +54,7 @@ pub enum Operator {
 }
 
 /// Whether the events of a program hang on enrollments.
-#[derive(Clone, Copy, Debug, PartialEq, Eq, PartialOrd, Ord, Hash)]
+#[derive(Clone, Copy, PartialEq, Eq)]
 pub enum ProgramType {
     /// `WITH_REGISTRATION`
     WithRegistration,
@@ -63,7 +63,7 @@ pub enum ProgramType {
 }
 
 /// What a program indicator runs over.
-#[derive(Clone, Copy, Debug, PartialEq, Eq, PartialOrd, Ord, Hash)]
+#[derive(Clone, Copy, PartialEq, Eq)]
 pub enum AnalyticsType {
     /// `EVENT`
     Event,

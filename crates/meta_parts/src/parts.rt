@@ -10,7 +10,7 @@ use dh_base::items::Items;
 use dh_base::uid::Uid;
 
 /// All that a metadata file says, without the built-in objects and those that were passed over.
-#[derive(Debug, Drop)]
+#[derive(Drop)]
 pub struct MetaParts {
     pub organisation_units: Items<RawUnit>,
     pub organisation_unit_groups: Items<RawUnitGroup>,

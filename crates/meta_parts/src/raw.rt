@@ -11,7 +11,7 @@ use dh_periods::PeriodType;
 use dh_sharing::access::Access;
 
 /// How an object is shared. An entry has its key in the file first.
-#[derive(Debug, Drop)]
+#[derive(Drop)]
 pub struct RawSharing {
     pub owner: Option<Uid>,
     pub public: Access,
@@ -20,7 +20,7 @@ pub struct RawSharing {
 }
 
 /// An organisation unit.
-#[derive(Debug, Drop)]
+#[derive(Drop)]
 pub struct RawUnit {
     pub place: u32,
     pub id: Uid,
@@ -29,7 +29,7 @@ pub struct RawUnit {
 }
 
 /// A group of organisation units.
-#[derive(Debug, Drop)]
+#[derive(Drop)]
 pub struct RawUnitGroup {
     pub place: u32,
     pub id: Uid,
@@ -38,7 +38,7 @@ pub struct RawUnitGroup {
 }
 
 /// A category option.
-#[derive(Debug, Drop)]
+#[derive(Drop)]
 pub struct RawCategoryOption {
     pub place: u32,
     pub id: Uid,
@@ -47,7 +47,7 @@ pub struct RawCategoryOption {
 }
 
 /// A category.
-#[derive(Debug, Drop)]
+#[derive(Drop)]
 pub struct RawCategory {
     pub place: u32,
     pub id: Uid,
@@ -56,7 +56,7 @@ pub struct RawCategory {
 }
 
 /// A category combination.
-#[derive(Debug, Drop)]
+#[derive(Drop)]
 pub struct RawCategoryCombo {
     pub place: u32,
     pub id: Uid,
@@ -65,7 +65,7 @@ pub struct RawCategoryCombo {
 }
 
 /// A category option combination.
-#[derive(Debug, Drop)]
+#[derive(Drop)]
 pub struct RawOptionCombo {
     pub place: u32,
     pub id: Uid,
@@ -75,7 +75,7 @@ pub struct RawOptionCombo {
 }
 
 /// A data element.
-#[derive(Debug, Drop)]
+#[derive(Drop)]
 pub struct RawElement {
     pub place: u32,
     pub id: Uid,
@@ -88,7 +88,7 @@ pub struct RawElement {
 }
 
 /// An approval level. `level` is from 1 to 1,000, `org_unit_level` from 1 to 12.
-#[derive(Debug, Drop)]
+#[derive(Drop)]
 pub struct RawApprovalLevel {
     pub place: u32,
     pub id: Uid,
@@ -98,7 +98,7 @@ pub struct RawApprovalLevel {
 }
 
 /// An approval workflow.
-#[derive(Debug, Drop)]
+#[derive(Drop)]
 pub struct RawWorkflow {
     pub place: u32,
     pub id: Uid,
@@ -109,7 +109,7 @@ pub struct RawWorkflow {
 
 /// A data set. An entry of `data_set_elements` is an element and, where it is named, a category
 /// combination. The three whole numbers are from 0 to 100,000.
-#[derive(Debug, Drop)]
+#[derive(Drop)]
 pub struct RawDataSet {
     pub place: u32,
     pub id: Uid,
@@ -126,7 +126,7 @@ pub struct RawDataSet {
 }
 
 /// A constant.
-#[derive(Debug, Drop)]
+#[derive(Drop)]
 pub struct RawConstant {
     pub place: u32,
     pub id: Uid,
@@ -135,7 +135,7 @@ pub struct RawConstant {
 }
 
 /// An indicator type. `factor` is at most 1,000,000,000 in size.
-#[derive(Debug, Drop)]
+#[derive(Drop)]
 pub struct RawIndicatorType {
     pub place: u32,
     pub id: Uid,
@@ -144,7 +144,7 @@ pub struct RawIndicatorType {
 }
 
 /// An indicator. `decimals` is from 0 to 5.
-#[derive(Debug, Drop)]
+#[derive(Drop)]
 pub struct RawIndicator {
     pub place: u32,
     pub id: Uid,
@@ -158,7 +158,7 @@ pub struct RawIndicator {
 }
 
 /// A validation rule. A side is its expression and its missing-value strategy.
-#[derive(Debug, Drop)]
+#[derive(Drop)]
 pub struct RawRule {
     pub place: u32,
     pub id: Uid,
@@ -171,7 +171,7 @@ pub struct RawRule {
 }
 
 /// A type of tracked entities.
-#[derive(Debug, Drop)]
+#[derive(Drop)]
 pub struct RawEntityType {
     pub place: u32,
     pub id: Uid,
@@ -180,7 +180,7 @@ pub struct RawEntityType {
 }
 
 /// An attribute of tracked entities.
-#[derive(Debug, Drop)]
+#[derive(Drop)]
 pub struct RawAttribute {
     pub place: u32,
     pub id: Uid,
@@ -189,7 +189,7 @@ pub struct RawAttribute {
 }
 
 /// A program.
-#[derive(Debug, Drop)]
+#[derive(Drop)]
 pub struct RawProgram {
     pub place: u32,
     pub id: Uid,
@@ -201,7 +201,7 @@ pub struct RawProgram {
 }
 
 /// A stage of a program.
-#[derive(Debug, Drop)]
+#[derive(Drop)]
 pub struct RawStage {
     pub place: u32,
     pub id: Uid,
@@ -211,7 +211,7 @@ pub struct RawStage {
 }
 
 /// A program indicator. `decimals` is from 0 to 5.
-#[derive(Debug, Drop)]
+#[derive(Drop)]
 pub struct RawProgramIndicator {
     pub place: u32,
     pub id: Uid,
@@ -226,7 +226,7 @@ pub struct RawProgramIndicator {
 }
 
 /// A user role.
-#[derive(Debug, Drop)]
+#[derive(Drop)]
 pub struct RawRole {
     pub place: u32,
     pub id: Uid,
@@ -235,7 +235,7 @@ pub struct RawRole {
 }
 
 /// A user.
-#[derive(Debug, Drop)]
+#[derive(Drop)]
 pub struct RawUser {
     pub place: u32,
     pub id: Uid,
@@ -246,7 +246,7 @@ pub struct RawUser {
 }
 
 /// A user group.
-#[derive(Debug, Drop)]
+#[derive(Drop)]
 pub struct RawUserGroup {
     pub place: u32,
     pub id: Uid,

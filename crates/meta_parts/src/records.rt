@@ -11,7 +11,7 @@ use dh_sharing::rule::Sharing;
 use expr_lang::Expr;
 
 /// An organisation unit.
-#[derive(Debug, Drop)]
+#[derive(Drop)]
 pub struct Unit {
     pub id: Uid,
     pub name: Items<u8>,
@@ -19,7 +19,7 @@ pub struct Unit {
 }
 
 /// A group of organisation units.
-#[derive(Debug, Drop)]
+#[derive(Drop)]
 pub struct UnitGroup {
     pub id: Uid,
     pub name: Items<u8>,
@@ -27,7 +27,7 @@ pub struct UnitGroup {
 }
 
 /// A category option.
-#[derive(Debug, Drop)]
+#[derive(Drop)]
 pub struct CategoryOption {
     pub id: Uid,
     pub name: Items<u8>,
@@ -35,7 +35,7 @@ pub struct CategoryOption {
 }
 
 /// A category.
-#[derive(Debug, Drop)]
+#[derive(Drop)]
 pub struct Category {
     pub id: Uid,
     pub name: Items<u8>,
@@ -43,7 +43,7 @@ pub struct Category {
 }
 
 /// A category combination.
-#[derive(Debug, Drop)]
+#[derive(Drop)]
 pub struct CategoryCombo {
     pub id: Uid,
     pub name: Items<u8>,
@@ -51,7 +51,7 @@ pub struct CategoryCombo {
 }
 
 /// A category option combination.
-#[derive(Debug, Drop)]
+#[derive(Drop)]
 pub struct OptionCombo {
     pub id: Uid,
     pub name: Items<u8>,
@@ -60,7 +60,7 @@ pub struct OptionCombo {
 }
 
 /// A data element.
-#[derive(Debug, Drop)]
+#[derive(Drop)]
 pub struct Element {
     pub id: Uid,
     pub name: Items<u8>,
@@ -72,7 +72,7 @@ pub struct Element {
 }
 
 /// An approval level. `level` is from 1 to 1,000, `org_unit_level` from 1 to 12.
-#[derive(Debug, Drop)]
+#[derive(Drop)]
 pub struct ApprovalLevel {
     pub id: Uid,
     pub name: Items<u8>,
@@ -81,7 +81,7 @@ pub struct ApprovalLevel {
 }
 
 /// An approval workflow.
-#[derive(Debug, Drop)]
+#[derive(Drop)]
 pub struct Workflow {
     pub id: Uid,
     pub name: Items<u8>,
@@ -90,7 +90,7 @@ pub struct Workflow {
 }
 
 /// A data set. The three whole numbers are from 0 to 100,000.
-#[derive(Debug, Drop)]
+#[derive(Drop)]
 pub struct DataSet {
     pub id: Uid,
     pub name: Items<u8>,
@@ -106,7 +106,7 @@ pub struct DataSet {
 }
 
 /// A constant.
-#[derive(Debug, Drop)]
+#[derive(Drop)]
 pub struct Constant {
     pub id: Uid,
     pub name: Items<u8>,
@@ -114,7 +114,7 @@ pub struct Constant {
 }
 
 /// An indicator type. `factor` is at most 1,000,000,000 in size.
-#[derive(Debug, Drop)]
+#[derive(Drop)]
 pub struct IndicatorType {
     pub id: Uid,
     pub name: Items<u8>,
@@ -122,7 +122,7 @@ pub struct IndicatorType {
 }
 
 /// An indicator. `decimals` is from 0 to 5.
-#[derive(Debug, Drop)]
+#[derive(Drop)]
 pub struct Indicator {
     pub id: Uid,
     pub name: Items<u8>,
@@ -135,7 +135,7 @@ pub struct Indicator {
 }
 
 /// A validation rule. A side is its expression and its missing-value strategy.
-#[derive(Debug, Drop)]
+#[derive(Drop)]
 pub struct Rule {
     pub id: Uid,
     pub name: Items<u8>,
@@ -147,7 +147,7 @@ pub struct Rule {
 }
 
 /// A type of tracked entities.
-#[derive(Debug, Drop)]
+#[derive(Drop)]
 pub struct EntityType {
     pub id: Uid,
     pub name: Items<u8>,
@@ -155,7 +155,7 @@ pub struct EntityType {
 }
 
 /// An attribute of tracked entities.
-#[derive(Debug, Drop)]
+#[derive(Drop)]
 pub struct Attribute {
     pub id: Uid,
     pub name: Items<u8>,
@@ -163,7 +163,7 @@ pub struct Attribute {
 }
 
 /// A program.
-#[derive(Debug, Drop)]
+#[derive(Drop)]
 pub struct Program {
     pub id: Uid,
     pub name: Items<u8>,
@@ -174,7 +174,7 @@ pub struct Program {
 }
 
 /// A stage of a program.
-#[derive(Debug, Drop)]
+#[derive(Drop)]
 pub struct Stage {
     pub id: Uid,
     pub name: Items<u8>,
@@ -183,7 +183,7 @@ pub struct Stage {
 }
 
 /// A program indicator. `decimals` is from 0 to 5.
-#[derive(Debug, Drop)]
+#[derive(Drop)]
 pub struct ProgramIndicator {
     pub id: Uid,
     pub name: Items<u8>,
@@ -197,7 +197,7 @@ pub struct ProgramIndicator {
 }
 
 /// A user role.
-#[derive(Debug, Drop)]
+#[derive(Drop)]
 pub struct Role {
     pub id: Uid,
     pub name: Items<u8>,
@@ -205,7 +205,7 @@ pub struct Role {
 }
 
 /// A user.
-#[derive(Debug, Drop)]
+#[derive(Drop)]
 pub struct User {
     pub id: Uid,
     pub name: Items<u8>,
@@ -215,7 +215,7 @@ pub struct User {
 }
 
 /// A user group.
-#[derive(Debug, Drop)]
+#[derive(Drop)]
 pub struct UserGroup {
     pub id: Uid,
     pub name: Items<u8>,
@@ -223,14 +223,14 @@ pub struct UserGroup {
 }
 
 /// The references of an indicator.
-#[derive(Debug, Drop)]
+#[derive(Drop)]
 pub struct IndicatorLinks {
     pub indicator_type: u32,
     pub sharing: Sharing,
 }
 
 /// The references of a program indicator.
-#[derive(Debug, Drop)]
+#[derive(Drop)]
 pub struct ProgramIndicatorLinks {
     pub program: u32,
     pub sharing: Sharing,

@@ -2,12 +2,12 @@
 use Rattle.std.specs.Prelude.{◌≡◌, ℕ, cond, List, length, nat_lt, Result, Ok, Err, ⊤}
 use Rattle.std.specs.Option.{option_map_or}
 use Rattle.serde_json.specs.Data.{Data}
-use Rattle.json_data.specs.Bytes.{document_of}
-use Rattle.json_forms.specs.Forms.{Formed}
+use Rattle.json_read.specs.Bytes.{document_of}
+use Rattle.json_read.specs.Forms.{Formed}
 use Rattle.meta_parts.specs.declared.parts.MetaParts.{MetaParts}
 use Rattle.meta_forms.specs.Parts.{parts_of}
-use Rattle.meta_reader.specs.declared.fault.FileFault.{FileFault}
-use Rattle.meta_reader.specs.declared.fault.FileFault.TheVariants as fault
+use Rattle.meta_reader.specs.declared.file_fault.FileFault.{FileFault}
+use Rattle.meta_reader.specs.declared.file_fault.FileFault.TheVariants as fault
 
 -- data that isn't in the form of the file is at fault
 abbrev pub or_shape : Formed MetaParts → Result MetaParts FileFault

@@ -1,2 +1,8 @@
+pub mod Records
+pub mod Stages
+pub mod Faults
+pub mod Told
 pub mod File
 pub mod Text
+pub mod Read
+pub mod Line

@@ -1,12 +1,12 @@
 //! From the bytes of a file to what it says.
 
-ghost use Rattle.json_data.specs.Views.{data_of};
+ghost use Rattle.json_read.specs.Views.{data_of};
 ghost use Rattle.meta_reader.specs.File.{shaped_of, file_of, GivesFile};
 
-use crate::fault::FileFault;
+use crate::file_fault::FileFault;
 use json::{Scratch, Value};
-use json_data::read::read;
-use json_forms::fault::FormFault;
+use json_read::fault::FormFault;
+use json_read::read::read;
 use meta_forms::parts::read_parts;
 use meta_parts::parts::MetaParts;
 use std::alloc::Global;

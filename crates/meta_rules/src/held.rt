@@ -22,7 +22,7 @@ use org_tree::tree::Tree;
 use std::alloc::Global;
 
 /// What objects that keep the rules hand on.
-#[derive(Debug, Drop)]
+#[derive(Drop)]
 pub struct Held {
     pub tree: Tree,
     pub combos: Combos,

@@ -8,7 +8,5 @@ pub mod held;
 pub mod levels;
 pub mod limits;
 pub mod overrides;
-#[cfg(test)]
-mod tests;
 pub mod tree;
 pub mod workflows;

@@ -9,7 +9,7 @@ use meta_parts::kind::Kind;
 use meta_parts::parts::MetaParts;
 
 /// A limit that is passed.
-#[derive(Clone, Copy, Debug, PartialEq, Eq)]
+#[derive(Clone, Copy, PartialEq, Eq)]
 pub enum LimitFault {
     /// A key has too many objects of this kind.
     Objects(Kind),

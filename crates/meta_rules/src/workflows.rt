@@ -11,7 +11,7 @@ use meta_parts::records::{DataSet, Element};
 use std::alloc::{AllocError, Global};
 
 /// The workflows that the data sets with an element name, as far as they were seen.
-#[derive(Clone, Copy, Debug, PartialEq, Eq)]
+#[derive(Clone, Copy, PartialEq, Eq)]
 pub enum Seen {
     Nothing,
     One(u32),

@@ -4,16 +4,16 @@ use Rattle.std.specs.Option.{option_map_or}
 use Rattle.std.specs.Io.KnownBytes.{Keeps}
 use Rattle.meta_parts.specs.declared.parts.MetaParts.{MetaParts}
 use Rattle.meta_parts.specs.declared.held.Records.{Records}
-use Rattle.json_data.specs.Bytes.{document_of}
+use Rattle.json_read.specs.Bytes.{document_of}
 use Rattle.meta_reader.specs.File.{most_bytes, file_of, shaped_of}
-use Rattle.meta_reader.specs.declared.fault.FileFault.{FileFault}
-use Rattle.meta_reader.specs.declared.fault.FileFault.TheVariants as file
-use Rattle.dh_metadata.specs.Faults.{fault_of, IsMet}
-use Rattle.dh_metadata.specs.Records.{IsMetadata}
-use Rattle.dh_metadata.specs.declared.fault.MetaFault.{MetaFault}
-use Rattle.dh_metadata.specs.declared.fault.MetaFault.TheVariants as fault
-use Rattle.dh_metadata.specs.declared.fault.Which.TheVariants.{Bytes}
-use Rattle.metadata_reader.specs.Read.{told, Reads}
+use Rattle.meta_reader.specs.declared.file_fault.FileFault.{FileFault}
+use Rattle.meta_reader.specs.declared.file_fault.FileFault.TheVariants as file
+use Rattle.meta_reader.specs.Faults.{fault_of, IsMet}
+use Rattle.meta_reader.specs.Records.{IsMetadata}
+use Rattle.meta_reader.specs.declared.fault.MetaFault.{MetaFault}
+use Rattle.meta_reader.specs.declared.fault.MetaFault.TheVariants as fault
+use Rattle.meta_reader.specs.declared.fault.Which.TheVariants.{Bytes}
+use Rattle.meta_reader.specs.Read.{told, Reads}
 use Rattle.request_session.specs.declared.ended.Ended.{Ended}
 use Rattle.request_session.specs.declared.ended.Ended.TheVariants.{ReadFault}
 use Rattle.offline_session.specs.OverFile.{fault_in, file_fault, IsFileOf, OverMetadata, SessionOver, SessionOverAll, Refuses, RefusesLong}

@@ -4,14 +4,14 @@ use Rattle.std.specs.Io.KnownBytes.{Appends, Keeps}
 use Rattle.meta_parts.specs.declared.parts.MetaParts.{MetaParts}
 use Rattle.meta_parts.specs.declared.held.Records.{Records}
 use Rattle.meta_reader.specs.File.{file_of}
-use Rattle.meta_reader.specs.declared.fault.FileFault.{FileFault}
-use Rattle.dh_metadata.specs.Faults.{fault_of}
-use Rattle.dh_metadata.specs.Records.{IsMetadata}
-use Rattle.dh_metadata.specs.declared.fault.MetaFault.{MetaFault}
-use Rattle.dh_metadata.specs.declared.fault.MetaFault.TheVariants as fault
-use Rattle.dh_metadata.specs.declared.fault.Which.TheVariants as which
-use Rattle.metadata_reader.specs.Line.{line_of}
-use Rattle.metadata_reader.specs.Read.{told}
+use Rattle.meta_reader.specs.declared.file_fault.FileFault.{FileFault}
+use Rattle.meta_reader.specs.Faults.{fault_of}
+use Rattle.meta_reader.specs.Records.{IsMetadata}
+use Rattle.meta_reader.specs.declared.fault.MetaFault.{MetaFault}
+use Rattle.meta_reader.specs.declared.fault.MetaFault.TheVariants as fault
+use Rattle.meta_reader.specs.declared.fault.Which.TheVariants as which
+use Rattle.meta_reader.specs.Line.{line_of}
+use Rattle.meta_reader.specs.Read.{told}
 use Rattle.request_session.specs.Session.{AppendsFront}
 use Rattle.offline_session.specs.Serving.{Served, ServedOver}
 use Rattle.offline_session.specs.declared.over_file.SessionEnd.{SessionEnd}

@@ -3,12 +3,8 @@
 #![tactic(auto)]
 
 mod keeper;
-#[cfg(test)]
-mod machine_tests;
 mod over_file;
 mod serving;
-#[cfg(test)]
-mod tests;
 
 pub use keeper::Unkept;
 pub use over_file::{SessionEnd, refuse_long, session_over};

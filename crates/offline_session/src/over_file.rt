@@ -8,16 +8,16 @@ ghost use Rattle.offline_session.specs.declared.over_file.SessionEnd.TheVariants
 
 use crate::serving::serve_session;
 use dh_base::memory::Memory;
-use dh_metadata::fault::{MetaFault, Which};
+use dh_metadata::metadata::Metadata;
 use dh_outside::{Clock, Failed, Sink, Source, write_all};
-use meta_model::metadata::Metadata;
-use metadata_reader::line::fault_line;
-use metadata_reader::read::read;
+use meta_reader::fault::{MetaFault, Which};
+use meta_reader::line::fault_line;
+use meta_reader::read::read;
 use request_session::Ended;
 use std::alloc::Global;
 
 /// How a session over a metadata file ended.
-#[derive(Clone, Copy, Debug, Drop, PartialEq, Eq)]
+#[derive(Clone, Copy, Drop, PartialEq, Eq)]
 pub enum SessionEnd {
     /// The metadata are refused, and the line that tells why is written. The input isn't read.
     Refused,

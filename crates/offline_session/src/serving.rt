@@ -9,9 +9,9 @@ ghost use Rattle.offline_session.specs.Serving.{SessionStep, Served, ServedOver,
 use crate::keeper::Unkept;
 use change_log::Limits;
 use dh_base::memory::Memory;
+use dh_metadata::metadata::Metadata;
 use dh_outside::{Clock, Sink, Source};
 use engine::Engine;
-use meta_model::metadata::Metadata;
 use request_replies::Replier;
 use request_session::{Ended, serve_requests};
 use std::alloc::Global;

@@ -11,7 +11,5 @@ pub mod levels;
 pub mod own_ids;
 pub mod rows;
 pub mod spans;
-#[cfg(test)]
-mod tests;
 pub mod tree;
 pub mod walk;

@@ -22,7 +22,7 @@ use std::marker::Model;
 ///
 /// The walk through the tree meets a parent before its children, and children by the bytes of their
 /// UIDs. It numbers the units from 0, so that a unit and all under it stand in one interval.
-#[derive(Debug, Drop)]
+#[derive(Drop)]
 pub struct Tree {
     units: Vec<(Uid, Option<u32>)>,
     levels: Vec<u8>,

@@ -7,15 +7,15 @@ use Rattle.std.proofs.lemmas.List.Elements.{All-nil, All-cons, All-append}
 use Rattle.serde_json.specs.Written.{compact_text}
 use Rattle.dh_periods.specs.declared.name.PeriodName.{PeriodName}
 use Rattle.meta_parts.specs.declared.held.Records.{Records}
-use Rattle.meta_model.specs.Linked.{AreBelow, IsBelow}
-use Rattle.meta_model.specs.Objects.{count_of}
+use Rattle.dh_metadata.specs.Linked.{AreBelow, IsBelow}
+use Rattle.dh_metadata.specs.Objects.{count_of}
 use Rattle.agg_types.specs.declared.sample.Sample.{Sample}
 use Rattle.indicator_values.specs.declared.arithmetic.CellValue.{CellValue}
 use Rattle.indicator_values.specs.declared.arithmetic.CellValue.TheVariants as cell
-use Rattle.query_parts.specs.declared.Dx.{Dx}
-use Rattle.query_parts.specs.declared.DxKind.{DxKind}
-use Rattle.query_parts.specs.declared.DxKind.TheVariants as dx_kind
-use Rattle.query_parts.specs.declared.Query.{Query}
+use Rattle.query_forms.specs.declared.plain.Dx.{Dx}
+use Rattle.query_forms.specs.declared.plain.DxKind.{DxKind}
+use Rattle.query_forms.specs.declared.plain.DxKind.TheVariants as dx_kind
+use Rattle.query_forms.specs.declared.plain.Query.{Query}
 use Rattle.answer_body.specs.Body.{body_of, IsAnswer}
 use Rattle.answer_body.specs.Names.{IsThere, kind_of}
 use Rattle.answer_body.specs.Rows.{IsRow}

@@ -6,8 +6,8 @@ use Rattle.std.proofs.lemmas.List.{map_more, length-map, get_or-map}
 use Rattle.std.proofs.lemmas.List.Folds.{list_any-append, list_any_at}
 use Rattle.meta_parts.specs.declared.held.Records.{Records}
 use Rattle.agg_types.specs.declared.sample.Sample.{Sample}
-use Rattle.query_parts.specs.declared.Dx.{Dx}
-use Rattle.query_parts.specs.declared.Query.{Query}
+use Rattle.query_forms.specs.declared.plain.Dx.{Dx}
+use Rattle.query_forms.specs.declared.plain.Query.{Query}
 use Rattle.answer_body.specs.declared.rows.AnswerRow.{AnswerRow}
 use Rattle.query_answer.specs.Rows.{dx_rows, rows_from}
 

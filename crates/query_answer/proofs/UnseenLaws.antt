@@ -2,7 +2,7 @@
 use Rattle.std.proofs.Common.{◌≡◌, ℕ, List, ap}
 use Rattle.meta_parts.specs.declared.held.Records.{Records}
 use Rattle.table_rows.specs.declared.row.Row.{Row}
-use Rattle.query_parts.specs.declared.Query.{Query}
+use Rattle.query_forms.specs.declared.plain.Query.{Query}
 use Rattle.seen_rows.specs.Seen.{seen}
 use Rattle.query_answer.specs.Answer.{answer_of}
 

@@ -5,8 +5,8 @@ use Rattle.serde_json.specs.Data.{Data}
 use Rattle.serde_json.specs.Written.{compact_text}
 use Rattle.meta_parts.specs.declared.held.Records.{Records}
 use Rattle.agg_types.specs.declared.sample.Sample.{Sample}
-use Rattle.query_parts.specs.declared.Dx.{Dx}
-use Rattle.query_parts.specs.declared.Query.{Query}
+use Rattle.query_forms.specs.declared.plain.Dx.{Dx}
+use Rattle.query_forms.specs.declared.plain.Query.{Query}
 use Rattle.answer_body.specs.Body.{body_of}
 use Rattle.query_answer.specs.declared.whole.AnswerFault.{AnswerFault}
 use Rattle.query_answer.specs.declared.whole.AnswerFault.TheVariants.{Wide, Memory}

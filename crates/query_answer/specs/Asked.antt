@@ -8,11 +8,11 @@ use Rattle.expr_lang.specs.declared.tree.Item.TheVariants as item
 use Rattle.expr_lang.specs.Expr.{items_in}
 use Rattle.meta_parts.specs.declared.held.Records.{Records}
 use Rattle.meta_parts.specs.declared.records.Indicator.{Indicator}
-use Rattle.meta_model.specs.Linked.{AreBelow}
-use Rattle.query_parts.specs.declared.Dx.{Dx}
-use Rattle.query_parts.specs.declared.DxKind.{DxKind}
-use Rattle.query_parts.specs.declared.DxKind.TheVariants as dx_kind
-use Rattle.query_parts.specs.declared.Query.{Query}
+use Rattle.dh_metadata.specs.Linked.{AreBelow}
+use Rattle.query_forms.specs.declared.plain.Dx.{Dx}
+use Rattle.query_forms.specs.declared.plain.DxKind.{DxKind}
+use Rattle.query_forms.specs.declared.plain.DxKind.TheVariants as dx_kind
+use Rattle.query_forms.specs.declared.plain.Query.{Query}
 
 abbrev pub is_rate : Item → Bool
 is_rate (item.Rate set rate) = true

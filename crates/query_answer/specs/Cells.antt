@@ -12,9 +12,9 @@ use Rattle.cell_values.specs.Items.{item_value_of}
 use Rattle.indicator_values.specs.declared.arithmetic.CellValue.{CellValue}
 use Rattle.indicator_values.specs.declared.arithmetic.CellValue.TheVariants as cell
 use Rattle.indicator_values.specs.Value.{indicator_value_of}
-use Rattle.query_parts.specs.declared.Dx.{Dx}
-use Rattle.query_parts.specs.declared.DxKind.{DxKind}
-use Rattle.query_parts.specs.declared.DxKind.TheVariants as dx_kind
+use Rattle.query_forms.specs.declared.plain.Dx.{Dx}
+use Rattle.query_forms.specs.declared.plain.DxKind.{DxKind}
+use Rattle.query_forms.specs.declared.plain.DxKind.TheVariants as dx_kind
 
 abbrev pub of_option : Option Fraction → CellValue
 of_option None = cell.None

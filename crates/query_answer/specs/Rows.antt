@@ -6,8 +6,8 @@ use Rattle.meta_parts.specs.declared.held.Records.{Records}
 use Rattle.agg_types.specs.declared.sample.Sample.{Sample}
 use Rattle.indicator_values.specs.declared.arithmetic.CellValue.{CellValue}
 use Rattle.indicator_values.specs.declared.arithmetic.CellValue.TheVariants as cell
-use Rattle.query_parts.specs.declared.Dx.{Dx}
-use Rattle.query_parts.specs.declared.Query.{Query}
+use Rattle.query_forms.specs.declared.plain.Dx.{Dx}
+use Rattle.query_forms.specs.declared.plain.Query.{Query}
 use Rattle.answer_body.specs.declared.rows.AnswerRow.{AnswerRow}
 use Rattle.query_answer.specs.Cells.{cell_value, is_wide, value_text}
 

@@ -4,11 +4,11 @@ ghost use Rattle.std.specs.Prelude.{◌≡◌, ◌<◌, not, length};
 ghost use Rattle.std.specs.List.{list_any, list_all};
 ghost use Rattle.query_answer.specs.Asked.{is_rate, has_rate, is_without_rates, can_answer_dx};
 
+use dh_metadata::metadata::Metadata;
 use expr_lang::{Expr, Item};
-use meta_model::metadata::Metadata;
 use meta_parts::kind::Kind;
 use meta_parts::records::Indicator;
-use query_parts::{Dx, DxKind};
+use query_forms::{Dx, DxKind};
 
 fn is_rate(item: &Item) -> bool
     ensures { result ≡ is_rate item.now }

@@ -1,7 +1,7 @@
 //! The rows, cell by cell.
 
 ghost use Rattle.std.specs.Prelude.{◌≡◌, ◌<◌, ◌++◌, [], ◌∷◌, length, true, false, Some, None, find, option_map, IfOk};
-ghost use Rattle.meta_model.specs.Linked.{AreBelow};
+ghost use Rattle.dh_metadata.specs.Linked.{AreBelow};
 ghost use Rattle.seen_rows.specs.Held.{IsSeer};
 ghost use Rattle.seen_rows.specs.Seen.{seen};
 ghost use Rattle.query_answer.specs.Asked.{CanAnswer, can_answer_dx};
@@ -12,10 +12,10 @@ use crate::cells::{Plan, cell_value, plan_of, value_text};
 use answer_body::AnswerRow;
 use dh_base::items::Items;
 use dh_base::memory::Memory;
+use dh_metadata::metadata::Metadata;
 use dh_periods::Period;
 use indicator_values::CellValue;
-use meta_model::metadata::Metadata;
-use query_parts::{Axis, Dx, Query};
+use query_forms::{Axis, Dx, Query};
 use seen_rows::Seer;
 use std::alloc::Global;
 use table_rows::RowStore;

@@ -11,14 +11,14 @@ use crate::rows::write_rows;
 use answer_body::body;
 use dh_base::items::Items;
 use dh_base::memory::Memory;
-use meta_model::metadata::Metadata;
-use query_parts::Query;
+use dh_metadata::metadata::Metadata;
+use query_forms::Query;
 use seen_rows::Seer;
 use std::alloc::Global;
 use table_rows::RowStore;
 
 /// Why there is no answer.
-#[derive(Debug, Drop)]
+#[derive(Drop)]
 pub enum AnswerFault {
     /// A cell is too wide to be computed. It carries the text of the first `dx` item that has such
     /// a cell.

@@ -24,6 +24,12 @@ Gives meant (Ok value) = meant ≡ Ok value
 Gives meant (Err (fault.Refused refused)) = meant ≡ Err refused
 Gives meant (Err fault.Memory) = ⊤
 
+-- the same of a value that is changed in place
+abbrev pub Becomes : {A X : Type 0} → Result A Refusal → Result X TextFault → A → Type 0
+Becomes meant (Ok _) new = meant ≡ Ok new
+Becomes meant (Err (fault.Refused refused)) new = meant ≡ Err refused
+Becomes meant (Err fault.Memory) new = ⊤
+
 -- the fault is this refusal, or that memory was wanting
 abbrev pub IsFault : Refusal → TextFault → Type 0
 IsFault meant (fault.Refused refused) = refused ≡ meant

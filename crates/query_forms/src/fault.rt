@@ -9,7 +9,7 @@ use dh_base::memory::Memory;
 use std::alloc::{AllocError, AllocFailed, Global};
 
 /// Why a query isn't read.
-#[derive(Debug, Drop)]
+#[derive(Drop)]
 pub enum TextFault {
     /// Refused by a rule of the query text.
     Refused(Refusal),

@@ -1,9 +1,9 @@
 //! What a query's text asks.
 
+use crate::Axis;
 use crate::item::{DxItem, UnitItem};
 use dh_base::items::Items;
 use dh_periods::Period;
-use query_parts::Axis;
 
 /// What the pairs up to one ask.
 #[derive(Drop)]

@@ -8,7 +8,7 @@ use dh_base::plain::Rate;
 use dh_base::uid::Uid;
 
 /// What an item of the dimension `dx` names.
-#[derive(Clone, Copy, Debug, PartialEq, Eq)]
+#[derive(Clone, Copy)]
 pub enum DxForm {
     /// A data element, an indicator or a program indicator.
     Object(Uid),
@@ -19,7 +19,7 @@ pub enum DxForm {
 }
 
 /// An item of the dimension `dx`.
-#[derive(Debug, Drop)]
+#[derive(Drop)]
 pub struct DxItem {
     pub form: DxForm,
     /// The item as it was written, decoded.
@@ -27,7 +27,7 @@ pub struct DxItem {
 }
 
 /// What an item of the dimension `ou` names.
-#[derive(Clone, Copy, Debug, PartialEq, Eq)]
+#[derive(Clone, Copy)]
 pub enum UnitForm {
     /// An organisation unit.
     Unit(Uid),
@@ -44,7 +44,7 @@ pub enum UnitForm {
 }
 
 /// An item of the dimension `ou`.
-#[derive(Debug, Drop)]
+#[derive(Drop)]
 pub struct UnitItem {
     pub form: UnitForm,
     /// The item as it was written, decoded.

@@ -7,6 +7,7 @@ pub mod form;
 pub mod item;
 mod once;
 mod period;
-#[cfg(test)]
-mod tests;
+mod plain;
 pub mod text;
+
+pub use plain::{Axis, Dx, DxKind, Query, QueryFault};

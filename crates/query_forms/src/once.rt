@@ -1,6 +1,7 @@
 //! Items that stand once.
-ghost use Rattle.std.specs.Prelude.{◌≡◌, [], ◌∷◌, ◌++◌, IfOk, OnOk};
-ghost use Rattle.query_forms.specs.Once.{with_new, same_bytes, texts_once, pieces, KnowsTexts};
+ghost use Rattle.std.specs.Prelude.{◌≡◌, false, [], ◌∷◌, ◌++◌, IfOk, OnOk};
+ghost use Rattle.std.specs.List.{list_any};
+ghost use Rattle.query_forms.specs.Once.{with_new, once_from, same_bytes, texts_once, pieces, KnowsTexts};
 ghost use Rattle.query_forms.specs.Items.{item_texts};
 
 use dh_base::items::Items;
@@ -27,6 +28,31 @@ fn pieces(alloc: Global, text: &[u8]) -> Result<Vec<Items<u8>>, Memory>
     Ok(found)
 }
 
+fn copied(alloc: Global, text: &[u8]) -> Result<Vec<u8>, Memory>
+    ensures { IfOk result (λ copy. copy.items ≡ text.now) }
+{
+    Ok(Vec::from_slice(alloc, text)?)
+}
+
+/// Puts a text that isn't there at the end.
+fn put(
+    alloc: Global,
+    kept: &mut Vec<Items<u8>>,
+    seen: &mut HashSet<Vec<u8>>,
+    text: &[u8],
+) -> Result<(), Memory>
+    requires known { KnowsTexts seen.old kept.old.items }
+    requires new { list_any (same_bytes text.now) kept.old.items ≡ false }
+    ensures kept { OnOk result (kept.new.items ≡ kept.old.items ++ text.now ∷ []) }
+    ensures seen { OnOk result (KnowsTexts seen.new kept.new.items) }
+{
+    let item = Items::from(copied(alloc, text)?);
+    kept.push(item)?;
+    let key = copied(alloc, text)?;
+    seen.insert(key)?;
+    Ok(())
+}
+
 /// Puts a text at the end unless it is there.
 fn put_new(
     alloc: Global,
@@ -41,8 +67,21 @@ fn put_new(
     if seen.contains(text) {
         return Ok(());
     }
-    seen.insert(Vec::from_slice(alloc, text)?)?;
-    kept.push(Items::from(Vec::from_slice(alloc, text)?))?;
+    put(alloc, kept, seen, text)
+}
+
+fn put_all(
+    alloc: Global,
+    kept: &mut Vec<Items<u8>>,
+    seen: &mut HashSet<Vec<u8>>,
+    texts: &[Items<u8>],
+) -> Result<(), Memory>
+    requires { KnowsTexts seen.old kept.old.items }
+    ensures { OnOk result (kept.new.items ≡ once_from same_bytes kept.old.items texts.now) }
+{
+    for text in texts {
+        put_new(alloc, kept, seen, text.as_slice())?;
+    }
     Ok(())
 }
 
@@ -53,9 +92,7 @@ fn texts_once(alloc: Global, texts: &[Items<u8>]) -> Result<Vec<Items<u8>>, Memo
 {
     let mut kept = Vec::new(alloc);
     let mut seen = HashSet::new(alloc);
-    for text in texts {
-        put_new(alloc, &mut kept, &mut seen, text.as_slice())?;
-    }
+    put_all(alloc, &mut kept, &mut seen, texts)?;
     Ok(kept)
 }
 

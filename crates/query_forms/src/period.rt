@@ -1,5 +1,5 @@
 //! The periods of the dimension `pe`.
-ghost use Rattle.std.specs.Prelude.{◌≡◌, [], ◌∷◌, pos, neg_ℤ, ◌≤ℤ◌, IfOk, OnOk, option_map};
+ghost use Rattle.std.specs.Prelude.{◌≡◌, [], ◌∷◌, pos, neg_ℤ, ◌≤ℤ◌, IfOk, OnOk, Some, None, if◌then◌else◌, option_map};
 ghost use Rattle.dh_periods.specs.Keys.{same_period};
 ghost use Rattle.query_forms.specs.Once.{with_new, once_from, KnowsPeriods};
 ghost use Rattle.query_forms.specs.Items.{period_form, periods_from, period_items};
@@ -60,6 +60,28 @@ fn put_all(
     Ok(())
 }
 
+/// Puts the periods of items at the end, each once, and says whether each item has a form.
+fn put_each(
+    alloc: Global,
+    kept: &mut Vec<Period>,
+    seen: &mut HashSet<Period>,
+    texts: &[Items<u8>],
+    day: i32,
+) -> Result<bool, Memory>
+    requires from { neg_ℤ (pos 21915) ≤ℤ day }
+    requires to { day ≤ℤ pos 47481 }
+    requires known { KnowsPeriods seen.old kept.old.items }
+    ensures { IfOk result (λ whole. periods_from day kept.old.items texts.now ≡ (if whole then Some kept.new.items else None)) }
+{
+    for text in texts {
+        let Some(found) = period_form(alloc, text.as_slice(), day)? else {
+            return Ok(false);
+        };
+        put_all(kept, seen, &found)?;
+    }
+    Ok(true)
+}
+
 fn each_period(
     alloc: Global,
     texts: &[Items<u8>],
@@ -71,13 +93,11 @@ fn each_period(
 {
     let mut kept = Vec::new(alloc);
     let mut seen = HashSet::new(alloc);
-    for text in texts {
-        let Some(found) = period_form(alloc, text.as_slice(), day)? else {
-            return Ok(None);
-        };
-        put_all(&mut kept, &mut seen, &found)?;
+    if put_each(alloc, &mut kept, &mut seen, texts, day)? {
+        Ok(Some(Items::from(kept)))
+    } else {
+        Ok(None)
     }
-    Ok(Some(Items::from(kept)))
 }
 
 /// The periods of the items of a dimension, each once; `None` where an item has no form.

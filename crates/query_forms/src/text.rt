@@ -1,10 +1,11 @@
 //! The pairs of a query's text.
 ghost use Rattle.std.specs.Prelude.{◌≡◌, [], true, false, not, bytes_eq, codes, pos, neg_ℤ, ◌≤ℤ◌, ◌<◌, IfOk, IfSome, length, position, option_map, option_and_then};
 ghost use Rattle.std.specs.Option.{option_copied};
-ghost use Rattle.query_forms.specs.Given.{Gives, IsFault, refusal};
+ghost use Rattle.query_forms.specs.Given.{Gives, Becomes, IsFault, refusal};
 ghost use Rattle.query_forms.specs.Items.{dx_items, unit_items, period_items};
 ghost use Rattle.query_forms.specs.Form.{data_parameters, scheme_parameters, layout_parameters, is_listed, is_colon, pairs_of, decoded, is_unsupported, head_of, tail_of, fresh, with_dx, with_periods, with_units, with_dimension, with_pair, with_pairs, nothing, whole, form_of};
 
+use crate::Axis;
 use crate::dimension::{dx_items, unit_items};
 use crate::fault::{TextFault, refused};
 use crate::form::{Draft, Form};
@@ -15,7 +16,6 @@ use dh_base::items::Items;
 use dh_base::memory::Memory;
 use dh_periods::Period;
 use form_urlencoded::{decode, raw_pairs};
-use query_parts::Axis;
 use std::alloc::Global;
 
 fn is_data_parameter(name: &[u8]) -> bool
@@ -147,16 +147,14 @@ fn fresh_dx(alloc: Global, draft: &Draft, value: &[u8]) -> Result<Option<Items<D
 }
 
 #[tactic(auto, unfolding(crate::specs::Form::with_dx))]
-fn with_dx(alloc: Global, draft: Draft, value: &[u8]) -> Result<Draft, TextFault>
-    ensures { Gives (with_dx draft value.now) result }
+fn with_dx(alloc: Global, draft: &mut Draft, value: &[u8]) -> Result<(), TextFault>
+    ensures { Becomes (with_dx draft.old value.now) result draft.new }
 {
-    match fresh_dx(alloc, &draft, value)? {
-        Some(items) => Ok(Draft {
-            dx: Some(items),
-            periods: draft.periods,
-            units: draft.units,
-            meta: draft.meta,
-        }),
+    match fresh_dx(alloc, draft, value)? {
+        Some(items) => {
+            draft.dx = Some(items);
+            Ok(())
+        }
         None => Err(refused(alloc, Code::F10, value)),
     }
 }
@@ -183,22 +181,20 @@ fn fresh_periods(
 #[tactic(auto, unfolding(crate::specs::Form::with_periods))]
 fn with_periods(
     alloc: Global,
-    draft: Draft,
+    draft: &mut Draft,
     filter: bool,
     value: &[u8],
     day: i32,
-) -> Result<Draft, TextFault>
+) -> Result<(), TextFault>
     requires from { neg_ℤ (pos 21915) ≤ℤ day }
     requires to { day ≤ℤ pos 47481 }
-    ensures { Gives (with_periods day draft filter value.now) result }
+    ensures { Becomes (with_periods day draft.old filter value.now) result draft.new }
 {
-    match fresh_periods(alloc, &draft, value, day)? {
-        Some(items) => Ok(Draft {
-            dx: draft.dx,
-            periods: Some(Axis { items, filter }),
-            units: draft.units,
-            meta: draft.meta,
-        }),
+    match fresh_periods(alloc, draft, value, day)? {
+        Some(items) => {
+            draft.periods = Some(Axis { items, filter });
+            Ok(())
+        }
         None => Err(refused(alloc, Code::F10, value)),
     }
 }
@@ -220,16 +216,14 @@ fn fresh_units(
 }
 
 #[tactic(auto, unfolding(crate::specs::Form::with_units))]
-fn with_units(alloc: Global, draft: Draft, filter: bool, value: &[u8]) -> Result<Draft, TextFault>
-    ensures { Gives (with_units draft filter value.now) result }
+fn with_units(alloc: Global, draft: &mut Draft, filter: bool, value: &[u8]) -> Result<(), TextFault>
+    ensures { Becomes (with_units draft.old filter value.now) result draft.new }
 {
-    match fresh_units(alloc, &draft, value)? {
-        Some(items) => Ok(Draft {
-            dx: draft.dx,
-            periods: draft.periods,
-            units: Some(Axis { items, filter }),
-            meta: draft.meta,
-        }),
+    match fresh_units(alloc, draft, value)? {
+        Some(items) => {
+            draft.units = Some(Axis { items, filter });
+            Ok(())
+        }
         None => Err(refused(alloc, Code::F10, value)),
     }
 }
@@ -237,14 +231,14 @@ fn with_units(alloc: Global, draft: Draft, filter: bool, value: &[u8]) -> Result
 #[tactic(auto, unfolding(crate::specs::Form::with_dimension))]
 fn with_dimension(
     alloc: Global,
-    draft: Draft,
+    draft: &mut Draft,
     filter: bool,
     value: &[u8],
     day: i32,
-) -> Result<Draft, TextFault>
+) -> Result<(), TextFault>
     requires from { neg_ℤ (pos 21915) ≤ℤ day }
     requires to { day ≤ℤ pos 47481 }
-    ensures { Gives (with_dimension day draft filter value.now) result }
+    ensures { Becomes (with_dimension day draft.old filter value.now) result draft.new }
 {
     let head = head_of(value);
     if !filter && head == b"dx".as_slice() {
@@ -259,28 +253,17 @@ fn with_dimension(
     Err(refused(alloc, Code::F17, head))
 }
 
-fn with_meta(draft: Draft, meta: bool) -> Draft
-    ensures { result ≡ record draft { meta = meta } }
-{
-    Draft {
-        dx: draft.dx,
-        periods: draft.periods,
-        units: draft.units,
-        meta,
-    }
-}
-
 #[tactic(auto, unfolding(crate::specs::Form::with_pair))]
 fn with_pair(
     alloc: Global,
-    draft: Draft,
+    draft: &mut Draft,
     name: &[u8],
     value: &[u8],
     day: i32,
-) -> Result<Draft, TextFault>
+) -> Result<(), TextFault>
     requires from { neg_ℤ (pos 21915) ≤ℤ day }
     requires to { day ≤ℤ pos 47481 }
-    ensures { Gives (with_pair day draft name.now value.now) result }
+    ensures { Becomes (with_pair day draft.old name.now value.now) result draft.new }
 {
     if is_unsupported(name) {
         return Err(refused(alloc, Code::F17, name));
@@ -292,9 +275,9 @@ fn with_pair(
         return with_dimension(alloc, draft, true, value, day);
     }
     if name == b"skipMeta".as_slice() {
-        return Ok(with_meta(draft, value != b"true".as_slice()));
+        draft.meta = value != b"true".as_slice();
     }
-    Ok(draft)
+    Ok(())
 }
 
 #[tactic(auto, unfolding(crate::specs::Form::decoded))]
@@ -309,14 +292,14 @@ fn decoded(alloc: Global, bytes: &[u8]) -> Result<Vec<u8>, Memory>
 
 fn with_encoded(
     alloc: Global,
-    draft: Draft,
+    draft: &mut Draft,
     name: &[u8],
     value: &[u8],
     day: i32,
-) -> Result<Draft, TextFault>
+) -> Result<(), TextFault>
     requires from { neg_ℤ (pos 21915) ≤ℤ day }
     requires to { day ≤ℤ pos 47481 }
-    ensures { Gives (with_pair day draft (decoded name.now) (decoded value.now)) result }
+    ensures { Becomes (with_pair day draft.old (decoded name.now) (decoded value.now)) result draft.new }
 {
     let name = decoded(alloc, name)?;
     let value = decoded(alloc, value)?;
@@ -324,6 +307,17 @@ fn with_encoded(
 }
 
 #[tactic(auto, unfolding(crate::specs::Form::pairs_of))]
+fn put_pairs(alloc: Global, draft: &mut Draft, text: &[u8], day: i32) -> Result<(), TextFault>
+    requires from { neg_ℤ (pos 21915) ≤ℤ day }
+    requires to { day ≤ℤ pos 47481 }
+    ensures { Becomes (with_pairs day draft.old (pairs_of text.now)) result draft.new }
+{
+    for (name, value) in raw_pairs(text) {
+        with_encoded(alloc, draft, name, value, day)?;
+    }
+    Ok(())
+}
+
 fn drafted(alloc: Global, text: &[u8], day: i32) -> Result<Draft, TextFault>
     requires from { neg_ℤ (pos 21915) ≤ℤ day }
     requires to { day ≤ℤ pos 47481 }
@@ -335,10 +329,13 @@ fn drafted(alloc: Global, text: &[u8], day: i32) -> Result<Draft, TextFault>
         units: None,
         meta: true,
     };
-    for (name, value) in raw_pairs(text) {
-        draft = with_encoded(alloc, draft, name, value, day)?;
+    match put_pairs(alloc, &mut draft, text, day) {
+        Ok(()) => Ok(draft),
+        Err(fault) => {
+            drop(draft);
+            Err(fault)
+        }
     }
-    Ok(draft)
 }
 
 #[tactic(auto, unfolding(crate::specs::Form::whole))]

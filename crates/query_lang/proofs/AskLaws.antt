@@ -10,14 +10,14 @@ use Rattle.dh_sharing.specs.declared.access.Right.TheVariants.{Read}
 use Rattle.meta_parts.specs.declared.held.Records.{Records}
 use Rattle.meta_parts.specs.declared.kind.Kind.{Kind}
 use Rattle.meta_parts.specs.declared.kind.Kind.TheVariants as kind
-use Rattle.meta_model.specs.Approval.{unit_rows}
-use Rattle.meta_model.specs.Objects.{count_of, find_of}
-use Rattle.meta_model.specs.Users.{may_of, view_units_of}
-use Rattle.meta_model.proofs.IdLemmas.{found_below}
-use Rattle.query_parts.specs.declared.DxKind.{DxKind}
-use Rattle.query_parts.specs.declared.DxKind.TheVariants as dx
-use Rattle.query_parts.specs.declared.Dx.{Dx}
-use Rattle.query_parts.specs.declared.Query.{Query}
+use Rattle.dh_metadata.specs.Approval.{unit_rows}
+use Rattle.dh_metadata.specs.Objects.{count_of, find_of}
+use Rattle.dh_metadata.specs.Users.{may_of, view_units_of}
+use Rattle.dh_metadata.proofs.IdLemmas.{found_below}
+use Rattle.query_forms.specs.declared.plain.DxKind.{DxKind}
+use Rattle.query_forms.specs.declared.plain.DxKind.TheVariants as dx
+use Rattle.query_forms.specs.declared.plain.Dx.{Dx}
+use Rattle.query_forms.specs.declared.plain.Query.{Query}
 use Rattle.query_forms.specs.declared.item.DxForm.{DxForm}
 use Rattle.query_forms.specs.declared.item.DxForm.TheVariants as form
 use Rattle.query_forms.specs.declared.item.DxItem.{DxItem}
@@ -25,10 +25,10 @@ use Rattle.query_forms.specs.declared.form.Form.{Form}
 use Rattle.query_forms.specs.Form.{form_of}
 use Rattle.query_forms.specs.Items.{dx_form}
 use Rattle.query_forms.specs.Given.{and_then, or_refuse, refusal}
-use Rattle.query_units.specs.declared.part.Part.{Part}
-use Rattle.query_units.specs.Walk.{AreIn}
-use Rattle.query_units.specs.Choice.{chosen_units}
-use Rattle.query_units.proofs.RangeLemmas.{chosen_in}
+use Rattle.query_lang.specs.declared.part.Part.{Part}
+use Rattle.query_lang.specs.Walk.{AreIn}
+use Rattle.query_lang.specs.Choice.{chosen_units}
+use Rattle.query_lang.proofs.RangeLemmas.{chosen_in}
 use Rattle.query_lang.specs.declared.named.Found.{Found}
 use Rattle.query_lang.specs.Each.{each_of}
 use Rattle.query_lang.specs.Named.{readable, alone, object_named, combo_named, is_combo_of, operand_named, named, offered, is_over_enrollments, dx_from, dx_of, first_unbuilt}

@@ -5,7 +5,7 @@ use Rattle.dh_base.specs.declared.codes.Code.{Code}
 use Rattle.dh_base.specs.declared.codes.Code.TheVariants as code
 use Rattle.dh_base.specs.declared.codes.Refusal.{Refusal}
 use Rattle.dh_periods.specs.declared.name.PeriodName.{PeriodName}
-use Rattle.query_parts.specs.declared.Axis.{Axis}
+use Rattle.query_forms.specs.declared.plain.Axis.{Axis}
 use Rattle.query_forms.specs.declared.item.DxForm.{DxForm}
 use Rattle.query_forms.specs.declared.item.DxItem.{DxItem}
 use Rattle.query_forms.specs.declared.item.UnitItem.{UnitItem}

@@ -1,3 +1,6 @@
+pub mod SetLemmas
+pub mod WalkLemmas
+pub mod RangeLemmas
 pub mod ViewLemmas
 pub mod PeriodLaws
 pub mod FormLaws

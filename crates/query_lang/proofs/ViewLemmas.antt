@@ -3,9 +3,9 @@ use Rattle.std.proofs.Common.{◌≡◌, ℕ, ◌<◌, List, length, sym, subst}
 use Rattle.std.proofs.lemmas.List.{length-map}
 use Rattle.org_tree.specs.Units.{UnitRow}
 use Rattle.meta_parts.specs.declared.held.Records.{Records}
-use Rattle.meta_model.specs.Approval.{unit_rows}
-use Rattle.meta_model.specs.Linked.{AreBelow}
-use Rattle.query_units.specs.Walk.{AreIn}
+use Rattle.dh_metadata.specs.Approval.{unit_rows}
+use Rattle.dh_metadata.specs.Linked.{AreBelow}
+use Rattle.query_lang.specs.Walk.{AreIn}
 
 pub rows_length : (r : Records) → length (unit_rows r) ≡ length r.organisation_units
 rows_length r = length-map r.organisation_units _

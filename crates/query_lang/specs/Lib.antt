@@ -1,3 +1,7 @@
+pub mod Walk
+pub mod View
+pub mod Parts
+pub mod Choice
 pub mod Each
 pub mod Named
 pub mod Units

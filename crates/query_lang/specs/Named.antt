@@ -18,11 +18,11 @@ use Rattle.meta_parts.specs.declared.records.Element.{Element}
 use Rattle.meta_parts.specs.declared.records.OptionCombo.{OptionCombo}
 use Rattle.meta_parts.specs.declared.records.Indicator.{Indicator}
 use Rattle.meta_parts.specs.declared.records.ProgramIndicator.{ProgramIndicator}
-use Rattle.meta_model.specs.Objects.{find_of}
-use Rattle.meta_model.specs.Users.{may_of}
-use Rattle.query_parts.specs.declared.DxKind.{DxKind}
-use Rattle.query_parts.specs.declared.DxKind.TheVariants as dx
-use Rattle.query_parts.specs.declared.Dx.{Dx}
+use Rattle.dh_metadata.specs.Objects.{find_of}
+use Rattle.dh_metadata.specs.Users.{may_of}
+use Rattle.query_forms.specs.declared.plain.DxKind.{DxKind}
+use Rattle.query_forms.specs.declared.plain.DxKind.TheVariants as dx
+use Rattle.query_forms.specs.declared.plain.Dx.{Dx}
 use Rattle.query_forms.specs.declared.item.DxForm.{DxForm}
 use Rattle.query_forms.specs.declared.item.DxForm.TheVariants as form
 use Rattle.query_forms.specs.declared.item.DxItem.{DxItem}

@@ -5,12 +5,12 @@ use Rattle.dh_base.specs.declared.codes.Code.{Code}
 use Rattle.dh_base.specs.declared.codes.Code.TheVariants as code
 use Rattle.dh_base.specs.declared.codes.Refusal.{Refusal}
 use Rattle.meta_parts.specs.declared.held.Records.{Records}
-use Rattle.query_parts.specs.declared.Axis.{Axis}
-use Rattle.query_parts.specs.declared.Dx.{Dx}
-use Rattle.query_parts.specs.declared.Query.{Query}
-use Rattle.query_parts.specs.declared.QueryFault.{QueryFault}
-use Rattle.query_parts.specs.declared.QueryFault.TheVariants as fault
-use Rattle.query_units.specs.declared.part.Part.{Part}
+use Rattle.query_forms.specs.declared.plain.Axis.{Axis}
+use Rattle.query_forms.specs.declared.plain.Dx.{Dx}
+use Rattle.query_forms.specs.declared.plain.Query.{Query}
+use Rattle.query_forms.specs.declared.plain.QueryFault.{QueryFault}
+use Rattle.query_forms.specs.declared.plain.QueryFault.TheVariants as fault
+use Rattle.query_lang.specs.declared.part.Part.{Part}
 use Rattle.query_forms.specs.declared.form.Form.{Form}
 use Rattle.query_forms.specs.Form.{form_of}
 use Rattle.query_forms.specs.Given.{and_then, refusal}

@@ -7,17 +7,17 @@ use Rattle.dh_base.specs.declared.codes.Refusal.{Refusal}
 use Rattle.meta_parts.specs.declared.held.Records.{Records}
 use Rattle.meta_parts.specs.declared.kind.Kind.TheVariants as kind
 use Rattle.meta_parts.specs.declared.records.UnitGroup.{UnitGroup}
-use Rattle.meta_model.specs.Approval.{unit_rows}
-use Rattle.meta_model.specs.Objects.{find_of}
-use Rattle.meta_model.specs.Users.{view_units_of}
+use Rattle.dh_metadata.specs.Approval.{unit_rows}
+use Rattle.dh_metadata.specs.Objects.{find_of}
+use Rattle.dh_metadata.specs.Users.{view_units_of}
 use Rattle.query_forms.specs.declared.item.UnitForm.{UnitForm}
 use Rattle.query_forms.specs.declared.item.UnitForm.TheVariants as form
 use Rattle.query_forms.specs.declared.item.UnitItem.{UnitItem}
 use Rattle.query_forms.specs.Given.{or_refuse}
-use Rattle.query_units.specs.declared.part.Part.{Part}
-use Rattle.query_units.specs.declared.part.Part.TheVariants as part
-use Rattle.query_units.specs.View.{is_under_any}
-use Rattle.query_units.specs.Choice.{chosen_units}
+use Rattle.query_lang.specs.declared.part.Part.{Part}
+use Rattle.query_lang.specs.declared.part.Part.TheVariants as part
+use Rattle.query_lang.specs.View.{is_under_any}
+use Rattle.query_lang.specs.Choice.{chosen_units}
 
 -- the unit of that identifier, if it is under a view unit
 unfoldable pub unit_seen : Records → ℕ → List ℕ → Option ℕ

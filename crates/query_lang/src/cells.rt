@@ -6,7 +6,7 @@ ghost use Rattle.query_lang.specs.Query.{axis_count, cells_of, within};
 use dh_base::codes::Code;
 use dh_base::memory::Memory;
 use query_forms::fault::{TextFault, refused};
-use query_parts::{Axis, Query};
+use query_forms::{Axis, Query};
 use std::alloc::Global;
 
 fn axis_count<T>(axis: &Axis<T>) -> u128

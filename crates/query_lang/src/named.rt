@@ -1,7 +1,7 @@
 //! What the items of the dimension `dx` name.
 ghost use Rattle.std.specs.Prelude.{◌≡◌, ◌<◌, [], true, length};
-ghost use Rattle.meta_model.specs.Linked.{IsBelow};
-ghost use Rattle.meta_model.specs.Objects.{count_of, is_shared};
+ghost use Rattle.dh_metadata.specs.Linked.{IsBelow};
+ghost use Rattle.dh_metadata.specs.Objects.{count_of, is_shared};
 ghost use Rattle.query_forms.specs.Given.{Gives};
 ghost use Rattle.query_lang.specs.Each.{each_of};
 ghost use Rattle.query_lang.specs.Named.{readable, alone, object_named, is_combo_of, combo_named, operand_named, named, is_enrollment_type, is_enrollment, is_over_enrollments, dx_of};
@@ -10,17 +10,17 @@ use dh_base::codes::Code;
 use dh_base::items::Items;
 use dh_base::plain::Rate;
 use dh_base::uid::Uid;
+use dh_metadata::metadata::Metadata;
 use dh_sharing::access::Right;
-use meta_model::metadata::Metadata;
 use meta_parts::kind::Kind;
 use meta_parts::names::AnalyticsType;
 use query_forms::fault::{TextFault, refused};
 use query_forms::item::{DxForm, DxItem};
-use query_parts::{Dx, DxKind};
+use query_forms::{Dx, DxKind};
 use std::alloc::Global;
 
 /// What an item of the dimension `dx` names.
-#[derive(Clone, Copy, Debug, PartialEq, Eq)]
+#[derive(Clone, Copy, PartialEq, Eq)]
 pub struct Found {
     pub kind: DxKind,
     /// The object's number among those of its kind.

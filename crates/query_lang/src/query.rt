@@ -6,16 +6,16 @@ ghost use Rattle.query_lang.specs.Query.{built_within, query_from, query_of, IsF
 
 use crate::cells::within;
 use crate::named::each_dx;
+use crate::part::Part;
 use crate::unbuilt::first_unbuilt;
 use crate::units::{each_part, units_of, view_of};
 use dh_base::codes::Code;
 use dh_base::items::Items;
-use meta_model::metadata::Metadata;
+use dh_metadata::metadata::Metadata;
 use query_forms::fault::{TextFault, refused};
 use query_forms::form::Form;
 use query_forms::text::form_of;
-use query_parts::{Axis, Dx, Query, QueryFault};
-use query_units::part::Part;
+use query_forms::{Axis, Dx, Query, QueryFault};
 use std::alloc::Global;
 
 fn built_within(

@@ -3,10 +3,10 @@ ghost use Rattle.std.specs.Prelude.{◌≡◌, ◌<◌, length};
 ghost use Rattle.std.specs.Option.{option_copied};
 ghost use Rattle.query_lang.specs.Named.{is_rate, has_rate, names_rate, is_unbuilt, first_unbuilt};
 
+use dh_metadata::metadata::Metadata;
 use expr_lang::{Expr, Item};
-use meta_model::metadata::Metadata;
 use meta_parts::kind::Kind;
-use query_parts::{Dx, DxKind};
+use query_forms::{Dx, DxKind};
 
 fn is_rate(item: &Item) -> bool
     ensures { result ≡ is_rate item.now }

@@ -1,25 +1,25 @@
 //! The units of a query against metadata.
 ghost use Rattle.std.specs.Prelude.{◌≡◌, ◌<◌, ◌++◌, [], length, IfOk, OnOk};
-ghost use Rattle.meta_model.specs.Approval.{unit_rows};
-ghost use Rattle.meta_model.specs.Users.{view_units_of};
-ghost use Rattle.meta_model.specs.Linked.{IsBelow};
+ghost use Rattle.dh_metadata.specs.Approval.{unit_rows};
+ghost use Rattle.dh_metadata.specs.Users.{view_units_of};
+ghost use Rattle.dh_metadata.specs.Linked.{IsBelow};
 ghost use Rattle.query_forms.specs.Given.{Gives};
-ghost use Rattle.query_units.specs.View.{is_under_any, Covers};
+ghost use Rattle.query_lang.specs.View.{is_under_any, Covers};
 ghost use Rattle.query_lang.specs.Each.{each_of};
 ghost use Rattle.query_lang.specs.Units.{unit_seen, part_by, part_of, group_units, part_members, members_of, units_of};
 
+use crate::choice::chosen_units;
+use crate::part::Part;
+use crate::view::{is_covered, ranges_under};
 use dh_base::codes::Code;
 use dh_base::items::Items;
 use dh_base::memory::Memory;
 use dh_base::uid::Uid;
+use dh_metadata::metadata::Metadata;
 use dh_sharing::ranges::ViewRanges;
-use meta_model::metadata::Metadata;
 use meta_parts::kind::Kind;
 use query_forms::fault::{TextFault, refused};
 use query_forms::item::{UnitForm, UnitItem};
-use query_units::choice::chosen_units;
-use query_units::part::Part;
-use query_units::view::{is_covered, ranges_under};
 use std::alloc::Global;
 
 /// The ranges of the units that the user sees.

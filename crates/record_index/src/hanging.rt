@@ -1,16 +1,14 @@
-ghost use Rattle.std.specs.Prelude.{◌≡◌, ◌++◌, ◌∷◌, ℕ, [], List, IfOk, OnOk, if◌then◌else◌};
+ghost use Rattle.std.specs.Prelude.{◌≡◌, ◌++◌, ◌∷◌, ℕ, [], List, None, IfOk, OnOk, if◌then◌else◌};
 ghost use Rattle.std.specs.List.{filter, list_any};
 ghost use Rattle.std.specs.List.Sorted.{IsStrictlySortedBy};
 ghost use Rattle.std.specs.Cmp.Lexicographic.{slice_cmp};
 ghost use Rattle.std.specs.Ordering.{nat_cmp};
 ghost use Rattle.record_index.specs.Said.{same_id};
 ghost use Rattle.record_index.specs.Maps as maps;
-ghost use Rattle.record_index.specs.Holds.{contents, event_held, enrollment_held};
-ghost use Rattle.record_index.specs.Hanging.{event_parent, enrollment_parent};
 ghost use Rattle.record_index.specs.Hanging as hang;
 
 use crate::held::look;
-use crate::index::{Index, parent_of_enrollment, parent_of_event};
+use crate::index::Hangs;
 use dh_base::items::Items;
 use dh_base::memory::Memory;
 use dh_base::uid::Uid;
@@ -44,25 +42,20 @@ fn keep_if(found: &mut Vec<Uid>, id: Uid, keep: bool) -> Result<(), Memory>
     Ok(())
 }
 
-/// Those noted under the enrollment that are there and hang on it.
-pub fn live_events(alloc: Global, index: &Index, enrollment: Uid) -> Result<Vec<Uid>, Memory>
-    ensures { IfOk result (λ found. found.items ≡ filter (λ id. hang.hangs_on (event_parent (event_held (contents index.now) id)) enrollment) (maps.held same_id [] index.now.events_of enrollment)) }
+/// Those noted under a parent that are there and hang on it.
+pub fn live<V: Hangs>(
+    alloc: Global,
+    children: &HashMap<Uid, Items<Uid>>,
+    objects: &HashMap<Uid, Option<V>>,
+    parent: Uid,
+) -> Result<Vec<Uid>, Memory>
+    ensures { IfOk result (λ found. found.items
+        ≡ filter (λ id. hang.hangs_on (V.parent (maps.held same_id None objects.now id)) parent)
+        (maps.held same_id [] children.now parent)) }
 {
     let mut found = Vec::new(alloc);
-    for id in children_of(&index.events_of, &enrollment) {
-        let hangs = hangs_on(parent_of_event(look(&index.events, id)), enrollment);
-        keep_if(&mut found, *id, hangs)?;
-    }
-    Ok(found)
-}
-
-/// Those noted under the entity that are there and hang on it.
-pub fn live_enrollments(alloc: Global, index: &Index, entity: Uid) -> Result<Vec<Uid>, Memory>
-    ensures { IfOk result (λ found. found.items ≡ filter (λ id. hang.hangs_on (enrollment_parent (enrollment_held (contents index.now) id)) entity) (maps.held same_id [] index.now.enrollments_of entity)) }
-{
-    let mut found = Vec::new(alloc);
-    for id in children_of(&index.enrollments_of, &entity) {
-        let hangs = hangs_on(parent_of_enrollment(look(&index.enrollments, id)), entity);
+    for id in children_of(children, &parent) {
+        let hangs = hangs_on(V::parent_of(look(objects, id)), parent);
         keep_if(&mut found, *id, hangs)?;
     }
     Ok(found)

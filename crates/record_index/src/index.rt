@@ -2,7 +2,7 @@ ghost use Rattle.std.specs.Prelude.{◌≡◌, ℕ, List, [], true, Some, None, 
 ghost use Rattle.std.specs.Option.{is_some, option_copied};
 ghost use Rattle.std.specs.HashMap.{get};
 ghost use Rattle.record_index.specs.Said.{same_id};
-ghost use Rattle.record_index.specs.Maps.{Grows, is_noted};
+ghost use Rattle.record_index.specs.Maps.{held, Grows, is_noted};
 ghost use Rattle.record_index.specs.Holds.{contents, HoldSame};
 ghost use Rattle.record_index.specs.Hanging.{event_parent, enrollment_parent};
 ghost use Rattle.record_index.specs.Index.{is_linked, IsLinked, IsReady, Keeps, Puts};
@@ -33,23 +33,37 @@ pub struct Index {
     pub enrollments_of: HashMap<Uid, Items<Uid>>,
 }
 
-/// The enrollment that an event hangs on.
-pub fn parent_of_event(event: Option<&Event>) -> Option<Uid>
-    ensures { result ≡ event_parent (option_copied event.entry) }
-{
-    match event {
-        Some(event) => event.enrollment,
-        None => None,
+/// An object that may hang on another.
+pub trait Hangs: Sized {
+    ghost use Rattle.std.specs.Prelude.{ℕ, List, Option};
+
+    /// The identifier of the other, of an object that is there and hangs on one.
+    ghost parent: { Option Self → Option (List ℕ) };
+
+    /// The other.
+    fn parent_of(object: Option<&Self>) -> Option<Uid>
+        ensures { result ≡ parent (option_copied object.entry) };
+}
+
+impl Hangs for Event {
+    ghost parent = { event_parent };
+
+    fn parent_of(event: Option<&Event>) -> Option<Uid> {
+        match event {
+            Some(event) => event.enrollment,
+            None => None,
+        }
     }
 }
 
-/// The entity that an enrollment hangs on.
-pub fn parent_of_enrollment(enrollment: Option<&Enrollment>) -> Option<Uid>
-    ensures { result ≡ enrollment_parent (option_copied enrollment.entry) }
-{
-    match enrollment {
-        Some(enrollment) => Some(enrollment.entity),
-        None => None,
+impl Hangs for Enrollment {
+    ghost parent = { enrollment_parent };
+
+    fn parent_of(enrollment: Option<&Enrollment>) -> Option<Uid> {
+        match enrollment {
+            Some(enrollment) => Some(enrollment.entity),
+            None => None,
+        }
     }
 }
 
@@ -74,50 +88,23 @@ fn link(
     }
 }
 
-fn enter_event(
+// Enters an object, and notes it under its parent.
+fn enter_child<V: Hangs + Drop>(
     alloc: Global,
-    index: &mut Index,
+    children: &mut HashMap<Uid, Items<Uid>>,
+    objects: &mut HashMap<Uid, Option<V>>,
     id: Uid,
-    event: Option<&Event>,
+    object: Option<&V>,
 ) -> Result<(), Memory>
-    requires { IsLinked index.old }
-    ensures same { HoldSame (contents index.new) [] (contents index.old) [] }
-    ensures keeps { Keeps index.old index.new }
-    ensures there { OnOk result (is_some (get same_id index.new.events id) ≡ true) }
-    ensures linked { OnOk result (is_linked index.new.events_of (event_parent (option_copied event.entry)) id ≡ true) }
+    requires { is_linked children.old (V.parent (held same_id None objects.old id)) id ≡ true }
+    ensures grows { Grows same_id None objects.old objects.new }
+    ensures there { OnOk result (is_some (get same_id objects.new id) ≡ true) }
+    ensures linked { OnOk result (is_linked children.new (V.parent (option_copied object.entry)) id ≡ true) }
+    ensures stays { (p c : List ℕ) → is_noted children.old p c ≡ true → is_noted children.new p c ≡ true }
 {
-    let before = parent_of_event(look(&index.events, &id));
-    link(
-        alloc,
-        &mut index.events_of,
-        before,
-        parent_of_event(event),
-        id,
-    )?;
-    enter(&mut index.events, &id, None)
-}
-
-fn enter_enrollment(
-    alloc: Global,
-    index: &mut Index,
-    id: Uid,
-    enrollment: Option<&Enrollment>,
-) -> Result<(), Memory>
-    requires { IsLinked index.old }
-    ensures same { HoldSame (contents index.new) [] (contents index.old) [] }
-    ensures keeps { Keeps index.old index.new }
-    ensures there { OnOk result (is_some (get same_id index.new.enrollments id) ≡ true) }
-    ensures linked { OnOk result (is_linked index.new.enrollments_of (enrollment_parent (option_copied enrollment.entry)) id ≡ true) }
-{
-    let before = parent_of_enrollment(look(&index.enrollments, &id));
-    link(
-        alloc,
-        &mut index.enrollments_of,
-        before,
-        parent_of_enrollment(enrollment),
-        id,
-    )?;
-    enter(&mut index.enrollments, &id, None)
+    let before = V::parent_of(look(objects, &id));
+    link(alloc, children, before, V::parent_of(object), id)?;
+    enter(objects, &id, None)
 }
 
 /// Enters the key of what will be said, and notes a child under its parent.
@@ -129,10 +116,17 @@ pub fn make_ready(alloc: Global, index: &mut Index, said: &Said) -> Result<(), M
 {
     match said {
         Said::Value { key, .. } => enter(&mut index.values, key, None),
-        Said::Event { id, event } => enter_event(alloc, index, *id, event.as_ref()),
-        Said::Enrollment { id, enrollment } => enter_enrollment(
+        Said::Event { id, event } => enter_child(
             alloc,
-            index,
+            &mut index.events_of,
+            &mut index.events,
+            *id,
+            event.as_ref(),
+        ),
+        Said::Enrollment { id, enrollment } => enter_child(
+            alloc,
+            &mut index.enrollments_of,
+            &mut index.enrollments,
             *id,
             enrollment.as_ref(),
         ),

@@ -7,6 +7,4 @@ mod held;
 pub mod index;
 pub mod outcome;
 pub mod said;
-#[cfg(test)]
-mod tests;
 pub mod world;

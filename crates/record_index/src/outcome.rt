@@ -4,7 +4,7 @@ use dh_base::uid::Uid;
 use dh_changes::change::Write;
 
 /// Which objects an import may make, change or take away.
-#[derive(Clone, Copy, Debug, PartialEq, Eq)]
+#[derive(Clone, Copy, PartialEq, Eq)]
 pub enum ImportStrategy {
     Create,
     Update,
@@ -13,14 +13,14 @@ pub enum ImportStrategy {
 }
 
 /// Who asks for a change: a user of the metadata, by number, or the loader, who may do all.
-#[derive(Clone, Copy, Debug, PartialEq, Eq)]
+#[derive(Clone, Copy, PartialEq, Eq)]
 pub enum Who {
     User(u32),
     Loader,
 }
 
 /// Why an object of an import isn't taken.
-#[derive(Clone, Copy, Debug, PartialEq, Eq)]
+#[derive(Clone, Copy, PartialEq, Eq)]
 pub struct Conflict {
     pub code: Code,
     /// The place of the object in its list, counted from 0.
@@ -42,7 +42,7 @@ pub struct Verdict {
 }
 
 /// Why a body isn't read.
-#[derive(Debug, Drop)]
+#[derive(Drop)]
 pub enum BodyFault {
     /// The path of the first place that isn't of its form.
     Bad { path: Items<u8> },

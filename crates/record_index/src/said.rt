@@ -1,4 +1,5 @@
-ghost use Rattle.std.specs.Prelude.{◌≡◌, IfOk};
+ghost use Rattle.std.specs.Prelude.{◌≡◌, Some, IfOk};
+ghost use Rattle.record_index.specs.declared.said.Said.TheVariants as said;
 ghost use Rattle.record_index.specs.Said as holds;
 
 use dh_base::items::Items;
@@ -10,7 +11,7 @@ use dh_changes::tracker::{Enrollment, Entity, Event};
 use std::alloc::Global;
 
 /// How far an approval has come.
-#[derive(Clone, Copy, Debug, PartialEq, Eq)]
+#[derive(Clone, Copy, PartialEq, Eq)]
 pub enum ApprovalState {
     None,
     Approved,
@@ -50,63 +51,78 @@ pub enum Said {
 pub fn said_by(alloc: Global, write: &Write) -> Result<Said, Memory>
     ensures { IfOk result (λ said. said ≡ holds.said_by write.now) }
 {
-    Ok(match write {
-        Write::ValueSet { key, value } => Said::Value {
-            key: *key,
-            value: Some(copy_text(alloc, value.as_slice())?),
-        },
-        Write::ValueCleared { key } => Said::Value {
+    match write {
+        Write::ValueSet { key, value } => said_of_value(alloc, key, value.as_slice()),
+        Write::ValueCleared { key } => Ok(Said::Value {
             key: *key,
             value: None,
-        },
-        Write::EventWritten(event) => Said::Event {
-            id: event.id,
-            event: Some(copy_event(alloc, event)?),
-        },
-        Write::EventDeleted(id) => Said::Event {
+        }),
+        Write::EventWritten(event) => said_of_event(alloc, event),
+        Write::EventDeleted(id) => Ok(Said::Event {
             id: *id,
             event: None,
-        },
-        Write::EnrollmentWritten(enrollment) => Said::Enrollment {
+        }),
+        Write::EnrollmentWritten(enrollment) => Ok(Said::Enrollment {
             id: enrollment.id,
             enrollment: Some(copy_enrollment(enrollment)),
-        },
-        Write::EnrollmentDeleted(id) => Said::Enrollment {
+        }),
+        Write::EnrollmentDeleted(id) => Ok(Said::Enrollment {
             id: *id,
             enrollment: None,
-        },
-        Write::EntityWritten(entity) => Said::Entity {
-            id: entity.id,
-            entity: Some(copy_entity(alloc, entity)?),
-        },
-        Write::EntityDeleted(id) => Said::Entity {
+        }),
+        Write::EntityWritten(entity) => said_of_entity(alloc, entity),
+        Write::EntityDeleted(id) => Ok(Said::Entity {
             id: *id,
             entity: None,
-        },
-        Write::Approve(key) => Said::Approval {
-            key: *key,
-            state: ApprovalState::Approved,
-        },
-        Write::Unapprove(key) => Said::Approval {
-            key: *key,
-            state: ApprovalState::None,
-        },
-        Write::Accept(key) => Said::Approval {
-            key: *key,
-            state: ApprovalState::Accepted,
-        },
-        Write::Unaccept(key) => Said::Approval {
-            key: *key,
-            state: ApprovalState::Approved,
-        },
-        Write::Complete { key, day } => Said::Registration {
+        }),
+        Write::Approve(key) => Ok(approval(key, ApprovalState::Approved)),
+        Write::Unapprove(key) => Ok(approval(key, ApprovalState::None)),
+        Write::Accept(key) => Ok(approval(key, ApprovalState::Accepted)),
+        Write::Unaccept(key) => Ok(approval(key, ApprovalState::Approved)),
+        Write::Complete { key, day } => Ok(Said::Registration {
             key: *key,
             day: Some(*day),
-        },
-        Write::Uncomplete { key } => Said::Registration {
+        }),
+        Write::Uncomplete { key } => Ok(Said::Registration {
             key: *key,
             day: None,
-        },
+        }),
+    }
+}
+
+fn approval(key: &ApprovalKey, state: ApprovalState) -> Said
+    ensures { result ≡ said.Approval key.now state }
+{
+    Said::Approval { key: *key, state }
+}
+
+fn said_of_value(alloc: Global, key: &ValueKey, value: &[u8]) -> Result<Said, Memory>
+    ensures { IfOk result (λ found. found ≡ said.Value key.now (Some value.now)) }
+{
+    let value = copy_text(alloc, value)?;
+    Ok(Said::Value {
+        key: *key,
+        value: Some(value),
+    })
+}
+
+fn said_of_event(alloc: Global, event: &Event) -> Result<Said, Memory>
+    ensures { IfOk result (λ found. found ≡ said.Event event.now.id (Some event.now)) }
+{
+    let copy = copy_event(alloc, event)?;
+    Ok(Said::Event {
+        id: event.id,
+        event: Some(copy),
+    })
+}
+
+fn said_of_entity(alloc: Global, entity: &Entity) -> Result<Said, Memory>
+    ensures { IfOk result (λ found. found ≡ said.Entity entity.now.id (Some entity.now)) }
+{
+    let copy = copy_entity(alloc, entity)?;
+    Ok(Said::Entity {
+        id: entity.id,
+        entity: Some(copy),
     })
 }
 

@@ -7,7 +7,7 @@ ghost use Rattle.record_index.specs.Index.{IsLinked, AllReady};
 ghost use Rattle.record_index.specs.Facts as known;
 ghost use Rattle.record_index.specs.World.{facts};
 
-use crate::hanging::{live_enrollments, live_events, put_in_order};
+use crate::hanging::{live, put_in_order};
 use crate::held::look;
 use crate::index::{Index, make_ready, take_in};
 use crate::said::{ApprovalState, Said, said_by};
@@ -73,9 +73,13 @@ fn prepare(
     ensures ok { OnOk result (waiting.new.items ≡ waiting.old.items ++ says.said_by write.now ∷ []) }
 {
     let said = said_by(alloc, write)?;
-    make_ready(alloc, index, &said)?;
-    waiting.push(said)?;
-    Ok(())
+    match make_ready(alloc, index, &said) {
+        Ok(()) => Ok(waiting.push(said)?),
+        Err(fault) => {
+            drop(said);
+            Err(fault)
+        }
+    }
 }
 
 fn prepare_all(
@@ -232,7 +236,12 @@ impl World {
     pub fn enrollments_of(&self, alloc: Global, entity: Uid) -> Result<Items<Uid>, Memory>
         ensures { IfOk result (λ ids. ids ≡ (facts self.now).enrollments_of entity) }
     {
-        let found = live_enrollments(alloc, &self.index, entity)?;
+        let found = live(
+            alloc,
+            &self.index.enrollments_of,
+            &self.index.enrollments,
+            entity,
+        )?;
         Ok(put_in_order(found))
     }
 
@@ -242,7 +251,7 @@ impl World {
     pub fn events_of(&self, alloc: Global, enrollment: Uid) -> Result<Items<Uid>, Memory>
         ensures { IfOk result (λ ids. ids ≡ (facts self.now).events_of enrollment) }
     {
-        let found = live_events(alloc, &self.index, enrollment)?;
+        let found = live(alloc, &self.index.events_of, &self.index.events, enrollment)?;
         Ok(put_in_order(found))
     }
 }

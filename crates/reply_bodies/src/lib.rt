@@ -5,8 +5,6 @@ mod errors;
 mod fixed;
 mod phrase;
 mod summary;
-#[cfg(test)]
-mod tests;
 mod updates;
 
 pub use errors::error_body;

@@ -9,7 +9,7 @@ use std::marker::Model;
 const ROOM: usize = 128;
 
 /// The body of a reply to an update of the tables, as its bytes.
-#[derive(Debug, Drop)]
+#[derive(Drop)]
 pub struct UpdateBody {
     bytes: [u8; 128],
     len: usize,

@@ -8,12 +8,12 @@ use Rattle.expr_lang.specs.declared.tree.Item.TheVariants as item
 use Rattle.expr_lang.specs.Expr.{items_in}
 use Rattle.meta_parts.specs.declared.held.Records.{Records}
 use Rattle.meta_parts.specs.declared.records.Indicator.{Indicator}
-use Rattle.query_parts.specs.declared.Dx.{Dx}
-use Rattle.query_parts.specs.declared.DxKind.{DxKind}
-use Rattle.query_parts.specs.declared.DxKind.TheVariants as dx
-use Rattle.query_parts.specs.declared.Query.{Query}
+use Rattle.query_forms.specs.declared.plain.Dx.{Dx}
+use Rattle.query_forms.specs.declared.plain.DxKind.{DxKind}
+use Rattle.query_forms.specs.declared.plain.DxKind.TheVariants as dx
+use Rattle.query_forms.specs.declared.plain.Query.{Query}
 use Rattle.query_lang.specs.Named as named
-use Rattle.meta_model.specs.Objects.{count_of}
+use Rattle.dh_metadata.specs.Objects.{count_of}
 use Rattle.query_lang.specs.Askable.{kind_of, IsAsked, IsAskable}
 use Rattle.query_answer.specs.Asked as asked
 

@@ -4,7 +4,7 @@ use Rattle.dh_base.specs.declared.codes.Refusal.{Refusal}
 use Rattle.dh_base.specs.declared.plain.CutKind.{CutKind}
 use Rattle.http_wire.specs.declared.request.Request.{Request}
 use Rattle.change_log.specs.declared.limits.Limits.{Limits}
-use Rattle.moment_days.specs.Days.{day_of}
+use Rattle.dh_periods.specs.Moment.{day_of}
 use Rattle.web_routes.specs.Calls.{routed}
 use Rattle.web_routes.specs.declared.call.Call.{Call}
 use Rattle.web_routes.specs.declared.call.Call.TheVariants as call

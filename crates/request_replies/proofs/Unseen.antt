@@ -8,10 +8,10 @@ use Rattle.dh_base.specs.declared.codes.Code.TheVariants.{F18}
 use Rattle.dh_base.specs.declared.codes.Refusal.{Refusal}
 use Rattle.http_wire.specs.declared.request.Request.{Request}
 use Rattle.meta_parts.specs.declared.held.Records.{Records}
-use Rattle.moment_days.specs.Days.{day_of}
+use Rattle.dh_periods.specs.Moment.{day_of}
 use Rattle.query_answer.specs.Answer.{answer_of}
 use Rattle.query_forms.specs.Given.{refusal}
-use Rattle.query_parts.specs.declared.Query.{Query}
+use Rattle.query_forms.specs.declared.plain.Query.{Query}
 use Rattle.reply_bodies.specs.Bodies.{error_text}
 use Rattle.web_routes.specs.Calls.{routed}
 use Rattle.web_routes.specs.declared.call.Call.{Call}

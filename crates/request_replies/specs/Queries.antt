@@ -2,7 +2,7 @@
 use Rattle.std.specs.Prelude.{◌≡◌, ℕ, Bool, List, take, Option, None, Result, Ok, Err}
 use Rattle.dh_changes.specs.declared.change.Change.{Change}
 use Rattle.meta_parts.specs.declared.held.Records.{Records}
-use Rattle.query_parts.specs.declared.Query.{Query}
+use Rattle.query_forms.specs.declared.plain.Query.{Query}
 use Rattle.query_answer.specs.Answer.{answer_of}
 use Rattle.seen_rows.specs.Seen.{seen}
 use Rattle.engine.specs.Machine.{State, LookStep}

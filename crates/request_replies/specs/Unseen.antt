@@ -2,8 +2,8 @@
 use Rattle.std.specs.Prelude.{◌≡◌, ◌≤◌, ℕ, ℤ, Bool, List, take, None, Some, Ok}
 use Rattle.agg_types.specs.declared.sample.Sample.{Sample}
 use Rattle.http_wire.specs.declared.request.Request.{Request}
-use Rattle.moment_days.specs.Days.{day_of}
-use Rattle.query_parts.specs.declared.Query.{Query}
+use Rattle.dh_periods.specs.Moment.{day_of}
+use Rattle.query_forms.specs.declared.plain.Query.{Query}
 use Rattle.seen_rows.specs.Seen.{seen}
 use Rattle.web_routes.specs.Calls.{routed}
 use Rattle.web_routes.specs.declared.call.Call.TheVariants as call

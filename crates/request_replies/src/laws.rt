@@ -1,7 +1,7 @@
 //! What follows from the definition of replies alone.
 ghost use Rattle.std.specs.Prelude.{◌≡◌, ℕ, ℤ, Bool, List, Option, Some};
 ghost use Rattle.http_wire.specs.declared.request.Request.{Request};
-ghost use Rattle.query_parts.specs.declared.Query.{Query};
+ghost use Rattle.query_forms.specs.declared.plain.Query.{Query};
 ghost use Rattle.engine.specs.Seen.{Seen};
 ghost use Rattle.request_replies.specs.Steps.{ReplyAt, Keeps};
 ghost use Rattle.request_replies.specs.Unseen.{published_samples, AsksWithin, DifferInNumber};

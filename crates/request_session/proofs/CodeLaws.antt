@@ -12,17 +12,17 @@ use Rattle.wire_head.specs.declared.lines.Opening.{Opening}
 use Rattle.wire_head.specs.declared.lines.Opening.TheVariants.{Nothing, Unfinished, TooLong, Whole}
 use Rattle.wire_head.specs.declared.plan.Plan.{Plan}
 use Rattle.wire_head.specs.declared.plan.Plan.TheVariants.{Sized, Chunked}
-use Rattle.wire_body.specs.Line.{size_step}
-use Rattle.wire_body.specs.Chunks.{content_limit, frame_limit, sized, behind_size, expect, step, Outcome, open_at, stepped, advanced, and_on, run, at_first, chunked}
-use Rattle.wire_body.specs.Chunks as body
-use Rattle.wire_body.specs.declared.line.SizeStep.{SizeStep}
-use Rattle.wire_body.specs.declared.line.SizeStep.TheVariants as line
-use Rattle.wire_body.specs.declared.line.SizePlace.TheVariants.{Digits}
-use Rattle.wire_body.specs.declared.chunks.Place.{Place}
-use Rattle.wire_body.specs.declared.chunks.Place.TheVariants.{Size, Content, Feed, Start, Trailer, TrailerEnd, LastEnd}
-use Rattle.wire_body.specs.declared.chunks.Step.{Step}
-use Rattle.wire_body.specs.declared.chunks.Step.TheVariants.{Goes, Ends, Fails}
-use Rattle.wire_body.specs.declared.chunks.Chunks.{Chunks}
+use Rattle.http_wire.specs.Line.{size_step}
+use Rattle.http_wire.specs.Chunks.{content_limit, frame_limit, sized, behind_size, expect, step, Outcome, open_at, stepped, advanced, and_on, run, at_first, chunked}
+use Rattle.http_wire.specs.Chunks as body
+use Rattle.http_wire.specs.declared.line.SizeStep.{SizeStep}
+use Rattle.http_wire.specs.declared.line.SizeStep.TheVariants as line
+use Rattle.http_wire.specs.declared.line.SizePlace.TheVariants.{Digits}
+use Rattle.http_wire.specs.declared.chunks.Place.{Place}
+use Rattle.http_wire.specs.declared.chunks.Place.TheVariants.{Size, Content, Feed, Start, Trailer, TrailerEnd, LastEnd}
+use Rattle.http_wire.specs.declared.chunks.Step.{Step}
+use Rattle.http_wire.specs.declared.chunks.Step.TheVariants.{Goes, Ends, Fails}
+use Rattle.http_wire.specs.declared.chunks.Chunks.{Chunks}
 use Rattle.http_wire.specs.Next.{Found, ended, cut, refused, whole, behind, Body, waiting, wrong, complete, by_chunks, body_of, with_body, behind_head, IsFoundBy, IsNext, skipped}
 use Rattle.request_session.specs.Codes.{is_wire_code}
 

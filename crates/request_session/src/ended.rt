@@ -1,7 +1,7 @@
 use dh_base::codes::Code;
 
 /// How a session ended.
-#[derive(Clone, Copy, Debug, Drop, PartialEq, Eq)]
+#[derive(Clone, Copy, Drop, PartialEq, Eq)]
 pub enum Ended {
     /// The input ended between two requests, or a request asked to close.
     Closed,
@@ -20,7 +20,7 @@ pub enum Ended {
 }
 
 /// What one turn came to.
-#[derive(Clone, Copy, Debug, Drop, PartialEq, Eq)]
+#[derive(Clone, Copy, Drop, PartialEq, Eq)]
 pub(crate) enum Turn {
     /// A request was answered, and this says whether it asks to keep the connection.
     Answered(bool),

@@ -9,8 +9,6 @@ mod machine;
 mod reply;
 mod send;
 mod session;
-#[cfg(test)]
-mod tests;
 mod texts;
 mod turn;
 

@@ -2,14 +2,14 @@
 use Rattle.std.proofs.Common.{◌≡◌, ℕ, ℤ, List, Option, Some, Result, Ok, Err, IfOk, refl, sym, subst, ap, ◌∙◌}
 use Rattle.meta_parts.specs.declared.parts.MetaParts.{MetaParts}
 use Rattle.meta_parts.specs.declared.held.Records.{Records}
-use Rattle.meta_reader.specs.declared.fault.FileFault.{FileFault}
-use Rattle.dh_metadata.specs.Faults.{fault_of, IsMet}
-use Rattle.dh_metadata.specs.declared.fault.MetaFault.{MetaFault}
-use Rattle.dh_metadata.specs.declared.fault.MetaFault.TheVariants as fault
-use Rattle.metadata_reader.specs.Read.{told, Reads}
+use Rattle.meta_reader.specs.declared.file_fault.FileFault.{FileFault}
+use Rattle.meta_reader.specs.Faults.{fault_of, IsMet}
+use Rattle.meta_reader.specs.declared.fault.MetaFault.{MetaFault}
+use Rattle.meta_reader.specs.declared.fault.MetaFault.TheVariants as fault
+use Rattle.meta_reader.specs.Read.{told, Reads}
 use Rattle.dh_base.specs.declared.memory.Memory.{Memory}
 use Rattle.meta_reader.specs.File.{file_of}
-use Rattle.sample_data.specs.File.{sample_file}
+use Rattle.sample_report.specs.File.{sample_file}
 use Rattle.sample_report.specs.Generated.{generated_text, refused_text, IsOverParts, IsOverFile, IsGenerated}
 
 -- the file is read, and over its metadata the report was made

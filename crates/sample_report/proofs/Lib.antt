@@ -1,3 +1,4 @@
+pub mod StepLemmas
 pub mod SmallLemmas
 pub mod LoadLemmas
 pub mod ReportLemmas

@@ -6,9 +6,9 @@ use Rattle.dh_changes.specs.declared.change.Change.{Change}
 use Rattle.dh_changes.specs.declared.change.Write.{Write}
 use Rattle.meta_parts.specs.declared.held.Records.{Records}
 use Rattle.record_index.specs.Facts.{Facts, facts_in}
-use Rattle.log_rows.specs.Log.{writes_of}
-use Rattle.sample_data.specs.declared.draws.Sample.{Sample}
-use Rattle.sample_data.specs.Draws.{start, samples, after_samples}
+use Rattle.table_build.specs.Log.{writes_of}
+use Rattle.sample_report.specs.declared.draws.Sample.{Sample}
+use Rattle.sample_report.specs.Draws.{start, samples, after_samples}
 use Rattle.sample_report.specs.Sets.{sets_from, sample_sets}
 use Rattle.sample_report.specs.Loaded.{writes_for, change_of, grown, log_with}
 use Rattle.sample_report.specs.Small.{AreSmall}

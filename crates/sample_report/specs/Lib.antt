@@ -1,3 +1,6 @@
+pub mod Draws
+pub mod Ids
+pub mod File
 pub mod Sets
 pub mod Loaded
 pub mod Small

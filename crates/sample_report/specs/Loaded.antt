@@ -2,12 +2,12 @@
 use Rattle.std.specs.Prelude.{ℤ, nat_lt, if◌then◌else◌, List, [], ◌∷◌, ◌++◌, length, None}
 use Rattle.dh_changes.specs.declared.change.Change.{Change}
 use Rattle.dh_changes.specs.declared.change.Write.{Write}
-use Rattle.log_rows.specs.Log.{writes_of}
+use Rattle.table_build.specs.Log.{writes_of}
 use Rattle.meta_parts.specs.declared.held.Records.{Records}
 use Rattle.record_index.specs.Facts.{facts_in}
 use Rattle.record_index.specs.declared.outcome.Who.TheVariants.{Loader}
 use Rattle.value_import.specs.Verdicts.{verdict_of}
-use Rattle.sample_data.specs.declared.draws.Sample.{Sample}
+use Rattle.sample_report.specs.declared.draws.Sample.{Sample}
 use Rattle.sample_report.specs.Sets.{set_of}
 
 -- what the loader writes where it brings a set of samples behind a log

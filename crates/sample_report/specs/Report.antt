@@ -12,13 +12,13 @@ use Rattle.dh_periods.specs.Texts.{period_of}
 use Rattle.meta_parts.specs.declared.held.Records.{Records}
 use Rattle.meta_parts.specs.declared.kind.Kind.{Kind}
 use Rattle.meta_parts.specs.declared.kind.Kind.TheVariants.{DataElement, OrganisationUnit, User}
-use Rattle.meta_model.specs.Objects.{find_of}
+use Rattle.dh_metadata.specs.Objects.{find_of}
 use Rattle.table_rows.specs.declared.row.Row.{Row}
-use Rattle.log_rows.specs.Log.{writes_of}
-use Rattle.log_rows.specs.Listed.{listed_in}
+use Rattle.table_build.specs.Log.{writes_of}
+use Rattle.table_build.specs.Listed.{listed_in}
 use Rattle.seen_rows.specs.Seen.{seen}
 use Rattle.cell_values.specs.Cells.{cell_of, aggregate_of}
-use Rattle.sample_data.specs.Ids.{country_id, element_id, user_id}
+use Rattle.sample_report.specs.Ids.{country_id, element_id, user_id}
 
 -- the object of a kind with an identifier
 abbrev pub named : Records → Kind → List ℕ → Option ℕ

@@ -4,9 +4,9 @@ use Rattle.std.specs.Fmt.{decimal}
 use Rattle.record_index.specs.declared.outcome.ImportStrategy.TheVariants.{CreateAndUpdate}
 use Rattle.value_forms.specs.declared.set.SetValue.{SetValue}
 use Rattle.value_forms.specs.declared.set.ValueSet.{ValueSet}
-use Rattle.sample_data.specs.declared.draws.Sample.{Sample}
-use Rattle.sample_data.specs.Draws.{start, samples, after_samples}
-use Rattle.sample_data.specs.Ids.{element_id, facility_id, month_text}
+use Rattle.sample_report.specs.declared.draws.Sample.{Sample}
+use Rattle.sample_report.specs.Draws.{start, samples, after_samples}
+use Rattle.sample_report.specs.Ids.{element_id, facility_id, month_text}
 
 -- the value that a sample stands for
 unfoldable pub value_of : Sample → SetValue

@@ -2,13 +2,14 @@
 //! their total.
 #![tactic(auto)]
 
+pub mod draws;
+pub mod file;
+pub mod ids;
 mod load;
 mod records;
 mod report;
 mod run;
 mod sets;
-#[cfg(test)]
-mod tests;
 mod total;
 
 pub use run::generated;

@@ -3,17 +3,17 @@ ghost use Rattle.std.specs.Prelude.{◌≡◌, ◌++◌, map, length, OnOk, IfOk
 ghost use Rattle.std.specs.Arc.{arc_value};
 ghost use Rattle.record_index.specs.World.{facts};
 ghost use Rattle.record_index.specs.Facts.{facts_in};
-ghost use Rattle.log_rows.specs.Log.{writes_of, value_named, values_named};
-ghost use Rattle.log_rows.specs.Listed.{listed_in};
+ghost use Rattle.table_build.specs.Log.{writes_of, value_named, values_named};
+ghost use Rattle.table_build.specs.Listed.{listed_in};
 
 use dh_base::memory::Memory;
 use dh_changes::change::{Change, Write};
 use dh_changes::keys::ValueKey;
-use log_rows::values::rows_of;
-use meta_model::metadata::Metadata;
+use dh_metadata::metadata::Metadata;
 use record_index::world::World;
 use std::alloc::Global;
 use std::sync::Arc;
+use table_build::values::rows_of;
 
 fn value_named(write: &Write) -> Option<ValueKey>
     ensures { result ≡ value_named write.now }
@@ -54,7 +54,7 @@ fn keys_named(alloc: Global, changes: &[Arc<Change>]) -> Result<Vec<ValueKey>, M
 }
 
 /// How many rows a log leaves, which leaves this world.
-#[tactic(auto, unfolding(log_rows::specs::Listed::listed_in))]
+#[tactic(auto, unfolding(table_build::specs::Listed::listed_in))]
 pub(crate) fn count_records(
     alloc: Global,
     meta: &Metadata,

@@ -4,8 +4,8 @@ ghost use Rattle.std.specs.Arc.{arc_value};
 ghost use Rattle.std.specs.Fmt.{decimal};
 ghost use Rattle.record_index.specs.World.{facts};
 ghost use Rattle.record_index.specs.Facts.{facts_in};
-ghost use Rattle.log_rows.specs.Log.{writes_of};
-ghost use Rattle.log_rows.specs.Listed.{listed_in};
+ghost use Rattle.table_build.specs.Log.{writes_of};
+ghost use Rattle.table_build.specs.Listed.{listed_in};
 ghost use Rattle.sample_report.specs.Small.{AreSmall};
 ghost use Rattle.sample_report.specs.Report.{line, lines_of, total_of, total_text, report_of};
 
@@ -14,9 +14,9 @@ use crate::records::count_records;
 use crate::total::{total_of, total_text};
 use dh_base::items::Items;
 use dh_base::memory::Memory;
-use log_rows::listed::build;
-use meta_model::metadata::Metadata;
+use dh_metadata::metadata::Metadata;
 use std::alloc::Global;
+use table_build::listed::build;
 
 fn push_line(text: &mut Vec<u8>, name: &[u8], value: &[u8]) -> Result<(), Memory>
     ensures { OnOk result (text.new.items ≡ text.old.items ++ line name.now value.now) }

@@ -1,17 +1,17 @@
 //! The report on a number of samples.
 ghost use Rattle.std.specs.Prelude.{◌≡◌, ◌≤◌, [], IfOk};
-ghost use Rattle.metadata_reader.specs.Line.{line_of};
+ghost use Rattle.meta_reader.specs.Line.{line_of};
 ghost use Rattle.sample_report.specs.Generated.{generated_text, refused_text, IsGenerated};
 
+use crate::file::sample_file;
 use crate::load::load;
 use crate::report::report_of;
 use dh_base::items::Items;
 use dh_base::memory::Memory;
-use dh_metadata::fault::MetaFault;
-use meta_model::metadata::Metadata;
-use metadata_reader::line::fault_line;
-use metadata_reader::read::read;
-use sample_data::file::sample_file;
+use dh_metadata::metadata::Metadata;
+use meta_reader::fault::MetaFault;
+use meta_reader::line::fault_line;
+use meta_reader::read::read;
 use std::alloc::Global;
 
 // The report over metadata.

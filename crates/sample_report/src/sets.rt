@@ -1,18 +1,18 @@
 //! Samples as data value sets.
 ghost use Rattle.std.specs.Prelude.{◌≡◌, IfOk, map};
 ghost use Rattle.std.specs.Fmt.{decimal};
-ghost use Rattle.sample_data.specs.Ids.{element_id};
+ghost use Rattle.sample_report.specs.Ids.{element_id};
 ghost use Rattle.sample_report.specs.Sets.{value_of, set_of};
 
+use crate::draws::Sample;
+use crate::ids::{ELEMENT, facility_id, month_text};
 use dh_base::items::Items;
 use dh_base::memory::Memory;
 use record_index::outcome::ImportStrategy;
-use sample_data::draws::Sample;
-use sample_data::ids::{ELEMENT, facility_id, month_text};
 use std::alloc::Global;
 use value_forms::set::{SetParams, SetValue, ValueSet};
 
-#[tactic(auto, unfolding(sample_data::specs::Ids::element_id))]
+#[tactic(auto, unfolding(crate::specs::Ids::element_id))]
 fn element_text(alloc: Global) -> Result<Items<u8>, Memory>
     ensures { IfOk result (λ text. text ≡ element_id) }
 {

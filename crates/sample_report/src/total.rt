@@ -1,19 +1,19 @@
 //! The total of the samples, as the user sees it.
 ghost use Rattle.std.specs.Prelude.{◌≡◌, ◌<◌, ℕ, List, length, Some, IfOk, IfSome, pos};
-ghost use Rattle.meta_model.specs.Objects.{count_of};
-ghost use Rattle.sample_data.specs.Ids.{country_id, element_id, user_id};
+ghost use Rattle.dh_metadata.specs.Objects.{count_of};
+ghost use Rattle.sample_report.specs.Ids.{country_id, element_id, user_id};
 ghost use Rattle.sample_report.specs.Report.{named, years, total_for, total_of, total_text};
 
+use crate::ids::{COUNTRY, ELEMENT, USER};
 use cell_values::element_value;
 use dh_base::frac::Frac;
 use dh_base::items::Items;
 use dh_base::memory::Memory;
 use dh_base::print::print_rounded;
 use dh_base::uid::Uid;
+use dh_metadata::metadata::Metadata;
 use dh_periods::Period;
-use meta_model::metadata::Metadata;
 use meta_parts::kind::Kind;
-use sample_data::ids::{COUNTRY, ELEMENT, USER};
 use seen_rows::Seer;
 use std::alloc::Global;
 use table_rows::ListRows;
@@ -66,7 +66,7 @@ fn total_for(
 }
 
 /// The value of the element for the country over the years, as the user of the samples sees it.
-#[tactic(auto, unfolding(crate::specs::Report::total_of, sample_data::specs::Ids::user_id, sample_data::specs::Ids::element_id, sample_data::specs::Ids::country_id))]
+#[tactic(auto, unfolding(crate::specs::Report::total_of, crate::specs::Ids::user_id, crate::specs::Ids::element_id, crate::specs::Ids::country_id))]
 pub(crate) fn total_of(
     alloc: Global,
     meta: &Metadata,

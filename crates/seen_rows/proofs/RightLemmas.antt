@@ -9,8 +9,8 @@ use Rattle.dh_sharing.specs.Rule.{may}
 use Rattle.meta_parts.specs.declared.held.Records.{Records}
 use Rattle.meta_parts.specs.declared.kind.Kind.{Kind}
 use Rattle.meta_parts.specs.declared.kind.Kind.TheVariants.{OrganisationUnit, OrganisationUnitGroup, CategoryOption, Category, CategoryCombo, CategoryOptionCombo, DataElement, ApprovalLevel, Workflow, DataSet, Constant, IndicatorType, Indicator, ValidationRule, TrackedEntityType, TrackedEntityAttribute, Program, ProgramStage, ProgramIndicator, UserRole, User, UserGroup}
-use Rattle.meta_model.specs.Objects.{count_of, is_shared, sharing_of}
-use Rattle.meta_model.specs.Users.{facts_of, may_of}
+use Rattle.dh_metadata.specs.Objects.{count_of, is_shared, sharing_of}
+use Rattle.dh_metadata.specs.Users.{facts_of, may_of}
 
 none-past : (r : Records) (kind : Kind) (n : ℕ) → count_of r kind ≤ n → sharing_of r kind n ≡ None
 none-past r OrganisationUnit n past = refl

@@ -2,7 +2,7 @@
 use Rattle.std.specs.Prelude.{◌≡◌, ℕ, ◌<◌, Bool, ◌&&◌, List, length}
 use Rattle.dh_sharing.specs.Ranges.{is_within}
 use Rattle.meta_parts.specs.declared.held.Records.{Records}
-use Rattle.meta_model.specs.Approval.{unit_rows}
+use Rattle.dh_metadata.specs.Approval.{unit_rows}
 use Rattle.seen_rows.specs.Places.{is_at_some}
 use Rattle.seen_rows.specs.Seen.{is_viewed}
 

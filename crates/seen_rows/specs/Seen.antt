@@ -9,8 +9,8 @@ use Rattle.meta_parts.specs.declared.held.Records.{Records}
 use Rattle.meta_parts.specs.declared.kind.Kind.TheVariants as kind
 use Rattle.meta_parts.specs.declared.records.OptionCombo.{OptionCombo}
 use Rattle.meta_rules.specs.Workflows.{workflow_of}
-use Rattle.meta_model.specs.Approval.{unit_rows, need_of}
-use Rattle.meta_model.specs.Users.{may_of, view_units_of}
+use Rattle.dh_metadata.specs.Approval.{unit_rows, need_of}
+use Rattle.dh_metadata.specs.Users.{may_of, view_units_of}
 use Rattle.table_rows.specs.declared.event.EventRow.{EventRow}
 use Rattle.table_rows.specs.declared.event.RegRow.{RegRow}
 use Rattle.table_rows.specs.declared.row.Row.{Row}

@@ -1,6 +1,6 @@
 //! Orders of units in the tree, as ranges.
 ghost use Rattle.std.specs.Prelude.{◌≡◌, ◌<◌, length, IfOk};
-ghost use Rattle.meta_model.specs.Linked.{AreBelow};
+ghost use Rattle.dh_metadata.specs.Linked.{AreBelow};
 ghost use Rattle.org_tree.specs.Units.{IsTree};
 ghost use Rattle.seen_rows.specs.Places.{IsRangeAt, AreOrdersAt};
 

@@ -1,10 +1,10 @@
 //! What a user sees.
 ghost use Rattle.std.specs.Prelude.{◌≡◌, ◌<◌, length, IfOk};
 ghost use Rattle.dh_sharing.specs.declared.access.Right.TheVariants as right;
-ghost use Rattle.meta_model.specs.Approval.{unit_rows};
-ghost use Rattle.meta_model.specs.Linked.{AreBelow};
-ghost use Rattle.meta_model.specs.Objects.{is_shared};
-ghost use Rattle.meta_model.specs.Users.{may_of};
+ghost use Rattle.dh_metadata.specs.Approval.{unit_rows};
+ghost use Rattle.dh_metadata.specs.Linked.{AreBelow};
+ghost use Rattle.dh_metadata.specs.Objects.{is_shared};
+ghost use Rattle.dh_metadata.specs.Users.{may_of};
 ghost use Rattle.seen_rows.specs.Seen.{sees_options, sees_attribute, need_for, is_event_seen, is_reg_seen};
 ghost use Rattle.seen_rows.specs.Held.{IsSeer, AreSeenOrders};
 
@@ -12,9 +12,9 @@ use crate::cuts::cut;
 use crate::places::unit_ranges;
 use dh_base::memory::Memory;
 use dh_base::plain::Need;
+use dh_metadata::metadata::Metadata;
 use dh_sharing::access::Right;
 use dh_sharing::ranges::ViewRanges;
-use meta_model::metadata::Metadata;
 use meta_parts::kind::Kind;
 use org_tree::tree::Tree;
 use std::alloc::Global;

@@ -10,7 +10,7 @@ use dh_periods::Period;
 use std::alloc::Global;
 
 /// The value of a data element of an event, or of an attribute.
-#[derive(Clone, Copy, Debug, PartialEq, Eq)]
+#[derive(Clone, Copy, PartialEq, Eq)]
 pub enum ItemValue {
     /// A number in millionths, of a value type that has one.
     Number(i64),

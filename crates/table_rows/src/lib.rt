@@ -9,8 +9,6 @@ mod plain;
 mod row;
 mod store;
 mod sum;
-#[cfg(test)]
-mod tests;
 
 pub use checks::is_store;
 pub use event::{EventRow, ItemValue, RegRow};

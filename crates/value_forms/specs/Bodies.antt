@@ -1,10 +1,10 @@
 -- Bodies of requests, which are JSON data of a stated form.
 use Rattle.std.specs.Prelude.{◌≡◌, ℕ, List, Result, Ok, Err, ⊤}
 use Rattle.serde_json.specs.Data.{Data}
-use Rattle.json_data.specs.Bytes.{document_of}
-use Rattle.json_forms.specs.Forms.{Formed, and_then, or_fault}
-use Rattle.json_forms.specs.declared.fault.FormFault.{FormFault}
-use Rattle.json_forms.specs.declared.fault.FormFault.TheVariants as form
+use Rattle.json_read.specs.Bytes.{document_of}
+use Rattle.json_read.specs.Forms.{Formed, and_then, or_fault}
+use Rattle.json_read.specs.declared.fault.FormFault.{FormFault}
+use Rattle.json_read.specs.declared.fault.FormFault.TheVariants as form
 use Rattle.record_index.specs.declared.outcome.BodyFault.{BodyFault}
 use Rattle.record_index.specs.declared.outcome.BodyFault.TheVariants as fault
 

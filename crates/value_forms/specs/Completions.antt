@@ -1,7 +1,7 @@
 -- Complete data set registrations.
 use Rattle.std.specs.Prelude.{true, List, unwrap_or, codes, Ok}
 use Rattle.serde_json.specs.Data.{Data}
-use Rattle.json_forms.specs.Forms.{Formed, object_of, list_of, field_of}
+use Rattle.json_read.specs.Forms.{Formed, object_of, list_of, field_of}
 use Rattle.value_forms.specs.Texts.{text_in, truth_in}
 use Rattle.value_forms.specs.declared.completion.Completion.{Completion}
 

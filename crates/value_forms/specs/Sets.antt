@@ -2,7 +2,7 @@
 use Rattle.std.specs.Prelude.{ℕ, false, cond, List, [], is_some, unwrap_or, codes, Ok}
 use Rattle.serde_json.specs.Data.{Data}
 use Rattle.serde_json.specs.Find.{as_null}
-use Rattle.json_forms.specs.Forms.{Formed, and_then, object_of, list_of, field_or_of}
+use Rattle.json_read.specs.Forms.{Formed, and_then, object_of, list_of, field_or_of}
 use Rattle.value_forms.specs.Texts.{text_at, text_in, truth_in, written_in}
 use Rattle.value_forms.specs.declared.set.SetParams.{SetParams}
 use Rattle.value_forms.specs.declared.set.SetValue.{SetValue}

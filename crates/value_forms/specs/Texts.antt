@@ -3,7 +3,7 @@ use Rattle.std.specs.Prelude.{ℕ, Bool, true, false, cond, List, Option, Some, 
 use Rattle.std.specs.Fmt.{decimal, signed_decimal}
 use Rattle.serde_json.specs.Data.{Num, unsigned, negative, float, Data, null, boolean, number, string, array, object}
 use Rattle.serde_json.specs.Find.{get, as_null, as_bool, as_str}
-use Rattle.json_forms.specs.Forms.{Formed, and_then, text_of, field_or_of}
+use Rattle.json_read.specs.Forms.{Formed, and_then, text_of, field_or_of}
 use Rattle.value_forms.specs.declared.text.TextOrNull.{TextOrNull}
 
 -- ---- keys whose value has to be a text

@@ -4,7 +4,7 @@ ghost use Rattle.std.specs.Prelude.{◌≡◌, []};
 ghost use Rattle.value_forms.specs.Bodies.{Told};
 
 use dh_base::items::Items;
-use json_forms::fault::FormFault;
+use json_read::fault::FormFault;
 use record_index::outcome::BodyFault;
 use std::alloc::Global;
 

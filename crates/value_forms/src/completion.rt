@@ -1,8 +1,8 @@
 //! Complete data set registrations.
 
 ghost use Rattle.std.specs.Prelude.{◌≡◌, IfOk};
-ghost use Rattle.json_data.specs.Views.{data_of};
-ghost use Rattle.json_forms.specs.Given as forms;
+ghost use Rattle.json_read.specs.Views.{data_of};
+ghost use Rattle.json_read.specs.Given as forms;
 ghost use Rattle.value_forms.specs.Bodies.{body_of, Gives};
 ghost use Rattle.value_forms.specs.Completions.{completion_of, completions_of};
 
@@ -10,14 +10,14 @@ use crate::body::{fault_of, no_document};
 use crate::text::{text_in, truth_in};
 use dh_base::items::Items;
 use json::{Scratch, Value};
-use json_data::read::read;
-use json_forms::fault::FormFault;
-use json_forms::form::{ReadJson, require_object, required_list};
+use json_read::fault::FormFault;
+use json_read::form::{ReadJson, require_object, required_list};
+use json_read::read::read;
 use record_index::outcome::BodyFault;
 use std::alloc::{AllocError, Global};
 
 /// A complete data set registration, as it stands in the body.
-#[derive(Debug, Drop)]
+#[derive(Drop)]
 pub struct Completion {
     pub data_set: Option<Items<u8>>,
     pub period: Option<Items<u8>>,

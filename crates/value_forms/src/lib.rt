@@ -4,6 +4,4 @@
 pub mod body;
 pub mod completion;
 pub mod set;
-#[cfg(test)]
-mod tests;
 pub mod text;

@@ -1,8 +1,8 @@
 //! Data value sets.
 
 ghost use Rattle.std.specs.Prelude.{◌≡◌, IfOk, codes};
-ghost use Rattle.json_data.specs.Views.{data_of};
-ghost use Rattle.json_forms.specs.Given as forms;
+ghost use Rattle.json_read.specs.Views.{data_of};
+ghost use Rattle.json_read.specs.Given as forms;
 ghost use Rattle.value_forms.specs.Bodies.{body_of, Gives};
 ghost use Rattle.value_forms.specs.Sets.{value_of, values_at, place_of, set_of};
 
@@ -10,15 +10,15 @@ use crate::body::{fault_of, no_document};
 use crate::text::{text_at, text_in, truth_in, written_in};
 use dh_base::items::Items;
 use json::{Scratch, Value};
-use json_data::look::is_null;
-use json_data::read::read;
-use json_forms::fault::FormFault;
-use json_forms::form::{ReadJson, field_or, read_list, require_object};
+use json_read::fault::FormFault;
+use json_read::form::{ReadJson, field_or, read_list, require_object};
+use json_read::look::is_null;
+use json_read::read::read;
 use record_index::outcome::{BodyFault, ImportStrategy};
 use std::alloc::{AllocError, Global};
 
 /// How a set is to be imported.
-#[derive(Clone, Copy, Debug, PartialEq, Eq)]
+#[derive(Clone, Copy, PartialEq, Eq)]
 pub struct SetParams {
     pub strategy: ImportStrategy,
     /// Whether the set is only judged.
@@ -26,7 +26,7 @@ pub struct SetParams {
 }
 
 /// A value of a set, as it stands in the body.
-#[derive(Debug, Drop)]
+#[derive(Drop)]
 pub struct SetValue {
     /// The data element.
     pub element: Option<Items<u8>>,
@@ -56,7 +56,7 @@ pub struct SetPlace {
 }
 
 /// A data value set, as it stands in the body. A value's own texts go before those of the set.
-#[derive(Debug, Drop)]
+#[derive(Drop)]
 pub struct ValueSet {
     pub params: SetParams,
     pub data_set: Option<Items<u8>>,

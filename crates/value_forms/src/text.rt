@@ -2,16 +2,16 @@
 
 ghost use Rattle.std.specs.Prelude.{◌≡◌, IfOk, Some, option_and_then};
 ghost use Rattle.std.specs.Fmt.{decimal, signed_decimal};
-ghost use Rattle.json_data.specs.Views.{data_of};
+ghost use Rattle.json_read.specs.Views.{data_of};
 ghost use Rattle.serde_json.specs.Find.{as_number};
-ghost use Rattle.json_forms.specs.Given.{Gives};
+ghost use Rattle.json_read.specs.Given.{Gives};
 ghost use Rattle.value_forms.specs.Texts.{text_at, text_in, truth_in, truth_text, whole_text, written_of, written_in};
 
 use dh_base::items::Items;
 use json::Value;
-use json_data::look::{integer, is_null, member, natural, text, truth};
-use json_forms::fault::FormFault;
-use json_forms::form::{ReadJson, field_or};
+use json_read::fault::FormFault;
+use json_read::form::{ReadJson, field_or};
+use json_read::look::{integer, is_null, member, natural, text, truth};
 use std::alloc::{AllocError, Global};
 
 /// A text that may be absent.

@@ -18,7 +18,7 @@ use Rattle.dh_periods.proofs.HeldLemmas.{int_le-at}
 use Rattle.dh_periods.proofs.CivilLemmas.{read_date-is}
 use Rattle.dh_periods.proofs.TextLemmas.{some_when, and_then-some, map-some}
 use Rattle.change_bytes.specs.Fields.{is_day}
-use Rattle.moment_days.specs.Days.{whole_days, day_of}
+use Rattle.dh_periods.specs.Moment.{whole_days, day_of}
 use Rattle.value_import.specs.Dates.{is_time, dated, day_told}
 
 -- 1 January 2101

@@ -12,7 +12,7 @@ use Rattle.dh_periods.specs.Days.{first_day, listed}
 use Rattle.meta_parts.specs.declared.names.ValueType.{ValueType}
 use Rattle.meta_parts.specs.declared.names.ValueType.TheVariants as value_type
 use Rattle.meta_parts.specs.declared.records.Element.{Element}
-use Rattle.value_types.specs.Values.{integer_of, number_if, is_up_to, is_true, is_false, is_short, fits}
+use Rattle.dh_records.specs.Values.{integer_of, number_if, is_up_to, is_true, is_false, is_short, fits}
 
 integer_of-long : (text : List ℕ) → 1024 < length text → integer_of text ≡ None
 unfolding integer_of

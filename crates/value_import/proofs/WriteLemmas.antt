@@ -17,7 +17,7 @@ use Rattle.record_index.specs.Facts.{Facts}
 use Rattle.record_index.specs.declared.outcome.ImportStrategy.{ImportStrategy}
 use Rattle.record_index.specs.declared.outcome.Verdict.{Verdict}
 use Rattle.record_index.specs.declared.outcome.Who.{Who}
-use Rattle.moment_days.specs.Days.{day_of}
+use Rattle.dh_periods.specs.Moment.{day_of}
 use Rattle.value_forms.specs.declared.completion.Completion.{Completion}
 use Rattle.value_forms.specs.declared.set.SetValue.{SetValue}
 use Rattle.value_forms.specs.declared.set.ValueSet.{ValueSet}

@@ -13,9 +13,9 @@ use Rattle.meta_parts.specs.declared.kind.Kind.{Kind}
 use Rattle.meta_parts.specs.declared.kind.Kind.TheVariants.{DataSet, CategoryOptionCombo}
 use Rattle.meta_parts.specs.declared.records.DataSet as sets
 use Rattle.meta_parts.specs.declared.records.OptionCombo.{OptionCombo}
-use Rattle.meta_model.specs.Approval.{option_combo_rows}
-use Rattle.meta_model.specs.Objects.{find_of}
-use Rattle.meta_model.specs.Sets.{has_element, sets_with}
+use Rattle.dh_metadata.specs.Approval.{option_combo_rows}
+use Rattle.dh_metadata.specs.Objects.{find_of}
+use Rattle.dh_metadata.specs.Sets.{has_element, sets_with}
 
 -- the object of a kind that a text names
 unfoldable pub object_named : Records → Kind → Option (List ℕ) → Option ℕ

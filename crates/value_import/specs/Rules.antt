@@ -16,8 +16,8 @@ use Rattle.meta_parts.specs.declared.kind.Kind.TheVariants.{DataSet, CategoryOpt
 use Rattle.meta_parts.specs.declared.records.DataSet as sets
 use Rattle.meta_parts.specs.declared.records.OptionCombo.{OptionCombo}
 use Rattle.meta_parts.specs.declared.records.User as users
-use Rattle.meta_model.specs.Sets.{is_assigned}
-use Rattle.meta_model.specs.Users.{has_authority}
+use Rattle.dh_metadata.specs.Sets.{is_assigned}
+use Rattle.dh_metadata.specs.Users.{has_authority}
 use Rattle.record_index.specs.Facts.{Facts}
 use Rattle.record_index.specs.declared.outcome.Who.{Who}
 use Rattle.record_index.specs.declared.outcome.Who.TheVariants.{User, Loader}

@@ -1,7 +1,7 @@
 //! How a completion is judged.
 
 ghost use Rattle.std.specs.Prelude.{◌≡◌, ◌<◌, length, IfOk, unwrap_or, pos, is_some};
-ghost use Rattle.meta_model.specs.Linked.{IsBelow};
+ghost use Rattle.dh_metadata.specs.Linked.{IsBelow};
 ghost use Rattle.record_index.specs.World.{facts};
 ghost use Rattle.value_import.specs.Completions as asks;
 ghost use Rattle.value_import.specs.Completions.{typed_set, reg_names_of, reg_name_conditions, reg_place_of, set_id, reg_key_of, reg_conditions, placed_reg_conditions, registered, completed, judged_completion, uncounted};
@@ -24,8 +24,8 @@ use dh_base::items::Items;
 use dh_base::memory::Memory;
 use dh_changes::change::Write;
 use dh_changes::keys::RegKey;
+use dh_metadata::metadata::Metadata;
 use dh_periods::Period;
-use meta_model::metadata::Metadata;
 use meta_parts::kind::Kind;
 use record_index::outcome::Who;
 use record_index::world::World;

@@ -16,15 +16,15 @@ use dh_base::memory::Memory;
 use dh_base::plain::AggType;
 use dh_changes::change::Write;
 use dh_changes::keys::ValueKey;
+use dh_metadata::metadata::Metadata;
 use dh_records::approved::approved_position_of;
-use meta_model::metadata::Metadata;
+use dh_records::number::{is_numeric, number_of};
+use dh_records::value::fits;
 use meta_parts::records::Element;
 use record_index::outcome::{ImportStrategy, Who};
 use record_index::world::World;
 use std::alloc::Global;
 use value_forms::set::SetValue;
-use value_types::number::{is_numeric, number_of};
-use value_types::value::fits;
 
 fn is_delete_all(strategy: ImportStrategy) -> bool
     ensures { result ≡ is_delete_all strategy }

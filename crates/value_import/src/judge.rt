@@ -17,7 +17,7 @@ use crate::value::{key_of, placed};
 use dh_base::codes::Code;
 use dh_base::memory::Memory;
 use dh_changes::keys::ValueKey;
-use meta_model::metadata::Metadata;
+use dh_metadata::metadata::Metadata;
 use record_index::outcome::{ImportStrategy, Who};
 use record_index::world::World;
 use std::alloc::Global;

@@ -11,7 +11,5 @@ mod names;
 pub mod place;
 mod rights;
 mod rules;
-#[cfg(test)]
-mod tests;
 mod value;
 pub mod verdict;

@@ -4,16 +4,16 @@ ghost use Rattle.std.specs.Prelude.{◌≡◌, ◌<◌, length, find, option_and
 ghost use Rattle.std.specs.Option.{option_or, option_to_list};
 ghost use Rattle.dh_base.specs.Uid.{uid_of};
 ghost use Rattle.meta_parts.specs.declared.kind.Kind.TheVariants.{DataSet};
-ghost use Rattle.meta_model.specs.Linked.{AreBelow, IsBelow};
-ghost use Rattle.meta_model.specs.Objects.{count_of};
-ghost use Rattle.meta_model.specs.Sets as sets;
+ghost use Rattle.dh_metadata.specs.Linked.{AreBelow, IsBelow};
+ghost use Rattle.dh_metadata.specs.Objects.{count_of};
+ghost use Rattle.dh_metadata.specs.Sets as sets;
 ghost use Rattle.value_import.specs.Names.{object_named, period_named, if_so, has_type, candidates, chosen_set, is_of, chosen_combo};
 ghost use Rattle.value_import.specs.Values.{has_candidate};
 
 use dh_base::items::Items;
 use dh_base::uid::Uid;
+use dh_metadata::metadata::Metadata;
 use dh_periods::{Period, PeriodType};
-use meta_model::metadata::Metadata;
 use meta_parts::kind::Kind;
 
 /// The text of its own, or else the other.

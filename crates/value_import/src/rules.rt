@@ -10,8 +10,8 @@ ghost use Rattle.value_import.specs.Rules.{first_of, of_user, may_write, is_capt
 use crate::place::Place;
 use crate::rights::{is_captured, may_write};
 use dh_base::codes::Code;
+use dh_metadata::metadata::Metadata;
 use dh_periods::{Period, containing};
-use meta_model::metadata::Metadata;
 use record_index::outcome::Who;
 use record_index::world::World;
 

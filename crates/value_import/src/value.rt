@@ -2,7 +2,7 @@
 
 ghost use Rattle.std.specs.Prelude.{◌≡◌, ◌<◌, false, length, IfOk};
 ghost use Rattle.std.specs.Option.{option_map_or};
-ghost use Rattle.meta_model.specs.Linked.{IsBelow};
+ghost use Rattle.dh_metadata.specs.Linked.{IsBelow};
 ghost use Rattle.value_import.specs.Ranges.{IsValueWithin, AreWithin, Finds};
 ghost use Rattle.value_import.specs.Values as values;
 ghost use Rattle.value_import.specs.Values.{set_of, combo_of, attribute_of, names_of, name_conditions, place_of, unit_id, option_combo_id, element_id, key_of, set_combo, element_combo};
@@ -12,8 +12,8 @@ use crate::place::{Place, ValueNames, ValuePlace};
 use dh_base::codes::Code;
 use dh_base::items::Items;
 use dh_changes::keys::ValueKey;
+use dh_metadata::metadata::Metadata;
 use dh_periods::Period;
-use meta_model::metadata::Metadata;
 use meta_parts::kind::Kind;
 use value_forms::set::{SetValue, ValueSet};
 

@@ -3,7 +3,7 @@ use Rattle.std.proofs.Common.{ℕ, ◌<◌, length, subst, sym, arith}
 use Rattle.std.specs.Prelude.{Result, Ok, Err, IfOk}
 use Rattle.meta_parts.specs.declared.held.Records.{Records}
 use Rattle.query_lang.specs.Askable.{IsAskable}
-use Rattle.route_forms.specs.declared.fault.RouteFault.{RouteFault}
+use Rattle.web_routes.specs.declared.fault.RouteFault.{RouteFault}
 use Rattle.web_routes.specs.declared.call.Call.{Call}
 use Rattle.web_routes.specs.declared.call.Call.TheVariants as call
 use Rattle.web_routes.specs.Calls.{IsBy, IsSound}

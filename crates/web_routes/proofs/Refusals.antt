@@ -5,9 +5,9 @@ use Rattle.dh_base.specs.declared.codes.Code.TheVariants as code
 use Rattle.http_wire.specs.declared.request.Request.{Request}
 use Rattle.meta_parts.specs.declared.held.Records.{Records}
 use Rattle.query_forms.specs.Given.{refusal}
-use Rattle.route_forms.specs.Paths.{rest_of, without_version, has_version, is_front_and_id, is_id}
-use Rattle.route_forms.specs.Routes.{route_of, route_at, all_routes, has_rest, is_named, takes}
-use Rattle.route_forms.specs.declared.table.Route.TheVariants as route
+use Rattle.web_routes.specs.Paths.{rest_of, without_version, has_version, is_front_and_id, is_id}
+use Rattle.web_routes.specs.Routes.{route_of, route_at, all_routes, has_rest, is_named, takes}
+use Rattle.web_routes.specs.declared.table.Route.TheVariants as route
 use Rattle.web_routes.specs.Calls.{routed, user_for}
 
 -- a request without a token

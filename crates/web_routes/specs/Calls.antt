@@ -6,7 +6,7 @@ use Rattle.dh_base.specs.declared.codes.Refusal.{Refusal}
 use Rattle.dh_base.specs.declared.plain.CutKind.TheVariants.{Full}
 use Rattle.http_wire.specs.declared.request.Request.{Request}
 use Rattle.meta_parts.specs.declared.held.Records.{Records}
-use Rattle.meta_model.specs.Users.{user_of, has_authority}
+use Rattle.dh_metadata.specs.Users.{user_of, has_authority}
 use Rattle.query_forms.specs.Form.{pairs_of}
 use Rattle.query_forms.specs.Given.{and_then, refusal, or_refuse}
 use Rattle.query_lang.specs.Askable.{IsAskable}
@@ -14,10 +14,10 @@ use Rattle.query_lang.specs.Query.{query_of}
 use Rattle.value_forms.specs.Bodies.{body_of}
 use Rattle.value_forms.specs.Sets.{set_of}
 use Rattle.value_forms.specs.Completions.{completions_of}
-use Rattle.route_forms.specs.Parameters.{asked_of, kind_of, params_of}
-use Rattle.route_forms.specs.Routes.{authority_of, route_of}
-use Rattle.route_forms.specs.declared.table.Route.{Route}
-use Rattle.route_forms.specs.declared.table.Route.TheVariants as route
+use Rattle.web_routes.specs.Parameters.{asked_of, kind_of, params_of}
+use Rattle.web_routes.specs.Routes.{authority_of, route_of}
+use Rattle.web_routes.specs.declared.table.Route.{Route}
+use Rattle.web_routes.specs.declared.table.Route.TheVariants as route
 use Rattle.web_routes.specs.Completions.{uncompletion_of}
 use Rattle.web_routes.specs.Told.{or_body}
 use Rattle.web_routes.specs.declared.call.Call.{Call}

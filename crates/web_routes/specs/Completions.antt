@@ -8,10 +8,10 @@ use Rattle.dh_periods.specs.Texts.{period_of}
 use Rattle.meta_parts.specs.declared.held.Records.{Records}
 use Rattle.meta_parts.specs.declared.kind.Kind.{Kind}
 use Rattle.meta_parts.specs.declared.kind.Kind.TheVariants as kind
-use Rattle.meta_model.specs.Objects.{find_of}
+use Rattle.dh_metadata.specs.Objects.{find_of}
 use Rattle.value_forms.specs.declared.completion.Completion.{Completion}
 use Rattle.query_forms.specs.Given.{and_then, refusal}
-use Rattle.route_forms.specs.Parameters.{value_of}
+use Rattle.web_routes.specs.Parameters.{value_of}
 
 -- the text is the identifier of an object of the kind
 unfoldable pub is_name : Records → Kind → List ℕ → Bool

@@ -2,14 +2,14 @@
 use Rattle.std.specs.Prelude.{Result, Ok, Err}
 use Rattle.dh_base.specs.declared.codes.Code.TheVariants as code
 use Rattle.dh_base.specs.declared.codes.Refusal.{Refusal}
-use Rattle.json_forms.specs.Forms.{Formed}
+use Rattle.json_read.specs.Forms.{Formed}
 use Rattle.record_index.specs.declared.outcome.BodyFault.{BodyFault}
 use Rattle.record_index.specs.declared.outcome.BodyFault.TheVariants as body
-use Rattle.query_parts.specs.declared.QueryFault.{QueryFault}
-use Rattle.query_parts.specs.declared.QueryFault.TheVariants as query
+use Rattle.query_forms.specs.declared.plain.QueryFault.{QueryFault}
+use Rattle.query_forms.specs.declared.plain.QueryFault.TheVariants as query
 use Rattle.query_forms.specs.Given.{refusal}
-use Rattle.route_forms.specs.declared.fault.RouteFault.{RouteFault}
-use Rattle.route_forms.specs.declared.fault.RouteFault.TheVariants as fault
+use Rattle.web_routes.specs.declared.fault.RouteFault.{RouteFault}
+use Rattle.web_routes.specs.declared.fault.RouteFault.TheVariants as fault
 
 -- what a body means, or F20 with the path of its first fault
 abbrev pub or_body : {A : Type 0} → Formed A → Result A Refusal

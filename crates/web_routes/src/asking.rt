@@ -2,21 +2,21 @@
 ghost use Rattle.std.specs.Prelude.{◌≡◌, ℕ, pos, neg_ℤ, ◌≤ℤ◌, ◌<◌, length, IfOk};
 ghost use Rattle.std.specs.Option.{option_copied};
 ghost use Rattle.meta_parts.specs.declared.held.Records.{Records};
-ghost use Rattle.route_forms.specs.Given.{Gives};
-ghost use Rattle.route_forms.specs.Routes.{authority_of};
+ghost use Rattle.web_routes.specs.Given.{Gives};
+ghost use Rattle.web_routes.specs.Routes.{authority_of};
 ghost use Rattle.web_routes.specs.Calls.{user_for, lacked, query_call, update_call, values_call, completions_call, uncompletion_call, not_built, call_of, allowed_call, IsBy};
 
 use crate::body::{completions_in, query_in, set_in};
 use crate::call::Call;
 use crate::completion::{only, uncompletion_of};
+use crate::fault::{RouteFault, refused};
+use crate::form::{asked_of, kind_of, params_of};
+use crate::pairs::pairs_of;
+use crate::table::{Route, authority_of};
 use dh_base::codes::Code;
 use dh_base::items::Items;
+use dh_metadata::metadata::Metadata;
 use http_wire::Request;
-use meta_model::metadata::Metadata;
-use route_forms::fault::{RouteFault, refused};
-use route_forms::form::{asked_of, kind_of, params_of};
-use route_forms::pairs::pairs_of;
-use route_forms::table::{Route, authority_of};
 use std::alloc::Global;
 
 /// The user whose token it is.

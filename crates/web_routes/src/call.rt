@@ -2,7 +2,7 @@
 
 use dh_base::items::Items;
 use dh_base::plain::CutKind;
-use query_parts::Query;
+use query_forms::Query;
 use value_forms::completion::Completion;
 use value_forms::set::ValueSet;
 

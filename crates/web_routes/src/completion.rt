@@ -1,18 +1,18 @@
 //! A registration that is taken away.
 ghost use Rattle.std.specs.Prelude.{◌≡◌, ◌∷◌, [], codes, IfOk};
-ghost use Rattle.route_forms.specs.Given.{Gives};
-ghost use Rattle.route_forms.specs.Parameters.{value_of};
+ghost use Rattle.web_routes.specs.Given.{Gives};
+ghost use Rattle.web_routes.specs.Parameters.{value_of};
 ghost use Rattle.web_routes.specs.Completions.{is_name, is_period, needed, uncompletion_of};
 
+use crate::fault::{RouteFault, refused};
+use crate::pairs::value_of;
 use dh_base::codes::Code;
 use dh_base::items::Items;
 use dh_base::memory::Memory;
 use dh_base::uid::Uid;
+use dh_metadata::metadata::Metadata;
 use dh_periods::Period;
-use meta_model::metadata::Metadata;
 use meta_parts::kind::Kind;
-use route_forms::fault::{RouteFault, refused};
-use route_forms::pairs::value_of;
 use std::alloc::Global;
 use value_forms::completion::Completion;
 

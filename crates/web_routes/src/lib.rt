@@ -5,6 +5,11 @@ mod asking;
 mod body;
 pub mod call;
 mod completion;
+pub mod fault;
+pub mod form;
+pub mod pairs;
+pub mod path;
 pub mod routing;
+pub mod table;
 
-pub use route_forms::fault::RouteFault;
+pub use crate::fault::RouteFault;

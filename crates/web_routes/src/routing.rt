@@ -1,14 +1,14 @@
 //! Requests as calls.
 ghost use Rattle.std.specs.Prelude.{◌≡◌, pos, neg_ℤ, ◌≤ℤ◌, ◌<◌, length, IfOk};
-ghost use Rattle.route_forms.specs.Given.{Gives};
+ghost use Rattle.web_routes.specs.Given.{Gives};
 ghost use Rattle.web_routes.specs.Calls.{routed, IsSound};
 
 use crate::asking::{allowed_call, user_for};
 use crate::call::Call;
+use crate::fault::RouteFault;
+use crate::table::route_of;
+use dh_metadata::metadata::Metadata;
 use http_wire::Request;
-use meta_model::metadata::Metadata;
-use route_forms::fault::RouteFault;
-use route_forms::table::route_of;
 use std::alloc::Global;
 
 /// The call that a request stands for on a day from 1 January 1910 to 31 December 2099, or its refusal. Of several

@@ -17,7 +17,7 @@ use std::alloc::{AllocError, Global};
 const FIELDS: usize = 64;
 
 /// What the head of a request says. The texts are bytes as they came.
-#[derive(Debug, Drop)]
+#[derive(Drop)]
 pub struct Head {
     pub method: Items<u8>,
     /// The target up to the first question mark.

@@ -6,5 +6,3 @@ pub mod fields;
 pub mod head;
 pub mod lines;
 pub mod plan;
-#[cfg(test)]
-mod tests;

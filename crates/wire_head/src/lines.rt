@@ -2,7 +2,7 @@ ghost use Rattle.std.specs.Prelude.{◌≡◌, ◌≤◌, ◌<◌, ◌+◌, leng
 ghost use Rattle.wire_head.specs.Lines.{empty_line, blank_length, head_length, head_limit, opening_of, field_lines, shifted, IsPassed};
 
 /// What stands at the front of bytes that begin with no empty line.
-#[derive(Clone, Copy, Debug, Drop, PartialEq, Eq)]
+#[derive(Clone, Copy, Drop, PartialEq, Eq)]
 pub enum Opening {
     /// There are no bytes.
     Nothing,

@@ -14,7 +14,7 @@ use httparse::Header;
 const BODY_LIMIT: u64 = 16_777_216;
 
 /// The body that a head announces.
-#[derive(Clone, Copy, Debug, Drop, PartialEq, Eq)]
+#[derive(Clone, Copy, Drop, PartialEq, Eq)]
 pub enum Plan {
     /// So many bytes.
     Sized(u64),

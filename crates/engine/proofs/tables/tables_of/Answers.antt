@@ -1,8 +1,8 @@
 use Rattle.std.proofs.Common.{◌≡◌, ◌∙◌, ◌≤◌, subst, sym, ap, map, length, true}
 use Rattle.std.specs.List.{list_all}
 use Rattle.std.specs.Arc.{arc_value}
-use Rattle.log_rows.specs.Log.{is_of_days}
-use Rattle.log_rows.specs.Listed.{listed_in}
+use Rattle.table_build.specs.Log.{is_of_days}
+use Rattle.table_build.specs.Listed.{listed_in}
 use Rattle.engine.specs.Tables.{tables_of}
 use Rattle.engine.proofs.Days.{all-of-days, writes-are}
 use Rattle.engine.proofs.tables.tables_of.Goals as goal

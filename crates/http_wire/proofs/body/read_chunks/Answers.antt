@@ -1,5 +1,5 @@
 use Rattle.std.proofs.Common.{◌≡◌, ◌∙◌, ap, sym, arith, drop}
-use Rattle.wire_body.specs.Chunks.{run}
+use Rattle.http_wire.specs.Chunks.{run}
 use Rattle.http_wire.proofs.FrontLemmas.{gains_on}
 use Rattle.http_wire.proofs.BodyLemmas.{chunks_on, fed_more, within_on}
 use Rattle.http_wire.proofs.body.read_chunks.Goals as goal

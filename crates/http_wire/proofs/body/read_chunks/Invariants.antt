@@ -1,6 +1,6 @@
 use Rattle.std.proofs.Common.{◌≡◌, ◌≤◌, ◌-◌, ◌^◌, length, drop}
 use Rattle.dh_outside.specs.Pieces.{Gains}
-use Rattle.wire_body.specs.Chunks.{run, at_first, IsSound}
+use Rattle.http_wire.specs.Chunks.{run, at_first, IsSound}
 use Rattle.http_wire.proofs.body.read_chunks.Given as goal
 
 abbrev pub invariant-loop-chunks : goal.invariant-loop-chunks

@@ -1,6 +1,6 @@
 use Rattle.std.proofs.Common.{◌≡◌, ◌++◌, drop, Ok}
-use Rattle.json_data.specs.Views.{items_data}
-use Rattle.json_forms.specs.Forms.{and_then}
+use Rattle.json_read.specs.Views.{items_data}
+use Rattle.json_read.specs.Forms.{and_then}
 use Rattle.meta_forms.specs.Objects.{objects_of}
 use Rattle.meta_forms.proofs.object.read_each.Given as goal
 

@@ -1,6 +1,6 @@
 use Rattle.std.proofs.Common.{◌≡◌, ◌++◌, Ok}
-use Rattle.json_data.specs.Views.{members_data}
-use Rattle.json_forms.specs.Forms.{and_then}
+use Rattle.json_read.specs.Views.{members_data}
+use Rattle.json_read.specs.Forms.{and_then}
 use Rattle.meta_forms.specs.Sharing.{members_of}
 use Rattle.meta_forms.proofs.sharing.read_members.Given as goal
 

@@ -1,7 +1,7 @@
 use Rattle.std.proofs.Common.{◌≡◌, ◌∙◌, ◌+◌, ◌<◌, ◌∷◌, ◌++◌, [], ℕ, Bool, true, false, List, Some, cond, length, map, take, drop, sym, ap}
 use Rattle.std.specs.HashSet.{contains}
-use Rattle.uid_index.specs.Places.{same_id, is_one_of}
-use Rattle.uid_index.proofs.PlacesLemmas.{is_one_of-more}
+use Rattle.meta_ids.specs.Places.{same_id, is_one_of}
+use Rattle.meta_ids.proofs.PlacesLemmas.{is_one_of-more}
 use Rattle.meta_ids.specs.Ids.{user_of_repeated, user_behind}
 use Rattle.meta_ids.proofs.TokenLemmas.{was_there, was_absent, rest_at, texts_more, user_behind-same, user_behind-new}
 use Rattle.meta_ids.proofs.tokens.user_of_repeated.Goals as goal

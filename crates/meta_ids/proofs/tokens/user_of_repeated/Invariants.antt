@@ -1,6 +1,6 @@
 use Rattle.std.proofs.Common.{◌≡◌, ℕ, List, [], map, take, drop}
 use Rattle.std.specs.HashSet.{contains}
-use Rattle.uid_index.specs.Places.{same_id, is_one_of}
+use Rattle.meta_ids.specs.Places.{same_id, is_one_of}
 use Rattle.meta_ids.specs.Ids.{user_behind}
 use Rattle.meta_ids.proofs.tokens.user_of_repeated.Given as goal
 

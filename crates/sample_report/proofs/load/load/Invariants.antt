@@ -2,8 +2,8 @@ use Rattle.std.proofs.Common.{◌≡◌, ◌*◌, ◌-◌, [], map}
 use Rattle.std.specs.Arc.{arc_value}
 use Rattle.record_index.specs.World.{facts}
 use Rattle.record_index.specs.Facts.{facts_in}
-use Rattle.log_rows.specs.Log.{writes_of}
-use Rattle.sample_data.specs.Draws.{start}
+use Rattle.table_build.specs.Log.{writes_of}
+use Rattle.sample_report.specs.Draws.{start}
 use Rattle.sample_report.specs.Sets.{sets_from}
 use Rattle.sample_report.specs.Loaded.{log_with}
 use Rattle.sample_report.specs.Small.{AreSmall}

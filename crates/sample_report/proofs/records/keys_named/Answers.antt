@@ -1,6 +1,6 @@
 use Rattle.std.specs.Arc.{arc_value}
-use Rattle.log_rows.specs.Log.{value_named}
-use Rattle.log_rows.proofs.NamedLemmas.{named-step}
+use Rattle.table_build.specs.Log.{value_named}
+use Rattle.table_build.proofs.NamedLemmas.{named-step}
 use Rattle.sample_report.proofs.records.keys_named.Goals as goal
 
 pub loop-change-preserved : goal.loop-change-preserved

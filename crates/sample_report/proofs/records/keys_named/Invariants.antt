@@ -1,6 +1,6 @@
 use Rattle.std.proofs.Common.{◌≡◌, ◌++◌, drop, map}
 use Rattle.std.specs.Arc.{arc_value}
-use Rattle.log_rows.specs.Log.{writes_of, values_named}
+use Rattle.table_build.specs.Log.{writes_of, values_named}
 use Rattle.sample_report.proofs.records.keys_named.Given as goal
 
 abbrev pub invariant-loop-change : goal.invariant-loop-change

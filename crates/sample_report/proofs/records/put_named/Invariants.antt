@@ -1,6 +1,6 @@
 use Rattle.std.proofs.Common.{◌≡◌, ◌++◌, drop}
 use Rattle.std.specs.List.{filter_map}
-use Rattle.log_rows.specs.Log.{value_named}
+use Rattle.table_build.specs.Log.{value_named}
 use Rattle.sample_report.proofs.records.put_named.Given as goal
 
 abbrev pub invariant-loop-write : goal.invariant-loop-write

@@ -1,5 +1,5 @@
 use Rattle.std.proofs.Common.{false, ◌∙◌, ap}
-use Rattle.meta_model.specs.Approval.{unit_rows}
+use Rattle.dh_metadata.specs.Approval.{unit_rows}
 use Rattle.seen_rows.specs.Places.{is_at_some}
 use Rattle.seen_rows.specs.Seen.{is_viewed}
 use Rattle.seen_rows.proofs.seer.Seer.of.Goals as goal

@@ -1,0 +1,34 @@
+//! What the roles of a user allow.
+
+ghost use Rattle.std.specs.Prelude.{◌≡◌};
+ghost use Rattle.std.specs.List.{list_any};
+ghost use Rattle.std.specs.Prelude.{bytes_eq};
+ghost use Rattle.dh_metadata.specs.Users.{role_has, is_granted};
+
+use dh_base::items::Items;
+use meta_parts::records::{Role, User};
+
+fn is_one_of(authorities: &[Items<u8>], authority: &[u8]) -> bool
+    ensures { result ≡ list_any (λ own. bytes_eq own authority.now) authorities.now }
+{
+    authorities.iter().any(|own| own.as_slice() == authority)
+}
+
+fn role_has(roles: &[Role], authority: &[u8], role: u32) -> bool
+    ensures { result ≡ role_has roles.now authority.now role }
+{
+    match roles.get(role as usize) {
+        Some(found) => is_one_of(found.authorities.as_slice(), authority),
+        None => false,
+    }
+}
+
+/// Whether a role of the user has the authority.
+pub fn is_granted(roles: &[Role], user: &User, authority: &[u8]) -> bool
+    ensures { result ≡ is_granted roles.now user.now authority.now }
+{
+    user.user_roles
+        .as_slice()
+        .iter()
+        .any(|role| role_has(roles, authority, *role))
+}

@@ -1,5 +1,0 @@
-use Rattle.meta_model.specs.Users.{AreFactsUpto}
-use Rattle.meta_model.proofs.facts.facts.Given as goal
-
-abbrev pub invariant-loop-number : goal.invariant-loop-number
-invariant-loop-number l = AreFactsUpto l.records l.number l.facts.items

@@ -1,6 +1,0 @@
-use Rattle.std.proofs.Common.{take}
-use Rattle.meta_model.specs.Members.{IsPutAt}
-use Rattle.meta_model.proofs.holders.put_at.Given as goal
-
-abbrev pub invariant-loop-number : goal.invariant-loop-number
-invariant-loop-number l = IsPutAt l.place (take l.number-index l.numbers) l.initial.all.items l.all.items

@@ -1,6 +1,0 @@
-use Rattle.std.proofs.Common.{◌∙◌}
-use Rattle.meta_model.proofs.MemberLemmas.{search_finds}
-use Rattle.meta_model.proofs.members.has.Goals as goal
-
-pub returns : goal.returns
-returns c = c.is_ok.ensures.value ∙ search_finds c.args.sorted.now c.args.n c.binary_search.result c.requires c.binary_search.ensures.position

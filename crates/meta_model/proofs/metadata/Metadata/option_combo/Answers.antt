@@ -1,8 +1,0 @@
-use Rattle.meta_model.specs.Linked.{IsLinkedOptionCombo}
-use Rattle.meta_model.proofs.LinkLemmas.{linked_under}
-use Rattle.meta_model.proofs.metadata.Metadata.option_combo.Goals as goal
-
-pub returns-clause-linked : goal.returns-clause-linked
-returns-clause-linked c =
-    linked_under (λ r. r.category_option_combos) IsLinkedOptionCombo c.self.inside.records c.args.self.now c.as_slice.result.now c.args.n c.object_at.result.now
-    c.self.view_is c.self.invariant.linked.option_combos c.as_slice.ensures c.object_at.ensures

@@ -1,6 +1,0 @@
-use Rattle.std.proofs.Common.{take}
-use Rattle.meta_model.specs.Users.{AreTokens}
-use Rattle.meta_model.proofs.tokens.token_users.Given as goal
-
-abbrev pub invariant-loop-token : goal.invariant-loop-token
-invariant-loop-token l = AreTokens (take l.token-index l.tokens) l.users

@@ -1,0 +1,109 @@
+-- What is known of the records of a file that has no fault.
+use Rattle.std.proofs.Common.{◌≡◌, ◌∙◌, ℕ, List, Option, Some, None, refl, sym, ap, subst, option_map, length}
+use Rattle.std.specs.Prelude.{Result, Ok, Err, ℤ}
+use Rattle.std.specs.Option.{option_or}
+use Rattle.std.proofs.lemmas.List.{length-map}
+use Rattle.org_tree.specs.Units.{HasOwnIds}
+use Rattle.dh_categories.specs.Single.{CombosBelow}
+use Rattle.meta_parts.specs.declared.parts.MetaParts.{MetaParts}
+use Rattle.meta_parts.specs.declared.held.Links.{Links}
+use Rattle.meta_parts.specs.declared.held.Records.{Records}
+use Rattle.meta_ids.specs.Ids.{ids_of, twice_of}
+use Rattle.meta_links.specs.Table.{references}
+use Rattle.meta_links.specs.Reference.{first_unknown}
+use Rattle.meta_links.specs.Held.{links_of, indicator_held, rule_held, program_indicator_held}
+use Rattle.meta_rules.specs.declared.held.Held.{Held}
+use Rattle.meta_rules.specs.Categories.{option_combo_rows}
+use Rattle.meta_rules.specs.Trees.{tree_rows}
+use Rattle.meta_rules.specs.Held.{IsHeld}
+use Rattle.meta_rules.specs.Limits.{first_passed}
+use Rattle.meta_rules.specs.declared.limits.LimitFault.{LimitFault}
+use Rattle.meta_exprs.specs.Days.{days_of}
+use Rattle.meta_exprs.specs.Stages.{stages_broken}
+use Rattle.dh_metadata.specs.Objects.{HaveIds}
+use Rattle.dh_metadata.specs.Known.{AreFew, HaveRules}
+use Rattle.dh_metadata.specs.Linked.{IsLinked}
+use Rattle.meta_reader.specs.declared.fault.MetaFault.{MetaFault}
+use Rattle.meta_reader.specs.Records.{expressions_in, records_of, links_in, IsMetadata}
+use Rattle.meta_reader.specs.Stages.{stages_unfit}
+use Rattle.meta_reader.specs.Faults.{broken, passed, stage_fault, limit_fault, late_fault, IsMet, Unless}
+use Rattle.meta_reader.proofs.KnownLemmas.{Ids, Known}
+use Rattle.meta_reader.proofs.LinkedLemmas.{linked}
+use Rattle.meta_reader.proofs.IdLemmas.{have_ids, counts, are_few, few_positions, own_ids, combos_below}
+use Rattle.meta_reader.proofs.StageLemmas.{unfit_of}
+use Rattle.meta_reader.proofs.FaultLemmas.{met_first, met_then, met_some, none_of}
+
+pub have_of : (parts : MetaParts) (r : Records) → IsMetadata parts r → HaveIds r (ids_of parts)
+have_of parts r is = subst (λ (x : Records). HaveIds x (ids_of parts)) (sym is.others) (have_ids parts (expressions_in r) is.made)
+
+pub linked_of : (parts : MetaParts) (r : Records) → IsMetadata parts r → Known (ids_of parts) (references parts) → IsLinked r
+linked_of parts r is known =
+    subst (λ (x : Records). IsLinked x) (sym is.others)
+    (linked (ids_of parts) parts (expressions_in r) (counts (ids_of parts) (records_of parts (links_in parts) (expressions_in r)) (have_ids parts (expressions_in r) is.made)) known is.made)
+
+pub rules_of : (parts : MetaParts) (r : Records) (held : Held) → IsMetadata parts r → IsHeld (links_in parts) held → first_passed parts held.positions.items ≡ None → HaveRules r held
+rules_of parts r held is ruled none =
+    subst (λ (x : Records). HaveRules x held) (sym is.others)
+    (record { tree = ruled.tree; combos = ruled.combos; workflows = ruled.approvals.workflows; positions = ruled.approvals.positions; few_positions = few_positions parts held.positions.items none })
+
+no_limit : (a : Option MetaFault) (b : Option LimitFault) → option_or a (option_map passed b) ≡ None → b ≡ None
+no_limit None None none = refl
+no_limit None (Some limit) none = absurd (cc)
+no_limit (Some fault) b none = absurd (cc)
+
+unfit_is : (parts : MetaParts) (r : Records) → IsMetadata parts r → stages_broken (ids_of parts) r.program_stages r.program_indicators ≡ stages_unfit (ids_of parts) parts (links_in parts)
+unfolding stages_unfit links_of
+unfit_is parts r is =
+    ap (λ stages. stages_broken (ids_of parts) stages r.program_indicators) (ap (λ (x : Records). x.program_stages) is.others)
+    ∙ unfit_of (ids_of parts) (links_in parts).program_stages (days_of parts) parts.program_indicators r.program_indicators is.made.program_indicators
+
+-- the faults that are seen late, by what was made and by the file
+pub late_is : (parts : MetaParts) (r : Records) (held : Held) → IsMetadata parts r → IsHeld (links_in parts) held
+    → option_or (option_map broken (stages_broken (ids_of parts) r.program_stages r.program_indicators)) (option_map passed (first_passed parts held.positions.items)) ≡ late_fault (ids_of parts) parts (links_in parts)
+unfolding stage_fault limit_fault
+late_is parts r held is ruled =
+    ap (λ o. option_or (option_map broken o) (option_map passed (first_passed parts held.positions.items))) (unfit_is parts r is)
+    ∙ ap (λ (ps : List (List ℤ)). option_or (option_map broken (stages_unfit (ids_of parts) parts (links_in parts))) (option_map passed (first_passed parts ps))) ruled.approvals.positions
+
+-- a fault that is seen late is met
+pub late_met : (parts : MetaParts) (ids : Ids) (r : Records) (held : Held) (met : Option MetaFault) (found : MetaFault) → ids ≡ ids_of parts → IsMetadata parts r → IsHeld (links_in parts) held
+    → met ≡ option_or (option_map broken (stages_broken ids r.program_stages r.program_indicators)) (option_map passed (first_passed parts held.positions.items)) → met ≡ Some found
+    → IsMet (late_fault (ids_of parts) parts (links_in parts)) found
+late_met parts ids r held met found same is ruled late some =
+    met_some (late_fault (ids_of parts) parts (links_in parts)) found
+    (sym (late ∙ ap (λ (x : Ids). option_or (option_map broken (stages_broken x r.program_stages r.program_indicators)) (option_map passed (first_passed parts held.positions.items))) same ∙ late_is parts r held is ruled) ∙ some)
+
+-- and where none is, the records are in order
+pub ready : (parts : MetaParts) (ids : Ids) (r : Records) (held : Held) (met : Option MetaFault) → ids ≡ ids_of parts → Known (ids_of parts) (references parts) → IsMetadata parts r → IsHeld (links_in parts) held
+    → met ≡ option_or (option_map broken (stages_broken ids r.program_stages r.program_indicators)) (option_map passed (first_passed parts held.positions.items)) → met ≡ None
+    → (late_fault (ids_of parts) parts (links_in parts) ≡ None) × AreFew r × IsLinked r × HaveIds r ids × HaveRules r held
+ready parts ids r held met same known is ruled late none =
+    let all = late ∙ ap (λ (x : Ids). option_or (option_map broken (stages_broken x r.program_stages r.program_indicators)) (option_map passed (first_passed parts held.positions.items))) same in
+    let fits : first_passed parts held.positions.items ≡ None =
+    no_limit (option_map broken (stages_broken (ids_of parts) r.program_stages r.program_indicators)) (first_passed parts held.positions.items) (sym all ∙ none) in (
+      sym (late_is parts r held is ruled) ∙ sym all ∙ none,
+      are_few parts held.positions.items r (have_of parts r is) fits,
+      linked_of parts r is known,
+      subst (HaveIds r) (sym same) (have_of parts r is),
+      rules_of parts r held is ruled fits,
+    )
+
+-- the answer of what comes behind is the answer where nothing was met before
+pub then_unless : {X : Type 0} (a b : Option MetaFault) (Is : X → Type 0) (result : Result X MetaFault) → a ≡ None → Unless b Is result → Unless (option_or a b) Is result
+then_unless a b Is (Ok x) none is = (none_of a b none is.0, is.1)
+then_unless a b Is (Err found) none is = met_then a b found none is
+
+-- what linked objects need so that they can be tried
+pub linked_ready : (parts : MetaParts) (ids : Ids) (links : Links) → ids ≡ ids_of parts → twice_of parts ≡ None → first_unknown ids (references parts) ≡ None → links ≡ links_of ids parts
+    → (length parts.indicators ≡ length links.indicators) × (length parts.validation_rules ≡ length links.validation_rules) × (length parts.program_indicators ≡ length links.program_indicators)
+    × HasOwnIds (tree_rows links.organisation_units) × CombosBelow (length links.category_combos) (option_combo_rows links.category_option_combos)
+unfolding links_of
+linked_ready parts ids links same differ known is =
+    let at : links ≡ links_in parts = is ∙ ap (λ (x : Ids). links_of x parts) same in (
+      sym (ap (λ (l : Links). length l.indicators) is ∙ length-map parts.indicators (indicator_held ids)),
+      sym (ap (λ (l : Links). length l.validation_rules) is ∙ length-map parts.validation_rules (rule_held ids)),
+      sym (ap (λ (l : Links). length l.program_indicators) is ∙ length-map parts.program_indicators (program_indicator_held ids)),
+      subst (λ (l : Links). HasOwnIds (tree_rows l.organisation_units)) (sym is) (own_ids ids parts differ),
+      subst (λ (l : Links). CombosBelow (length l.category_combos) (option_combo_rows l.category_option_combos)) (sym at)
+          (combos_below parts (subst (λ (x : Ids). Known x (references parts)) same known)),
+    )

@@ -1,0 +1,72 @@
+//! From what a file says to metadata.
+
+ghost use Rattle.std.specs.Prelude.{◌≡◌, None};
+ghost use Rattle.std.specs.Option.{option_or};
+ghost use Rattle.meta_ids.specs.Ids.{ids_of, twice_of};
+ghost use Rattle.meta_links.specs.Held.{links_of};
+ghost use Rattle.meta_links.specs.Reference.{first_unknown};
+ghost use Rattle.meta_links.specs.Table.{references};
+ghost use Rattle.meta_rules.specs.Held.{IsHeld};
+ghost use Rattle.meta_reader.specs.Faults.{unknown_fault, late_fault, linked_fault, Unless, Builds};
+ghost use Rattle.meta_reader.specs.Records.{links_in, IsMetadata};
+
+use crate::fault::MetaFault;
+use crate::steps::{late, linked, numbered, tried};
+use dh_metadata::metadata::Metadata;
+use meta_ids::ids::Ids;
+use meta_parts::held::{Links, Records};
+use meta_parts::parts::MetaParts;
+use meta_rules::held::Held;
+use std::alloc::Global;
+
+#[tactic(auto, using(crate::proofs::ReadyLemmas::late_met, crate::proofs::ReadyLemmas::ready))]
+fn finished(
+    alloc: Global,
+    ids: Ids,
+    parts: &MetaParts,
+    records: Records,
+    held: Held,
+) -> Result<Metadata, MetaFault>
+    requires ids { ids ≡ ids_of parts.now }
+    requires known { first_unknown (ids_of parts.now) (references parts.now) ≡ None }
+    requires records { IsMetadata parts.now records }
+    requires held { IsHeld (links_in parts.now) held }
+    ensures { Unless (late_fault (ids_of parts.now) parts.now (links_in parts.now)) (λ meta. meta ≡ records) result }
+{
+    match late(&ids, parts, &records, &held) {
+        Some(fault) => Err(fault),
+        None => Ok(Metadata::of(alloc, records, ids, held)?),
+    }
+}
+
+#[tactic(auto, using(crate::proofs::FaultLemmas::faults, crate::proofs::ReadyLemmas::linked_ready, crate::proofs::ReadyLemmas::then_unless))]
+fn joined(alloc: Global, ids: Ids, parts: &MetaParts, links: Links) -> Result<Metadata, MetaFault>
+    requires ids { ids ≡ ids_of parts.now }
+    requires differ { twice_of parts.now ≡ None }
+    requires links { links ≡ links_of ids parts.now }
+    requires known { first_unknown ids (references parts.now) ≡ None }
+    ensures { Unless (linked_fault (ids_of parts.now) parts.now (links_in parts.now)) (IsMetadata parts.now) result }
+{
+    let (records, held) = tried(alloc, &ids, parts, links)?;
+    finished(alloc, ids, parts, records, held)
+}
+
+#[tactic(auto, using(crate::proofs::FaultLemmas::faults, crate::proofs::ReadyLemmas::then_unless))]
+fn numbered_parts(alloc: Global, ids: Ids, parts: &MetaParts) -> Result<Metadata, MetaFault>
+    requires ids { ids ≡ ids_of parts.now }
+    requires differ { twice_of parts.now ≡ None }
+    ensures { Unless (option_or (unknown_fault (ids_of parts.now) parts.now) (linked_fault (ids_of parts.now) parts.now (links_in parts.now))) (IsMetadata parts.now) result }
+{
+    let links = linked(alloc, &ids, parts)?;
+    joined(alloc, ids, parts, links)
+}
+
+/// The metadata of what a file says, or its first fault: an identifier or a token that stands twice, a
+/// reference to nothing, an expression, a rule, a limit.
+#[tactic(auto, using(crate::proofs::FaultLemmas::faults, crate::proofs::ReadyLemmas::then_unless), unfolding(crate::specs::Faults::fault_of))]
+pub fn build(alloc: Global, parts: MetaParts) -> Result<Metadata, MetaFault>
+    ensures { Builds parts result }
+{
+    let ids = numbered(alloc, &parts)?;
+    numbered_parts(alloc, ids, &parts)
+}

@@ -1,0 +1,251 @@
+//! The steps from what a file says to metadata, each with the faults that it meets.
+
+ghost use Rattle.std.specs.Prelude.{◌≡◌, ◌^◌, ◌<◌, Bool, true, false, None, Some, Option, length, nat_lt, option_map};
+ghost use Rattle.std.specs.Option.{option_or};
+ghost use Rattle.dh_categories.specs.Single.{CombosBelow};
+ghost use Rattle.org_tree.specs.Units.{HasOwnIds};
+ghost use Rattle.meta_exprs.specs.All.{HaveExpressions};
+ghost use Rattle.meta_exprs.specs.Stages.{stages_broken};
+ghost use Rattle.meta_ids.specs.Ids.{ids_of, twice_of};
+ghost use Rattle.meta_links.specs.Held.{links_of};
+ghost use Rattle.meta_links.specs.Reference.{first_unknown};
+ghost use Rattle.meta_links.specs.Table.{references};
+ghost use Rattle.meta_rules.specs.Categories.{option_combo_rows};
+ghost use Rattle.meta_rules.specs.Held.{IsHeld};
+ghost use Rattle.meta_rules.specs.Limits.{first_passed};
+ghost use Rattle.meta_rules.specs.Trees.{tree_rows};
+ghost use Rattle.meta_reader.specs.Told.{twice_told, unknown_uid, unknown_told};
+ghost use Rattle.meta_reader.specs.Faults.{broken, passed, twice_fault, unknown_fault, unread_fault, rule_fault, Unless};
+ghost use Rattle.meta_reader.specs.Records.{AreRecords, unread_of};
+
+use crate::fault::{MetaFault, Which};
+use dh_base::uid::Uid;
+use meta_exprs::all::{Expressions, Unread, read_all};
+use meta_exprs::fault::ExprError;
+use meta_exprs::stages::first_broken;
+use meta_ids::fault::IdsFault;
+use meta_ids::ids::Ids;
+use meta_links::fault::LinkFault;
+use meta_links::link::link;
+use meta_parts::held::{Links, Records};
+use meta_parts::parts::MetaParts;
+use meta_rules::fault::{RuleError, RuleFault};
+use meta_rules::held::{Held, rules};
+use meta_rules::limits::first_passed;
+use std::alloc::Global;
+
+// Identifiers are read behind a `&`, since this crate can't take them out of another's enum.
+fn twice(fault: &IdsFault) -> MetaFault
+    ensures { result ≡ twice_told fault.now }
+{
+    match fault {
+        IdsFault::Twice { uid } => MetaFault::Twice { uid: *uid },
+        IdsFault::Memory => MetaFault::Memory,
+    }
+}
+
+fn unknown_uid(fault: &LinkFault) -> Option<Uid>
+    ensures { result ≡ unknown_uid fault.now }
+{
+    match fault {
+        LinkFault::Unknown { uid, path: _ } => Some(*uid),
+        LinkFault::Memory => None,
+    }
+}
+
+fn unknown(uid: Uid, fault: LinkFault) -> MetaFault
+    ensures { result ≡ unknown_told uid fault }
+{
+    match fault {
+        LinkFault::Unknown { uid: _, path } => MetaFault::Unknown { uid, path },
+        LinkFault::Memory => MetaFault::Memory,
+    }
+}
+
+/// The identifiers of a file, where nothing stands twice.
+#[tactic(auto, unfolding(crate::specs::Faults::twice_fault))]
+pub(crate) fn numbered(alloc: Global, parts: &MetaParts) -> Result<Ids, MetaFault>
+    ensures { Unless (twice_fault parts.now) (λ ids. (ids ≡ ids_of parts.now) × (twice_of parts.now ≡ None)) result }
+{
+    match Ids::of(alloc, parts) {
+        Ok(ids) => Ok(ids),
+        Err(fault) => Err(twice(&fault)),
+    }
+}
+
+/// The objects of a file with their references, where each names an object.
+#[tactic(auto, unfolding(crate::specs::Faults::unknown_fault))]
+pub(crate) fn linked(alloc: Global, ids: &Ids, parts: &MetaParts) -> Result<Links, MetaFault>
+    ensures { Unless (unknown_fault ids.now parts.now) (λ links. (links ≡ links_of ids.now parts.now) × (first_unknown ids.now (references parts.now) ≡ None)) result }
+{
+    match link(alloc, ids, parts) {
+        Ok(links) => Ok(links),
+        Err(fault) => match unknown_uid(&fault) {
+            Some(uid) => Err(unknown(uid, fault)),
+            None => Err(MetaFault::Memory),
+        },
+    }
+}
+
+#[tactic(auto, unfolding(crate::specs::Faults::unread_fault))]
+fn read(
+    alloc: Global,
+    ids: &Ids,
+    parts: &MetaParts,
+    links: Unread,
+) -> Result<Expressions, MetaFault>
+    requires indicators { length parts.now.indicators ≡ length links.indicators }
+    requires validation_rules { length parts.now.validation_rules ≡ length links.validation_rules }
+    requires program_indicators { length parts.now.program_indicators ≡ length links.program_indicators }
+    ensures { Unless (unread_fault ids.now parts.now) (HaveExpressions parts.now links) result }
+{
+    match read_all(alloc, ids, parts, links) {
+        Ok(made) => Ok(made),
+        Err(ExprError::Unread(fault)) => Err(MetaFault::Expr {
+            uid: fault.uid,
+            at: fault.at,
+        }),
+        Err(ExprError::Memory) => Err(MetaFault::Memory),
+    }
+}
+
+/// The objects with their expressions, where each text is one.
+pub(crate) fn with_expressions(
+    alloc: Global,
+    ids: &Ids,
+    parts: &MetaParts,
+    links: Links,
+) -> Result<Records, MetaFault>
+    requires indicators { length parts.now.indicators ≡ length links.indicators }
+    requires validation_rules { length parts.now.validation_rules ≡ length links.validation_rules }
+    requires program_indicators { length parts.now.program_indicators ≡ length links.program_indicators }
+    ensures { Unless (unread_fault ids.now parts.now) (AreRecords parts.now links) result }
+{
+    let unread = Unread {
+        indicators: links.indicators,
+        validation_rules: links.validation_rules,
+        program_indicators: links.program_indicators,
+    };
+    let made = read(alloc, ids, parts, unread)?;
+    Ok(Records {
+        organisation_units: links.organisation_units,
+        organisation_unit_groups: links.organisation_unit_groups,
+        category_options: links.category_options,
+        categories: links.categories,
+        category_combos: links.category_combos,
+        category_option_combos: links.category_option_combos,
+        data_elements: links.data_elements,
+        data_approval_levels: links.data_approval_levels,
+        data_approval_workflows: links.data_approval_workflows,
+        data_sets: links.data_sets,
+        constants: links.constants,
+        indicator_types: links.indicator_types,
+        indicators: made.indicators,
+        validation_rules: made.validation_rules,
+        tracked_entity_types: links.tracked_entity_types,
+        tracked_entity_attributes: links.tracked_entity_attributes,
+        programs: links.programs,
+        program_stages: links.program_stages,
+        program_indicators: made.program_indicators,
+        user_roles: links.user_roles,
+        users: links.users,
+        user_groups: links.user_groups,
+        api_tokens: links.api_tokens,
+        acceptance_required: parts.acceptance_required,
+    })
+}
+
+fn broken(fault: RuleFault) -> MetaFault
+    ensures { result ≡ broken fault }
+{
+    MetaFault::Rule {
+        uid: fault.uid,
+        which: fault.which,
+    }
+}
+
+fn is_many(number: usize) -> bool
+    ensures is { result ≡ nat_lt 4294967295 number }
+{
+    number > 4_294_967_295
+}
+
+/// What the rules between objects hand on, where they are kept.
+#[tactic(auto, unfolding(crate::specs::Faults::rule_fault))]
+pub(crate) fn ruled(alloc: Global, parts: &MetaParts, links: &Links) -> Result<Held, MetaFault>
+    requires own_ids { HasOwnIds (tree_rows links.now.organisation_units) }
+    requires in_range { CombosBelow (length links.now.category_combos) (option_combo_rows links.now.category_option_combos) }
+    ensures { Unless (rule_fault parts.now links.now) (IsHeld links.now) result }
+{
+    if is_many(links.organisation_units.len())
+        || is_many(links.category_option_combos.len())
+        || is_many(links.data_elements.len())
+    {
+        return Err(MetaFault::Memory);
+    }
+    match rules(alloc, parts, links) {
+        Ok(held) => Ok(held),
+        Err(RuleError::Broken(fault)) => Err(broken(fault)),
+        Err(RuleError::Memory) => Err(MetaFault::Memory),
+    }
+}
+
+/// The objects with their expressions, and what the rules hand on.
+#[tactic(auto, using(crate::proofs::FaultLemmas::faults))]
+pub(crate) fn tried(
+    alloc: Global,
+    ids: &Ids,
+    parts: &MetaParts,
+    links: Links,
+) -> Result<(Records, Held), MetaFault>
+    requires indicators { length parts.now.indicators ≡ length links.indicators }
+    requires validation_rules { length parts.now.validation_rules ≡ length links.validation_rules }
+    requires program_indicators { length parts.now.program_indicators ≡ length links.program_indicators }
+    requires own_ids { HasOwnIds (tree_rows links.organisation_units) }
+    requires in_range { CombosBelow (length links.category_combos) (option_combo_rows links.category_option_combos) }
+    ensures { Unless (option_or (unread_fault ids.now parts.now) (rule_fault parts.now links)) (λ pair. AreRecords parts.now links pair.0 × IsHeld links pair.1) result }
+{
+    let held = ruled(alloc, parts, &links);
+    let records = with_expressions(alloc, ids, parts, links)?;
+    let held = held?;
+    Ok((records, held))
+}
+
+fn unfit(ids: &Ids, records: &Records) -> Option<MetaFault>
+    ensures { result ≡ option_map broken (stages_broken ids.now records.now.program_stages records.now.program_indicators) }
+{
+    match first_broken(
+        ids,
+        records.program_stages.as_slice(),
+        records.program_indicators.as_slice(),
+    ) {
+        Some(fault) => Some(broken(fault)),
+        None => None,
+    }
+}
+
+fn passed(parts: &MetaParts, held: &Held) -> Option<MetaFault>
+    ensures { result ≡ option_map passed (first_passed parts.now held.now.positions.items) }
+{
+    match first_passed(parts, &held.positions) {
+        Some(limit) => Some(MetaFault::Limit {
+            which: Which::Objects(limit),
+        }),
+        None => None,
+    }
+}
+
+/// The first program indicator that is unfit, else the first limit that is passed.
+pub(crate) fn late(
+    ids: &Ids,
+    parts: &MetaParts,
+    records: &Records,
+    held: &Held,
+) -> Option<MetaFault>
+    ensures { result ≡ option_or (option_map broken (stages_broken ids.now records.now.program_stages records.now.program_indicators)) (option_map passed (first_passed parts.now held.now.positions.items)) }
+{
+    match unfit(ids, records) {
+        Some(fault) => Some(fault),
+        None => passed(parts, held),
+    }
+}

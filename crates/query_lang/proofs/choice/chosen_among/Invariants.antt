@@ -1,0 +1,7 @@
+use Rattle.std.proofs.Common.{◌≡◌, filter}
+use Rattle.query_lang.specs.Walk.{first_units}
+use Rattle.query_lang.specs.Choice.{is_chosen}
+use Rattle.query_lang.proofs.choice.chosen_among.Given as goal
+
+abbrev pub invariant-loop-order : goal.invariant-loop-order
+invariant-loop-order l = l.found.items ≡ filter (is_chosen l.tree l.bounds l.levels l.grouped l.members) (first_units l.tree l.order)

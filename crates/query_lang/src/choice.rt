@@ -1,0 +1,160 @@
+//! The units that all items choose together.
+ghost use Rattle.std.specs.Prelude.{◌≡◌, ◌<◌, ◌==◌, ◌||◌, not, filter, length, IfOk};
+ghost use Rattle.org_tree.specs.Units.{level_of};
+ghost use Rattle.std.specs.List.{list_any, list_all};
+ghost use Rattle.query_lang.specs.Walk.{Knows, AreIn, has, walk_of};
+ghost use Rattle.query_lang.specs.View.{Covers};
+ghost use Rattle.query_lang.specs.Parts.{is_group, is_narrowing};
+ghost use Rattle.query_lang.specs.Choice.{listed_units, bounds_of, is_chosen, narrowed_units, chosen_units};
+
+use crate::part::Part;
+use crate::parts::{levels_of, parts_units};
+use crate::set::{once, push_if, set_of};
+use crate::view::{is_covered, ranges_under};
+use dh_base::memory::Memory;
+use dh_sharing::ranges::ViewRanges;
+use org_tree::tree::Tree;
+use std::alloc::Global;
+use std::collections::HashSet;
+
+fn names_group(parts: &[Part]) -> bool
+    ensures { result ≡ list_any is_group parts.now }
+{
+    parts.iter().any(|part| part.is_group())
+}
+
+fn names_narrowing(parts: &[Part]) -> bool
+    ensures { result ≡ list_any is_narrowing parts.now }
+{
+    parts.iter().any(|part| part.is_narrowing())
+}
+
+fn only_narrows(parts: &[Part]) -> bool
+    ensures { result ≡ list_all is_narrowing parts.now }
+{
+    parts.iter().all(|part| part.is_narrowing())
+}
+
+fn has_level(levels: &[u8], level: u8) -> bool
+    ensures { result ≡ has levels.now level }
+{
+    levels.iter().any(|own| level == *own)
+}
+
+#[tactic(auto, unfolding(crate::specs::Choice::listed_units))]
+fn listed_units(
+    alloc: Global,
+    tree: &Tree,
+    views: &[u32],
+    parts: &[Part],
+) -> Result<Vec<u32>, Memory>
+    ensures { IfOk result (λ units. units.items ≡ listed_units tree.now views.now parts.now) }
+{
+    let all = parts_units(alloc, tree, views, parts)?;
+    once(alloc, &all)
+}
+
+#[tactic(auto, unfolding(crate::specs::Choice::bounds_of), using(crate::proofs::RangeLemmas::parts_in))]
+fn bounds_of(alloc: Global, tree: &Tree, views: &[u32], parts: &[Part]) -> Result<Vec<u32>, Memory>
+    requires { AreIn (length tree.now) views.now }
+    ensures units { IfOk result (λ units. units.items ≡ bounds_of tree.now views.now parts.now) }
+    ensures in_range { IfOk result (λ units. AreIn (length tree.now) units.items) }
+{
+    if only_narrows(parts) {
+        return Ok(Vec::from_slice(alloc, views)?);
+    }
+    parts_units(alloc, tree, views, parts)
+}
+
+fn fits_level(tree: &Tree, levels: &[u8], unit: u32) -> bool
+    requires { unit < length tree.now }
+    ensures { result ≡ ((length levels.now == 0) || has levels.now (level_of tree.now unit)) }
+{
+    levels.len() == 0 || has_level(levels, tree.level(unit))
+}
+
+fn fits_group(grouped: bool, members: &[u32], seen: &HashSet<u32>, unit: u32) -> bool
+    requires { Knows seen.now members.now }
+    ensures { result ≡ (not grouped || has members.now unit) }
+{
+    !grouped || seen.contains(&unit)
+}
+
+#[tactic(auto, unfolding(crate::specs::Choice::is_chosen))]
+fn is_chosen(
+    tree: &Tree,
+    bounds: &[u32],
+    ranges: &ViewRanges,
+    levels: &[u8],
+    grouped: bool,
+    members: &[u32],
+    seen: &HashSet<u32>,
+    unit: u32,
+) -> bool
+    requires covers { Covers tree.now bounds.now ranges.now }
+    requires seen { Knows seen.now members.now }
+    requires unit { unit < length tree.now }
+    ensures { result ≡ is_chosen tree.now bounds.now levels.now grouped members.now unit }
+{
+    is_covered(tree, ranges, bounds, unit)
+        && fits_level(tree, levels, unit)
+        && fits_group(grouped, members, seen, unit)
+}
+
+#[tactic(auto, unfolding(crate::specs::Walk::walk_of))]
+fn chosen_among(
+    alloc: Global,
+    tree: &Tree,
+    bounds: &[u32],
+    levels: &[u8],
+    grouped: bool,
+    members: &[u32],
+) -> Result<Vec<u32>, Memory>
+    requires { AreIn (length tree.now) bounds.now }
+    ensures { IfOk result (λ units. units.items ≡ filter (is_chosen tree.now bounds.now levels.now grouped members.now) (walk_of tree.now)) }
+{
+    let ranges = ranges_under(alloc, tree, bounds)?;
+    let seen = set_of(alloc, members)?;
+    let mut found = Vec::new(alloc);
+    for order in 0..tree.count() {
+        let unit = tree.unit_at(order);
+        let passes = is_chosen(tree, bounds, &ranges, levels, grouped, members, &seen, unit);
+        push_if(&mut found, unit, passes)?;
+    }
+    Ok(found)
+}
+
+#[tactic(auto, unfolding(crate::specs::Choice::narrowed_units))]
+fn narrowed_units(
+    alloc: Global,
+    tree: &Tree,
+    views: &[u32],
+    members: &[u32],
+    parts: &[Part],
+) -> Result<Vec<u32>, Memory>
+    requires { AreIn (length tree.now) views.now }
+    ensures { IfOk result (λ units. units.items ≡ narrowed_units tree.now views.now members.now parts.now) }
+{
+    let bounds = bounds_of(alloc, tree, views, parts)?;
+    let levels = levels_of(alloc, parts)?;
+    chosen_among(alloc, tree, &bounds, &levels, names_group(parts), members)
+}
+
+/// The units of a query, where the groups that it names have these members.
+#[tactic(auto, unfolding(crate::specs::Choice::chosen_units))]
+pub fn chosen_units(
+    alloc: Global,
+    tree: &Tree,
+    views: &[u32],
+    members: &[u32],
+    parts: &[Part],
+) -> Result<Vec<u32>, Memory>
+    requires { AreIn (length tree.now) views.now }
+    ensures { IfOk result (λ units. units.items ≡ chosen_units tree.now views.now members.now parts.now) }
+{
+    if names_narrowing(parts) {
+        narrowed_units(alloc, tree, views, members, parts)
+    } else {
+        listed_units(alloc, tree, views, parts)
+    }
+}

@@ -1,0 +1,57 @@
+//! View units, their children and grandchildren.
+ghost use Rattle.std.specs.Prelude.{◌≡◌, ◌<◌, length, IfOk};
+ghost use Rattle.org_tree.specs.Units.{climb};
+ghost use Rattle.query_lang.specs.Walk.{Knows};
+ghost use Rattle.query_lang.specs.Parts.{is_kin, kin_of};
+
+use crate::set::{push_if, set_of};
+use dh_base::memory::Memory;
+use org_tree::tree::Tree;
+use std::alloc::Global;
+use std::collections::HashSet;
+
+/// The unit so many steps above.
+#[tactic(auto, using(crate::proofs::WalkLemmas::steps_above))]
+fn above(tree: &Tree, unit: u32, degree: u8) -> Option<u32>
+    requires { unit < length tree.now }
+    ensures { result ≡ climb degree tree.now unit }
+{
+    let _count = tree.count();
+    let level = tree.level(unit);
+    if level > degree {
+        tree.ancestor_at(unit, level - degree)
+    } else {
+        None
+    }
+}
+
+fn is_kin(tree: &Tree, views: &[u32], seen: &HashSet<u32>, degree: u8, unit: u32) -> bool
+    requires seen { Knows seen.now views.now }
+    requires unit { unit < length tree.now }
+    ensures { result ≡ is_kin tree.now views.now degree unit }
+{
+    match above(tree, unit, degree) {
+        Some(upper) => seen.contains(&upper),
+        None => false,
+    }
+}
+
+/// The units so many steps below the view units, in the order of the tree.
+#[tactic(auto, unfolding(crate::specs::Parts::kin_of, crate::specs::Walk::walk_of))]
+pub(crate) fn kin_of(
+    alloc: Global,
+    tree: &Tree,
+    views: &[u32],
+    degree: u8,
+) -> Result<Vec<u32>, Memory>
+    ensures { IfOk result (λ found. found.items ≡ kin_of tree.now views.now degree) }
+{
+    let seen = set_of(alloc, views)?;
+    let mut found = Vec::new(alloc);
+    for order in 0..tree.count() {
+        let unit = tree.unit_at(order);
+        let passes = is_kin(tree, views, &seen, degree, unit);
+        push_if(&mut found, unit, passes)?;
+    }
+    Ok(found)
+}

@@ -1,3 +1,0 @@
-pub mod SetLemmas
-pub mod WalkLemmas
-pub mod RangeLemmas

@@ -1,7 +1,0 @@
-use Rattle.std.proofs.Common.{◌≡◌, filter}
-use Rattle.query_units.specs.Walk.{first_units}
-use Rattle.query_units.specs.Choice.{is_chosen}
-use Rattle.query_units.proofs.choice.chosen_among.Given as goal
-
-abbrev pub invariant-loop-order : goal.invariant-loop-order
-invariant-loop-order l = l.found.items ≡ filter (is_chosen l.tree l.bounds l.levels l.grouped l.members) (first_units l.tree l.order)

@@ -1,6 +1,0 @@
-use Rattle.std.proofs.Common.{take}
-use Rattle.query_units.specs.View.{Covers}
-use Rattle.query_units.proofs.view.intervals.Given as goal
-
-abbrev pub invariant-loop-unit : goal.invariant-loop-unit
-invariant-loop-unit l = Covers l.tree (take l.unit-index l.units) l.intervals.items

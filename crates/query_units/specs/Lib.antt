@@ -1,4 +1,0 @@
-pub mod Walk
-pub mod View
-pub mod Parts
-pub mod Choice

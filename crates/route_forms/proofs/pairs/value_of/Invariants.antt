@@ -1,7 +1,0 @@
-use Rattle.std.proofs.Common.{◌≡◌, drop, None}
-use Rattle.std.specs.Option.{option_copied}
-use Rattle.route_forms.specs.Parameters.{last_from}
-use Rattle.route_forms.proofs.pairs.value_of.Given as goal
-
-abbrev pub invariant-loop-pair : goal.invariant-loop-pair
-invariant-loop-pair l = last_from l.name (option_copied l.found) (drop l.pair-index l.pairs) ≡ last_from l.name None l.pairs

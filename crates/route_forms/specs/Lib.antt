@@ -1,4 +1,0 @@
-pub mod Given
-pub mod Paths
-pub mod Routes
-pub mod Parameters

@@ -1,0 +1,150 @@
+-- No two keys have one row, so that a list of rows is told by which they are.
+use Rattle.std.proofs.Common.{◌≡◌, ◌∙◌, inl, inr, ℕ, ◌<◌, List, [], ◌∷◌, Option, Some, None, suc, length, map, get_or, refl, sym, ap, subst}
+use Rattle.std.specs.Prelude.{option_map}
+use Rattle.std.specs.Option.{unwrap_or}
+use Rattle.std.specs.List.{AllByRecursion, filter_map, cons_option}
+use Rattle.std.specs.List.Sorted.{IsStrictlySortedBy}
+use Rattle.dh_periods.proofs.TextLemmas.{and_then-some, map-some}
+use Rattle.dh_changes.specs.declared.keys.ValueKey.{ValueKey}
+use Rattle.org_tree.specs.Units.{UnitRow, IsTree, order_of}
+use Rattle.org_tree.proofs.OrderLemmas.{order-differs}
+use Rattle.meta_ids.proofs.DistinctLemmas.{place_of-below}
+use Rattle.meta_ids.proofs.PlaceLemmas.{place_of-at}
+use Rattle.meta_parts.specs.declared.held.Records.{Records}
+use Rattle.meta_parts.specs.declared.records.Unit.{Unit as OrgUnit}
+use Rattle.meta_parts.specs.declared.kind.Kind.{Kind}
+use Rattle.meta_parts.specs.declared.kind.Kind.TheVariants.{DataElement, OrganisationUnit, CategoryOptionCombo}
+use Rattle.dh_metadata.specs.Objects.{ids_of, find_of}
+use Rattle.dh_metadata.specs.Approval.{unit_rows}
+use Rattle.record_index.specs.Facts.{Facts}
+use Rattle.table_rows.specs.declared.row.Row.{Row}
+use Rattle.table_rows.specs.Rows.{key_of}
+use Rattle.table_rows.specs.Order.{key_cmp, row_cmp}
+use Rattle.table_rows.proofs.OrderLemmas.{key_total}
+use Rattle.table_build.specs.declared.values.ValueObjects.{ValueObjects}
+use Rattle.table_build.specs.Values as values
+use Rattle.table_build.proofs.OrderLemmas.{same-key}
+use Rattle.table_build.proofs.MemberLemmas.{IsIn, in_order-is, in_order-has}
+
+find-one : (r : Records) (kind : Kind) (a b : List ℕ) (n m : ℕ) → find_of r kind a ≡ Some n → find_of r kind b ≡ Some m → n ≡ m → a ≡ b
+find-one r kind a b n m left right same = sym (place_of-at (ids_of r kind) a n left) ∙ ap (λ k. get_or (ids_of r kind) k []) same ∙ place_of-at (ids_of r kind) b m right
+
+units-length : (units : List OrgUnit) → length (map (λ (unit : OrgUnit). unit.id) units) ≡ length (map {B = UnitRow} (λ (unit : OrgUnit). (unit.id, unit.parent)) units)
+units-length [] = refl
+units-length (unit ∷ units) = ap suc (units-length units)
+
+unit-below : (r : Records) (id : List ℕ) (n : ℕ) → find_of r OrganisationUnit id ≡ Some n → n < length (unit_rows r)
+unit-below r id n e = subst (λ k. n < k) (units-length r.organisation_units) (place_of-below (ids_of r OrganisationUnit) id n e)
+
+unit-one : (r : Records) → IsTree (unit_rows r) → (a b : List ℕ) (n m : ℕ) → find_of r OrganisationUnit a ≡ Some n → find_of r OrganisationUnit b ≡ Some m → order_of (unit_rows r) n ≡ order_of (unit_rows r) m → a ≡ b
+unit-one r tree a b n m left right same =
+    find-one r OrganisationUnit a b n m left right (order-differs (unit_rows r) tree n m (unit-below r a n left) (unit-below r b m right) same)
+
+inside : {A : Type 0} (x y : A) → Some x ≡ Some y → x ≡ y
+inside x y e = ap (λ o. unwrap_or o x) e
+
+-- ---- values
+
+record Objects (r : Records) (key : ValueKey) (o : ValueObjects) : Type 0 where
+  element : find_of r DataElement key.element ≡ Some o.element
+  unit : find_of r OrganisationUnit key.unit ≡ Some o.unit
+  combo : find_of r CategoryOptionCombo key.combo ≡ Some o.combo
+  attribute : find_of r CategoryOptionCombo key.attribute ≡ Some o.attribute
+
+objects-parts : (r : Records) (key : ValueKey) (o : ValueObjects) → values.objects_of r key ≡ Some o → Objects r key o
+unfolding values.objects_of
+objects-parts r key o e =
+    let element = and_then-some _ (find_of r DataElement key.element) o e in
+    let unit = and_then-some _ (find_of r OrganisationUnit key.unit) o element.2 in
+    let combo = and_then-some _ (find_of r CategoryOptionCombo key.combo) o unit.2 in
+    let attribute = map-some (λ attribute. values.value_objects element.0 unit.0 combo.0 attribute) (find_of r CategoryOptionCombo key.attribute) o combo.2 in
+    record {
+      element = element.1 ∙ ap (λ (x : ValueObjects). Some x.element) attribute.2;
+      unit = unit.1 ∙ ap (λ (x : ValueObjects). Some x.unit) attribute.2;
+      combo = combo.1 ∙ ap (λ (x : ValueObjects). Some x.combo) attribute.2;
+      attribute = attribute.1 ∙ ap (λ (x : ValueObjects). Some x.attribute) attribute.2;
+    }
+
+-- the row of a key, and the objects that the key names
+record Rowed (r : Records) (key : ValueKey) (x : Row) : Type 0 where
+  objects : ValueObjects
+  are : Objects r key objects
+  element : x.element ≡ objects.element
+  combo : x.combo ≡ objects.combo
+  attribute : x.attribute ≡ objects.attribute
+  period : x.period ≡ key.period
+  order : x.order ≡ order_of (unit_rows r) objects.unit
+
+rowed : (r : Records) (facts : Facts) (key : ValueKey) (x : Row) → values.row_of r facts key ≡ Some x → Rowed r key x
+unfolding values.row_of values.row_with
+rowed r facts key x e =
+    let text = and_then-some (λ text. option_map (values.row_with r facts key text) (values.objects_of r key)) (facts.value key) x e in
+    let o = map-some (values.row_with r facts key text.0) (values.objects_of r key) x text.2 in
+    record {
+      objects = o.0;
+      are = objects-parts r key o.0 o.1;
+      element = ap (λ (row : Row). row.element) (sym o.2);
+      combo = ap (λ (row : Row). row.combo) (sym o.2);
+      attribute = ap (λ (row : Row). row.attribute) (sym o.2);
+      period = ap (λ (row : Row). row.period) (sym o.2);
+      order = ap (λ (row : Row). row.order) (sym o.2);
+    }
+
+-- rows of one order key are of one value key
+pub row-key : (r : Records) (facts : Facts) → IsTree (unit_rows r) → (a b : ValueKey) (x y : Row) → values.row_of r facts a ≡ Some x → values.row_of r facts b ≡ Some y → key_of x ≡ key_of y → a ≡ b
+row-key r facts tree a b x y left right same =
+    let p = rowed r facts a x left in
+    let q = rowed r facts b y right in
+    let element = find-one r DataElement a.element b.element _ _ p.are.element q.are.element (sym p.element ∙ ap (λ k. k.group.element) same ∙ q.element) in
+    let combo = find-one r CategoryOptionCombo a.combo b.combo _ _ p.are.combo q.are.combo (sym p.combo ∙ ap (λ k. k.group.combo) same ∙ q.combo) in
+    let attribute = find-one r CategoryOptionCombo a.attribute b.attribute _ _ p.are.attribute q.are.attribute (sym p.attribute ∙ ap (λ k. k.group.attribute) same ∙ q.attribute) in
+    let unit = unit-one r tree a.unit b.unit _ _ p.are.unit q.are.unit (sym p.order ∙ ap (λ k. k.order) same ∙ q.order) in
+    let around = sym p.period ∙ ap (λ k. k.group.period) same ∙ q.period in
+    λ i. record { element = element i; period = around i; unit = unit i; combo = combo i; attribute = attribute i }
+
+-- x is the row of a key
+pub record IsRow (r : Records) (facts : Facts) (x : Row) : Type 0 where
+  pub key : ValueKey
+  pub is : values.row_of r facts key ≡ Some x
+
+pub row-one : (r : Records) (facts : Facts) → IsTree (unit_rows r) → (x y : Row) → IsRow r facts x → IsRow r facts y → key_of x ≡ key_of y → x ≡ y
+row-one r facts tree x y left right same =
+    inside x y (sym left.is ∙ ap (values.row_of r facts) (row-key r facts tree left.key right.key x y left.is right.is same) ∙ right.is)
+
+-- ---- what a function gives of the members of a list
+
+module _ {A X : Type 0} (f : A → Option X) where
+  given-in : (a : A) (x : X) → f a ≡ Some x → (list : List A) → IsIn a list → IsIn x (filter_map f list)
+  given-in a x is [] none = absurd none
+  given-in a x is (b ∷ list) (inl same) = subst (λ o. IsIn x (cons_option o (filter_map f list))) (sym (ap f (sym same) ∙ is)) (inl refl)
+  given-in a x is (b ∷ list) (inr later) =
+      let rest = given-in a x is list later in
+      elim (f b) as (λ o. IsIn x (cons_option o (filter_map f list))) [
+        | Some y ↦ inr rest
+        | None ↦ rest
+      ]
+
+  in-given : (P : X → Type 0) (one : (a : A) (x : X) → f a ≡ Some x → P x) (list : List A) → AllByRecursion P (filter_map f list)
+  in-given P one [] = tt
+  in-given P one (a ∷ list) =
+      elim (f a) as (λ o. f a ≡ o → AllByRecursion P (cons_option o (filter_map f list))) [
+        | Some x ↦ λ is. (one a x is, in-given P one list)
+        | None ↦ λ is. in-given P one list
+      ] refl
+
+-- the row of each key of a list stands among the rows of the list
+pub rows-has : (r : Records) (facts : Facts) → IsTree (unit_rows r) → (keys : List ValueKey) (key : ValueKey) (x : Row) → IsIn key keys → values.row_of r facts key ≡ Some x → IsIn x (values.rows_of r facts keys)
+unfolding values.rows_of
+rows-has r facts tree keys key x member is =
+    in_order-has key_cmp key_of key_total same-key (IsRow r facts) (row-one r facts tree) (filter_map (values.row_of r facts) keys) x
+    (in-given (values.row_of r facts) (IsRow r facts) (λ a y e. record { key = a; is = e }) keys)
+    (given-in (values.row_of r facts) key x is keys member)
+
+-- an ascending list of just the rows of the keys is the list of their rows
+pub rows-are : (r : Records) (facts : Facts) → IsTree (unit_rows r) → (keys : List ValueKey) (rows : List Row) → IsStrictlySortedBy row_cmp rows
+    → ((x : Row) → IsIn x (filter_map (values.row_of r facts) keys) → IsIn x rows) → ((x : Row) → IsIn x rows → IsIn x (filter_map (values.row_of r facts) keys))
+    → rows ≡ values.rows_of r facts keys
+unfolding values.rows_of
+rows-are r facts tree keys rows sorted to from =
+    in_order-is key_cmp key_of key_total same-key (IsRow r facts) (row-one r facts tree) (filter_map (values.row_of r facts) keys) rows
+    (in-given (values.row_of r facts) (IsRow r facts) (λ a y e. record { key = a; is = e }) keys) sorted to from

@@ -1,0 +1,39 @@
+-- What the writes of changes name, change by change.
+use Rattle.std.proofs.Common.{◌≡◌, ◌∙◌, ℕ, ◌+◌, ◌<◌, List, [], ◌∷◌, ◌++◌, Option, length, take, drop, get_or, map, refl, sym, ap, add-one, drop-cons}
+use Rattle.std.specs.List.{filter_map}
+use Rattle.std.proofs.lemmas.List.{append_assoc, append-nil, map-append, take_more}
+use Rattle.std.proofs.lemmas.List.Elements.{filter_map-append}
+use Rattle.dh_changes.specs.declared.change.Change.{Change}
+use Rattle.dh_changes.specs.declared.change.Write.{Write}
+use Rattle.table_build.specs.Log.{writes_of}
+
+module _ {A K : Type 0} (of : A → Change) (named : Write → Option K) where
+  pub named-step : (changes : List A) (i : ℕ) (a : A) (change : Change) (all old new : List K) → i < length changes → a ≡ get_or changes i a → change ≡ of a
+      → all ≡ old ++ filter_map named (writes_of (map of (drop i changes)))
+      → new ≡ old ++ filter_map named change.writes
+      → all ≡ new ++ filter_map named (writes_of (map of (drop (i + 1) changes)))
+  named-step changes i a change all old new within is seen so_far next =
+      let rest : List Write = writes_of (map of (drop (i + 1) changes)) in
+      let here : drop i changes ≡ get_or changes i a ∷ drop (i + 1) changes = rw add-one (drop-cons changes i a within) in
+      so_far
+      ∙ ap (λ l. old ++ filter_map named (writes_of (map of l))) here
+      ∙ ap (λ x. old ++ filter_map named ((of x).writes ++ rest)) (sym is)
+      ∙ ap (λ x. old ++ filter_map named (x.writes ++ rest)) (sym seen)
+      ∙ ap (λ l. old ++ l) (filter_map-append named change.writes rest)
+      ∙ sym (append_assoc old (filter_map named change.writes) (filter_map named rest))
+      ∙ ap (λ l. l ++ filter_map named rest) (sym next)
+
+writes_of-append : (xs ys : List Change) → writes_of (xs ++ ys) ≡ writes_of xs ++ writes_of ys
+writes_of-append [] ys = refl
+writes_of-append (x ∷ xs) ys = ap (λ l. x.writes ++ l) (writes_of-append xs ys) ∙ sym (append_assoc x.writes (writes_of xs) (writes_of ys))
+
+-- the writes of one change more
+pub taken-step : {A : Type 0} (of : A → Change) (changes : List A) (i : ℕ) (a : A) (change : Change) → i < length changes → a ≡ get_or changes i a → change ≡ of a
+    → writes_of (map of (take i changes)) ++ change.writes ≡ writes_of (map of (take (i + 1) changes))
+taken-step of changes i a change within is seen =
+    let before : List Change = map of (take i changes) in
+    ap (λ x. writes_of before ++ x.writes) (seen ∙ ap of is)
+    ∙ ap (λ l. writes_of before ++ l) (sym (append-nil (of (get_or changes i a)).writes))
+    ∙ sym (writes_of-append before (of (get_or changes i a) ∷ []))
+    ∙ ap writes_of (sym (map-append of (take i changes) (get_or changes i a ∷ [])))
+    ∙ ap (λ l. writes_of (map of l)) (sym (take_more changes i a within))

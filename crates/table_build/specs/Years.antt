@@ -1,0 +1,33 @@
+-- The years of rows.
+use Rattle.std.specs.Prelude.{ℤ, pos, List, ◌++◌, map, Option, option_map}
+use Rattle.std.specs.List.{filter_map}
+use Rattle.std.specs.Ordering.{int_cmp}
+use Rattle.dh_periods.specs.declared.name.PeriodName.{PeriodName}
+use Rattle.dh_periods.specs.declared.kind.PeriodType.TheVariants.{Daily}
+use Rattle.dh_periods.specs.Places.{year_of, containing_of}
+use Rattle.table_rows.specs.declared.row.Row.{Row}
+use Rattle.table_rows.specs.declared.event.EventRow.{EventRow}
+use Rattle.table_rows.specs.declared.event.RegRow.{RegRow}
+use Rattle.table_build.specs.Ordered.{in_order}
+
+-- the year of the first day of a period
+abbrev pub period_year : PeriodName → ℤ
+period_year period = pos (year_of period)
+
+-- the year of a day
+unfoldable pub day_year : ℤ → Option ℤ
+day_year day = option_map period_year (containing_of Daily day day)
+
+unfoldable pub row_year : Row → ℤ
+row_year row = period_year row.period
+
+unfoldable pub reg_year : RegRow → ℤ
+reg_year reg = period_year reg.period
+
+unfoldable pub event_year : EventRow → Option ℤ
+event_year event = day_year event.day
+
+-- the years of rows and registrations by the first day of their periods, and of events by their days; ascending, each once
+unfoldable pub years_of : List Row → List RegRow → List EventRow → List ℤ
+years_of rows regs events =
+    in_order int_cmp (λ year. year) (map row_year rows ++ (map reg_year regs ++ filter_map event_year events))

@@ -1,0 +1,217 @@
+//! The rows of events.
+ghost use Rattle.std.specs.Prelude.{◌≡◌, ◌<◌, [], length, IfOk, IfSome};
+ghost use Rattle.std.specs.Option.{option_copied};
+ghost use Rattle.std.specs.List.{filter_map};
+ghost use Rattle.record_index.specs.World.{facts};
+ghost use Rattle.table_build.specs.Ordered.{put_all};
+ghost use Rattle.table_build.specs.Events as known;
+
+use crate::items::{attribute_values, element_values};
+use dh_base::items::Items;
+use dh_base::memory::Memory;
+use dh_base::uid::Uid;
+use dh_changes::tracker::{Enrollment, Entity, Event};
+use dh_metadata::metadata::Metadata;
+use meta_parts::kind::Kind;
+use record_index::world::World;
+use std::alloc::Global;
+use std::collections::BTreeMap;
+use table_rows::{EventRow, ItemValue};
+
+/// The numbers of the objects that an event names.
+#[derive(Clone, Copy)]
+pub struct EventObjects {
+    pub program: u32,
+    pub stage: u32,
+    pub unit: u32,
+}
+
+/// What events are ordered by, field by field.
+#[derive(Clone, Copy, PartialEq, Eq, PartialOrd, Ord, Hash)]
+pub struct EventPlace {
+    /// The day on which it occurred.
+    pub day: i32,
+    pub id: Uid,
+}
+
+#[tactic(auto, unfolding(crate::specs::Events::place_of))]
+fn place_of(world: &World, id: Uid) -> Option<EventPlace>
+    ensures { result ≡ known.place_of (facts world.now) id }
+{
+    let event = world.event(id)?;
+    let day = event.occurred?;
+    Some(EventPlace { day, id })
+}
+
+fn same_place(place: &EventPlace) -> EventPlace
+    ensures { result ≡ place.now }
+{
+    EventPlace {
+        day: place.day,
+        id: place.id,
+    }
+}
+
+fn place_map(
+    alloc: Global,
+    world: &World,
+    ids: &[Uid],
+) -> Result<BTreeMap<EventPlace, EventPlace>, Memory>
+    ensures { IfOk result (λ map. map.entries ≡ put_all known.place_cmp (λ place. place) [] (filter_map (known.place_of (facts world.now)) ids.now)) }
+{
+    let mut map = BTreeMap::new(alloc);
+    for id in ids {
+        if let Some(place) = place_of(world, *id) {
+            map.insert(same_place(&place), place)?;
+        }
+    }
+    Ok(map)
+}
+
+#[tactic(auto, unfolding(crate::specs::Events::places_of))]
+fn places_of(alloc: Global, world: &World, ids: &[Uid]) -> Result<Vec<EventPlace>, Memory>
+    ensures { IfOk result (λ places. places.items ≡ known.places_of (facts world.now) ids.now) }
+{
+    let map = place_map(alloc, world, ids)?;
+    Ok(map.into_values().collect(alloc)?)
+}
+
+#[tactic(auto, unfolding(crate::specs::Events::objects_of))]
+fn objects_of(meta: &Metadata, event: &Event) -> Option<EventObjects>
+    ensures value { result ≡ known.objects_of meta.now event.now }
+    ensures in_range { IfSome result (λ objects. objects.unit < length meta.now.organisation_units) }
+{
+    let program = meta.find(Kind::Program, event.program)?;
+    let stage = meta.find(Kind::ProgramStage, event.stage)?;
+    let unit = meta.find(Kind::OrganisationUnit, event.unit)?;
+    Some(EventObjects {
+        program,
+        stage,
+        unit,
+    })
+}
+
+#[tactic(auto, unfolding(crate::specs::Events::enrollment_of))]
+fn enrollment_of<'a>(world: &'a World, event: &Event) -> Option<&'a Enrollment>
+    ensures { option_copied result ≡ known.enrollment_of (facts world.now) event.now }
+{
+    world.enrollment(event.enrollment?)
+}
+
+#[tactic(auto, unfolding(crate::specs::Events::entity_of))]
+fn entity_of<'a>(world: &'a World, event: &Event) -> Option<&'a Entity>
+    ensures { option_copied result ≡ known.entity_of (facts world.now) event.now }
+{
+    let enrollment = enrollment_of(world, event)?;
+    world.entity(enrollment.entity)
+}
+
+#[tactic(auto, unfolding(crate::specs::Events::entity_id))]
+fn entity_id(found: Option<&Entity>) -> Option<Uid>
+    ensures { result ≡ known.entity_id (option_copied found.entry) }
+{
+    match found {
+        Some(entity) => Some(entity.id),
+        None => None,
+    }
+}
+
+#[tactic(auto, unfolding(crate::specs::Events::enrolled_day))]
+fn enrolled_day(found: Option<&Enrollment>) -> Option<i32>
+    ensures { result ≡ known.enrolled_day (option_copied found.entry) }
+{
+    found?.enrolled
+}
+
+#[tactic(auto, unfolding(crate::specs::Events::entity_values))]
+fn entity_values(
+    alloc: Global,
+    meta: &Metadata,
+    found: Option<&Entity>,
+) -> Result<Items<(u32, ItemValue)>, Memory>
+    ensures { IfOk result (λ values. values ≡ known.entity_values meta.now (option_copied found.entry)) }
+{
+    match found {
+        Some(entity) => attribute_values(alloc, meta, entity.attributes.as_slice()),
+        None => Ok(Items::new(alloc)),
+    }
+}
+
+#[tactic(auto, unfolding(crate::specs::Events::event_with))]
+fn event_with(
+    alloc: Global,
+    meta: &Metadata,
+    world: &World,
+    place: EventPlace,
+    event: &Event,
+    objects: EventObjects,
+) -> Result<EventRow, Memory>
+    requires { objects.unit < length meta.now.organisation_units }
+    ensures { IfOk result (λ row. row ≡ known.event_with meta.now (facts world.now) place event.now objects) }
+{
+    let entity = entity_of(world, event);
+    let values = element_values(alloc, meta, event.values.as_slice())?;
+    let attributes = entity_values(alloc, meta, entity)?;
+    Ok(EventRow {
+        id: place.id,
+        enrollment: event.enrollment,
+        entity: entity_id(entity),
+        program: objects.program,
+        stage: objects.stage,
+        order: meta.tree().order(objects.unit),
+        day: place.day,
+        enrolled: enrolled_day(enrollment_of(world, event)),
+        values,
+        attributes,
+    })
+}
+
+#[tactic(auto, unfolding(crate::specs::Events::event_at))]
+fn event_at(
+    alloc: Global,
+    meta: &Metadata,
+    world: &World,
+    place: EventPlace,
+) -> Result<Option<EventRow>, Memory>
+    ensures { IfOk result (λ row. row ≡ known.event_at meta.now (facts world.now) place) }
+{
+    let Some(event) = world.event(place.id) else {
+        return Ok(None);
+    };
+    let Some(objects) = objects_of(meta, event) else {
+        return Ok(None);
+    };
+    Ok(Some(event_with(alloc, meta, world, place, event, objects)?))
+}
+
+fn rows_at(
+    alloc: Global,
+    meta: &Metadata,
+    world: &World,
+    places: &[EventPlace],
+) -> Result<Vec<EventRow>, Memory>
+    ensures { IfOk result (λ rows. rows.items ≡ filter_map (known.event_at meta.now (facts world.now)) places.now) }
+{
+    let mut rows = Vec::new(alloc);
+    for place in places {
+        if let Some(row) = event_at(alloc, meta, world, *place)? {
+            rows.push(row)?;
+        }
+    }
+    Ok(rows)
+}
+
+/// The rows of these events, by day and identifier: of those that are live, have a day of occurrence
+/// and name objects that stand in the metadata.
+#[tactic(auto, unfolding(crate::specs::Events::events_of))]
+pub fn events_of(
+    alloc: Global,
+    meta: &Metadata,
+    world: &World,
+    ids: &[Uid],
+) -> Result<Vec<EventRow>, Memory>
+    ensures { IfOk result (λ events. events.items ≡ known.events_of meta.now (facts world.now) ids.now) }
+{
+    let places = places_of(alloc, world, ids)?;
+    rows_at(alloc, meta, world, &places)
+}

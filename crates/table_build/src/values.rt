@@ -1,0 +1,126 @@
+//! The rows of data values.
+ghost use Rattle.std.specs.Prelude.{◌≡◌, ◌<◌, [], length, OnOk, IfOk, IfSome};
+ghost use Rattle.std.specs.List.{filter_map};
+ghost use Rattle.dh_metadata.specs.Objects.{count_of};
+ghost use Rattle.dh_metadata.specs.Approval.{unit_rows};
+ghost use Rattle.org_tree.specs.Units.{order_of};
+ghost use Rattle.record_index.specs.World.{facts};
+ghost use Rattle.table_rows.specs.Rows.{key_of};
+ghost use Rattle.table_rows.specs.Order.{key_cmp};
+ghost use Rattle.table_build.specs.Ordered.{put_all};
+ghost use Rattle.table_build.specs.Values as known;
+
+use dh_base::memory::Memory;
+use dh_base::uid::Uid;
+use dh_changes::keys::ValueKey;
+use dh_metadata::metadata::Metadata;
+use dh_records::approved::approved_at;
+use dh_records::number::number_of;
+use meta_parts::kind::Kind;
+use record_index::world::World;
+use std::alloc::Global;
+use std::collections::BTreeMap;
+use table_rows::{Row, RowKey};
+
+/// The numbers of the objects that a value's key names.
+#[derive(Clone, Copy)]
+pub struct ValueObjects {
+    pub element: u32,
+    pub unit: u32,
+    /// The category option combination.
+    pub combo: u32,
+    /// The attribute option combination.
+    pub attribute: u32,
+}
+
+#[tactic(auto, unfolding(crate::specs::Values::objects_of))]
+fn objects_of(meta: &Metadata, key: &ValueKey) -> Option<ValueObjects>
+    ensures value { result ≡ known.objects_of meta.now key.now }
+    ensures in_range { IfSome result (λ objects. (objects.element < length meta.now.data_elements) × (objects.unit < length meta.now.organisation_units)) }
+{
+    let element = meta.find(Kind::DataElement, key.element)?;
+    let unit = meta.find(Kind::OrganisationUnit, key.unit)?;
+    let combo = meta.find(Kind::CategoryOptionCombo, key.combo)?;
+    let attribute = meta.find(Kind::CategoryOptionCombo, key.attribute)?;
+    Some(ValueObjects {
+        element,
+        unit,
+        combo,
+        attribute,
+    })
+}
+
+#[tactic(auto, unfolding(crate::specs::Values::number_at))]
+fn number_at(meta: &Metadata, element: u32, text: &[u8]) -> Option<i64>
+    requires { element < length meta.now.data_elements }
+    ensures { result ≡ known.number_at meta.now element text.now }
+{
+    match number_of(meta.element(element).value_type, text) {
+        Some(number) => Some(number.value()),
+        None => None,
+    }
+}
+
+#[tactic(auto, unfolding(crate::specs::Values::row_with))]
+fn row_with(
+    meta: &Metadata,
+    world: &World,
+    key: &ValueKey,
+    text: &[u8],
+    objects: ValueObjects,
+) -> Row
+    requires element { objects.element < length meta.now.data_elements }
+    requires unit { objects.unit < length meta.now.organisation_units }
+    ensures { result ≡ known.row_with meta.now (facts world.now) key.now text.now objects }
+{
+    Row {
+        element: objects.element,
+        combo: objects.combo,
+        attribute: objects.attribute,
+        period: key.period,
+        approved: approved_at(world, meta, key),
+        order: meta.tree().order(objects.unit),
+        micros: number_at(meta, objects.element, text),
+    }
+}
+
+#[tactic(auto, unfolding(crate::specs::Values::row_of))]
+fn row_of(meta: &Metadata, world: &World, key: &ValueKey) -> Option<Row>
+    ensures { result ≡ known.row_of meta.now (facts world.now) key.now }
+{
+    let text = world.value(key)?;
+    let objects = objects_of(meta, key)?;
+    Some(row_with(meta, world, key, text, objects))
+}
+
+fn row_map(
+    alloc: Global,
+    meta: &Metadata,
+    world: &World,
+    keys: &[ValueKey],
+) -> Result<BTreeMap<RowKey, Row>, Memory>
+    ensures { IfOk result (λ map. map.entries ≡ put_all key_cmp key_of [] (filter_map (known.row_of meta.now (facts world.now)) keys.now)) }
+{
+    let mut map = BTreeMap::new(alloc);
+    for key in keys {
+        if let Some(row) = row_of(meta, world, key) {
+            map.insert(row.key(), row)?;
+        }
+    }
+    Ok(map)
+}
+
+/// The rows of these keys, in row order: of those that hold a text and name objects that stand in
+/// the metadata.
+#[tactic(auto, unfolding(crate::specs::Values::rows_of))]
+pub fn rows_of(
+    alloc: Global,
+    meta: &Metadata,
+    world: &World,
+    keys: &[ValueKey],
+) -> Result<Vec<Row>, Memory>
+    ensures { IfOk result (λ rows. rows.items ≡ known.rows_of meta.now (facts world.now) keys.now) }
+{
+    let map = row_map(alloc, meta, world, keys)?;
+    Ok(map.into_values().collect(alloc)?)
+}

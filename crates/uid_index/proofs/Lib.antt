@@ -1,2 +1,0 @@
-pub mod PlacesLemmas
-pub mod DistinctLemmas

@@ -1,3 +1,0 @@
-pub mod Chunks
-pub mod Fed
-pub mod Line
