@@ -498,7 +498,7 @@ run-step order o ns x best run at at_place may numbered at_best at_x is =
 
 -- ---- a loop's step
 
--- each sample may stand before those behind it
+-- each sample may stand before those after it
 may_all : (samples : List Sample) (i : ℕ) (x : Sample) → in_series_order samples ≡ true → i < length samples → x ≡ get_or samples i x → AllByRecursion (λ s. may_precede s x ≡ true) (take i samples)
 may_all [] i x ordered within at = absurd (omega arith)
 may_all (s ∷ ss) zero x ordered within at = tt

@@ -24,7 +24,7 @@ same_series a b = nat_eq a.element b.element && (nat_eq a.combo b.combo && (nat_
 abbrev pub sample_cmp : Sample → Sample → Ordering
 sample_cmp a b = ordering_then (series_cmp a.series b.series) (period_cmp a.period b.period)
 
--- a sample may stand before another one: its series isn't behind the other's, and the two aren't of one series and one period
+-- a sample may stand before another one: its series isn't after the other's, and the two aren't of one series and one period
 abbrev pub may_precede : Sample → Sample → Bool
 may_precede a b = is_le (series_cmp a.series b.series) && not (same_series a.series b.series && same_period a.period b.period)
 

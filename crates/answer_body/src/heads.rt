@@ -2,24 +2,45 @@
 
 ghost use Rattle.std.specs.Prelude.{◌≡◌, [], ◌∷◌, ◌++◌, map, IfOk, OnOk};
 ghost use Rattle.serde_json.specs.View.{view};
-ghost use Rattle.answer_body.specs.Heads.{dimension_of, value_column, unless, heads_of};
+ghost use Rattle.answer_body.specs.Heads.{column_of, dimension_of, value_column, unless, heads_of};
 
+use crate::members::{with_text, with_truth};
 use dh_base::memory::Memory;
-use serde_json::{Value, json};
+use serde_json::{Map, Value};
 use std::alloc::{AllocError, Global};
+
+// The head of a column.
+fn column(
+    alloc: Global,
+    title: &str,
+    dimension: bool,
+    name: &str,
+    kind: &str,
+    value_kind: &str,
+) -> Result<Value, AllocError>
+    ensures { IfOk result (λ v. view v ≡ column_of title.now dimension name.now kind.now value_kind.now) }
+{
+    let members = with_text(alloc, Map::new(alloc), "column", title)?;
+    let members = with_truth(alloc, members, "hidden", false)?;
+    let members = with_truth(alloc, members, "meta", dimension)?;
+    let members = with_text(alloc, members, "name", name)?;
+    let members = with_text(alloc, members, "type", kind)?;
+    let members = with_text(alloc, members, "valueType", value_kind)?;
+    Ok(Value::Object(members))
+}
 
 #[tactic(auto, unfolding(crate::specs::Heads::dimension_of))]
 fn dimension(alloc: Global, title: &str, name: &str) -> Result<Value, AllocError>
     ensures { IfOk result (λ v. view v ≡ dimension_of title.now name.now) }
 {
-    json!(in alloc; {"column": title, "hidden": false, "meta": true, "name": name, "type": "java.lang.String", "valueType": "TEXT"})
+    column(alloc, title, true, name, "java.lang.String", "TEXT")
 }
 
 #[tactic(auto, unfolding(crate::specs::Heads::value_column))]
 fn value_column(alloc: Global) -> Result<Value, AllocError>
     ensures { IfOk result (λ v. view v ≡ value_column) }
 {
-    json!(in alloc; {"column": "Value", "hidden": false, "meta": false, "name": "value", "type": "java.lang.Double", "valueType": "NUMBER"})
+    column(alloc, "Value", false, "value", "java.lang.Double", "NUMBER")
 }
 
 fn push_unless(

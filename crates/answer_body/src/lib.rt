@@ -2,6 +2,7 @@
 #![tactic(auto)]
 
 mod heads;
+mod members;
 mod names;
 mod rows;
 mod texts;

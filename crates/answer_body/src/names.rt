@@ -8,12 +8,13 @@ ghost use Rattle.dh_metadata.specs.Linked.{AreBelow};
 ghost use Rattle.answer_body.specs.Texts.{text_of_bytes, texts_of};
 ghost use Rattle.answer_body.specs.Names.{IsThere, AreUnits, dx_name, name_of, put_name, put_names, dx_named, period_named, unit_named, ids_of, dimensions_of, meta_of};
 
+use crate::members::with_value;
 use crate::texts::{push_text, text_value};
 use dh_base::memory::Memory;
 use dh_metadata::metadata::Metadata;
 use dh_periods::Period;
 use query_forms::{Dx, DxKind, Query};
-use serde_json::{Map, Value, json, put};
+use serde_json::{Map, Value, put};
 use std::alloc::{AllocError, Global};
 
 /// The name of a `dx` item: the object's, or the item's text at an operand and a rate.
@@ -37,7 +38,8 @@ fn name_value(alloc: Global, name: &[u8]) -> Result<Value, Memory>
     ensures { IfOk result (λ v. view v ≡ name_of name.now) }
 {
     let text = text_value(alloc, name)?;
-    Ok(json!(in alloc; {"name": text})?)
+    let members = with_value(alloc, Map::new(alloc), "name", text)?;
+    Ok(Value::Object(members))
 }
 
 /// A name under an identifier, in the place of one that is there.
@@ -120,10 +122,10 @@ fn dimensions(
 ) -> Result<Value, AllocError>
     ensures { IfOk result (λ v. view v ≡ dimensions_of (map view dx.items) (map view units.items) (map view periods.items)) }
 {
-    let dx = Value::Array(dx);
-    let units = Value::Array(units);
-    let periods = Value::Array(periods);
-    json!(in alloc; {"dx": dx, "ou": units, "pe": periods})
+    let members = with_value(alloc, Map::new(alloc), "dx", Value::Array(dx))?;
+    let members = with_value(alloc, members, "ou", Value::Array(units))?;
+    let members = with_value(alloc, members, "pe", Value::Array(periods))?;
+    Ok(Value::Object(members))
 }
 
 /// The dimensions and the names of what a query asks.
@@ -138,6 +140,7 @@ pub fn meta_data(alloc: Global, meta: &Metadata, query: &Query) -> Result<Value,
     let periods = add_periods(alloc, &mut items, query.periods.items.as_slice())?;
     let units = add_units(alloc, &mut items, meta, query.units.items.as_slice())?;
     let dimensions = dimensions(alloc, dx, units, periods)?;
-    let items = Value::Object(items);
-    Ok(json!(in alloc; {"dimensions": dimensions, "items": items})?)
+    let members = with_value(alloc, Map::new(alloc), "items", Value::Object(items))?;
+    let members = with_value(alloc, members, "dimensions", dimensions)?;
+    Ok(Value::Object(members))
 }

@@ -10,18 +10,19 @@ ghost use Rattle.answer_body.specs.Rows.{IsRow};
 ghost use Rattle.answer_body.specs.Body.{told_of, body_with, body_of, IsAnswer};
 
 use crate::heads::heads;
+use crate::members::{with_number, with_value};
 use crate::names::meta_data;
 use crate::rows::{AnswerRow, rows};
 use dh_base::memory::Memory;
 use dh_metadata::metadata::Metadata;
 use query_forms::Query;
-use serde_json::{Value, json};
+use serde_json::{Map, Value};
 use std::alloc::{AllocError, Global};
 
-fn nothing(alloc: Global) -> Result<Value, AllocError>
-    ensures { IfOk result (λ v. view v ≡ object no_members) }
+fn nothing(alloc: Global) -> Value
+    ensures { view result ≡ object no_members }
 {
-    json!(in alloc; {})
+    Value::Object(Map::new(alloc))
 }
 
 /// Dimensions and names, where they are asked for.
@@ -33,7 +34,7 @@ fn told(alloc: Global, meta: &Metadata, query: &Query) -> Result<Value, Memory>
     if query.meta {
         meta_data(alloc, meta, query)
     } else {
-        Ok(nothing(alloc)?)
+        Ok(nothing(alloc))
     }
 }
 
@@ -48,9 +49,13 @@ fn with_parts(
 {
     let width = heads.len() as u64;
     let height = rows.len() as u64;
-    let heads = Value::Array(heads);
-    let rows = Value::Array(rows);
-    json!(in alloc; {"headerWidth": width, "headers": heads, "height": height, "metaData": told, "rows": rows, "width": width})
+    let members = with_value(alloc, Map::new(alloc), "metaData", told)?;
+    let members = with_value(alloc, members, "headers", Value::Array(heads))?;
+    let members = with_value(alloc, members, "rows", Value::Array(rows))?;
+    let members = with_number(alloc, members, "headerWidth", width)?;
+    let members = with_number(alloc, members, "height", height)?;
+    let members = with_number(alloc, members, "width", width)?;
+    Ok(Value::Object(members))
 }
 
 #[tactic(auto, unfolding(crate::specs::Body::body_of))]

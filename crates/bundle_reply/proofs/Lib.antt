@@ -1,4 +1,3 @@
 pub mod AskLemmas
-pub mod LoadLemmas
-pub mod LimitLemmas
 pub mod ReplyLemmas
+pub mod UnseenLemmas

@@ -1,22 +1,13 @@
 -- Replies by cases.
-use Rattle.std.proofs.Common.{◌≡◌, ◌∙◌, ℕ, ℤ, ◌<◌, ◌≤◌, true, false, List, length, nat_lt, Option, None, Some, sym, ap, subst, arith, Result, Ok, Err, IfOk}
-use Rattle.serde_json.specs.Data.{Data}
-use Rattle.dh_base.specs.declared.codes.Code.TheVariants.{F22}
-use Rattle.std.specs.Fmt.{decimal}
+use Rattle.std.proofs.Common.{◌≡◌, ◌∙◌, ℕ, ℤ, ◌<◌, ◌≤◌, true, false, List, length, nat_lt, None, Some, sym, ap, subst, arith, Result, Ok, Err, IfOk}
 use Rattle.meta_parts.specs.declared.held.Records.{Records}
 use Rattle.json_read.specs.Bytes.{document_of}
 use Rattle.meta_reader.specs.File.{most_bytes}
 use Rattle.meta_reader.specs.Line.{line_of}
 use Rattle.meta_reader.specs.declared.fault.MetaFault.TheVariants.{Limit}
 use Rattle.meta_reader.specs.declared.fault.Which.TheVariants.{Bytes}
-use Rattle.dh_periods.specs.Moment.{day_of}
-use Rattle.record_index.specs.declared.outcome.Verdict.{Verdict}
-use Rattle.reply_bodies.specs.Bodies.{error_text}
-use Rattle.reply_bodies.specs.Summary.{is_clean, summary_text}
-use Rattle.query_lang.specs.Query.{query_of}
-use Rattle.bundle_reply.specs.Reply.{meta_refused, data_refused, refusal}
-use Rattle.bundle_reply.specs.Load.{limit_of, loading}
-use Rattle.bundle_reply.specs.Answer.{most_cells, reply_to_query, reply_by_conflicts, reply_by_limit, reply_to_load, reply_with_values}
+use Rattle.bundle_reply.specs.Reply.{meta_refused}
+use Rattle.bundle_reply.specs.Answer.{reply_with_values}
 use Rattle.bundle_reply.specs.Bytes.{Asked, IsOverParts, IsOverDocument, IsOverLength, IsOverBytes}
 use Rattle.dh_base.specs.declared.memory.Memory.{Memory}
 use Rattle.meta_reader.specs.Faults.{fault_of}
@@ -43,26 +34,6 @@ long_reply ask bytes reply long is = subst (λ b. IsOverLength ask bytes b reply
 pub short_reply : (ask : Asked) (bytes : List ℕ) (reply : Reply) → length bytes ≤ most_bytes → IsOverDocument ask (document_of bytes) reply → IsOverBytes ask bytes reply
 unfolding IsOverBytes
 short_reply ask bytes reply short over = subst (λ b. IsOverLength ask bytes b reply) (sym (ge-test most_bytes (length bytes) short)) over
-
--- the limit is told
-pub full_reply : (r : Records) (user : ℕ) (text : List ℕ) (moment : ℤ) (verdict : Verdict) (limit : ℕ) → Some limit ≡ limit_of (loading moment verdict)
-    → data_refused (error_text (refusal F22 (decimal limit))) ≡ reply_to_load r user text moment verdict
-unfolding reply_to_load
-full_reply r user text moment verdict limit is = ap (reply_by_limit r user text moment verdict) is
-
--- the summary is told
-pub summary_reply : (r : Records) (user : ℕ) (text : List ℕ) (moment : ℤ) (verdict : Verdict) → None ≡ limit_of (loading moment verdict) → is_clean verdict ≡ false
-    → data_refused (summary_text verdict) ≡ reply_to_load r user text moment verdict
-unfolding reply_to_load
-summary_reply r user text moment verdict is conflicts =
-    sym (ap (reply_by_conflicts r user text moment verdict) conflicts) ∙ ap (reply_by_limit r user text moment verdict) is
-
--- the query is answered
-pub query_reply : (r : Records) (user : ℕ) (text : List ℕ) (moment : ℤ) (verdict : Verdict) → None ≡ limit_of (loading moment verdict) → is_clean verdict ≡ true
-    → reply_to_query r user verdict.writes (query_of r user (day_of moment) most_cells text) ≡ reply_to_load r user text moment verdict
-unfolding reply_to_load
-query_reply r user text moment verdict is clean =
-    sym (ap (reply_by_conflicts r user text moment verdict) clean) ∙ ap (reply_by_limit r user text moment verdict) is
 
 -- metadata were made, and over them the reply was made
 pub over_made : (ask : Asked) (parts : MetaParts) (given : Result (List SetValue) FormFault) (r : Records) (result : Result Reply Memory)

@@ -1,10 +1,9 @@
 -- The reply to a query over metadata and the values of a bundle.
-use Rattle.std.specs.Prelude.{ℕ, ℤ, Bool, true, false, List, [], Option, None, Some, option_and_then, Result, Ok, Err}
-use Rattle.std.specs.Fmt.{decimal}
+use Rattle.std.specs.Prelude.{ℕ, ℤ, Bool, true, false, nat_eq, List, [], Option, None, Some, option_and_then, Result, Ok, Err}
 use Rattle.dh_base.specs.Uid.{uid_of}
-use Rattle.dh_base.specs.declared.codes.Code.TheVariants.{F8, F22}
+use Rattle.dh_base.specs.declared.codes.Code.TheVariants.{F8}
 use Rattle.dh_base.specs.declared.codes.Refusal.{Refusal}
-use Rattle.dh_changes.specs.declared.change.Write.{Write}
+use Rattle.dh_changes.specs.declared.change.Change.{Change}
 use Rattle.json_read.specs.Forms.{Formed}
 use Rattle.meta_parts.specs.declared.held.Records.{Records}
 use Rattle.meta_parts.specs.declared.kind.Kind.TheVariants.{User}
@@ -12,40 +11,39 @@ use Rattle.dh_metadata.specs.Objects.{find_of}
 use Rattle.meta_reader.specs.Line.{line_of}
 use Rattle.meta_reader.specs.declared.fault.MetaFault.TheVariants.{Shape}
 use Rattle.dh_periods.specs.Moment.{day_of}
-use Rattle.record_index.specs.declared.outcome.Verdict.{Verdict}
 use Rattle.reply_bodies.specs.Bodies.{error_text}
-use Rattle.reply_bodies.specs.Summary.{is_clean, summary_text}
 use Rattle.value_forms.specs.declared.set.SetValue.{SetValue}
 use Rattle.query_forms.specs.declared.plain.Query.{Query}
 use Rattle.query_lang.specs.Query.{query_of}
-use Rattle.table_build.specs.Listed.{listed_in}
-use Rattle.seen_rows.specs.Seen.{seen}
+use Rattle.seen_rows.specs.Seen.{seen_of}
 use Rattle.query_answer.specs.Answer.{answer_of}
+use Rattle.engine.specs.declared.machine.Report.{Report}
+use Rattle.engine.specs.Tables.{tables_of}
 use Rattle.bundle_reply.specs.Reply.{meta_refused, query_refused, data_refused, answer_reply, refusal}
-use Rattle.bundle_reply.specs.Load.{loaded, limit_passed}
+use Rattle.bundle_reply.specs.Load.{loaded, log_of}
 use Rattle.bundle_reply.specs.declared.reply.Reply.{Reply}
 
 -- the most cells of a query
 abbrev pub most_cells : ℕ
 most_cells = 100000
 
--- over what the user sees of the rows that the writes leave
-unfoldable pub reply_to_query : Records → ℕ → List Write → Result Query Refusal → Reply
-reply_to_query r user writes (Ok query) = answer_reply (answer_of r query (seen r user (listed_in r writes).rows))
-reply_to_query r user writes (Err refused) = query_refused refused
+-- over what the user sees of the tables of a log
+unfoldable pub reply_to_query : Records → ℕ → List Change → Result Query Refusal → Reply
+reply_to_query r user log (Ok query) = answer_reply (answer_of r query (seen_of r user (tables_of r log)))
+reply_to_query r user log (Err refused) = query_refused refused
 
--- all values are taken, or the summary of their import is told
-abbrev pub reply_by_conflicts : Records → ℕ → List ℕ → ℤ → Verdict → Bool → Reply
-reply_by_conflicts r user text moment verdict true = reply_to_query r user verdict.writes (query_of r user (day_of moment) most_cells text)
-reply_by_conflicts r user text moment verdict false = data_refused (summary_text verdict)
+-- all values are taken, or the report on their import says which are not
+abbrev pub reply_by_status : Records → ℕ → List ℕ → ℤ → List Change → Report → Bool → Reply
+reply_by_status r user text moment log report true = reply_to_query r user log (query_of r user (day_of moment) most_cells text)
+reply_by_status r user text moment log report false = data_refused report.body
 
-abbrev pub reply_by_limit : Records → ℕ → List ℕ → ℤ → Verdict → Option ℕ → Reply
-reply_by_limit r user text moment verdict (Some limit) = data_refused (error_text (refusal F22 (decimal limit)))
-reply_by_limit r user text moment verdict None = reply_by_conflicts r user text moment verdict (is_clean verdict)
+-- by what loading the values comes to
+abbrev pub reply_by_load : Records → ℕ → List ℕ → ℤ → List Change → Result Report Refusal → Reply
+reply_by_load r user text moment log (Ok report) = reply_by_status r user text moment log report (nat_eq report.status 200)
+reply_by_load r user text moment log (Err refused) = data_refused (error_text refused)
 
--- the limit that the values pass is told first
-unfoldable pub reply_to_load : Records → ℕ → List ℕ → ℤ → Verdict → Reply
-reply_to_load r user text moment verdict = reply_by_limit r user text moment verdict (limit_passed moment verdict)
+unfoldable pub reply_to_load : Records → ℕ → List ℕ → ℤ → List SetValue → Reply
+reply_to_load r user text moment values = reply_by_load r user text moment (log_of r moment values) (loaded r moment values)
 
 -- the user with that identifier
 abbrev pub user_named : Records → List ℕ → Option ℕ
@@ -54,9 +52,9 @@ user_named r name = option_and_then (find_of r User) (uid_of name)
 -- what is asked: for which user, which query, at which moment
 abbrev pub reply_by_user : Records → Option ℕ → List ℕ → ℤ → List SetValue → Reply
 reply_by_user r None text moment values = query_refused (refusal F8 [])
-reply_by_user r (Some user) text moment values = reply_to_load r user text moment (loaded r moment values)
+reply_by_user r (Some user) text moment values = reply_to_load r user text moment values
 
--- the values of the bundle are in form, or the path of the first fault is told
+-- the values of the bundle are in form, or the path of the first fault is reported
 unfoldable pub reply_with_values : Records → List ℕ → List ℕ → ℤ → Formed (List SetValue) → Reply
 reply_with_values r name text moment (Err path) = meta_refused (line_of (Shape path))
 reply_with_values r name text moment (Ok values) = reply_by_user r (user_named r name) text moment values

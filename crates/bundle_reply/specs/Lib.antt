@@ -3,3 +3,4 @@ pub mod Load
 pub mod Answer
 pub mod Bytes
 pub mod Steps
+pub mod Unseen

@@ -1,16 +1,16 @@
 -- The values of a bundle, loaded as one change of an empty log.
-use Rattle.std.specs.Prelude.{ℕ, ℤ, false, List, [], ◌∷◌, length, nat_lt, if◌then◌else◌, Option, None}
+use Rattle.std.specs.Prelude.{ℤ, false, List, [], None, Result}
+use Rattle.dh_base.specs.declared.codes.Refusal.{Refusal}
 use Rattle.dh_changes.specs.declared.change.Change.{Change}
 use Rattle.meta_parts.specs.declared.held.Records.{Records}
-use Rattle.record_index.specs.Facts.{facts_in}
 use Rattle.record_index.specs.declared.outcome.ImportStrategy.TheVariants.{CreateAndUpdate}
-use Rattle.record_index.specs.declared.outcome.Verdict.{Verdict}
-use Rattle.record_index.specs.declared.outcome.Who.TheVariants.{Loader}
 use Rattle.value_forms.specs.declared.set.SetValue.{SetValue}
 use Rattle.value_forms.specs.declared.set.ValueSet.{ValueSet}
-use Rattle.value_import.specs.Verdicts.{verdict_of}
-use Rattle.change_log.specs.Log.{passed}
-use Rattle.change_log.specs.declared.limits.Limits.{Limits}
+use Rattle.change_requests.specs.Requests.{Asked}
+use Rattle.change_requests.specs.declared.request.ChangeRequest.TheVariants.{Values}
+use Rattle.engine.specs.declared.machine.Report.{Report}
+use Rattle.engine.specs.Machine.{judged_in, log_by}
+use Rattle.engine.specs.InMemory.{largest, loading, outcome_of}
 
 -- the set of a bundle's values: they may create and update
 unfoldable pub set_of : List SetValue → ValueSet
@@ -24,21 +24,14 @@ set_of values = record {
   values = values;
 }
 
--- the verdict on the values, which the loader brings over an empty log
-unfoldable pub loaded : Records → ℤ → List SetValue → Verdict
-loaded r moment values = verdict_of (facts_in []) r Loader moment (set_of values)
+-- the loader asks for them
+abbrev pub asked_for : ℤ → List SetValue → Asked
+asked_for moment values = loading moment (Values (set_of values))
 
--- the limits of a log
-abbrev pub largest : Limits
-largest = record { writes = 4194304; bytes = 536870912; updates = 1000000000000 }
+-- the report on the change, or its refusal
+abbrev pub loaded : Records → ℤ → List SetValue → Result Report Refusal
+loaded r moment values = outcome_of r largest [] (asked_for moment values)
 
-abbrev pub loading : ℤ → Verdict → Change
-loading moment verdict = record { user = None; moment = moment; writes = verdict.writes }
-
--- the limit that a log of this one change would pass; without writes there is no change
-
-unfoldable pub limit_of : Change → Option ℕ
-limit_of change = if nat_lt 0 (length change.writes) then passed largest (change ∷ []) else None
-
-abbrev pub limit_passed : ℤ → Verdict → Option ℕ
-limit_passed moment verdict = limit_of (loading moment verdict)
+-- the log that it leaves
+abbrev pub log_of : Records → ℤ → List SetValue → List Change
+log_of r moment values = log_by r [] (asked_for moment values) (judged_in r [] (asked_for moment values))

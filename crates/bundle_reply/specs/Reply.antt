@@ -9,7 +9,7 @@ use Rattle.reply_bodies.specs.Bodies.{error_text}
 use Rattle.bundle_reply.specs.declared.reply.Ending.TheVariants as ending
 use Rattle.bundle_reply.specs.declared.reply.Reply.{Reply}
 
--- a text with a line feed behind it
+-- a text with a line feed after it
 abbrev pub line : List ℕ → List ℕ
 line text = text ++ 10 ∷ []
 

@@ -8,7 +8,7 @@ use Rattle.meta_forms.specs.Parts.{parts_of}
 use Rattle.bundle_reply.specs.Bytes.{values_of}
 use Rattle.bundle_reply.specs.declared.bytes.Forms.{Forms}
 
--- the records and the values of a bundle; or the path of the first fault of its records, or that memory was wanting
+-- the records and the values of a bundle; or the path of the first fault of its records, or that memory ran out
 abbrev pub AreForms : Data → Result Forms FormFault → Type 0
 AreForms json (Ok forms) = (parts_of json ≡ Ok forms.parts) × Gives (values_of json) forms.values
 AreForms json (Err (form.At path)) = parts_of json ≡ Err path

@@ -6,6 +6,7 @@ ghost use Rattle.json_read.specs.Views.{data_of};
 ghost use Rattle.meta_reader.specs.File.{most_bytes};
 ghost use Rattle.bundle_reply.specs.Bytes.{Asked, asked, IsOverDocument, IsOverBytes};
 ghost use Rattle.bundle_reply.specs.Steps.{AreForms, AreFormsIn};
+ghost use Rattle.bundle_reply.specs.Unseen.{IsUnseenReply};
 
 use crate::over::over_forms;
 use crate::reply::{Reply, meta_refused};
@@ -80,10 +81,9 @@ pub fn reply_to_long(alloc: Global) -> Result<Reply, Memory>
     )
 }
 
-/// The reply to a query of the user with an identifier, at a moment in seconds from 1970-01-01 in UTC,
-/// over the bytes of a bundle: a metadata file that may have data values.
+// The reply by the definition.
 #[tactic(auto, using(crate::proofs::ReplyLemmas::short_reply))]
-pub fn reply_to_bytes(
+fn over_bytes(
     alloc: Global,
     user: &[u8],
     query: &[u8],
@@ -96,4 +96,20 @@ pub fn reply_to_bytes(
         return reply_to_long(alloc);
     }
     over_document(alloc, user, query, moment, bytes)
+}
+
+/// The reply to a query of the user with an identifier, at a moment in seconds from 1970-01-01 in UTC,
+/// over the bytes of a bundle: a metadata file that may have data values.
+pub fn reply_to_bytes(
+    alloc: Global,
+    user: &[u8],
+    query: &[u8],
+    moment: i64,
+    bytes: &[u8],
+) -> Result<Reply, Memory>
+    ensures over { IfOk result (IsOverBytes (asked user.now query.now moment) bytes.now) }
+    // nothing that the user doesn't see changes it
+    ensures unseen { IfOk result (IsUnseenReply (asked user.now query.now moment) bytes.now) }
+{
+    over_bytes(alloc, user, query, moment, bytes)
 }

@@ -3,7 +3,7 @@ use Rattle.std.specs.Prelude.{◌≡◌, ℕ, List, Option, None, Some, Result, 
 use Rattle.byte_codec.specs.declared.fault.ReadFault.{ReadFault}
 use Rattle.byte_codec.specs.declared.fault.ReadFault.TheVariants as fault
 
--- what is read, as it is seen, with the bytes behind it; that nothing is; or that memory was wanting
+-- what is read, as it is seen, with the bytes after it; that nothing is; or that memory ran out
 abbrev pub GivesAs : {A X : Type 0} → (X → A) → Option (A × List ℕ) → Result X ReadFault → List ℕ → Type 0
 GivesAs view read (Ok x) rest = read ≡ Some (view x, rest)
 GivesAs view read (Err fault.Bad) rest = read ≡ None

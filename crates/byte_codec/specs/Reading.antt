@@ -4,11 +4,11 @@ use Rattle.std.specs.Int.{Width, w16, byte_len, from_be_bytes, cast_signed}
 use Rattle.dh_base.specs.Uid.{uid_of}
 use Rattle.byte_codec.specs.Writing.{no_id}
 
--- what stands at the front of bytes, with the bytes behind it, or nothing where no such thing stands there
+-- what stands at the front of bytes, with the bytes after it, or nothing where no such thing stands there
 abbrev pub Reads : Type 0 → Type 0
 Reads A = List ℕ → Option (A × List ℕ)
 
--- one thing behind another
+-- one thing after another
 infixr 20 ◌⊗◌
 abbrev pub ◌⊗◌ : {A B : Type 0} → Reads A → Reads B → Reads (A × B)
 (a ⊗ b) bytes = option_and_then (λ x. option_map (λ y. ((x.0, y.0), y.1)) (b x.1)) (a bytes)
@@ -33,7 +33,7 @@ number_at w = mapped (from_be_bytes w) (bytes_at (byte_len w))
 unfoldable pub signed_at : Width → Reads ℤ
 signed_at w = mapped (cast_signed w) (number_at w)
 
--- a text behind its length
+-- a text after its length
 unfoldable pub text_at : Width → Reads (List ℕ)
 text_at w bytes = option_and_then (λ n. bytes_at n.0 n.1) (number_at w bytes)
 
@@ -42,7 +42,7 @@ unfoldable pub times_at : {A : Type 0} → ℕ → Reads A → Reads (List A)
 times_at zero each bytes = Some ([], bytes)
 times_at (suc n) each bytes = option_and_then (λ x. option_map (λ xs. (x.0 ∷ xs.0, xs.1)) (times_at n each x.1)) (each bytes)
 
--- a list behind its count
+-- a list after its count
 unfoldable pub listed_at : {A : Type 0} → Width → Reads A → Reads (List A)
 listed_at w each bytes = option_and_then (λ n. times_at n.0 each n.1) (number_at w bytes)
 

@@ -12,11 +12,11 @@ number w n = to_be_bytes w n
 abbrev pub signed : Width → ℤ → List ℕ
 signed w z = to_be_bytes w (cast_unsigned w z)
 
--- a text behind its length
+-- a text after its length
 abbrev pub text : Width → List ℕ → List ℕ
 text w bytes = number w (length bytes) ++ bytes
 
--- a list behind its count
+-- a list after its count
 abbrev pub listed : {A : Type 0} → Width → (A → List ℕ) → List A → List ℕ
 listed w each items = number w (length items) ++ flat_map each items
 

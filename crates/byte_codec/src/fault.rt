@@ -8,7 +8,7 @@ use std::alloc::{AllocError, AllocFailed};
 pub enum ReadFault {
     /// The bytes are too few, or not in the form.
     Bad,
-    /// Memory was wanting.
+    /// Memory ran out.
     Memory,
 }
 

@@ -1,5 +1,5 @@
-//! The words of the binary formats: big-endian numbers, texts behind their length, identifiers, lists
-//! behind their count. What is read is what was written, and all that was written is read again.
+//! The words of the binary formats: big-endian numbers, texts after their length, identifiers, lists
+//! after their count. What is read is what was written, and all that was written is read again.
 #![tactic(auto)]
 
 pub mod fault;

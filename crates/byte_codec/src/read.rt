@@ -79,7 +79,7 @@ pub fn read_i64(rest: &mut &[u8]) -> Result<i64, ReadFault>
     Ok(number.cast_signed())
 }
 
-/// A text behind its length of one byte, lent.
+/// A text after its length of one byte, lent.
 #[tactic(auto, unfolding(crate::specs::Reading::text_at))]
 pub fn read_short_text<'a>(rest: &mut &'a [u8]) -> Result<&'a [u8], ReadFault>
     ensures { GivesAs (λ text. text.now) (text_at w8 rest.old.now) result rest.new.now }
@@ -88,7 +88,7 @@ pub fn read_short_text<'a>(rest: &mut &'a [u8]) -> Result<&'a [u8], ReadFault>
     read_bytes(rest, usize::from(len))
 }
 
-/// A text behind its length of two bytes, lent.
+/// A text after its length of two bytes, lent.
 #[tactic(auto, unfolding(crate::specs::Reading::text_at))]
 pub fn read_text<'a>(rest: &mut &'a [u8]) -> Result<&'a [u8], ReadFault>
     ensures { GivesAs (λ text. text.now) (text_at w16 rest.old.now) result rest.new.now }
@@ -97,7 +97,7 @@ pub fn read_text<'a>(rest: &mut &'a [u8]) -> Result<&'a [u8], ReadFault>
     read_bytes(rest, usize::from(len))
 }
 
-/// A text behind its length of four bytes, lent.
+/// A text after its length of four bytes, lent.
 #[tactic(auto, unfolding(crate::specs::Reading::text_at))]
 pub fn read_long_text<'a>(rest: &mut &'a [u8]) -> Result<&'a [u8], ReadFault>
     ensures { GivesAs (λ text. text.now) (text_at w32 rest.old.now) result rest.new.now }
@@ -112,7 +112,7 @@ fn owned(alloc: Global, text: &[u8]) -> Result<Items<u8>, AllocError>
     Ok(Items::from(text.to_vec(alloc)?))
 }
 
-/// A text behind its length of two bytes, copied.
+/// A text after its length of two bytes, copied.
 pub fn read_owned_text(alloc: Global, rest: &mut &[u8]) -> Result<Items<u8>, ReadFault>
     ensures { Gives (text_at w16 rest.old.now) result rest.new.now }
 {
@@ -172,7 +172,7 @@ fn read_each(
     Ok(Items::from(all))
 }
 
-/// Items' identifiers and their values behind their count of two bytes.
+/// Items' identifiers and their values after their count of two bytes.
 #[tactic(auto, unfolding(crate::specs::Reading::listed_at))]
 pub fn read_id_texts(alloc: Global, rest: &mut &[u8]) -> Result<Items<(Uid, Items<u8>)>, ReadFault>
     ensures { Gives (listed_at w16 id_text_at rest.old.now) result rest.new.now }

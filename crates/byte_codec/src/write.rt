@@ -57,7 +57,7 @@ pub fn put_i64(out: &mut Vec<u8>, value: i64) -> Result<(), Memory>
     put_bytes(out, &value.to_be_bytes())
 }
 
-/// A text behind its length of one byte.
+/// A text after its length of one byte.
 pub fn put_short_text(out: &mut Vec<u8>, value: &[u8]) -> Result<(), Memory>
     requires { length value.now < 2 ^ 8 }
     ensures { OnOk result (out.new.items ≡ out.old.items ++ text w8 value.now) }
@@ -66,7 +66,7 @@ pub fn put_short_text(out: &mut Vec<u8>, value: &[u8]) -> Result<(), Memory>
     put_bytes(out, value)
 }
 
-/// A text behind its length of two bytes.
+/// A text after its length of two bytes.
 pub fn put_text(out: &mut Vec<u8>, value: &[u8]) -> Result<(), Memory>
     requires { length value.now < 2 ^ 16 }
     ensures { OnOk result (out.new.items ≡ out.old.items ++ text w16 value.now) }
@@ -123,7 +123,7 @@ fn put_each(out: &mut Vec<u8>, values: &[(Uid, Items<u8>)]) -> Result<(), Memory
     Ok(())
 }
 
-/// Items' identifiers and their values behind their count of two bytes.
+/// Items' identifiers and their values after their count of two bytes.
 pub fn put_id_texts(out: &mut Vec<u8>, values: &[(Uid, Items<u8>)]) -> Result<(), Memory>
     requires count { length values.now < 2 ^ 16 }
     requires each { All (λ pair. length pair.1 < 2 ^ 16) values.now }
@@ -140,7 +140,7 @@ fn id_text_len(pair: &(Uid, Items<u8>)) -> u64
     (id_len(pair.0) + 2).saturating_add(pair.1.len() as u64)
 }
 
-/// How many bytes items' identifiers and their values take behind their count.
+/// How many bytes items' identifiers and their values take after their count.
 pub fn id_texts_len(values: &[(Uid, Items<u8>)]) -> u64
     ensures { result ≡ capped (length (listed w16 id_text values.now)) }
 {

@@ -163,7 +163,7 @@ cell-totals kind.None element t need ranges rows days apart is = absurd (false�
 
 -- ---- the cell
 
-asked_rows : (element : ℕ) (t : Group → Bool) (need : Need) (ranges : List (ℕ × ℕ)) (rows : List Row) → rises row_cmp rows ≡ true → AreApart ranges
+pub asked_rows : (element : ℕ) (t : Group → Bool) (need : Need) (ranges : List (ℕ × ℕ)) (rows : List Row) → rises row_cmp rows ≡ true → AreApart ranges
     → IsPermutation (cell_rows element t (is_row_asked need ranges) rows) (gathered (ranged_rows rows need ranges) (filter t (groups_of element rows)))
 asked_rows element t need ranges rows up apart =
     subst (λ xs. IsPermutation xs (gathered (ranged_rows rows need ranges) (filter t (groups_of element rows)))) (sym (cell-gathered element t (is_row_asked need ranges) rows up))

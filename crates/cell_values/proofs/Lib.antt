@@ -3,5 +3,6 @@ pub mod DayLemmas
 pub mod PartLemmas
 pub mod WeightLemmas
 pub mod GlueLemmas
-pub mod RepeatLemmas
+pub mod OwnKeyLemmas
 pub mod UnitLemmas
+pub mod ReorderLemmas

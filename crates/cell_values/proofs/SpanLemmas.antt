@@ -16,7 +16,7 @@ apart-rest x xs apart = record {
   ascending = λ i j l h. apart.ascending (suc i) (suc j) (omega arith) (omega arith);
 }
 
--- what lies in the first range lies in none behind it
+-- what lies in the first range lies in none after it
 pub first-alone : (x : ℕ × ℕ) (xs : List (ℕ × ℕ)) (n : ℕ) → AreApart (x ∷ xs) → is_in_range n x ≡ true → is_within xs n ≡ false
 first-alone x xs n apart inside =
     elim (cases_Bool (is_within xs n)) [

@@ -18,7 +18,7 @@ use Rattle.cell_values.specs.Items.{is_group_unit, units_in}
 use Rattle.cell_values.specs.Spans.{covered}
 use Rattle.cell_values.proofs.SpanLemmas.{covered-count}
 
--- no unit has an order behind all
+-- no unit has an order after all
 past_none : (us : List UnitRow) (units : List ℕ) (n : ℕ) → IsTree us → AreBelow (length us) units → length us ≤ n → is_at_some us true units n ≡ false
 past_none us units n t below past =
     list_any_none (λ unit. nat_eq (order_of us unit) n) units

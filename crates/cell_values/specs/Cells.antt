@@ -49,11 +49,11 @@ lies_in r cell sample =
 abbrev pub samples_of : Records → List Sample → Cell → List Sample
 samples_of r samples cell = filter (lies_in r cell) samples
 
--- the day that is so many behind 1 January 1900 lies in some of the periods
+-- the day that is so many after 1 January 1900 lies in some of the periods
 abbrev pub is_day_of : List PeriodName → ℕ → Bool
 is_day_of periods n = list_any (λ period. is_day_in (unix_day n) period) periods
 
--- how many different days the periods have. None begins before 1 January 1900 or ends behind 30 September 2101, 73,686 days
+-- how many different days the periods have. None begins before 1 January 1900 or ends after 30 September 2101, 73,686 days
 -- later
 unfoldable pub days_in : List PeriodName → ℕ
 days_in periods = count_below (is_day_of periods) 73687

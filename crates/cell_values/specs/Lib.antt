@@ -1,5 +1,4 @@
 pub mod Cells
 pub mod Spans
 pub mod Parts
-pub mod Ends
 pub mod Items

@@ -1,5 +1,7 @@
 -- How a cell is found in a store: groups that pass, and of each the rows that meet a need and lie in ranges of orders.
 use Rattle.std.specs.Prelude.{ℕ, Bool, true, false, cond, map, ◌&&◌, ℤ, pos, ◌*ℤ◌, List, [], ◌∷◌, Option}
+use Rattle.std.specs.List.{IsDistinct}
+use Rattle.std.specs.Ordering.{eq_by_cmp}
 use Rattle.dh_base.specs.declared.plain.AggType.{AggType}
 use Rattle.dh_base.specs.declared.plain.AggType.TheVariants as kind
 use Rattle.dh_base.specs.declared.plain.Need.{Need}
@@ -16,10 +18,12 @@ use Rattle.table_rows.specs.declared.sum.Sum.{Sum}
 use Rattle.table_rows.specs.Cells.{Part, part_sum, gathered}
 use Rattle.table_rows.specs.Rows.{meets, wanted_rows}
 use Rattle.table_rows.specs.Sums.{sum_over}
+use Rattle.agg_types.specs.declared.sample.Sample.{Sample}
 use Rattle.agg_types.specs.RowSamples.{sample_of}
-use Rattle.agg_types.specs.Samples.{days_of, total}
+use Rattle.agg_types.specs.Samples.{days_of, total, sample_cmp}
 use Rattle.agg_types.specs.Values.{mean, unless_none, value_by, value_of_sum}
 use Rattle.seen_rows.specs.Seen.{sees_attribute}
+use Rattle.cell_values.specs.declared.aggregated.Key.{Key}
 use Rattle.cell_values.specs.Cells.{is_named, is_in_some}
 
 -- the group is of the combinations that are named, lies in some of the periods, and the user may read its values
@@ -57,6 +61,14 @@ range_rows rows need group range = wanted_rows group need range.0 range.1 rows
 
 abbrev pub ranged_rows : List Row → Need → List (ℕ × ℕ) → Group → List Row
 ranged_rows rows need ranges group = gathered (range_rows rows need group) ranges
+
+-- what samples are ordered by
+abbrev pub key_of : Sample → Key
+key_of sample = record { series = sample.series; period = sample.period }
+
+-- a series and a period name a sample once
+abbrev pub HaveOwnKeys : List Sample → Type 0
+HaveOwnKeys samples = IsDistinct (eq_by_cmp sample_cmp) samples
 
 -- the value of a cell from its sum, and from its sum of numbers times days
 abbrev pub value_of_totals : AggType → Sum → ℤ → ℕ → Option Fraction

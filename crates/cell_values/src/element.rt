@@ -1,13 +1,14 @@
 //! The value of a data element over a cell.
-ghost use Rattle.std.specs.Prelude.{◌≡◌, ◌≤◌, ◌<◌, length, IfOk};
+ghost use Rattle.std.specs.Prelude.{◌≡◌, ◌≤◌, ◌<◌, length, map, IfOk};
 ghost use Rattle.dh_sharing.specs.Ranges.{AreApart};
 ghost use Rattle.dh_metadata.specs.Linked.{AreBelow};
 ghost use Rattle.table_rows.specs.Cells.{gathered};
 ghost use Rattle.table_rows.specs.Sums.{sum_over};
+ghost use Rattle.agg_types.specs.RowSamples.{sample_of};
 ghost use Rattle.seen_rows.specs.Held.{IsSeer};
 ghost use Rattle.seen_rows.specs.Seen.{seen};
 ghost use Rattle.cell_values.specs.Cells.{cell_of, aggregate_of};
-ghost use Rattle.cell_values.specs.Parts.{group_sum, ranged_rows, is_sum_type, value_in};
+ghost use Rattle.cell_values.specs.Parts.{group_sum, ranged_rows, is_sum_type, value_in, HaveOwnKeys};
 
 use crate::aggregated::aggregated;
 use crate::gathered::gathered;
@@ -49,6 +50,7 @@ fn value_in<S: RowStore>(
     requires apart { AreApart ranges.now }
     requires all { (sum_over (group_sum (S.rows store.now) need ranges.now) groups.now).count ≤ 4_194_304 }
     requires found { length (gathered (ranged_rows (S.rows store.now) need ranges.now) groups.now) ≤ 4_194_304 }
+    requires own_keys { HaveOwnKeys (map sample_of (gathered (ranged_rows (S.rows store.now) need ranges.now) groups.now)) }
     requires days { 0 < days }
     ensures { IfOk result (λ value. value ≡ value_in (S.rows store.now) kind groups.now need ranges.now days) }
 {
@@ -57,7 +59,7 @@ fn value_in<S: RowStore>(
         return Ok(value_of_totals(kind, &totals, days));
     }
     let samples = gathered(alloc, store, groups, need, ranges)?;
-    aggregated(alloc, kind, samples, days)
+    aggregated(kind, samples, days)
 }
 
 /// The value of a data element over the rows that the user sees, of the combinations that are

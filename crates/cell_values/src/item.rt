@@ -5,7 +5,7 @@ ghost use Rattle.meta_parts.specs.declared.kind.Kind.TheVariants as kind;
 ghost use Rattle.dh_metadata.specs.Linked.{AreBelow};
 ghost use Rattle.dh_metadata.specs.Objects.{find_of};
 ghost use Rattle.seen_rows.specs.Held.{IsSeer};
-ghost use Rattle.seen_rows.specs.Seen.{seen};
+ghost use Rattle.seen_rows.specs.Seen.{seen, seen_of, contents_of};
 ghost use Rattle.cell_values.specs.Items.{whole, named_combo, units_in, constant_value, group_value, element_value, item_value_of};
 
 use crate::element::element_value;
@@ -139,7 +139,7 @@ fn group_item(
 /// The value of an item over the rows that the user sees, inside some of the periods and under some
 /// of the units. With `alone` a unit has only itself under it. Items of programs and reporting rates
 /// have no value here.
-#[tactic(auto, unfolding(crate::specs::Items::item_value_of))]
+#[tactic(auto, unfolding(crate::specs::Items::item_value_of, seen_rows::specs::Seen::seen_of))]
 pub fn item_value<S: RowStore>(
     alloc: Global,
     meta: &Metadata,
@@ -153,7 +153,7 @@ pub fn item_value<S: RowStore>(
     requires seer { IsSeer meta.now seer.now }
     requires periods { 0 < length periods.now }
     requires units { AreBelow (length meta.now.organisation_units) units.now }
-    ensures { IfOk result (λ value. value ≡ item_value_of meta.now (seen meta.now seer.now.user (S.rows store.now)) item.now periods.now units.now alone) }
+    ensures { IfOk result (λ value. value ≡ item_value_of meta.now (seen_of meta.now seer.now.user (contents_of (S.rows store.now) (S.events store.now) (S.regs store.now))) item.now periods.now units.now alone) }
 {
     match item {
         Item::Element {

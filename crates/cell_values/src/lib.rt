@@ -8,7 +8,6 @@ mod gathered;
 mod groups;
 mod item;
 mod period_days;
-mod repeats;
 mod totals;
 
 pub use element::element_value;

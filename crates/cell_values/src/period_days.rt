@@ -21,7 +21,7 @@ pub(crate) fn covered(ranges: &[(u32, u32)]) -> u32
     count
 }
 
-/// How many days the day lies behind 1 January 1900.
+/// How many days the day lies after 1 January 1900.
 fn place_of(day: i32) -> u32
     requires from { neg_ℤ (pos 25567) ≤ℤ day }
     requires to { day ≤ℤ pos 48119 }

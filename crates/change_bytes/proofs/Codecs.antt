@@ -271,7 +271,7 @@ write-takes bytes w rest fits e =
     let back = fields-takes k.0 k.1 w rest front.0.rest_fits first.2 in
     (subst (λ t. Takes bytes t rest) (sym back.whole) (Takes-then bytes (number w8 k.0) k.1 back.fields rest front.0 back.takes), back.good)
 
--- the fields behind a kind are read again
+-- the fields after a kind are read again
 kind-again : {A : Type 0} {s : A → List ℕ} {a : Reads A} {G : A → Type 0} (make : A → Write) (kind : ℕ) → kind < 2 ^ 8 → IsCodec s a G → ((bytes : List ℕ) → fields_at kind bytes ≡ mapped make a bytes)
     → (x : A) (rest : List ℕ) → G x → write_at ((number w8 kind ++ s x) ++ rest) ≡ Some (make x, rest)
 unfolding write_at

@@ -1,4 +1,4 @@
--- What stands behind the length of a change.
+-- What stands after the length of a change.
 use Rattle.std.proofs.Common.{◌≡◌, ◌∙◌, ℕ, ◌+◌, ◌-◌, ◌^◌, ◌<◌, ◌≤◌, Bool, true, false, cond, List, [], ◌++◌, length, take, drop, Option, Some, None, Result, Ok, Err, refl, sym, ap, subst, arith, w32, inl, inr}
 use Rattle.std.specs.Prelude.{nat_lt, ◌==◌, ◌||◌, option_and_then, option_map, IfOk}
 use Rattle.std.specs.Int.{from_be_bytes}

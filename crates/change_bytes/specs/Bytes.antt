@@ -24,13 +24,13 @@ write_bytes (Unaccept key) = number w8 12 ++ approval_key_bytes key
 write_bytes (Complete key day) = number w8 13 ++ (reg_key_bytes key ++ signed w32 day)
 write_bytes (Uncomplete key) = number w8 14 ++ reg_key_bytes key
 
--- the number of the change, who made it, when, and its writes behind their count
+-- the number of the change, who made it, when, and its writes after their count
 abbrev pub head_bytes : ℕ → Change → List ℕ
 head_bytes n change = number w64 n ++ (optional_id change.user ++ signed w64 change.moment)
 
 unfoldable pub body_bytes : ℕ → Change → List ℕ
 body_bytes n change = head_bytes n change ++ listed w32 write_bytes change.writes
 
--- a change stands behind the length of what follows
+-- a change stands after the length of what follows
 unfoldable pub change_bytes : ℕ → Change → List ℕ
 change_bytes n change = text w32 (body_bytes n change)

@@ -10,7 +10,7 @@ use Rattle.change_bytes.specs.Bytes.{change_bytes}
 use Rattle.change_bytes.specs.Forms.{IsChange}
 use Rattle.change_bytes.specs.Reading.{change_of}
 
--- there are fewer than four bytes, or fewer behind them than these four say
+-- there are fewer than four bytes, or fewer after them than these four say
 abbrev pub is_short : List ℕ → Bool
 is_short bytes = nat_lt (length bytes) 4 || nat_lt (length bytes) (4 + from_be_bytes w32 (take 4 bytes))
 
@@ -24,7 +24,7 @@ Decodes n bytes (Ok Short) = IsTrue (is_short bytes)
 Decodes n bytes (Ok Bad) = ¬ IsTrue (is_short bytes) × ((change : Change) → ¬ Begins n change bytes)
 Decodes n bytes (Err _) = ⊤
 
--- what is read behind the length: a change, or bytes out of form
+-- what is read after the length: a change, or bytes out of form
 abbrev pub read_as : List ℕ → Option Change → Decoded
 read_as body (Some change) = Whole change (4 + length body)
 read_as body None = Bad

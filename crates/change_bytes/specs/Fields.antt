@@ -11,7 +11,7 @@ use Rattle.dh_changes.specs.declared.tracker.Enrollment.{Enrollment}
 use Rattle.dh_changes.specs.declared.tracker.Entity.{Entity}
 use Rattle.byte_codec.specs.Writing.{number, signed, text, listed, optional_id, id_text}
 
--- the text of a period behind its length of one byte
+-- the text of a period after its length of one byte
 unfoldable pub period_bytes : PeriodName → List ℕ
 period_bytes p = text w8 (period_text p)
 

@@ -130,7 +130,7 @@ fields_at kind bytes =
 unfoldable pub write_at : Reads Write
 write_at bytes = option_and_then (λ kind. fields_at kind.0 kind.1) (number_at w8 bytes)
 
--- one or more writes behind their count
+-- one or more writes after their count
 unfoldable pub writes_at : Reads (List Write)
 writes_at bytes = option_and_then (λ n. if n.0 == 0 then None else times_at n.0 write_at n.1) (number_at w32 bytes)
 

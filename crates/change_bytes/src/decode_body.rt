@@ -63,10 +63,11 @@ fn read_tracker_write(alloc: Global, kind: u8, rest: &mut &[u8]) -> Result<Write
 fn read_deletion(kind: u8, rest: &mut &[u8]) -> Result<Write, ReadFault>
     ensures { Gives (deletion_at kind rest.old.now) result rest.new.now }
 {
+    let id = read_id(rest)?;
     match kind {
-        4 => Ok(Write::EventDeleted(read_id(rest)?)),
-        6 => Ok(Write::EnrollmentDeleted(read_id(rest)?)),
-        8 => Ok(Write::EntityDeleted(read_id(rest)?)),
+        4 => Ok(Write::EventDeleted(id)),
+        6 => Ok(Write::EnrollmentDeleted(id)),
+        8 => Ok(Write::EntityDeleted(id)),
         _ => Err(ReadFault::Bad),
     }
 }
@@ -75,11 +76,12 @@ fn read_deletion(kind: u8, rest: &mut &[u8]) -> Result<Write, ReadFault>
 fn read_approval(kind: u8, rest: &mut &[u8]) -> Result<Write, ReadFault>
     ensures { Gives (approval_at kind rest.old.now) result rest.new.now }
 {
+    let key = read_approval_key(rest)?;
     match kind {
-        9 => Ok(Write::Approve(read_approval_key(rest)?)),
-        10 => Ok(Write::Unapprove(read_approval_key(rest)?)),
-        11 => Ok(Write::Accept(read_approval_key(rest)?)),
-        12 => Ok(Write::Unaccept(read_approval_key(rest)?)),
+        9 => Ok(Write::Approve(key)),
+        10 => Ok(Write::Unapprove(key)),
+        11 => Ok(Write::Accept(key)),
+        12 => Ok(Write::Unaccept(key)),
         _ => Err(ReadFault::Bad),
     }
 }
@@ -97,6 +99,12 @@ fn read_registration(kind: u8, rest: &mut &[u8]) -> Result<Write, ReadFault>
     }
 }
 
+fn is_deletion(kind: u8) -> bool
+    ensures { result ≡ is_deletion kind }
+{
+    kind == 4 || kind == 6 || kind == 8
+}
+
 // The fields of a write of that kind.
 #[tactic(auto, unfolding(crate::specs::Reading::fields_at))]
 fn read_fields(alloc: Global, kind: u8, rest: &mut &[u8]) -> Result<Write, ReadFault>
@@ -105,7 +113,7 @@ fn read_fields(alloc: Global, kind: u8, rest: &mut &[u8]) -> Result<Write, ReadF
     if kind < 3 {
         return read_value_write(alloc, kind, rest);
     }
-    if kind == 4 || kind == 6 || kind == 8 {
+    if is_deletion(kind) {
         return read_deletion(kind, rest);
     }
     if kind < 9 {
@@ -172,7 +180,7 @@ fn read_head(number: u64, rest: &mut &[u8]) -> Result<Head, ReadFault>
     Ok((found, (user, moment)))
 }
 
-/// A change under that number behind its length.
+/// A change under that number after its length.
 #[tactic(auto, unfolding(crate::specs::Reading::change_at))]
 pub(crate) fn read_change(alloc: Global, number: u64, rest: &mut &[u8]) -> Result<Change, ReadFault>
     ensures { Gives (change_at number rest.old.now) result rest.new.now }

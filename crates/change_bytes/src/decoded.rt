@@ -5,7 +5,7 @@ use dh_changes::change::Change;
 pub enum Decoded {
     /// A change, and how many bytes it takes.
     Whole { change: Change, used: usize },
-    /// Fewer than four bytes, or fewer behind them than these four say.
+    /// Fewer than four bytes, or fewer after them than these four say.
     Short,
     /// No change under that number, whatever follows.
     Bad,

@@ -14,7 +14,7 @@ use dh_base::memory::Memory;
 use dh_changes::change::Change;
 use std::alloc::Global;
 
-// The change that all of the bytes behind a length are, if they are one.
+// The change that all of the bytes after a length are, if they are one.
 #[tactic(auto, unfolding(crate::specs::Reading::change_of))]
 fn read_all(alloc: Global, body: &[u8], number: u64) -> Result<Option<Change>, Memory>
     ensures { IfOk result (λ found. found ≡ change_of number body.now) }

@@ -1,7 +1,7 @@
 ghost use Rattle.std.specs.Prelude.{◌≡◌, ◌++◌, ◌<◌, ◌^◌, length, IsTrue, IfSome, OnOk};
 ghost use Rattle.std.specs.Int.{w8, w16, w32};
 ghost use Rattle.dh_periods.specs.Days.{is_listed};
-ghost use Rattle.byte_codec.specs.Writing.{IsId, optional_id};
+ghost use Rattle.byte_codec.specs.Writing.{IsId, optional_id, listed, id_text};
 ghost use Rattle.change_bytes.specs.Fields.{period_bytes, day_bytes, value_key_bytes, approval_key_bytes, reg_key_bytes, state_bytes, event_bytes, enrollment_bytes, entity_bytes};
 ghost use Rattle.change_bytes.specs.Forms.{IsPeriod, IsDay, IsValueKey, IsApprovalKey, IsRegKey, StateFits, IsState, PairsFit, ArePairs, IsEvent, IsEnrollment, IsEntity, event_statuses, enrollment_statuses};
 
@@ -133,13 +133,17 @@ fn put_event_ids(out: &mut Vec<u8>, event: &Event) -> Result<(), Memory>
     put_two_ids(out, event.program, event.stage)
 }
 
-pub(crate) fn put_event(out: &mut Vec<u8>, event: &Event) -> Result<(), Memory>
-    requires state { StateFits event_statuses event.now.status event.now.occurred event.now.scheduled }
-    requires values { PairsFit event.now.values }
-    ensures bytes { OnOk result (out.new.items ≡ out.old.items ++ event_bytes event.now) }
-    ensures valid { OnOk result (IsEvent event.now) }
+// Where an event is, in what status and on which days, and its values.
+fn put_event_facts(out: &mut Vec<u8>, event: &Event) -> Result<(), Memory>
+    requires { PairsFit event.now.values }
+    ensures bytes { OnOk result
+        (out.new.items
+        ≡ out.old.items
+        ++ (state_bytes event.now.unit event.now.status event.now.occurred event.now.scheduled
+        ++ listed w16 id_text event.now.values)) }
+    ensures unit { IsId event.now.unit }
+    ensures values { OnOk result (ArePairs event.now.values) }
 {
-    put_event_ids(out, event)?;
     put_state(
         out,
         event.unit,
@@ -148,6 +152,16 @@ pub(crate) fn put_event(out: &mut Vec<u8>, event: &Event) -> Result<(), Memory>
         event.scheduled,
     )?;
     put_id_texts(out, event.values.as_slice())
+}
+
+pub(crate) fn put_event(out: &mut Vec<u8>, event: &Event) -> Result<(), Memory>
+    requires state { StateFits event_statuses event.now.status event.now.occurred event.now.scheduled }
+    requires values { PairsFit event.now.values }
+    ensures bytes { OnOk result (out.new.items ≡ out.old.items ++ event_bytes event.now) }
+    ensures valid { OnOk result (IsEvent event.now) }
+{
+    put_event_ids(out, event)?;
+    put_event_facts(out, event)
 }
 
 pub(crate) fn put_enrollment(out: &mut Vec<u8>, enrollment: &Enrollment) -> Result<(), Memory>

@@ -5,7 +5,7 @@ ghost use Rattle.dh_changes.specs.declared.change.Change.{Change};
 ghost use Rattle.change_bytes.specs.Bytes.{change_bytes};
 ghost use Rattle.change_bytes.specs.Log.{log_bytes};
 
-/// A log's next change has the next number, and its bytes come behind those of the log.
+/// A log's next change has the next number, and its bytes come after those of the log.
 pub fn log_grows()
     ensures { (log : List Change) → (change : Change)
         → log_bytes (log ++ change ∷ []) ≡ log_bytes log ++ change_bytes (length log + 1) change }

@@ -101,7 +101,7 @@ fn value_set_len(key: &ValueKey, value: &[u8]) -> u64
     (value_key_len(key) + 2).saturating_add(value.len() as u64)
 }
 
-// The bytes behind the kind.
+// The bytes after the kind.
 fn write_len(write: &Write) -> u64
     ensures { result ≡ capped (length (write_bytes write.now)) }
 {

@@ -29,7 +29,7 @@ pub record HasRoom (held : Held) (change : Change) : Type 0 where
   pub reserved : held.world.reserved ≡ map said_by change.writes
   pub place : vec_len held.changes < vec_capacity held.changes
 
--- what the keeper was asked to keep is behind what it had, or it has what it had
+-- what the keeper was asked to keep is after what it had, or it has what it had
 abbrev pub Keeps : ℕ → ℕ → Option (List ℕ) → Option (List ℕ) → ℕ → ℕ → List ℕ → Result (Unit {0}) AppendFault → Type 0
 Keeps old new kept kept' faults faults' bytes (Ok _) = (new ≡ old + length bytes) × ((kept' ≡ append_known kept bytes) × (faults ≤ faults'))
 Keeps old new kept kept' faults faults' bytes (Err (LogFull limit)) = ⊥

@@ -62,7 +62,7 @@ with_change log change faults = record {
 }
 
 -- what comes of bringing a change: it stands last and has the log's new length as its number; or the log with it would
--- pass a limit; or the keeper failed, whose count of faults rose; or memory is wanting. A fault leaves the log
+-- pass a limit; or the keeper failed, whose count of faults rose; or memory runs out. A fault leaves the log
 abbrev pub Appends : LogSeen → Change → Result ℕ AppendFault → LogSeen → Type 0
 Appends old change (Ok number) new =
     (passed old.limits (old.changes ++ change ∷ []) ≡ None)

@@ -105,7 +105,7 @@ fn share(alloc: Global, change: Change) -> Result<Arc<Change>, Memory>
     Ok(Arc::new(alloc, change)?)
 }
 
-// Has the keeper keep these bytes behind those that it has.
+// Has the keeper keep these bytes after those that it has.
 fn keep<K: Keeper>(alloc: Global, keeper: &mut K, at: u64, bytes: &[u8]) -> Result<(), AppendFault>
     requires behind { at ≡ K.acknowledged keeper.old }
     requires some { 0 < length bytes.now }

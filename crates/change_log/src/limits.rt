@@ -23,7 +23,7 @@ pub enum AppendFault {
     /// The keeper failed.
     #[error("the change could not be stored")]
     StoreFault,
-    /// Memory was wanting.
+    /// Memory ran out.
     #[error("out of memory")]
     Memory,
 }

@@ -47,7 +47,7 @@ power_within i j h = pow-le-pow_right {n = 10} (omega arith) h
 pub power_more : (i : ℕ) → 10 ^ (i + 1) ≡ 10 ^ i * 10
 power_more i = rw add-one (pow-suc 10 i)
 
--- digits behind the point count for less than a whole
+-- digits after the point count for less than a whole
 pub weighed : (v n : ℕ) → v < 10 ^ n → n ≤ 6 → v * 10 ^ (6 - n) < 1000000
 weighed v n bound short =
     let all : n + (6 - n) ≡ 6 = omega arith in
@@ -98,7 +98,7 @@ decimal_of-long text long = signed (has_minus text)
     signed true = ap (option_map (λ n. neg_ℤ (pos n))) (size_of-long (drop 1 text) (omega (arith, length-drop 1 text)))
     signed false = ap (option_map pos) (size_of-long text (omega arith))
 
--- ---- the digits behind the point
+-- ---- the digits after the point
 
 pub decimals_none : (p : ℕ) → decimals p 0 ≡ []
 unfolding decimals

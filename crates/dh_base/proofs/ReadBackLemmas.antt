@@ -56,7 +56,7 @@ first_digit p r below =
     let same : suc p - 1 ≡ p = omega arith in
     subst (λ k. suc r / 10 ^ k < 10) same (digit_below (suc p) (suc r) (omega arith) below)
 
--- digits behind the point, read on from a number, and brought to their weight
+-- digits after the point, read on from a number, and brought to their weight
 read_on : (p v r : ℕ) → r < 10 ^ p → digits_value_after 10 v (decimals p r) * 10 ^ (p - length (decimals p r)) ≡ v * 10 ^ p + r
 unfolding decimals
 read_on zero v r below = let none : r ≡ 0 = omega (arith, below) in rw none (omega arith)

@@ -14,7 +14,7 @@ unfoldable pub digits_of : ℕ → List ℕ → Option ℕ
 digits_of most text =
     if nat_lt 0 (length text) && nat_le (length text) most && list_all is_ascii_digit text then Some (digits_value 10 text) else None
 
--- the millionths that 1 to 6 digits behind a point write
+-- the millionths that 1 to 6 digits after a point write
 abbrev pub decimals_of : List ℕ → Option ℕ
 decimals_of text = option_map (λ n. n * 10 ^ (6 - length text)) (digits_of 6 text)
 
@@ -48,7 +48,7 @@ decimal_of text = if has_minus text then option_map (λ n. neg_ℤ (pos n)) (siz
 abbrev pub rounded : ℕ → ℕ → ℕ → ℕ
 rounded size den places = (2 * size * 10 ^ places + den) / (2 * den)
 
--- the digits of n / 10 ^ places behind the point, up to the last that isn't 0
+-- the digits of n / 10 ^ places after the point, up to the last that isn't 0
 unfoldable pub decimals : ℕ → ℕ → List ℕ
 decimals zero n = []
 decimals (suc places) n = if nat_eq n 0 then [] else (48 + n / 10 ^ places) ∷ decimals places (n % 10 ^ places)

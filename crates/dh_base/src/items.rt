@@ -55,7 +55,7 @@ impl<T> Items<T> {
         self.items.as_slice()
     }
 
-    /// Puts an item at the end. Where memory is wanting, the list stays as it was and the item is dropped.
+    /// Puts an item at the end. If memory runs out, the list stays as it was and the item is dropped.
     pub fn push(&mut self, item: T) -> Result<(), Memory>
     where
         T: Drop,

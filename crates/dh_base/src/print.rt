@@ -61,7 +61,7 @@ fn round(size: u128, den: u128, places: u8) -> Rounded
     }
 }
 
-// The first digits of `rest / den` behind the point as a number, and what they leave.
+// The first digits of `rest / den` after the point as a number, and what they leave.
 fn divide_on(rest: u128, den: u128, places: u8) -> (u64, u128)
     requires below { rest < den }
     requires den_fits { den < 2 ^ 127 }

@@ -1,1 +1,3 @@
+pub mod KeepLemmas
 pub mod PieceLemmas
+pub mod TalkLemmas

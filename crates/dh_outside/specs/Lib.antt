@@ -3,3 +3,4 @@ pub mod Files
 pub mod Keeper
 pub mod Memory
 pub mod Pieces
+pub mod Talk

@@ -1,7 +1,9 @@
 -- What the forms in memory show of themselves.
-use Rattle.std.specs.Prelude.{ℕ, List, Bool, nat_eq}
+use Rattle.std.specs.Prelude.{ℕ, List, Bool, Vec, map, nat_eq}
+use Rattle.std.specs.declared.alloc.Global.{Global}
 use Rattle.std.specs.List.{list_any}
 use Rattle.dh_outside.specs.Faults.{one_more}
+use Rattle.dh_outside.specs.Talk.{Talk, Heard}
 
 -- a source: the bytes left to read, the calls that fail, counted from 1, the calls made, and those that failed
 pub record SourceSeen : Type 0 where
@@ -24,6 +26,17 @@ pub record FilesSeen : Type 0 where
   pub failing : List ℕ
   pub calls : ℕ
   pub faults : ℕ
+
+-- a link: what it tells of its bytes and their order, and the same of its calls
+pub record LinkSeen : Type 0 where
+  pub talk : Talk
+  pub failing : List ℕ
+  pub calls : ℕ
+  pub faults : ℕ
+
+-- reads as plain lists: what stood written before each, and what it gave
+abbrev pub heard_of : List (Vec ℕ Global × Vec ℕ Global) → List Heard
+heard_of reads = map (λ read. record { before = read.0.items; piece = read.1.items }) reads
 
 -- the next call is a listed one
 abbrev pub is_listed : List ℕ → ℕ → Bool

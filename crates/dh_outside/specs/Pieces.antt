@@ -1,11 +1,13 @@
 -- What reading piece by piece does to the bytes held and to those left in the source.
-use Rattle.std.specs.Prelude.{◌≡◌, ◌+◌, ◌^◌, ◌⊎◌, ◌++◌, ℕ, List, Option, length}
+use Rattle.std.specs.Prelude.{◌≡◌, ◌+◌, ◌^◌, ◌⊎◌, ◌++◌, ℕ, List, [], ◌∷◌, Option, length}
 use Rattle.std.specs.Io.KnownBytes.{Consumes, IsAtEnd}
+use Rattle.dh_outside.specs.Talk.{Talk, Hears}
 
--- the bytes taken from the source stand behind those held, and are counted
-pub record Gains (left left' : Option (List ℕ)) (held held' : List ℕ) (read read' : ℕ) : Type 0 where
+-- the bytes taken from the source, in one piece, stand after those held, and are counted
+pub record Gains (left left' : Option (List ℕ)) (talk talk' : Option Talk) (held held' : List ℕ) (read read' : ℕ) : Type 0 where
   pub taken : List ℕ
   pub consumed : Consumes left left' taken
+  pub hears : Hears talk talk' (taken ∷ [])
   pub behind : held' ≡ held ++ taken
   pub counted : read' ≡ read + length taken
 

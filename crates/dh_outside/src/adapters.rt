@@ -1,7 +1,9 @@
-// The real objects: a reader, a writer, the file system and the clock. They tell no bytes, so that no
-// clause says what the system gives or keeps; their counts of faults are exact.
+// The real objects: a reader, a writer, the file system and the clock. A reader and a writer lose no byte where
+// theirs are told. The system tells none of its files, so that no clause says what it gives or keeps, nor what the
+// clock shows. Their counts of faults are exact.
 ghost use Rattle.std.specs.Prelude.{◌<◌, ◌≤◌, ◌^◌, None, ⊤, length, IfOk};
 ghost use Rattle.std.specs.Io.{ReadsAtMost, WritesAtMost};
+ghost use Rattle.std.specs.Io.KnownBytes.{ReadConsumes, WriteAppends};
 
 use crate::{Clock, Failed, FileFault, FileSet, Sink, Source, read_all};
 use std::alloc::Global;
@@ -13,7 +15,7 @@ use std::time::{SystemTime, UNIX_EPOCH};
 // How often a call that a signal interrupted is tried again.
 const TRIES: u32 = 1000;
 
-/// A reader as a source, as standard input or an open file.
+/// A reader as a source, as standard input or an open file. Its bytes are the reader's.
 #[derive(Drop)]
 pub struct StdIn<R> {
     reader: R,
@@ -27,8 +29,10 @@ impl<R> StdIn<R> {
     }
 }
 
+#[tactic(auto, using(crate::proofs::KeepLemmas::kept_by_none, crate::proofs::KeepLemmas::kept_by_both, crate::proofs::KeepLemmas::consumed_after))]
 fn read_uninterrupted<R: Read>(reader: &mut R, into: &mut [u8]) -> Result<usize, Failed>
-    ensures { ReadsAtMost result into.new }
+    ensures bound { ReadsAtMost result into.new }
+    ensures bytes { ReadConsumes (R.remaining reader.old) (R.remaining reader.new) result into.new }
 {
     for _ in 0..TRIES {
         match reader.read(into) {
@@ -44,9 +48,11 @@ fn read_uninterrupted<R: Read>(reader: &mut R, into: &mut [u8]) -> Result<usize,
 }
 
 impl<R: Read + Drop> Source for StdIn<R> {
-    ghost left = { λ _. None };
+    ghost left = { λ s. R.remaining s.reader };
 
     ghost source_faults = { λ s. s.faults };
+
+    ghost source_talk = { λ _. None };
 
     fn read(&mut self, into: &mut [u8]) -> Result<usize, Failed> {
         let result = read_uninterrupted(&mut self.reader, into);
@@ -57,7 +63,7 @@ impl<R: Read + Drop> Source for StdIn<R> {
     }
 }
 
-/// A writer as a sink, as standard output.
+/// A writer as a sink, as standard output. What is written stands in the writer.
 #[derive(Drop)]
 pub struct StdOut<W> {
     writer: W,
@@ -71,8 +77,10 @@ impl<W> StdOut<W> {
     }
 }
 
+#[tactic(auto, using(crate::proofs::KeepLemmas::kept_by_none, crate::proofs::KeepLemmas::kept_by_both, crate::proofs::KeepLemmas::appended_after))]
 fn write_uninterrupted<W: Write>(writer: &mut W, piece: &[u8]) -> Result<usize, Failed>
-    ensures { WritesAtMost result piece.now }
+    ensures bound { WritesAtMost result piece.now }
+    ensures bytes { WriteAppends (W.contents writer.old) (W.contents writer.new) result piece.now }
 {
     for _ in 0..TRIES {
         match writer.write(piece) {
@@ -88,9 +96,11 @@ fn write_uninterrupted<W: Write>(writer: &mut W, piece: &[u8]) -> Result<usize, 
 }
 
 impl<W: Write + Drop> Sink for StdOut<W> {
-    ghost written = { λ _. None };
+    ghost written = { λ s. W.contents s.writer };
 
     ghost sink_faults = { λ s. s.faults };
+
+    ghost sink_talk = { λ _. None };
 
     fn write(&mut self, piece: &[u8]) -> Result<usize, Failed> {
         let result = write_uninterrupted(&mut self.writer, piece);

@@ -43,7 +43,7 @@ pub trait Keeper: Drop {
     /// How many calls have failed, as a count of 64 bits shows it. It never falls.
     ghost keeper_faults: { Self → ℕ };
 
-    /// Keeps these bytes behind those that it holds. `at` is the number of bytes acknowledged.
+    /// Keeps these bytes after those that it holds. `at` is the number of bytes acknowledged.
     fn append(&mut self, alloc: Global, at: u64, bytes: &[u8]) -> Result<(), KeepFault>
         requires behind { at ≡ acknowledged self.old }
         requires some { 0 < length bytes.now }

@@ -1,5 +1,5 @@
 // A source, a sink and a clock in memory: they tell their bytes, and fail at the calls that are listed.
-ghost use Rattle.std.specs.Prelude.{◌≡◌, ◌≤◌, ◌<◌, ◌-◌, ℕ, ℤ, List, [], ◌∷◌, Some, length, drop, take, min, IfOk, OnErr, Contains, nat_eq, vec_len, vec_capacity};
+ghost use Rattle.std.specs.Prelude.{◌≡◌, ◌≤◌, ◌<◌, ◌-◌, ℕ, ℤ, List, [], ◌∷◌, None, Some, ⊤, length, drop, take, min, IfOk, OnErr, Contains, nat_eq, vec_len, vec_capacity};
 ghost use Rattle.std.specs.Result.{is_err};
 ghost use Rattle.std.specs.List.{list_any};
 ghost use Rattle.std.specs.Io.{ReadsAtMost, WritesAtMost};
@@ -54,7 +54,7 @@ pub(crate) fn is_listed(failing: &[u64], call: u64) -> bool
 }
 
 // Copies as many bytes as there are and fit to the front of `into`, and says how many.
-fn copy_front(bytes: &[u8], into: &mut [u8]) -> usize
+pub(crate) fn copy_front(bytes: &[u8], into: &mut [u8]) -> usize
     ensures count { result ≡ min (length bytes.now) (length into.old) }
     ensures front { take result into.new ≡ take result bytes.now }
 {
@@ -68,9 +68,12 @@ impl Source for MemSource {
 
     ghost source_faults = { λ s. s.faults };
 
+    ghost source_talk = { λ _. None };
+
     fn read(&mut self, into: &mut [u8]) -> Result<usize, Failed>
         ensures bound { ReadsAtMost result into.new }
         ensures bytes { ReadConsumes (Some self.old.left) (Some self.new.left) result into.new }
+        ensures talks { ⊤ }
         ensures keeps { self.old.faults ≤ self.new.faults }
         ensures failed { OnErr result (Rose self.old.faults self.new.faults) }
         ensures exact { is_err result ≡ is_listed self.old.failing self.old.calls }
@@ -135,9 +138,12 @@ impl Sink for MemSink {
 
     ghost sink_faults = { λ s. s.faults };
 
+    ghost sink_talk = { λ _. None };
+
     fn write(&mut self, piece: &[u8]) -> Result<usize, Failed>
         ensures bound { WritesAtMost result piece.now }
         ensures bytes { WriteAppends (Some self.old.written) (Some self.new.written) result piece.now }
+        ensures talks { ⊤ }
         ensures keeps { self.old.faults ≤ self.new.faults }
         ensures failed { OnErr result (Rose self.old.faults self.new.faults) }
         ensures stuck { IfOk result (λ n. n ≡ 0 → 0 < length piece.now → Rose self.old.faults self.new.faults) }

@@ -25,10 +25,11 @@ pub enum Piece {
     Memory,
 }
 
-/// Reads one more piece of a source behind `bytes`. `read` counts the bytes that were read of this source in all.
+/// Reads one more piece of a source after `bytes`. `read` counts the bytes that were read of this source in all.
 pub fn take_piece<S: Source>(source: &mut S, bytes: &mut Vec<u8>, read: &mut u64) -> Piece
     requires { read.old ≤ 2 ^ 63 }
-    ensures gains { Gains (S.left source.old) (S.left source.new) bytes.old.items bytes.new.items read.old read.new }
+    ensures gains { Gains (S.left source.old) (S.left source.new) (S.source_talk source.old) (S.source_talk source.new)
+        bytes.old.items bytes.new.items read.old read.new }
     ensures more { result ≡ More → read.old < read.new }
     ensures nothing { result ≢ More → bytes.new.items ≡ bytes.old.items }
     ensures same { result ≢ More → read.new ≡ read.old }

@@ -2,6 +2,7 @@
 ghost use Rattle.std.specs.Prelude.{◌≡◌, ◌≤◌, ◌<◌, ◌+◌, ◌^◌, ℕ, List, length, take, IfOk, OnOk, OnErr, IsErrOf};
 ghost use Rattle.std.specs.Io.KnownBytes.{Consumes, Appends, IsAtEnd};
 ghost use Rattle.dh_outside.specs.Faults.{Rose};
+ghost use Rattle.dh_outside.specs.Talk.{Says};
 ghost use Rattle.dh_outside.specs.declared.files.FileFault.TheVariants.{Failed, TooLong};
 
 use crate::{FileFault, Sink, Source};
@@ -35,10 +36,12 @@ pub fn read_all<S: Source>(alloc: Global, source: &mut S, most: u64) -> Result<V
     Err(FileFault::TooLong)
 }
 
-/// Writes all the bytes. After an error a front of them is written.
+/// Writes all the bytes. After an error a prefix of them is written.
 pub fn write_all<O: Sink>(sink: &mut O, bytes: &[u8]) -> Result<(), crate::Failed>
     ensures whole { OnOk result (Appends (O.written sink.old) (O.written sink.new) bytes.now) }
-    ensures front { OnErr result ((count : ℕ) × (count ≤ length bytes.now) × (Appends (O.written sink.old) (O.written sink.new) (take count bytes.now))) }
+    ensures says { OnOk result (Says (O.sink_talk sink.old) (O.sink_talk sink.new) bytes.now) }
+    ensures front { OnErr result ((count : ℕ) × (count ≤ length bytes.now) × (Appends (O.written sink.old) (O.written sink.new) (take count bytes.now))
+        × (Says (O.sink_talk sink.old) (O.sink_talk sink.new) (take count bytes.now))) }
     ensures failed { OnErr result (Rose (O.sink_faults sink.old) (O.sink_faults sink.new)) }
     ensures keeps { O.sink_faults sink.old ≤ O.sink_faults sink.new }
 {

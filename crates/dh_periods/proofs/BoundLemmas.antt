@@ -102,7 +102,7 @@ place-bounds p h =
     let b = place_as-bounds (shape_of p.kind) p (shape_of-count p.kind) parts.0 parts.1 parts.2 in
     (b.0, b.1, b.2, parts.1)
 
--- the first day is not behind the last, and both are small
+-- the first day is not after the last, and both are small
 pub day-bounds : (p : PeriodName) → is_listed p ≡ true → (neg_ℤ (pos 25567) ≤ℤ first_day p) × (first_day p ≤ℤ last_day p) × (last_day p ≤ℤ pos 48119)
 unfolding first_day last_day
 day-bounds p h =

@@ -95,7 +95,7 @@ days_from_iso-monday y week year =
     let none : 7 * (first_week y + (week - 1)) + 0 ≡ 7 * (first_week y + (week - 1)) = omega arith in
     days_from_iso-is y week Monday year ∙ ap unix_day none
 
--- 1 October 2101, behind the last day of all periods
+-- 1 October 2101, after the last day of all periods
 pub days_before_month-end : days_before_month 2421 ≡ 73_687
 days_before_month-end =
     let counted : day_count (pos 2101) 10 1 ≡ days_before_month 2421 + 4_346_386 = day_count-month 2421 in

@@ -214,7 +214,7 @@ apart Equal Less z e = cc
 apart Equal Greater z e = cc
 apart Equal Equal z e = (refl, refl, e)
 
--- nothing behind the type tells two periods apart
+-- nothing after the type tells two periods apart
 pub derived_order-is : (a b : PeriodName) → is_listed a ≡ true → is_listed b ≡ true → derived_order a b ≡ period_order a b
 unfolding period_order
 derived_order-is a b la lb =

@@ -248,7 +248,7 @@ starts-as (Months count opening) p c h =
     let months = months-before count c.0 (p.year - 1900) opening p.number parts.0 in
     (ap days_before_month months.0, ap days_before_month months.1)
 
--- the period with the next place begins on the day behind this one
+-- the period with the next place begins on the day after this one
 pub ordinal_of-next : (p q : PeriodName) → is_listed p ≡ true → is_listed q ≡ true → q.kind ≡ p.kind → ordinal_of q ≡ ordinal_of p + 1 → first_day q ≡ last_day p +ℤ pos 1
 unfolding first_place end_place first_day last_day ordinal_of
 ordinal_of-next p q hp hq same next =

@@ -118,7 +118,7 @@ list_of_seven (a ∷ b ∷ []) h = absurd (omega arith)
 list_of_seven (a ∷ []) h = absurd (omega arith)
 list_of_seven [] h = absurd (omega arith)
 
--- the bytes behind the year are those of the period
+-- the bytes after the year are those of the period
 IsEnding : List ℕ → PeriodName → Type 0
 IsEnding r p = (r ≡ ending_as p.kind p.number p.day) ⊎ ((p.kind ≡ Weekly) × (r ≡ codes "W" ++ two_digits p.number))
 
@@ -297,7 +297,7 @@ padded-reads : (y n : ℕ) → n < 100 → read_ending y (codes "W" ++ two_digit
 unfolding read_ending
 padded-reads y n h = ap (numbered Weekly y) (two-written n h)
 
--- what a type writes behind the year is read as that type
+-- what a type writes after the year is read as that type
 reads : (kind : PeriodType) (y n d : ℕ) → is_in_year_as (shape_of kind) (record { kind = kind; year = y; number = n; day = d }) ≡ true → 1900 ≤ y → y ≤ 2100 → read_ending y (ending_as kind n d) ≡ Some (record { kind = kind; year = y; number = n; day = d })
 unfolding read_ending
 reads Daily y n d h low high =

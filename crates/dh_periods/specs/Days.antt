@@ -16,7 +16,7 @@ first_place_as Day p = day_place p.year p.number p.day
 first_place_as Week p = 7 * (first_week p.year + (p.number - 1))
 first_place_as (Months count opening) p = days_before_month (start_month count opening p.year p.number)
 
--- the place of the first day behind it
+-- the place of the first day after it
 abbrev pub end_place_as : Shape → PeriodName → ℕ
 end_place_as Day p = day_place p.year p.number p.day + 1
 end_place_as Week p = 7 * (first_week p.year + (p.number - 1)) + 7

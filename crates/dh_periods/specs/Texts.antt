@@ -19,7 +19,7 @@ four_digits n = (48 + n / 1000) ∷ (48 + n / 100 % 10) ∷ (48 + n / 10 % 10) �
 abbrev pub short_digits : ℕ → List ℕ
 short_digits n = if nat_lt n 10 then one_digit n else two_digits n
 
--- what a type writes behind the year
+-- what a type writes after the year
 abbrev pub ending_as : PeriodType → ℕ → ℕ → List ℕ
 ending_as Daily n d = two_digits n ++ two_digits d
 ending_as Weekly n d = codes "W" ++ short_digits n
@@ -68,7 +68,7 @@ numbered kind y number = option_map (λ n. record { kind = kind; year = y; numbe
 abbrev pub dated : ℕ → Option ℕ → Option ℕ → Option PeriodName
 dated y month day = option_and_then (λ m. option_map (λ d. record { kind = Daily; year = y; number = m; day = d }) day) month
 
--- what the bytes behind the year say, by how many they are
+-- what the bytes after the year say, by how many they are
 abbrev pub read_two : ℕ → ℕ → ℕ → Option PeriodName
 read_two y a b =
     if a == 87 then numbered Weekly y (number_of_one b)

@@ -14,7 +14,7 @@ use jiff_core::civil::{Date, ISOWeekDate};
 /// 1 January 1900, the first day of all periods.
 pub(crate) const FIRST_DAY: i32 = -25_567;
 
-/// How many days 1 January 1900 lies behind the first day of the library.
+/// How many days 1 January 1900 lies after the first day of the library.
 const DAYS_BEFORE: u32 = 4_346_020;
 
 /// How many days after 1 January 1900 a day lies.

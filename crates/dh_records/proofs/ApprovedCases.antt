@@ -20,6 +20,7 @@ use Rattle.record_index.specs.Facts.{Facts}
 use Rattle.record_index.specs.declared.said.ApprovalState.TheVariants as state
 use Rattle.dh_changes.specs.declared.keys.ApprovalKey.{ApprovalKey}
 use Rattle.dh_changes.specs.declared.keys.ValueKey.{ValueKey}
+use Rattle.dh_records.specs.Access.{tree}
 use Rattle.dh_records.specs.Approved.{approved_at, approved_of, approved_in}
 
 -- three units, each with an identifier of one byte: the country, its district and the facility
@@ -96,7 +97,7 @@ pub district-alone : (facts : Facts) (kind : PeriodType) (value : ValueType) (to
     → containing_of kind (first_day period) (last_day period) ≡ Some around
     → facts.approval (approval around 1) ≡ state.None → facts.approval (approval around 2) ≡ state.Approved
     → approved_at facts (file kind value total sharing) (key period) ≡ Some 1
-unfolding approved_at approved_of approved_in ancestor_of level_of level_within climb positions_of ordered
+unfolding approved_at approved_of approved_in tree ancestor_of level_of level_within climb positions_of ordered
 district-alone facts kind value total sharing period around found country district = rw found (rw country (rw district refl))
 
 -- the country is accepted: position 0
@@ -104,7 +105,7 @@ pub country-accepted : (facts : Facts) (kind : PeriodType) (value : ValueType) (
     → containing_of kind (first_day period) (last_day period) ≡ Some around
     → facts.approval (approval around 1) ≡ state.Accepted
     → approved_at facts (file kind value total sharing) (key period) ≡ Some 0
-unfolding approved_at approved_of approved_in ancestor_of level_of level_within climb positions_of ordered
+unfolding approved_at approved_of approved_in tree ancestor_of level_of level_within climb positions_of ordered
 country-accepted facts kind value total sharing period around found country = rw found (rw country refl)
 
 -- no unit above is approved, nor the unit itself: no position
@@ -112,7 +113,7 @@ pub none-approved : (facts : Facts) (kind : PeriodType) (value : ValueType) (tot
     → containing_of kind (first_day period) (last_day period) ≡ Some around
     → facts.approval (approval around 1) ≡ state.None → facts.approval (approval around 2) ≡ state.None
     → approved_at facts (file kind value total sharing) (key period) ≡ None
-unfolding approved_at approved_of approved_in ancestor_of level_of level_within climb positions_of ordered
+unfolding approved_at approved_of approved_in tree ancestor_of level_of level_within climb positions_of ordered
 none-approved facts kind value total sharing period around found country district = rw found (rw country (rw district refl))
 
 -- the unit of the key isn't in the metadata: no position

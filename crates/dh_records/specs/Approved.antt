@@ -9,11 +9,12 @@ use Rattle.dh_periods.specs.Places.{containing_of}
 use Rattle.meta_parts.specs.declared.held.Records.{Records}
 use Rattle.meta_parts.specs.declared.records.Unit.{Unit}
 use Rattle.meta_parts.specs.declared.records.Workflow.{Workflow}
-use Rattle.dh_metadata.specs.Approval.{unit_rows, levels_at}
+use Rattle.dh_metadata.specs.Approval.{levels_at}
 use Rattle.meta_rules.specs.Workflows.{workflow_of}
 use Rattle.dh_metadata.specs.Objects.{find_of}
 use Rattle.meta_parts.specs.declared.kind.Kind.TheVariants.{OrganisationUnit, DataElement}
 use Rattle.record_index.specs.Facts.{Facts}
+use Rattle.dh_records.specs.Access.{tree}
 use Rattle.record_index.specs.declared.said.ApprovalState.{ApprovalState}
 use Rattle.record_index.specs.declared.said.ApprovalState.TheVariants as state
 use Rattle.dh_changes.specs.declared.keys.ApprovalKey.{ApprovalKey}
@@ -39,7 +40,7 @@ is_approved_as facts r scope unit = option_map_or (λ (found : Unit). is_approve
 
 -- the unit's ancestor at this level is approved; a unit counts as its own ancestor
 abbrev pub is_approved_at : Facts → Records → ℕ → Scope → ℕ → Bool
-is_approved_at facts r unit scope level = option_map_or (is_approved_as facts r scope) (ancestor_of (unit_rows r) unit level) false
+is_approved_at facts r unit scope level = option_map_or (is_approved_as facts r scope) (ancestor_of (tree facts r) unit level) false
 
 -- the least position whose level is approved, counted from 0
 abbrev pub least_position : Facts → Records → ℕ → Scope → List ℕ → Option ℕ

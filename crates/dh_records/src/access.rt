@@ -1,3 +1,4 @@
+//! Rights and the tree of the units, after the writes of a log.
 ghost use Rattle.std.specs.Prelude.{◌≡◌, ◌<◌, true, length};
 ghost use Rattle.dh_metadata.specs.Objects.{count_of, is_shared};
 ghost use Rattle.record_index.specs.World.{facts};

@@ -1,7 +1,9 @@
+//! Up to which position values are approved.
 ghost use Rattle.std.specs.Prelude.{◌≡◌, ◌<◌, ◌≤◌, length};
 ghost use Rattle.record_index.specs.World.{facts};
 ghost use Rattle.dh_records.specs.Approved as known;
 
+use crate::access::tree_of;
 use dh_base::uid::Uid;
 use dh_changes::keys::{ApprovalKey, ValueKey};
 use dh_metadata::metadata::Metadata;
@@ -100,7 +102,7 @@ fn is_approved_at(world: &World, meta: &Metadata, unit: u32, level: u8, scope: &
     requires { unit < length meta.now.organisation_units }
     ensures { result ≡ known.is_approved_at (facts world.now) meta.now unit scope.now level }
 {
-    match meta.tree().ancestor_at(unit, level) {
+    match tree_of(world, meta).ancestor_at(unit, level) {
         Some(ancestor) => is_approved_as(world, meta, ancestor, scope),
         None => false,
     }

@@ -57,7 +57,7 @@ apart_at ranges range = (i : ℕ) → i < length ranges → (get_or ranges i (0,
 pub AreApart-none : AreApart []
 AreApart-none = record { filled = λ i h. absurd (omega arith); ascending = λ i j l h. absurd (omega arith) }
 
--- one more range behind all
+-- one more range after all
 pub AreApart-push : (ranges : List (ℕ × ℕ)) (range : ℕ × ℕ) → AreApart ranges → ((i : ℕ) → i < length ranges → (get_or ranges i (0, 0)).1 < range.0) → range.0 < range.1 → AreApart (ranges ++ range ∷ [])
 AreApart-push ranges range apart behind full = record {
   filled = λ i h.

@@ -1,4 +1,4 @@
--- Lists of ranges of numbers, each with its first number and the one behind its last.
+-- Lists of ranges of numbers, each with its first number and the one after its last.
 use Rattle.std.specs.Prelude.{◌≡◌, ℕ, ◌<◌, ◌≤◌, nat_le, nat_lt, Bool, ◌&&◌, List, length, slice_index_or}
 use Rattle.std.specs.List.{list_any}
 
@@ -26,7 +26,7 @@ pub record ByFirst (ranges : List (ℕ × ℕ)) : Type 0 where
   pub filled : (i : ℕ) → i < length ranges → (slice_index_or ranges i (0, 0)).0 < (slice_index_or ranges i (0, 0)).1
   pub ascending : (i j : ℕ) → i ≤ j → j < length ranges → (slice_index_or ranges i (0, 0)).0 ≤ (slice_index_or ranges j (0, 0)).0
 
--- so many ranges begin at the number or before it, and all others behind it
+-- so many ranges begin at the number or before it, and all others after it
 pub record IsCount (ranges : List (ℕ × ℕ)) (n begun : ℕ) : Type 0 where
   pub most : begun ≤ length ranges
   pub before : (i : ℕ) → i < begun → (slice_index_or ranges i (0, 0)).0 ≤ n

@@ -6,7 +6,7 @@ use std::alloc::{AllocError, Global};
 use std::marker::Model;
 
 /// Ranges of places in a walk, as those of the units that a user may view. Contracts see them as a
-/// list of ranges, each with its first number and the one behind its last.
+/// list of ranges, each with its first number and the one after its last.
 #[derive(Drop)]
 pub struct ViewRanges {
     parts: Vec<(u32, u32)>,

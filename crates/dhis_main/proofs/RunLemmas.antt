@@ -1,8 +1,9 @@
 -- Replies over the input, and those that need none.
-use Rattle.std.proofs.Common.{◌≡◌, ◌∙◌, ℕ, ℤ, ◌<◌, ◌+◌, Bool, true, false, List, [], ◌∷◌, length, length-append, Bor, map, get_or, zero, suc, Option, Some, None, IfSome, Result, Ok, Err, IfOk, refl, sym, ap, arith, subst}
+use Rattle.std.proofs.Common.{◌≡◌, ◌∙◌, ℕ, ℤ, ◌<◌, ◌+◌, Bool, true, false, List, [], ◌∷◌, length, take, ◌≤◌, length-append, Bor, map, get_or, zero, suc, Option, Some, None, IfSome, Result, Ok, Err, IfOk, refl, sym, ap, arith, subst}
 use Rattle.std.proofs.KnownBytes.{Consumes-whole}
 use Rattle.std.specs.Io.KnownBytes.{Consumes, IsAtEnd, Appends}
 use Rattle.dh_base.specs.declared.memory.Memory.{Memory}
+use Rattle.dh_outside.specs.Talk.{Talk, Says}
 use Rattle.meta_reader.specs.File.{most_bytes}
 use Rattle.bundle_reply.specs.declared.reply.Ending.{Ending}
 use Rattle.bundle_reply.specs.declared.reply.Ending.TheVariants as ending
@@ -23,6 +24,12 @@ use Rattle.dhis_main.specs.declared.reply.Reply.{Reply}
 use Rattle.dhis_main.proofs.HeldLemmas.{session_answers}
 
 -- ---- a reply that was made is written
+
+-- a prefix that was written, without what is told of the order
+pub prefix_written : (old new : Option (List ℕ)) (talk talk' : Option Talk) (text : List ℕ)
+    → ((count : ℕ) × (count ≤ length text) × Appends old new (take count text) × Says talk talk' (take count text))
+    → (count : ℕ) × (count ≤ length text) × Appends old new (take count text)
+prefix_written old new talk talk' text front = (front.0, front.1, front.2)
 
 pub delivered : (Is : Reply → Type 0) (made : Result Reply Memory) (output : Side) (result : Status) → IfOk made Is → Delivers made output result → ReplyRuns Is output result
 delivered Is (Ok reply) output (status.Done outcome) is sent = (reply, is, sent.0, sent.1)

@@ -12,7 +12,7 @@ use Rattle.dhis_main.specs.declared.status.Outcome.{Outcome}
 use Rattle.dhis_main.specs.declared.status.Outcome.TheVariants as outcome
 use Rattle.dhis_main.specs.declared.reply.Reply.{Reply}
 
--- a text with a line feed behind it
+-- a text with a line feed after it
 abbrev pub line : List ℕ → List ℕ
 line text = text ++ 10 ∷ []
 

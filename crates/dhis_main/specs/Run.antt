@@ -38,8 +38,8 @@ is_usage outcome.WireRefused = false
 
 -- ---- commands that write one reply
 
--- A reply that is so was made and written. Writing failed only where the output counted a fault, and then a front of the
--- text was written. Where memory is wanting nothing was written.
+-- A reply that is so was made and written. Writing failed only where the output counted a fault, and then a prefix of the
+-- text was written. If memory runs out nothing was written.
 abbrev pub ReplyRuns : (Reply → Type 0) → Side → Status → Type 0
 ReplyRuns Is output (status.Done outcome) = (reply : Reply) × Is reply × (outcome ≡ reply.outcome) × Appends output.before output.after reply.text
 ReplyRuns Is output status.ReadFault = ⊥

@@ -43,7 +43,7 @@ IsIdle shown = (shown.input.after ≡ shown.input.before) × Keeps shown.output.
 
 -- A run that is done is a session over the metadata file. Reading failed only where the folder counted a fault, and then
 -- nothing was done, or where the input counted one within the session. Writing failed only where the output counted a
--- fault. Where memory is wanting the session ended so, or nothing was done.
+-- fault. If memory runs out the session ended so, or nothing was done.
 abbrev pub SessionRuns : (ℤ → Type 0) → List ℕ → Shown → Status → Type 0
 SessionRuns shows name shown (status.Done outcome) = Came shows name shown (status.Done outcome)
 SessionRuns shows name shown status.ReadFault =

@@ -30,6 +30,6 @@ folder file faults faults_after = record { file = file; faults = faults; faults_
 abbrev pub shown : Side → Side → Folder → Shown
 shown input output files = record { input = input; output = output; files = files }
 
--- a front of a text was written
+-- a prefix of a text was written
 abbrev pub WritesFront : Side → List ℕ → Type 0
 WritesFront output text = (count : ℕ) × (count ≤ length text) × Appends output.before output.after (take count text)

@@ -18,14 +18,14 @@ is_last (word ∷ words) = false
 abbrev pub fits_query : List ℕ → Bool
 fits_query query = nat_le (length query) 16384
 
--- the words behind `query`; a bad word is told by its place, and so are one that is missing and one too many
+-- the words after `query`; a bad word is told by its place, and so are one that is missing and one too many
 abbrev pub query_words : List (List ℕ) → Command
 query_words [] = command.Bad 2
 query_words (user ∷ []) = command.Bad 3
 query_words (user ∷ query ∷ []) = cond (fits_query query) command.Query (command.Bad 3)
 query_words (user ∷ query ∷ other ∷ rest) = cond (fits_query query) (command.Bad 4) (command.Bad 3)
 
--- the words behind `session`
+-- the words after `session`
 abbrev pub session_words : List (List ℕ) → Command
 session_words [] = command.Bad 2
 session_words (meta ∷ []) = command.Session
@@ -58,13 +58,13 @@ abbrev pub one_too_many : Option ℕ → Command
 one_too_many (Some count) = command.Bad 3
 one_too_many None = command.Bad 2
 
--- the words behind `generate`
+-- the words after `generate`
 abbrev pub generate_words : List (List ℕ) → Command
 generate_words [] = command.Bad 2
 generate_words (count ∷ []) = counted (count_of count)
 generate_words (count ∷ other ∷ rest) = one_too_many (count_of count)
 
--- the words behind the first
+-- the words after the first
 abbrev pub command_behind : List ℕ → List (List ℕ) → Command
 command_behind first rest =
     cond (is_word first (codes "query")) (query_words rest)
@@ -86,7 +86,7 @@ IsFit command.Session words = words ≡ 2
 IsFit (command.Generate count) words = count ≤ most_values
 IsFit (command.Bad place) words = ⊤
 
--- the place of the first word that doesn't fit, where the word behind so many isn't UTF-8 and fits nowhere
+-- the place of the first word that doesn't fit, where the word after so many isn't UTF-8 and fits nowhere
 abbrev pub bad_place : Command → ℕ → ℕ
 bad_place (command.Bad place) words = min place (words + 1)
 bad_place command.Help words = words + 1

@@ -25,7 +25,7 @@ pub struct Reply {
 pub enum Fault {
     /// The input failed.
     Read,
-    /// Memory was wanting.
+    /// Memory ran out.
     Memory,
 }
 
@@ -56,7 +56,7 @@ impl<T: Drop> From<AllocFailed<T>> for Fault {
 // The most bytes that a bundle may have.
 const MOST_BYTES: u64 = 67_108_864;
 
-// A text with a line feed behind it.
+// A text with a line feed after it.
 fn line(alloc: Global, text: &str) -> Result<Items<u8>, Memory>
     ensures { IfOk result (λ made. made ≡ line text.now) }
 {

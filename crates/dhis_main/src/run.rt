@@ -15,6 +15,7 @@ use dh_outside::{Clock, FileSet, Sink, Source, write_all};
 use std::alloc::Global;
 
 // Writes the text of a reply.
+#[tactic(auto, using(crate::proofs::RunLemmas::prefix_written))]
 fn send<O: Sink>(reply: &Reply, output: &mut O) -> Status
     ensures { Sends reply.now (side (O.written output.old) (O.written output.new) (O.sink_faults output.old) (O.sink_faults output.new)) result }
 {
@@ -92,7 +93,7 @@ pub fn run_offline<S: Source, O: Sink, F: FileSet, C: Clock>(
     files: &mut F,
     clock: &C,
 ) -> Status
-    // each status has its cause, and what was written is the reply's text or the session's replies, a front of them, or nothing
+    // each status has its cause, and what was written is the reply's text or the session's replies, a prefix of them, or nothing
     ensures runs { Runs (map (λ word. word.now) words.now) (C.shows clock.now) (shown
         (side (S.left input.old) (S.left input.new) (S.source_faults input.old) (S.source_faults input.new))
         (side (O.written output.old) (O.written output.new) (O.sink_faults output.old) (O.sink_faults output.new))
@@ -109,7 +110,7 @@ pub fn run_offline<S: Source, O: Sink, F: FileSet, C: Clock>(
     carry_out(alloc, command, words, input, output, files, clock)
 }
 
-// The place of the first word that doesn't fit, where the word behind so many isn't UTF-8.
+// The place of the first word that doesn't fit, where the word after so many isn't UTF-8.
 fn bad_place(command: Command, words: usize) -> usize
     requires { words < 2 ^ 63 }
     ensures { result ≡ bad_place command words }
@@ -120,7 +121,7 @@ fn bad_place(command: Command, words: usize) -> usize
     }
 }
 
-/// Refuses a command line of which the word behind these isn't UTF-8, by the first word that doesn't fit.
+/// Refuses a command line of which the word after these isn't UTF-8, by the first word that doesn't fit.
 pub fn refuse_word<O: Sink>(alloc: Global, words: &[&str], output: &mut O) -> Status
     ensures { ReplyRuns (λ reply. reply ≡ usage_reply (bad_place (command_of (map (λ word. word.now) words.now)) (length words.now)))
         (side (O.written output.old) (O.written output.new) (O.sink_faults output.old) (O.sink_faults output.new)) result }

@@ -31,7 +31,7 @@ pub enum Status {
     ReadFault,
     /// The output failed.
     WriteFault,
-    /// Memory was wanting.
+    /// Memory ran out.
     Memory,
 }
 

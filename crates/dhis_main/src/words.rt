@@ -152,7 +152,7 @@ fn generate_words(words: &[&str]) -> Command
     }
 }
 
-/// Reads the words of the command line, behind the program's name.
+/// Reads the words of the command line, after the program's name.
 #[tactic(auto, unfolding(crate::specs::Words::command_of))]
 pub fn read_words(words: &[&str]) -> Command
     ensures command { result ≡ command_of (map (λ word. word.now) words.now) }

@@ -1,3 +1,5 @@
 pub mod Steps
 pub mod Days
-pub mod Runs
+pub mod Orders
+pub mod HistoryLaws
+pub mod LoadLemmas

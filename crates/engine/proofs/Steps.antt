@@ -1,44 +1,47 @@
 -- The steps of the machine, from what its parts do.
 use Rattle.std.proofs.Common.{◌≡◌, ◌∙◌, ◌≤◌, ◌<◌, ℕ, List, [], ◌∷◌, ◌++◌, length, take, drop, sym, ap, subst, refl, arith, Bool, true, false}
-use Rattle.std.specs.Prelude.{is_some, option_map, Option, None, Some, Result, Ok, Err, IfSome, if◌then◌else◌}
+use Rattle.std.specs.Prelude.{is_some, option_map, Option, None, Some, Result, Ok, Err, if◌then◌else◌}
 use Rattle.std.specs.List.{All}
 use Rattle.std.proofs.lemmas.Bool.{lt-ltb}
 use Rattle.std.proofs.lemmas.Bool.Decides.{nat_tests}
 use Rattle.std.proofs.lemmas.Grind.{flat_map-append}
 use Rattle.std.proofs.lemmas.List.{length-append, take-append-le, take-append-drop, take_at}
 use Rattle.std.proofs.lemmas.List.Elements.{All-take}
+use Rattle.dh_base.specs.declared.codes.Refusal.{Refusal}
 use Rattle.dh_changes.specs.declared.change.Change.{Change}
 use Rattle.change_bytes.specs.Forms.{WriteFits}
 use Rattle.record_index.specs.Facts.{Facts, facts_in}
 use Rattle.meta_parts.specs.declared.held.Records.{Records}
 use Rattle.change_log.specs.declared.limits.Limits.{Limits}
 use Rattle.change_log.specs.Log.{LogSeen, IsWhole, Appends, with_change, writes_of, passed, over}
-use Rattle.engine.specs.Requests.{judged, judged_by, maker_of}
-use Rattle.engine.specs.Machine.{Asked, has_writes, grown, judged_in, change_of, report_of, ChangeStep}
-use Rattle.engine.specs.Seen.{seen_of, state_of, IsUpdate, IsInOrder, AreParts, Puts, Brings, Brought}
+use Rattle.change_requests.specs.Requests.{Asked, judged, judged_by, maker_of}
+use Rattle.change_requests.specs.declared.request.Judged.{Judged}
+use Rattle.engine.specs.Histories.{IsInOrder}
+use Rattle.engine.specs.Machine.{State, Step, StepBy, IsReplyBy, log_by, has_writes, grown, judged_in, change_of, change_lacks, report_of}
+use Rattle.engine.specs.Machine.Act.{changed}
+use Rattle.engine.specs.Seen.{seen_of, state_of, AreParts, Puts, BringsBy, BringsIf, Brings, Brought}
 use Rattle.engine.specs.Tables.{tables_of}
-use Rattle.engine.specs.declared.judge.Judged.{Judged}
 use Rattle.engine.specs.declared.updates.Shown.{Shown}
-use Rattle.engine.specs.declared.machine.Staged.{Staged}
 use Rattle.engine.specs.declared.machine.Report.{Report}
 use Rattle.engine.specs.declared.machine.ChangeFault.{ChangeFault}
 use Rattle.engine.specs.declared.machine.ChangeFault.TheVariants as change
+use Rattle.engine.proofs.Orders.{longer_in_order}
 
 -- ---- a change of the log
 
 writes-there : (c : Change) → 0 < length c.writes → has_writes c ≡ true
 writes-there c some = lt-ltb 0 (length c.writes) some
 
-still-told : (kept : Option (List ℕ)) (bytes : List ℕ) → is_some (option_map (λ b. b ++ bytes) kept) ≡ is_some kept
-still-told None bytes = refl
-still-told (Some b) bytes = refl
+still-known : (kept : Option (List ℕ)) (bytes : List ℕ) → is_some (option_map (λ b. b ++ bytes) kept) ≡ is_some kept
+still-known None bytes = refl
+still-known (Some b) bytes = refl
 
 abbrev report-with : Judged → ℕ → Report
 report-with found n = record { body = found.body; status = found.status; number = n }
 
 pub append-puts : (old new : LogSeen) (c : Change) (found : Judged) (number : ℕ) → 0 < length c.writes → Appends old c (Ok number) new
     → Puts old c found (Ok (record { body = found.body; status = found.status; number = number })) new
-unfolding with_change
+unfolding with_change report_of
 append-puts old new c found number some h =
     let e = writes-there c some in
     let g : old.changes ++ c ∷ [] ≡ grown old.changes c = sym (ap (λ b. if b then old.changes ++ c ∷ [] else old.changes) e) in
@@ -47,68 +50,110 @@ append-puts old new c found number some h =
         ap (λ b. if b then passed old.limits (old.changes ++ c ∷ []) else None) e ∙ h.0,
         ap (report-with found) n,
       ),
-      (ap (λ (l : LogSeen). l.changes) h.1.1.1 ∙ g, (ap (λ (l : LogSeen). l.limits) h.1.1.1, (h.1.1.0, ap (λ (l : LogSeen). is_some l.kept) h.1.1.1 ∙ still-told old.kept _))),
+      (ap (λ (l : LogSeen). l.changes) h.1.1.1 ∙ g, (ap (λ (l : LogSeen). l.limits) h.1.1.1, (h.1.1.0, ap (λ (l : LogSeen). is_some l.kept) h.1.1.1 ∙ still-known old.kept _))),
     )
 
-pub judged-is : (meta : Records) (log : List Change) (asked : Asked) (facts : Facts) (found : Judged) → facts ≡ facts_in (writes_of log)
-    → found ≡ judged_by facts meta asked.who asked.moment asked.request → found ≡ judged_in meta log asked
+-- what is judged over what the log records is what the request comes to over the log
+pub judged-is : (meta : Records) (log : List Change) (asked : Asked) (facts : Facts) → facts ≡ facts_in (writes_of log)
+    → judged_by facts meta asked.who asked.moment asked.request ≡ judged_in meta log asked
 unfolding judged
-judged-is meta log asked facts found f h = h ∙ ap (λ x. judged_by x meta asked.who asked.moment asked.request) f
+judged-is meta log asked facts f = ap (λ x. judged_by x meta asked.who asked.moment asked.request) f
 
-puts-brings : (meta : Records) (old new : LogSeen) (asked : Asked) (result : Result Report ChangeFault)
-    → Puts old (record { user = maker_of meta asked.who; moment = asked.moment; writes = (judged_in meta old.changes asked).writes }) (judged_in meta old.changes asked) result new
-    → Brings meta old asked result new
-unfolding change_of report_of
-puts-brings meta old new asked (Ok report) h = h
-puts-brings meta old new asked (Err (change.LogFull limit)) h = h
-puts-brings meta old new asked (Err change.StoreFault) h = h
-puts-brings meta old new asked (Err change.Memory) h = h
+puts-brings : (meta : Records) (old new : LogSeen) (asked : Asked) (found : Judged) (result : Result Report ChangeFault) → Puts old (change_of meta asked found) found result new
+    → BringsIf (change_lacks result) meta old asked (Ok found) result new
+puts-brings meta old new asked found (Ok report) h = h
+puts-brings meta old new asked found (Err (change.Refused refused)) h = absurd h
+puts-brings meta old new asked found (Err (change.LogFull limit)) h = h
+puts-brings meta old new asked found (Err change.StoreFault) h = h
+puts-brings meta old new asked found (Err change.Memory) h = h
 
-pub brings-of : (meta : Records) (old new : LogSeen) (asked : Asked) (user : Option (List ℕ)) (facts : Facts) (found : Judged) (result : Result Report ChangeFault)
-    → user ≡ maker_of meta asked.who → facts ≡ facts_in (writes_of old.changes) → found ≡ judged_by facts meta asked.who asked.moment asked.request
+pub brings-put : (meta : Records) (old new : LogSeen) (asked : Asked) (user : Option (List ℕ)) (facts : Facts) (found : Judged) (result : Result Report ChangeFault)
+    → user ≡ maker_of meta asked.who → facts ≡ facts_in (writes_of old.changes) → judged_by facts meta asked.who asked.moment asked.request ≡ Ok found
     → Puts old (record { user = user; moment = asked.moment; writes = found.writes }) found result new → Brings meta old asked result new
-brings-of meta old new asked user facts found result u f h p =
-    puts-brings meta old new asked result
-    (subst (λ (x : Judged). Puts old (record { user = maker_of meta asked.who; moment = asked.moment; writes = x.writes }) x result new) (judged-is meta old.changes asked facts found f h)
-    (subst (λ (x : Option (List ℕ)). Puts old (record { user = x; moment = asked.moment; writes = found.writes }) found result new) u p))
+brings-put meta old new asked user facts found result u f h p =
+    subst (λ (v : Result Judged Refusal). BringsIf (change_lacks result) meta old asked v result new) (sym h ∙ judged-is meta old.changes asked facts f)
+    (puts-brings meta old new asked found result (subst (λ (x : Option (List ℕ)). Puts old (record { user = x; moment = asked.moment; writes = found.writes }) found result new) u p))
+
+pub brings-refused : (meta : Records) (log : LogSeen) (asked : Asked) (facts : Facts) (refused : Refusal) → facts ≡ facts_in (writes_of log.changes)
+    → judged_by facts meta asked.who asked.moment asked.request ≡ Err refused → Brings meta log asked (Err (change.Refused refused)) log
+brings-refused meta log asked facts refused f h =
+    subst (λ (v : Result Judged Refusal). BringsBy meta log asked v (Err (change.Refused refused)) log) (sym h ∙ judged-is meta log.changes asked facts f) (refl, refl)
 
 -- ---- the same beside the tables
 
+same-state : (shown : Shown) (old new : LogSeen) → new.changes ≡ old.changes → state_of new.changes shown ≡ state_of old.changes shown
+same-state shown old new is = ap (λ l. state_of l shown) is
+
+-- the state after a change, by what the request comes to
+abbrev after-by : Records → State → Asked → Result Judged Refusal → Result Report ChangeFault → State
+after-by meta old asked found (Ok report) = record old { log = log_by meta old.log asked found }
+after-by meta old asked found (Err fault) = old
+
+abbrev StepFrom : Records → Limits → State → Asked → Result Judged Refusal → Result Report ChangeFault → State → Type 0
+StepFrom meta limits old asked found result new = StepBy (change_lacks result) (IsReplyBy meta limits old.log asked found result) (after-by meta old asked found result) old new
+
+put-step : (meta : Records) (shown : Shown) (old new : LogSeen) (asked : Asked) (found : Judged) (result : Result Report ChangeFault)
+    → BringsIf (change_lacks result) meta old asked (Ok found) result new
+    → StepFrom meta old.limits (state_of old.changes shown) asked (Ok found) result (state_of new.changes shown)
+put-step meta shown old new asked found (Ok report) h = (h.0, ap (λ l. state_of l shown) h.1.0)
+put-step meta shown old new asked found (Err (change.Refused refused)) h = absurd h
+put-step meta shown old new asked found (Err (change.LogFull limit)) h = (h.0, same-state shown old new (ap (λ (l : LogSeen). l.changes) h.1))
+put-step meta shown old new asked found (Err change.StoreFault) h = (h.0, same-state shown old new (ap (λ (l : LogSeen). l.changes) h.1.1.1))
+put-step meta shown old new asked found (Err change.Memory) h = same-state shown old new (ap (λ (l : LogSeen). l.changes) h)
+
+refused-step : (meta : Records) (shown : Shown) (old new : LogSeen) (asked : Asked) (refused : Refusal) (result : Result Report ChangeFault)
+    → BringsIf (change_lacks result) meta old asked (Err refused) result new
+    → StepFrom meta old.limits (state_of old.changes shown) asked (Err refused) result (state_of new.changes shown)
+refused-step meta shown old new asked refused (Ok report) h = absurd (let e = h.0 in cc)
+refused-step meta shown old new asked refused (Err (change.Refused other)) h = (h.0, same-state shown old new (ap (λ (l : LogSeen). l.changes) h.1))
+refused-step meta shown old new asked refused (Err (change.LogFull limit)) h = absurd (let e = h.0 in cc)
+refused-step meta shown old new asked refused (Err change.StoreFault) h = absurd (let e = h.0 in cc)
+refused-step meta shown old new asked refused (Err change.Memory) h = same-state shown old new (ap (λ (l : LogSeen). l.changes) h)
+
+step-by : (meta : Records) (shown : Shown) (old new : LogSeen) (asked : Asked) (found : Result Judged Refusal) (result : Result Report ChangeFault)
+    → BringsIf (change_lacks result) meta old asked found result new
+    → StepFrom meta old.limits (state_of old.changes shown) asked found result (state_of new.changes shown)
+step-by meta shown old new asked (Ok found) result h = put-step meta shown old new asked found result h
+step-by meta shown old new asked (Err refused) result h = refused-step meta shown old new asked refused result h
+
+step-is : (meta : Records) (limits : Limits) (old new : State) (asked : Asked) (result : Result Report ChangeFault)
+    → StepFrom meta limits old asked (judged_in meta old.log asked) result new → Step meta limits old (changed asked result) new
+step-is meta limits old new asked (Ok report) h = h
+step-is meta limits old new asked (Err (change.Refused refused)) h = h
+step-is meta limits old new asked (Err (change.LogFull limit)) h = h
+step-is meta limits old new asked (Err change.StoreFault) h = h
+step-is meta limits old new asked (Err change.Memory) h = h
+
 pub brings-step : (meta : Records) (shown : Shown) (old new : LogSeen) (asked : Asked) (result : Result Report ChangeFault) → Brings meta old asked result new
-    → ChangeStep meta old.limits (state_of old.changes shown) asked result (state_of new.changes shown)
-brings-step meta shown old new asked (Ok report) h = (h.0, ap (λ l. state_of l shown) h.1.0)
-brings-step meta shown old new asked (Err (change.LogFull limit)) h = (h.0, ap (λ (l : LogSeen). state_of l.changes shown) h.1)
-brings-step meta shown old new asked (Err change.StoreFault) h = (h.0, ap (λ (l : LogSeen). state_of l.changes shown) h.1.1.1)
-brings-step meta shown old new asked (Err change.Memory) h = ap (λ (l : LogSeen). state_of l.changes shown) h
+    → Step meta old.limits (state_of old.changes shown) (changed asked result) (state_of new.changes shown)
+brings-step meta shown old new asked result h =
+    step-is meta old.limits (state_of old.changes shown) (state_of new.changes shown) asked result (step-by meta shown old new asked (judged_in meta old.changes asked) result h)
+
+put-brought : (meta : Records) (shown : Shown) (old new : LogSeen) (asked : Asked) (found : Judged) (result : Result Report ChangeFault)
+    → BringsIf (change_lacks result) meta old asked (Ok found) result new → Brought (seen_of old meta shown) result (seen_of new meta shown)
+put-brought meta shown old new asked found (Ok report) h =
+    (ap (λ (l : Limits). record { state = state_of new.changes shown; limits = l; meta = meta; acknowledged = new.acknowledged; kept = new.kept; faults = new.faults }) h.1.1.0, h.1.1.1)
+put-brought meta shown old new asked found (Err (change.Refused refused)) h = absurd h
+put-brought meta shown old new asked found (Err (change.LogFull limit)) h = ap (λ (l : LogSeen). seen_of l meta shown) h.1
+put-brought meta shown old new asked found (Err change.StoreFault) h = ((h.1.0, h.1.1.0), ap (λ (l : LogSeen). seen_of l meta shown) h.1.1.1)
+put-brought meta shown old new asked found (Err change.Memory) h = ap (λ (l : LogSeen). seen_of l meta shown) h
+
+refused-brought : (meta : Records) (shown : Shown) (old new : LogSeen) (asked : Asked) (refused : Refusal) (result : Result Report ChangeFault)
+    → BringsIf (change_lacks result) meta old asked (Err refused) result new → Brought (seen_of old meta shown) result (seen_of new meta shown)
+refused-brought meta shown old new asked refused (Ok report) h = absurd (let e = h.0 in cc)
+refused-brought meta shown old new asked refused (Err (change.Refused other)) h = ap (λ (l : LogSeen). seen_of l meta shown) h.1
+refused-brought meta shown old new asked refused (Err (change.LogFull limit)) h = absurd (let e = h.0 in cc)
+refused-brought meta shown old new asked refused (Err change.StoreFault) h = absurd (let e = h.0 in cc)
+refused-brought meta shown old new asked refused (Err change.Memory) h = ap (λ (l : LogSeen). seen_of l meta shown) h
+
+brought-by : (meta : Records) (shown : Shown) (old new : LogSeen) (asked : Asked) (found : Result Judged Refusal) (result : Result Report ChangeFault)
+    → BringsIf (change_lacks result) meta old asked found result new → Brought (seen_of old meta shown) result (seen_of new meta shown)
+brought-by meta shown old new asked (Ok found) result h = put-brought meta shown old new asked found result h
+brought-by meta shown old new asked (Err refused) result h = refused-brought meta shown old new asked refused result h
 
 pub brings-brought : (meta : Records) (shown : Shown) (old new : LogSeen) (asked : Asked) (result : Result Report ChangeFault) → Brings meta old asked result new
-    → Brought (seen_of old meta shown) asked result (seen_of new meta shown)
-brings-brought meta shown old new asked (Ok report) h =
-    (ap (λ (l : Limits). record { state = state_of new.changes shown; limits = l; meta = meta; acknowledged = new.acknowledged; kept = new.kept; faults = new.faults }) h.1.1.0, h.1.1.1)
-brings-brought meta shown old new asked (Err (change.LogFull limit)) h = ap (λ (l : LogSeen). seen_of l meta shown) h.1
-brings-brought meta shown old new asked (Err change.StoreFault) h = ((h.1.0, h.1.1.0), ap (λ (l : LogSeen). seen_of l meta shown) h.1.1.1)
-brings-brought meta shown old new asked (Err change.Memory) h = ap (λ (l : LogSeen). seen_of l meta shown) h
-
--- a longer log
-
-front-of : (b : Bool) (log : List Change) (c : Change) (n : ℕ) → n ≤ length log → take n (if b then log ++ c ∷ [] else log) ≡ take n log
-front-of true log c n h = take-append-le n log (c ∷ []) h
-front-of false log c n h = refl
-
-longer-by : (b : Bool) (log : List Change) (c : Change) → length log ≤ length (if b then log ++ c ∷ [] else log)
-longer-by true log c = let e = length-append log (c ∷ []) in omega arith
-longer-by false log c = omega arith
-
-update-there : (staged : Option Staged) (log longer : List Change) (shown : Shown) → length log ≤ length longer → IfSome staged (IsUpdate (state_of log shown)) → IfSome staged (IsUpdate (state_of longer shown))
-update-there None log longer shown h u = u
-update-there (Some update) log longer shown h u = record { rises = u.rises; there = let t = u.there in omega arith; given = u.given }
-
-order-longer : (limits : Limits) (log longer : List Change) (shown : Shown) → length log ≤ length longer → IsInOrder limits (state_of log shown) → IsInOrder limits (state_of longer shown)
-order-longer limits log longer shown h o = record {
-  published = let p = o.published in omega arith;
-  staged = update-there shown.staged log longer shown h o.staged;
-  tickets = o.tickets;
-}
+    → Brought (seen_of old meta shown) result (seen_of new meta shown)
+brings-brought meta shown old new asked result h = brought-by meta shown old new asked (judged_in meta old.changes asked) result h
 
 -- a log of the same limits and changes
 same-parts : (meta : Records) (shown : Shown) (old new : LogSeen) → IsWhole new → new.changes ≡ old.changes → new.limits ≡ old.limits → AreParts old meta shown → AreParts new meta shown
@@ -118,22 +163,47 @@ same-parts meta shown old new w c l p = record {
   tables = p.tables ∙ ap (λ x. tables_of meta (take shown.published x)) (sym c);
 }
 
+first-of : (b : Bool) (log : List Change) (c : Change) (n : ℕ) → n ≤ length log → take n (if b then log ++ c ∷ [] else log) ≡ take n log
+first-of true log c n h = take-append-le n log (c ∷ []) h
+first-of false log c n h = refl
+
+longer-by : (b : Bool) (log : List Change) (c : Change) → length log ≤ length (if b then log ++ c ∷ [] else log)
+longer-by true log c = let e = length-append log (c ∷ []) in omega arith
+longer-by false log c = omega arith
+
+-- a log of the same limits with a change last, if it has writes
+grown-parts : (meta : Records) (shown : Shown) (old new : LogSeen) (c : Change) → IsWhole new → new.changes ≡ grown old.changes c → new.limits ≡ old.limits → AreParts old meta shown
+    → AreParts new meta shown
+grown-parts meta shown old new c w is l p = record {
+  whole = w;
+  order = subst (λ x. IsInOrder new.limits (state_of x shown)) (sym is) (subst (λ x. IsInOrder x (state_of (grown old.changes c) shown)) (sym l)
+      (longer_in_order old.limits (state_of old.changes shown) (grown old.changes c) (longer-by (has_writes c) old.changes c) p.order));
+  tables = p.tables ∙ ap (tables_of meta) (sym (first-of (has_writes c) old.changes c shown.published p.order.published)) ∙ ap (λ x. tables_of meta (take shown.published x)) (sym is);
+}
+
+parts-by : (meta : Records) (shown : Shown) (old new : LogSeen) (asked : Asked) (found : Result Judged Refusal) (result : Result Report ChangeFault) → AreParts old meta shown
+    → IsWhole new → BringsIf (change_lacks result) meta old asked found result new → AreParts new meta shown
+parts-by meta shown old new asked (Ok found) (Ok report) p w h = grown-parts meta shown old new (change_of meta asked found) w h.1.0 h.1.1.0 p
+parts-by meta shown old new asked (Ok found) (Err (change.Refused refused)) p w h = absurd h
+parts-by meta shown old new asked (Ok found) (Err (change.LogFull limit)) p w h =
+    same-parts meta shown old new w (ap (λ (l : LogSeen). l.changes) h.1) (ap (λ (l : LogSeen). l.limits) h.1) p
+parts-by meta shown old new asked (Ok found) (Err change.StoreFault) p w h =
+    same-parts meta shown old new w (ap (λ (l : LogSeen). l.changes) h.1.1.1) (ap (λ (l : LogSeen). l.limits) h.1.1.1) p
+parts-by meta shown old new asked (Ok found) (Err change.Memory) p w h = same-parts meta shown old new w (ap (λ (l : LogSeen). l.changes) h) (ap (λ (l : LogSeen). l.limits) h) p
+parts-by meta shown old new asked (Err refused) (Ok report) p w h = same-parts meta shown old new w (ap (λ (l : LogSeen). l.changes) h.1) (ap (λ (l : LogSeen). l.limits) h.1) p
+parts-by meta shown old new asked (Err refused) (Err (change.Refused other)) p w h =
+    same-parts meta shown old new w (ap (λ (l : LogSeen). l.changes) h.1) (ap (λ (l : LogSeen). l.limits) h.1) p
+parts-by meta shown old new asked (Err refused) (Err (change.LogFull limit)) p w h =
+    same-parts meta shown old new w (ap (λ (l : LogSeen). l.changes) h.1) (ap (λ (l : LogSeen). l.limits) h.1) p
+parts-by meta shown old new asked (Err refused) (Err change.StoreFault) p w h =
+    same-parts meta shown old new w (ap (λ (l : LogSeen). l.changes) h.1) (ap (λ (l : LogSeen). l.limits) h.1) p
+parts-by meta shown old new asked (Err refused) (Err change.Memory) p w h = same-parts meta shown old new w (ap (λ (l : LogSeen). l.changes) h) (ap (λ (l : LogSeen). l.limits) h) p
+
 pub brings-parts : (meta : Records) (shown : Shown) (old new : LogSeen) (asked : Asked) (result : Result Report ChangeFault) → AreParts old meta shown → IsWhole new
     → Brings meta old asked result new → AreParts new meta shown
-brings-parts meta shown old new asked (Ok report) p w h =
-    let c = change_of meta old.changes asked in
-    record {
-      whole = w;
-      order = subst (λ x. IsInOrder new.limits (state_of x shown)) (sym h.1.0) (subst (λ x. IsInOrder x (state_of (grown old.changes c) shown)) (sym h.1.1.0)
-          (order-longer old.limits old.changes (grown old.changes c) shown (longer-by (has_writes c) old.changes c) p.order));
-      tables = p.tables ∙ ap (tables_of meta) (sym (front-of (has_writes c) old.changes c shown.published p.order.published)) ∙ ap (λ x. tables_of meta (take shown.published x)) (sym h.1.0);
-    }
-brings-parts meta shown old new asked (Err (change.LogFull limit)) p w h = same-parts meta shown old new w (ap (λ (l : LogSeen). l.changes) h.1) (ap (λ (l : LogSeen). l.limits) h.1) p
-brings-parts meta shown old new asked (Err change.StoreFault) p w h =
-    same-parts meta shown old new w (ap (λ (l : LogSeen). l.changes) h.1.1.1) (ap (λ (l : LogSeen). l.limits) h.1.1.1) p
-brings-parts meta shown old new asked (Err change.Memory) p w h = same-parts meta shown old new w (ap (λ (l : LogSeen). l.changes) h) (ap (λ (l : LogSeen). l.limits) h) p
+brings-parts meta shown old new asked result p w h = parts-by meta shown old new asked (judged_in meta old.changes asked) result p w h
 
--- ---- a front of the log
+-- ---- the first changes of the log
 
 few-over : (limits : Limits) (w b : ℕ) → over limits w b ≡ None → w ≤ limits.writes
 few-over limits w b h = grind (arith, nat_tests)
@@ -145,11 +215,11 @@ whole-few log h = let f = few-over log.limits (length (writes_of log.changes)) _
 writes-parts : (n : ℕ) (log : List Change) → writes_of log ≡ writes_of (take n log) ++ writes_of (drop n log)
 writes-parts n log = ap writes_of (sym (take-append-drop n log)) ∙ flat_map-append (λ (c : Change). c.writes) (take n log) (drop n log)
 
-pub front-few : (n : ℕ) (log : List Change) → length (writes_of log) ≤ 4194304 → length (writes_of (take n log)) ≤ 4194304
-front-few n log h = let e = ap length (writes-parts n log) in let f = length-append (writes_of (take n log)) (writes_of (drop n log)) in omega arith
+pub first-few : (n : ℕ) (log : List Change) → length (writes_of log) ≤ 4194304 → length (writes_of (take n log)) ≤ 4194304
+first-few n log h = let e = ap length (writes-parts n log) in let f = length-append (writes_of (take n log)) (writes_of (drop n log)) in omega arith
 
-pub front-fits : (n : ℕ) (log : List Change) → All WriteFits (writes_of log) → All WriteFits (writes_of (take n log))
-front-fits n log h =
-    let front = writes_of (take n log) in
-    let e : take (length front) (writes_of log) ≡ front = ap (λ x. take (length front) x) (writes-parts n log) ∙ take_at front (writes_of (drop n log)) (length front) refl in
-    subst (All WriteFits) e (All-take WriteFits (length front) (writes_of log) h)
+pub first-fits : (n : ℕ) (log : List Change) → All WriteFits (writes_of log) → All WriteFits (writes_of (take n log))
+first-fits n log h =
+    let first = writes_of (take n log) in
+    let e : take (length first) (writes_of log) ≡ first = ap (λ x. take (length first) x) (writes-parts n log) ∙ take_at first (writes_of (drop n log)) (length first) refl in
+    subst (All WriteFits) e (All-take WriteFits (length first) (writes_of log) h)

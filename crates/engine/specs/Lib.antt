@@ -1,4 +1,5 @@
-pub mod Requests
 pub mod Machine
+pub mod Histories
 pub mod Tables
 pub mod Seen
+pub mod InMemory

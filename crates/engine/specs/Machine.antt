@@ -1,15 +1,16 @@
--- The machine: a log of changes, tables that stand for a front of it, and updates of the tables. Each call is one step: in a
--- state it gives a reply and goes on to a state.
-use Rattle.std.specs.Prelude.{◌≡◌, ◌≢◌, ◌<◌, ◌≤◌, ◌+◌, ◌++◌, ◌∷◌, [], ℕ, ℤ, Bool, IsTrue, nat_lt, if◌then◌else◌, ⊤, List, length, Option, None, Some, Result, Ok, Err}
+-- The machine: a log of changes, tables that stand for the first changes of the log, and updates of the tables, of which one of each
+-- kind may be begun. Each call is one step: in a state it gives a reply and goes on to a state. A call out of memory leaves the state.
+use Rattle.std.specs.Prelude.{◌≡◌, ◌≢◌, ◌==◌, ◌<◌, ◌≤◌, ◌+◌, ◌++◌, ◌∷◌, ◌||◌, [], ℕ, Bool, true, false, IsTrue, nat_lt, if◌then◌else◌, max, drop, List, length, Option, None, Some, option_map, Result, Ok, Err}
+use Rattle.dh_base.specs.declared.codes.Refusal.{Refusal}
+use Rattle.dh_base.specs.declared.memory.Memory.{Memory}
 use Rattle.dh_base.specs.declared.plain.CutKind.{CutKind}
+use Rattle.dh_base.specs.declared.plain.CutKind.TheVariants.{Full, Latest}
 use Rattle.dh_changes.specs.declared.change.Change.{Change}
 use Rattle.meta_parts.specs.declared.held.Records.{Records}
-use Rattle.record_index.specs.declared.outcome.Who.{Who}
 use Rattle.change_log.specs.declared.limits.Limits.{Limits}
 use Rattle.change_log.specs.Log.{writes_of, passed}
-use Rattle.engine.specs.Requests.{judged, maker_of}
-use Rattle.engine.specs.declared.judge.Judged.{Judged}
-use Rattle.engine.specs.declared.machine.ChangeRequest.{ChangeRequest}
+use Rattle.change_requests.specs.Requests.{Asked, judged, maker_of}
+use Rattle.change_requests.specs.declared.request.Judged.{Judged}
 use Rattle.engine.specs.declared.machine.Report.{Report}
 use Rattle.engine.specs.declared.machine.ChangeFault.{ChangeFault}
 use Rattle.engine.specs.declared.machine.ChangeFault.TheVariants as change
@@ -23,39 +24,32 @@ pub record State : Type 0 where
   pub log : List Change
   -- how many changes the tables stand for
   pub published : ℕ
+  -- how many changes the yearly tables stand for
+  pub base_cut : ℕ
   -- the last ticket that was given
   pub ticket : ℕ
-  -- the update that is begun
-  pub staged : Option Staged
+  -- the updates that are begun, each with its ticket and with how many changes its tables will stand for
+  pub full : Option Staged
+  pub latest : Option Staged
 
 abbrev pub start : State
-start = record { log = []; published = 0; ticket = 0; staged = None }
-
--- this update is begun
-abbrev pub IsStaged : State → Staged → Type 0
-IsStaged state update = state.staged ≡ Some update
-
--- an update with this ticket is begun
-abbrev pub IsOwned : State → ℕ → Type 0
-IsOwned state ticket = (update : Staged) × (IsStaged state update × (update.ticket ≡ ticket))
+start = record { log = []; published = 0; base_cut = 0; ticket = 0; full = None; latest = None }
 
 -- ---- a change
 
--- who asks for what, and when
-pub record Asked : Type 0 where
-  pub who : Who
-  pub moment : ℤ
-  pub request : ChangeRequest
+-- what a request comes to over the log
+abbrev pub judged_in : Records → List Change → Asked → Result Judged Refusal
+judged_in meta log asked = judged meta (writes_of log) asked
 
--- what the request comes to over the log
-abbrev pub judged_in : Records → List Change → Asked → Judged
-judged_in meta log asked = judged meta (writes_of log) asked.who asked.moment asked.request
+-- the change that it makes where it isn't refused
+abbrev pub change_of : Records → Asked → Judged → Change
+change_of meta asked found = record { user = maker_of meta asked.who; moment = asked.moment; writes = found.writes }
 
 -- there is something to be written
 abbrev pub has_writes : Change → Bool
 has_writes change = nat_lt 0 (length change.writes)
 
--- a log with a change last, where there is something to be written
+-- the log with a change last, if there is something to be written
 abbrev pub grown : List Change → Change → List Change
 grown log change = if has_writes change then log ++ change ∷ [] else log
 
@@ -63,65 +57,97 @@ grown log change = if has_writes change then log ++ change ∷ [] else log
 abbrev pub stopped : Limits → List Change → Change → Option ℕ
 stopped limits log change = if has_writes change then passed limits (log ++ change ∷ []) else None
 
--- the change that the request makes
-unfoldable pub change_of : Records → List Change → Asked → Change
-change_of meta log asked = record { user = maker_of meta asked.who; moment = asked.moment; writes = (judged_in meta log asked).writes }
+unfoldable pub report_of : List Change → Change → Judged → Report
+report_of log change found = record { body = found.body; status = found.status; number = length (grown log change) }
 
--- the log that it leaves where it isn't refused
-abbrev pub log_after : Records → List Change → Asked → List Change
-log_after meta log asked = grown log (change_of meta log asked)
+-- the replies where it isn't refused: between the report and a fault of the store the keeper decides
+abbrev pub IsPutReply : Limits → List Change → Change → Judged → Result Report ChangeFault → Type 0
+IsPutReply limits log c found (Ok report) = (stopped limits log c ≡ None) × (report ≡ report_of log c found)
+IsPutReply limits log c found (Err (change.LogFull limit)) = stopped limits log c ≡ Some limit
+IsPutReply limits log c found (Err change.StoreFault) = (stopped limits log c ≡ None) × IsTrue (has_writes c)
+IsPutReply limits log c found (Err (change.Refused refused)) = ⊥
+IsPutReply limits log c found (Err change.Memory) = ⊥
 
--- the limit that stands in its way
-abbrev pub full_at : Records → Limits → List Change → Asked → Option ℕ
-full_at meta limits log asked = stopped limits log (change_of meta log asked)
+-- the replies by what the request comes to
+abbrev pub IsReplyBy : Records → Limits → List Change → Asked → Result Judged Refusal → Result Report ChangeFault → Type 0
+IsReplyBy meta limits log asked (Ok found) reply = IsPutReply limits log (change_of meta asked found) found reply
+IsReplyBy meta limits log asked (Err refused) reply = reply ≡ Err (change.Refused refused)
 
--- what it is told
-unfoldable pub report_of : Records → List Change → Asked → Report
-report_of meta log asked = record {
-  body = (judged_in meta log asked).body;
-  status = (judged_in meta log asked).status;
-  number = length (log_after meta log asked);
-}
-
--- the replies that a change may have; between the report and a fault of the store the keeper decides
-abbrev pub IsChangeReply : Records → Limits → State → Asked → Result Report ChangeFault → Type 0
-IsChangeReply meta limits state asked (Ok report) = (full_at meta limits state.log asked ≡ None) × (report ≡ report_of meta state.log asked)
-IsChangeReply meta limits state asked (Err (change.LogFull limit)) = full_at meta limits state.log asked ≡ Some limit
-IsChangeReply meta limits state asked (Err change.StoreFault) = (full_at meta limits state.log asked ≡ None) × IsTrue (has_writes (change_of meta state.log asked))
-IsChangeReply meta limits state asked (Err change.Memory) = ⊥
+abbrev pub log_by : Records → List Change → Asked → Result Judged Refusal → List Change
+log_by meta log asked (Ok found) = grown log (change_of meta asked found)
+log_by meta log asked (Err refused) = log
 
 abbrev pub after_change : Records → State → Asked → Result Report ChangeFault → State
-after_change meta state asked (Ok report) = record state { log = log_after meta state.log asked }
+after_change meta state asked (Ok report) = record state { log = log_by meta state.log asked (judged_in meta state.log asked) }
 after_change meta state asked (Err fault) = state
 
 -- ---- an update: it is begun, and then swapped in or dropped
 
--- the ticket, and how many changes the update's tables will stand for
-pub record Issued : Type 0 where
-  pub ticket : ℕ
-  pub number : ℕ
+-- the first of two for a full update, the second for a latest one
+abbrev pub by_kind : {X : Type 0} → CutKind → X → X → X
+by_kind Full full latest = full
+by_kind Latest full latest = latest
 
-abbrev pub IsCutReply : Limits → State → Result Issued CutFault → Type 0
-IsCutReply limits state (Ok issued) =
-    (state.staged ≡ None) × ((state.ticket ≢ limits.updates) × (issued ≡ record { ticket = state.ticket + 1; number = length state.log }))
-IsCutReply limits state (Err (cut.Busy ticket)) = IsOwned state ticket
-IsCutReply limits state (Err (cut.UpdatesSpent limit)) = (state.staged ≡ None) × ((state.ticket ≡ limits.updates) × (limit ≡ limits.updates))
-IsCutReply limits state (Err cut.Memory) = ⊥
+-- the update of a kind that is begun
+abbrev pub staged_of : State → CutKind → Option Staged
+staged_of state kind = by_kind kind state.full state.latest
 
-abbrev pub after_cut : State → CutKind → Result Issued CutFault → State
-after_cut state kind (Ok issued) =
-    record state { ticket = issued.ticket; staged = Some (record { ticket = issued.ticket; kind = kind; number = issued.number }) }
+abbrev pub with_staged : State → CutKind → Option Staged → State
+with_staged state kind staged = record state { full = by_kind kind staged state.full; latest = by_kind kind state.latest staged }
+
+abbrev pub IsCutReply : Limits → State → CutKind → Result Staged CutFault → Type 0
+IsCutReply limits state kind (Ok update) =
+    (staged_of state kind ≡ None) × ((state.ticket ≢ limits.updates) × (update ≡ record { ticket = state.ticket + 1; number = length state.log }))
+IsCutReply limits state kind (Err (cut.Busy ticket)) = option_map (λ (update : Staged). update.ticket) (staged_of state kind) ≡ Some ticket
+IsCutReply limits state kind (Err (cut.UpdatesSpent limit)) = (staged_of state kind ≡ None) × ((state.ticket ≡ limits.updates) × (limit ≡ limits.updates))
+IsCutReply limits state kind (Err cut.Memory) = ⊥
+
+abbrev pub after_cut : State → CutKind → Result Staged CutFault → State
+after_cut state kind (Ok update) = with_staged (record state { ticket = update.ticket }) kind (Some update)
 after_cut state kind (Err fault) = state
 
--- the update of the ticket is begun, and this is its number
-abbrev pub IsSwapReply : State → ℕ → ℕ → Type 0
-IsSwapReply state ticket number = (update : Staged) × (IsStaged state update × ((update.ticket ≡ ticket) × (update.number ≡ number)))
+-- the changes from which the tables of an update are made: all, or those that the yearly tables don't stand for
+abbrev pub changes_for : State → CutKind → List Change
+changes_for state kind = drop (by_kind kind 0 state.base_cut) state.log
 
-abbrev pub after_swap : State → ℕ → State
-after_swap state number = record state { published = number; staged = None }
+abbrev pub has_ticket : ℕ → Option Staged → Bool
+has_ticket ticket None = false
+has_ticket ticket (Some update) = update.ticket == ticket
 
-abbrev pub after_drop : State → State
-after_drop state = record state { staged = None }
+abbrev pub kind_by : ℕ → Option Staged → CutKind
+kind_by ticket full = if has_ticket ticket full then Full else Latest
+
+-- an update with this ticket is begun
+abbrev pub is_begun : State → ℕ → Bool
+is_begun state ticket = has_ticket ticket state.full || has_ticket ticket state.latest
+
+-- its kind
+abbrev pub kind_of : State → ℕ → CutKind
+kind_of state ticket = kind_by ticket state.full
+
+abbrev pub number_in : Option Staged → ℕ
+number_in None = 0
+number_in (Some update) = update.number
+
+-- and how many changes its tables will stand for
+abbrev pub number_of : State → ℕ → ℕ
+number_of state ticket = number_in (staged_of state (kind_of state ticket))
+
+-- the greater of what is published and what the update stands for
+abbrev pub IsSwapReply : State → ℕ → Result ℕ Memory → Type 0
+IsSwapReply state ticket (Ok published) = IsTrue (is_begun state ticket) × (published ≡ max state.published (number_of state ticket))
+IsSwapReply state ticket (Err memory) = ⊥
+
+-- only a full update sets how many changes the yearly tables stand for
+abbrev pub published_by : State → CutKind → ℕ → ℕ → State
+published_by state kind number published = record state { published = published; base_cut = by_kind kind number state.base_cut }
+
+abbrev pub after_swap : State → ℕ → Result ℕ Memory → State
+after_swap state ticket (Ok published) = with_staged (published_by state (kind_of state ticket) (number_of state ticket) published) (kind_of state ticket) None
+after_swap state ticket (Err memory) = state
+
+abbrev pub after_drop : State → ℕ → State
+after_drop state ticket = with_staged state (kind_of state ticket) None
 
 -- ---- a look at the tables
 
@@ -130,58 +156,66 @@ IsLookReply state asked (Ok published) = (asked ≤ state.published) × (publish
 IsLookReply state asked (Err (look.NotYet published)) = (state.published < asked) × (published ≡ state.published)
 IsLookReply state asked (Err look.Memory) = ⊥
 
--- ---- the steps as relations: want of memory is no reply of the machine and leaves the state
-
-abbrev pub ChangeStep : Records → Limits → State → Asked → Result Report ChangeFault → State → Type 0
-ChangeStep meta limits old asked (Ok report) new = IsChangeReply meta limits old asked (Ok report) × (new ≡ after_change meta old asked (Ok report))
-ChangeStep meta limits old asked (Err (change.LogFull limit)) new = IsChangeReply meta limits old asked (Err (change.LogFull limit)) × (new ≡ old)
-ChangeStep meta limits old asked (Err change.StoreFault) new = IsChangeReply meta limits old asked (Err change.StoreFault) × (new ≡ old)
-ChangeStep meta limits old asked (Err change.Memory) new = new ≡ old
-
-abbrev pub CutStep : Limits → State → CutKind → Result Issued CutFault → State → Type 0
-CutStep limits old kind (Ok issued) new = IsCutReply limits old (Ok issued) × (new ≡ after_cut old kind (Ok issued))
-CutStep limits old kind (Err (cut.Busy ticket)) new = IsCutReply limits old (Err (cut.Busy ticket)) × (new ≡ old)
-CutStep limits old kind (Err (cut.UpdatesSpent limit)) new = IsCutReply limits old (Err (cut.UpdatesSpent limit)) × (new ≡ old)
-CutStep limits old kind (Err cut.Memory) new = new ≡ old
-
-abbrev pub SwapStep : {E : Type 0} → State → ℕ → Result ℕ E → State → Type 0
-SwapStep old ticket (Ok number) new = IsSwapReply old ticket number × (new ≡ after_swap old number)
-SwapStep old ticket (Err fault) new = new ≡ old
-
-abbrev pub DropStep : State → ℕ → State → Type 0
-DropStep old ticket new = IsOwned old ticket × (new ≡ after_drop old)
-
-abbrev pub LookStep : State → ℕ → Result ℕ LookFault → Type 0
-LookStep state asked (Ok published) = IsLookReply state asked (Ok published)
-LookStep state asked (Err (look.NotYet published)) = IsLookReply state asked (Err (look.NotYet published))
-LookStep state asked (Err look.Memory) = ⊤
-
--- ---- the same as one function, over calls with their replies as plain data
+-- ---- calls with their replies as plain data, and the step that each makes
 
 pub data Act : Type 0 where
   changed : Asked → Result Report ChangeFault → Act
-  begun : CutKind → Result Issued CutFault → Act
-  swapped : ℕ → ℕ → Act
+  begun : CutKind → Result Staged CutFault → Act
+  swapped : ℕ → Result ℕ Memory → Act
   dropped : ℕ → Act
   looked : ℕ → Result ℕ LookFault → Act
 
 -- the machine may give this reply
 abbrev pub IsReply : Records → Limits → State → Act → Type 0
-IsReply meta limits state (changed asked reply) = IsChangeReply meta limits state asked reply
-IsReply meta limits state (begun kind reply) = IsCutReply limits state reply
-IsReply meta limits state (swapped ticket number) = IsSwapReply state ticket number
-IsReply meta limits state (dropped ticket) = IsOwned state ticket
+IsReply meta limits state (changed asked reply) = IsReplyBy meta limits state.log asked (judged_in meta state.log asked) reply
+IsReply meta limits state (begun kind reply) = IsCutReply limits state kind reply
+IsReply meta limits state (swapped ticket reply) = IsSwapReply state ticket reply
+IsReply meta limits state (dropped ticket) = IsTrue (is_begun state ticket)
 IsReply meta limits state (looked asked reply) = IsLookReply state asked reply
 
 -- the state that the call leaves
 abbrev pub next : Records → State → Act → State
 next meta state (changed asked reply) = after_change meta state asked reply
 next meta state (begun kind reply) = after_cut state kind reply
-next meta state (swapped ticket number) = after_swap state number
-next meta state (dropped ticket) = after_drop state
+next meta state (swapped ticket reply) = after_swap state ticket reply
+next meta state (dropped ticket) = after_drop state ticket
 next meta state (looked asked reply) = state
 
--- from one state to another by these calls, each with a reply that the machine may give
-abbrev pub Runs : Records → Limits → State → List Act → State → Type 0
-Runs meta limits old [] new = new ≡ old
-Runs meta limits old (act ∷ acts) new = IsReply meta limits old act × Runs meta limits (next meta old act) acts new
+-- the call answered that memory ran out
+abbrev pub change_lacks : Result Report ChangeFault → Bool
+change_lacks (Ok report) = false
+change_lacks (Err (change.Refused refused)) = false
+change_lacks (Err (change.LogFull limit)) = false
+change_lacks (Err change.StoreFault) = false
+change_lacks (Err change.Memory) = true
+
+abbrev pub cut_lacks : Result Staged CutFault → Bool
+cut_lacks (Ok update) = false
+cut_lacks (Err (cut.Busy ticket)) = false
+cut_lacks (Err (cut.UpdatesSpent limit)) = false
+cut_lacks (Err cut.Memory) = true
+
+abbrev pub swap_lacks : Result ℕ Memory → Bool
+swap_lacks (Ok published) = false
+swap_lacks (Err memory) = true
+
+abbrev pub look_lacks : Result ℕ LookFault → Bool
+look_lacks (Ok published) = false
+look_lacks (Err (look.NotYet published)) = false
+look_lacks (Err look.Memory) = true
+
+abbrev pub lacks_memory : Act → Bool
+lacks_memory (changed asked reply) = change_lacks reply
+lacks_memory (begun kind reply) = cut_lacks reply
+lacks_memory (swapped ticket reply) = swap_lacks reply
+lacks_memory (dropped ticket) = false
+lacks_memory (looked asked reply) = look_lacks reply
+
+-- out of memory the state stays; else the reply is one that the machine may give, and the state is the next
+abbrev pub StepBy : Bool → Type 0 → State → State → State → Type 0
+StepBy true reply after old new = new ≡ old
+StepBy false reply after old new = reply × (new ≡ after)
+
+-- a call gave this reply and left this state
+abbrev pub Step : Records → Limits → State → Act → State → Type 0
+Step meta limits old act new = StepBy (lacks_memory act) (IsReply meta limits old act) (next meta old act) old new

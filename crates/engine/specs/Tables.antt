@@ -2,9 +2,10 @@
 use Rattle.std.specs.Prelude.{List}
 use Rattle.dh_changes.specs.declared.change.Change.{Change}
 use Rattle.meta_parts.specs.declared.held.Records.{Records}
-use Rattle.table_rows.specs.Store.{Listed}
+use Rattle.table_rows.specs.Store.{Contents, contents_in}
 use Rattle.table_build.specs.Listed.{listed_in}
 use Rattle.change_log.specs.Log.{writes_of}
 
-unfoldable pub tables_of : Records → List Change → Listed
-tables_of meta changes = listed_in meta (writes_of changes)
+-- the rows, events and registrations that these changes leave
+unfoldable pub tables_of : Records → List Change → Contents
+tables_of meta changes = contents_in (listed_in meta (writes_of changes))

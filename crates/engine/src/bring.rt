@@ -4,14 +4,14 @@ ghost use Rattle.change_bytes.specs.Forms.{WriteFits};
 ghost use Rattle.std.specs.Prelude.{◌≡◌};
 ghost use Rattle.change_log.specs.Log.{IsWhole, NeverFails};
 ghost use Rattle.value_import.specs.Outcomes.{IsKnown};
-ghost use Rattle.engine.specs.Machine.{ChangeStep};
+ghost use Rattle.engine.specs.Machine.{Step};
+ghost use Rattle.engine.specs.Machine.Act.{changed};
 ghost use Rattle.engine.specs.Seen.{seen_of, state_of, AreParts, Puts, Brings, Brought};
 
-use crate::asked::maker_of;
-use crate::judge::{Judged, judge};
-use crate::machine::{ChangeFault, ChangeRequest, Report};
+use crate::machine::{ChangeFault, Report};
 use crate::updates::Shown;
 use change_log::{AppendFault, ChangeLog};
+use change_requests::{ChangeRequest, JudgeFault, Judged, judge, maker_of};
 use dh_base::uid::Uid;
 use dh_metadata::metadata::Metadata;
 use dh_outside::Keeper;
@@ -19,6 +19,7 @@ use record_index::outcome::Who;
 use std::alloc::Global;
 
 // Puts the writes last in the log, if there are any.
+#[tactic(auto, unfolding(crate::specs::Machine::report_of))]
 fn put<K: Keeper>(
     alloc: Global,
     log: &mut ChangeLog<K>,
@@ -74,8 +75,9 @@ fn bring<K: Keeper>(
 {
     let user = maker_of(meta, who);
     match judge(alloc, log.world(), meta, who, moment, request) {
-        Ok(judged) => put(alloc, log, user, moment, judged),
-        Err(_) => Err(ChangeFault::Memory),
+        Ok(found) => put(alloc, log, user, moment, found),
+        Err(JudgeFault::Refused(refusal)) => Err(ChangeFault::Refused(refusal)),
+        Err(JudgeFault::Memory) => Err(ChangeFault::Memory),
     }
 }
 
@@ -91,8 +93,8 @@ pub(crate) fn change<K: Keeper>(
 ) -> Result<Report, ChangeFault>
     requires parts { AreParts log.old meta.now shown.now }
     requires known { IsKnown meta.now who }
-    ensures step { ChangeStep meta.now log.old.limits (state_of log.old.changes shown.now) (record { who = who; moment = moment; request = request.now }) result (state_of log.new.changes shown.now) }
-    ensures brought { Brought (seen_of log.old meta.now shown.now) (record { who = who; moment = moment; request = request.now }) result (seen_of log.new meta.now shown.now) }
+    ensures step { Step meta.now log.old.limits (state_of log.old.changes shown.now) (changed (record { who = who; moment = moment; request = request.now }) result) (state_of log.new.changes shown.now) }
+    ensures brought { Brought (seen_of log.old meta.now shown.now) result (seen_of log.new meta.now shown.now) }
     ensures parts { AreParts log.new meta.now shown.now }
     ensures sure { NeverFails K.keeper_faults → log.old.faults ≡ 0 → log.new.faults ≡ 0 }
 {

@@ -1,19 +1,21 @@
-ghost use Rattle.std.specs.Prelude.{◌≡◌, ◌≤◌, [], length, take, option_map, IfOk};
+//! The engine: the machine as a value, over a keeper that stores the log.
+ghost use Rattle.std.specs.Prelude.{◌≡◌, ◌≤◌, IsTrue, length, take, option_map, IfOk};
 ghost use Rattle.std.specs.Arc.{arc_value};
 ghost use Rattle.dh_base.specs.declared.plain.CutKind.TheVariants.{Full};
 ghost use Rattle.change_log.specs.Log.{AreLimits, NeverFails};
 ghost use Rattle.value_import.specs.Outcomes.{IsKnown};
-ghost use Rattle.engine.specs.Machine.{start, IsOwned, ChangeStep, CutStep, SwapStep, DropStep, LookStep};
+ghost use Rattle.engine.specs.Machine.{start, Step, is_begun};
+ghost use Rattle.engine.specs.Machine.Act.{changed, begun, swapped, dropped, looked};
+ghost use Rattle.table_rows.specs.Store.{contents_in};
 ghost use Rattle.engine.specs.Tables.{tables_of};
-ghost use Rattle.engine.specs.Seen.{IsSound, Brought, IsCutOf, issued_in, published_in};
+ghost use Rattle.engine.specs.Seen.{IsSound, Brought, IsCutOf, update_in, published_in};
 
 use crate::bring::change;
-use crate::machine::{
-    ChangeFault, ChangeRequest, Cut, CutFault, LookFault, Report, Standing, View,
-};
+use crate::machine::{ChangeFault, Cut, CutFault, LookFault, Report, Staged, Standing, View};
 use crate::tables::tables_of;
 use crate::updates::{Shown, cut, drop_staged, look, swap};
 use change_log::{ChangeLog, Limits};
+use change_requests::ChangeRequest;
 use dh_base::memory::Memory;
 use dh_base::plain::CutKind;
 use dh_metadata::metadata::Metadata;
@@ -22,6 +24,12 @@ use record_index::outcome::Who;
 use std::alloc::Global;
 use std::marker::Model;
 use std::sync::Arc;
+
+fn ticket_of(staged: Option<Staged>) -> Option<u64>
+    ensures { result ≡ option_map (λ update. update.ticket) staged }
+{
+    staged.map(|update| update.ticket)
+}
 
 /// The log with its tables.
 #[derive(Drop)]
@@ -64,8 +72,10 @@ impl<K: Keeper> Engine<K> {
         let shown = Shown {
             tables,
             published: 0,
+            base_cut: 0,
             ticket: 0,
-            staged: None,
+            full: None,
+            latest: None,
         };
         Ok(Engine { log, meta, shown })
     }
@@ -80,8 +90,8 @@ impl<K: Keeper> Engine<K> {
         request: &ChangeRequest,
     ) -> Result<Report, ChangeFault>
         requires { IsKnown self.old.meta who }
-        ensures step { ChangeStep self.old.meta self.old.limits self.old.state (record { who = who; moment = moment; request = request.now }) result self.new.state }
-        ensures brought { Brought self.old (record { who = who; moment = moment; request = request.now }) result self.new }
+        ensures step { Step self.old.meta self.old.limits self.old.state (changed (record { who = who; moment = moment; request = request.now }) result) self.new.state }
+        ensures brought { Brought self.old result self.new }
         ensures sure { NeverFails K.keeper_faults → self.old.faults ≡ 0 → self.new.faults ≡ 0 }
         ensures sound { IsSound self.new }
     {
@@ -99,20 +109,21 @@ impl<K: Keeper> Engine<K> {
     /// Begins an update of the tables.
     pub fn cut(&mut self, alloc: Global, kind: CutKind) -> Result<Cut, CutFault>
         requires { kind ≡ Full }
-        ensures step { CutStep self.old.limits self.old.state kind (issued_in result) self.new.state }
+        ensures step { Step self.old.meta self.old.limits self.old.state (begun kind (update_in result)) self.new.state }
         ensures same { self.new ≡ record self.old { state = self.new.state } }
-        ensures given { IfOk result (IsCutOf kind self.old.state.log) }
+        ensures given { IfOk result (IsCutOf self.old.state kind) }
         ensures sound { IsSound self.new }
     {
         let limits = self.log.limits();
         cut(alloc, &mut self.shown, &limits, self.log.changes(), kind)
     }
 
-    /// Publishes the tables of the update with this ticket, and answers how many changes they stand
-    /// for. Where memory is wanting the update is still begun.
+    /// Publishes the update with this ticket, and answers how many changes the tables then stand for:
+    /// those of the update, or those that are published already if these are more. Out of memory the
+    /// update is still begun.
     pub fn swap(&mut self, alloc: Global, ticket: u64) -> Result<u64, Memory>
-        requires { IsOwned self.old.state ticket }
-        ensures step { SwapStep self.old.state ticket result self.new.state }
+        requires { IsTrue (is_begun self.old.state ticket) }
+        ensures step { Step self.old.meta self.old.limits self.old.state (swapped ticket result) self.new.state }
         ensures same { self.new ≡ record self.old { state = self.new.state } }
         ensures rises { IfOk result (λ number. self.old.state.published ≤ number) }
         ensures sound { IsSound self.new }
@@ -130,19 +141,18 @@ impl<K: Keeper> Engine<K> {
 
     /// Takes away the update with this ticket. It takes no memory, and the tables stay.
     pub fn drop_update(&mut self, ticket: u64)
-        requires { IsOwned self.old.state ticket }
-        ensures step { DropStep self.old.state ticket self.new.state }
+        requires { IsTrue (is_begun self.old.state ticket) }
+        ensures step { Step self.old.meta self.old.limits self.old.state (dropped ticket) self.new.state }
         ensures same { self.new ≡ record self.old { state = self.new.state } }
         ensures sound { IsSound self.new }
     {
-        let _ticket = ticket;
-        drop_staged(&mut self.shown);
+        drop_staged(&mut self.shown, ticket);
     }
 
-    /// The tables, where so many changes are published.
+    /// The tables, if so many changes are published.
     pub fn look(&self, asked: u64) -> Result<View, LookFault>
-        ensures step { LookStep self.now.state asked (published_in result) }
-        ensures tables { IfOk result (λ view. arc_value view.tables ≡ tables_of self.now.meta (take view.published self.now.state.log)) }
+        ensures step { Step self.now.meta self.now.limits self.now.state (looked asked (published_in result)) self.now.state }
+        ensures tables { IfOk result (λ view. contents_in (arc_value view.tables) ≡ tables_of self.now.meta (take view.published self.now.state.log)) }
     {
         look(&self.shown, asked)
     }
@@ -151,12 +161,14 @@ impl<K: Keeper> Engine<K> {
     pub fn standing(&self) -> Standing
         ensures changes { result.changes ≡ length self.now.state.log }
         ensures published { result.published ≡ self.now.state.published }
-        ensures staged { result.staged ≡ option_map (λ update. update.ticket) self.now.state.staged }
+        ensures full { result.full ≡ option_map (λ update. update.ticket) self.now.state.full }
+        ensures latest { result.latest ≡ option_map (λ update. update.ticket) self.now.state.latest }
     {
         Standing {
             changes: self.log.count(),
             published: self.shown.published,
-            staged: self.shown.staged.map(|update| update.ticket),
+            full: ticket_of(self.shown.full),
+            latest: ticket_of(self.shown.latest),
         }
     }
 

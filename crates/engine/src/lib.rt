@@ -1,17 +1,18 @@
-//! The machine: the log, the tables that stand for a front of it, and the updates that make new tables.
+//! The machine: the log, the tables that stand for its first changes, and the updates that make new tables.
 #![tactic(auto)]
 
-mod asked;
 mod bring;
 mod engine;
-mod judge;
+mod in_memory;
 mod laws;
 pub mod machine;
 mod tables;
 mod updates;
 
 pub use engine::Engine;
-pub use laws::{runs_are_in_order, steps_are_calls};
-pub use machine::{
-    ChangeFault, ChangeRequest, Cut, CutFault, LookFault, Report, Staged, Standing, View,
+pub use in_memory::{Unkept, engine_in_memory, load, tables_of_all};
+pub use laws::{
+    histories_are_in_order, published_never_falls, published_was_swapped, tickets_tell_updates,
 };
+pub use machine::{ChangeFault, Cut, CutFault, LookFault, Report, Staged, Standing, View};
+pub use tables::Tables;

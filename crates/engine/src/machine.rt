@@ -1,21 +1,11 @@
-//! What the machine is asked, and what it answers.
+//! What the machine answers.
+use crate::tables::Tables;
+use dh_base::codes::Refusal;
 use dh_base::items::Items;
 use dh_base::plain::CutKind;
 use dh_changes::change::Change;
 use std::sync::Arc;
-use table_rows::ListRows;
 use thiserror::Error;
-use value_forms::completion::Completion;
-use value_forms::set::ValueSet;
-
-/// What may be asked to be changed.
-#[derive(Drop)]
-pub enum ChangeRequest {
-    /// Data values are imported.
-    Values(ValueSet),
-    /// Data sets are registered as complete, or no longer.
-    Completion(Items<Completion>),
-}
 
 /// What a change that isn't refused came to.
 #[derive(Drop)]
@@ -28,16 +18,15 @@ pub struct Report {
 }
 
 /// Why a change isn't made.
-#[derive(Clone, Copy, Debug, Drop, PartialEq, Eq, Error)]
+#[derive(Drop)]
 pub enum ChangeFault {
+    /// A rule of its kind refuses it.
+    Refused(Refusal),
     /// The log with the change would pass this limit.
-    #[error("the log is full at {limit}")]
     LogFull { limit: u64 },
     /// The keeper failed.
-    #[error("the change could not be stored")]
     StoreFault,
-    /// Memory was wanting.
-    #[error("out of memory")]
+    /// Out of memory.
     Memory,
 }
 
@@ -45,7 +34,6 @@ pub enum ChangeFault {
 #[derive(Clone, Copy, PartialEq, Eq)]
 pub struct Staged {
     pub ticket: u64,
-    pub kind: CutKind,
     /// How many changes its tables will stand for.
     pub number: u64,
 }
@@ -59,20 +47,20 @@ pub struct Cut {
     pub number: u64,
     /// The years that may be made beforehand.
     pub years: Items<i32>,
-    /// The changes, the first of them with the number 1.
+    /// The changes from which the tables are made: all, or those after the last full update.
     pub changes: Vec<Arc<Change>>,
 }
 
 /// Why no update is begun.
 #[derive(Clone, Copy, Debug, Drop, PartialEq, Eq, Error)]
 pub enum CutFault {
-    /// An update with this ticket is begun already.
+    /// An update of the same kind is begun already, with this ticket.
     #[error("update {ticket} is staged")]
     Busy { ticket: u64 },
     /// So many updates were begun, and no more may be.
     #[error("all {limit} updates were made")]
     UpdatesSpent { limit: u64 },
-    /// Memory was wanting.
+    /// Out of memory.
     #[error("out of memory")]
     Memory,
 }
@@ -83,7 +71,7 @@ pub enum LookFault {
     /// Only so many changes are published.
     #[error("only {published} changes are published")]
     NotYet { published: u64 },
-    /// Memory was wanting.
+    /// Out of memory.
     #[error("out of memory")]
     Memory,
 }
@@ -92,13 +80,14 @@ pub enum LookFault {
 #[derive(Drop)]
 pub struct View {
     pub published: u64,
-    pub tables: Arc<ListRows>,
+    pub tables: Arc<Tables>,
 }
 
-/// How many changes there are, how many of them are published, and the ticket of the update that is begun.
+/// How many changes there are, how many of them are published, and the tickets of the updates that are begun.
 #[derive(Clone, Copy, PartialEq, Eq)]
 pub struct Standing {
     pub changes: u64,
     pub published: u64,
-    pub staged: Option<u64>,
+    pub full: Option<u64>,
+    pub latest: Option<u64>,
 }

@@ -1,17 +1,20 @@
-//! The tables that are published, and the update that is begun.
-ghost use Rattle.std.specs.Prelude.{◌≡◌, ◌≤◌, ◌<◌, ◌^◌, ◌+◌, ◌-◌, List, length, map, take, Some, IfOk, OnOk, OnErr, None};
+//! The tables that are published, and the updates that are begun.
+ghost use Rattle.std.specs.Prelude.{◌≡◌, ◌≤◌, ◌<◌, ◌^◌, ◌+◌, ◌-◌, IsTrue, List, length, map, take, drop, max, Some, IfOk, OnOk, OnErr, None, Ok};
 ghost use Rattle.std.specs.Arc.{arc_value};
 ghost use Rattle.std.specs.List.{All};
 ghost use Rattle.dh_changes.specs.declared.change.Change.{Change};
 ghost use Rattle.change_bytes.specs.Forms.{WriteFits};
 ghost use Rattle.meta_parts.specs.declared.held.Records.{Records};
 ghost use Rattle.change_log.specs.Log.{writes_of};
-ghost use Rattle.engine.specs.Machine.{IsOwned, CutStep, SwapStep, LookStep};
+ghost use Rattle.change_log.specs.declared.limits.Limits.{Limits as LogLimits};
+ghost use Rattle.engine.specs.Machine.{by_kind, with_staged, has_ticket, is_begun, kind_by, number_of, number_in, published_by, after_cut, after_drop};
+ghost use Rattle.table_rows.specs.Store.{contents_in};
 ghost use Rattle.engine.specs.Tables.{tables_of};
-ghost use Rattle.engine.specs.Seen.{state_of, issued_in, published_in, IsCutOf, refused_by, spent_of, number_in, IsInOrder};
+ghost use Rattle.engine.specs.Histories.{IsInOrder};
+ghost use Rattle.engine.specs.Seen.{state_of, update_in, published_in, IsCutOf, refused_by, spent_of, Cuts, Swaps, Looks};
 
 use crate::machine::{Cut, CutFault, LookFault, Staged, View};
-use crate::tables::tables_of;
+use crate::tables::{Tables, tables_of};
 use change_log::Limits;
 use dh_base::items::Items;
 use dh_base::memory::Memory;
@@ -20,16 +23,18 @@ use dh_changes::change::Change;
 use dh_metadata::metadata::Metadata;
 use std::alloc::Global;
 use std::sync::Arc;
-use table_rows::ListRows;
 
 #[derive(Drop)]
 pub(crate) struct Shown {
-    pub(crate) tables: Arc<ListRows>,
+    pub(crate) tables: Arc<Tables>,
     // How many changes the tables stand for.
     pub(crate) published: u64,
+    // How many changes the last full update stood for.
+    pub(crate) base_cut: u64,
     // The last ticket that was given.
     pub(crate) ticket: u64,
-    pub(crate) staged: Option<Staged>,
+    pub(crate) full: Option<Staged>,
+    pub(crate) latest: Option<Staged>,
 }
 
 fn copied(alloc: Global, changes: &[Arc<Change>]) -> Result<Vec<Arc<Change>>, Memory>
@@ -42,15 +47,56 @@ fn copied(alloc: Global, changes: &[Arc<Change>]) -> Result<Vec<Arc<Change>>, Me
     Ok(copy)
 }
 
-// Why no update may be begun.
-fn refusal(shown: &Shown, limits: &Limits) -> Option<CutFault>
-    ensures { result ≡ refused_by shown.now.staged shown.now.ticket limits.now.updates }
+// The changes after the first ones.
+fn copied_after(
+    alloc: Global,
+    changes: &[Arc<Change>],
+    first: u64,
+) -> Result<Vec<Arc<Change>>, Memory>
+    requires { first ≤ length changes.now }
+    ensures { IfOk result (λ copy. map arc_value copy.items ≡ drop first (map arc_value changes.now)) }
 {
-    match shown.staged {
+    copied(alloc, &changes[first as usize..])
+}
+
+// The update of a kind that is begun.
+fn staged_of(shown: &Shown, kind: CutKind) -> Option<Staged>
+    ensures { result ≡ by_kind kind shown.now.full shown.now.latest }
+{
+    match kind {
+        CutKind::Full => shown.full,
+        CutKind::Latest => shown.latest,
+    }
+}
+
+fn set_staged(shown: &mut Shown, kind: CutKind, staged: Option<Staged>)
+    ensures { shown.new ≡ record shown.old { full = by_kind kind staged shown.old.full; latest = by_kind kind shown.old.latest staged } }
+{
+    match kind {
+        CutKind::Full => shown.full = staged,
+        CutKind::Latest => shown.latest = staged,
+    }
+}
+
+// How many changes the yearly tables stand for, if the update needs only those after them.
+fn first_for(shown: &Shown, kind: CutKind) -> u64
+    ensures { result ≡ by_kind kind 0 shown.now.base_cut }
+{
+    match kind {
+        CutKind::Full => 0,
+        CutKind::Latest => shown.base_cut,
+    }
+}
+
+// Why no update may be begun.
+fn refusal(staged: Option<Staged>, ticket: u64, limit: u64) -> Option<CutFault>
+    ensures { result ≡ refused_by staged ticket limit }
+{
+    match staged {
         Some(update) => Some(CutFault::Busy {
             ticket: update.ticket,
         }),
-        None => spent(shown.ticket, limits.updates),
+        None => spent(ticket, limit),
     }
 }
 
@@ -68,18 +114,18 @@ fn spent(ticket: u64, limit: u64) -> Option<CutFault>
 fn stage(shown: &mut Shown, kind: CutKind, number: u64) -> u64
     requires { shown.old.ticket < 2 ^ 64 - 1 }
     ensures ticket { result ≡ shown.old.ticket + 1 }
-    ensures staged { shown.new ≡ record shown.old { ticket = shown.old.ticket + 1; staged = Some (record { ticket = shown.old.ticket + 1; kind = kind; number = number }) } }
+    ensures staged { (log : List Change) → state_of log shown.new ≡ after_cut (state_of log shown.old) kind (Ok (record { ticket = shown.old.ticket + 1; number = number })) }
+    ensures published { shown.new.published ≡ shown.old.published }
+    ensures tables { shown.new.tables ≡ shown.old.tables }
 {
-    shown.ticket += 1;
-    shown.staged = Some(Staged {
-        ticket: shown.ticket,
-        kind,
-        number,
-    });
-    shown.ticket
+    let ticket = shown.ticket + 1;
+    shown.ticket = ticket;
+    set_staged(shown, kind, Some(Staged { ticket, number }));
+    ticket
 }
 
-pub(crate) fn cut(
+#[tactic(auto, using(crate::proofs::Orders::refused_cuts))]
+fn begin(
     alloc: Global,
     shown: &mut Shown,
     limits: &Limits,
@@ -88,16 +134,15 @@ pub(crate) fn cut(
 ) -> Result<Cut, CutFault>
     requires order { IsInOrder limits.now (state_of (map arc_value changes.now) shown.old) }
     requires limits { limits.now.updates ≤ 1000000000000 }
-    ensures step { CutStep limits.now (state_of (map arc_value changes.now) shown.old) kind (issued_in result) (state_of (map arc_value changes.now) shown.new) }
-    ensures order { IsInOrder limits.now (state_of (map arc_value changes.now) shown.new) }
+    ensures step { Cuts limits.now (state_of (map arc_value changes.now) shown.old) kind (update_in result) (state_of (map arc_value changes.now) shown.new) }
     ensures same { shown.new.tables ≡ shown.old.tables }
     ensures published { shown.new.published ≡ shown.old.published }
-    ensures given { IfOk result (IsCutOf kind (map arc_value changes.now)) }
+    ensures given { IfOk result (IsCutOf (state_of (map arc_value changes.now) shown.old) kind) }
 {
-    if let Some(fault) = refusal(shown, limits) {
+    if let Some(fault) = refusal(staged_of(shown, kind), shown.ticket, limits.updates) {
         return Err(fault);
     }
-    let Ok(copy) = copied(alloc, changes) else {
+    let Ok(copy) = copied_after(alloc, changes, first_for(shown, kind)) else {
         return Err(CutFault::Memory);
     };
     let number = changes.len() as u64;
@@ -111,40 +156,107 @@ pub(crate) fn cut(
     })
 }
 
-// The number of the update with this ticket.
-fn number_of(shown: &Shown, ticket: u64) -> Option<u64>
-    ensures { result ≡ number_in shown.now.staged ticket }
+#[tactic(auto, using(crate::proofs::Orders::cuts_in_order))]
+pub(crate) fn cut(
+    alloc: Global,
+    shown: &mut Shown,
+    limits: &Limits,
+    changes: &[Arc<Change>],
+    kind: CutKind,
+) -> Result<Cut, CutFault>
+    requires order { IsInOrder limits.now (state_of (map arc_value changes.now) shown.old) }
+    requires limits { limits.now.updates ≤ 1000000000000 }
+    ensures step { Cuts limits.now (state_of (map arc_value changes.now) shown.old) kind (update_in result) (state_of (map arc_value changes.now) shown.new) }
+    ensures order { IsInOrder limits.now (state_of (map arc_value changes.now) shown.new) }
+    ensures same { shown.new.tables ≡ shown.old.tables }
+    ensures published { shown.new.published ≡ shown.old.published }
+    ensures given { IfOk result (IsCutOf (state_of (map arc_value changes.now) shown.old) kind) }
 {
-    match shown.staged {
-        Some(update) if update.ticket == ticket => Some(update.number),
-        _ => None,
+    begin(alloc, shown, limits, changes, kind)
+}
+
+fn has_ticket(staged: Option<Staged>, ticket: u64) -> bool
+    ensures { result ≡ has_ticket ticket staged }
+{
+    match staged {
+        Some(update) => update.ticket == ticket,
+        None => false,
+    }
+}
+
+fn kind_of(shown: &Shown, ticket: u64) -> CutKind
+    ensures { result ≡ kind_by ticket shown.now.full }
+{
+    if has_ticket(shown.full, ticket) {
+        CutKind::Full
+    } else {
+        CutKind::Latest
+    }
+}
+
+fn number_in(staged: Option<Staged>) -> u64
+    ensures { result ≡ number_in staged }
+{
+    match staged {
+        Some(update) => update.number,
+        None => 0,
     }
 }
 
 // Publishes tables that stand for so many changes.
-fn publish(shown: &mut Shown, tables: Arc<ListRows>, number: u64)
-    ensures { shown.new ≡ record { tables = tables; published = number; ticket = shown.old.ticket; staged = None } }
+fn publish(shown: &mut Shown, tables: Arc<Tables>, kind: CutKind, number: u64, published: u64)
+    ensures tables { shown.new.tables ≡ tables }
+    ensures published { shown.new.published ≡ published }
+    ensures state { (log : List Change) → state_of log shown.new ≡ with_staged (published_by (state_of log shown.old) kind number published) kind None }
 {
     shown.tables = tables;
-    shown.published = number;
-    shown.staged = None;
+    shown.published = published;
+    match kind {
+        CutKind::Full => shown.base_cut = number,
+        CutKind::Latest => (),
+    }
+    set_staged(shown, kind, None);
 }
 
 // The tables of the first changes.
-fn tables_of_front(
+fn tables_of_first(
     alloc: Global,
     meta: &Metadata,
     changes: &[Arc<Change>],
     number: u64,
-) -> Result<Arc<ListRows>, Memory>
+) -> Result<Arc<Tables>, Memory>
     requires within { number ≤ length changes.now }
     requires few { length (writes_of (map arc_value changes.now)) ≤ 4194304 }
     requires fits { All WriteFits (writes_of (map arc_value changes.now)) }
-    ensures { IfOk result (λ tables. arc_value tables ≡ tables_of meta.now (take number (map arc_value changes.now))) }
+    ensures { IfOk result (λ tables. contents_in (arc_value tables) ≡ tables_of meta.now (take number (map arc_value changes.now))) }
 {
     tables_of(alloc, meta, &changes[..number as usize])
 }
 
+fn swap_in(
+    alloc: Global,
+    shown: &mut Shown,
+    meta: &Metadata,
+    changes: &[Arc<Change>],
+    ticket: u64,
+) -> Result<u64, Memory>
+    requires begun { IsTrue (is_begun (state_of (map arc_value changes.now) shown.old) ticket) }
+    requires there { max shown.old.published (number_of (state_of (map arc_value changes.now) shown.old) ticket) ≤ length changes.now }
+    requires few { length (writes_of (map arc_value changes.now)) ≤ 4194304 }
+    requires fits { All WriteFits (writes_of (map arc_value changes.now)) }
+    ensures step { Swaps (state_of (map arc_value changes.now) shown.old) ticket result (state_of (map arc_value changes.now) shown.new) }
+    ensures tables { OnOk result (contents_in (arc_value shown.new.tables) ≡ tables_of meta.now (take shown.new.published (map arc_value changes.now))) }
+    ensures err { OnErr result (shown.new ≡ shown.old) }
+{
+    let kind = kind_of(shown, ticket);
+    let number = number_in(staged_of(shown, kind));
+    let published = shown.published.max(number);
+    let tables = tables_of_first(alloc, meta, changes, published)?;
+    publish(shown, tables, kind, number, published);
+    Ok(published)
+}
+
+#[tactic(auto, using(crate::proofs::Orders::swap_is_there, crate::proofs::Orders::swaps_in_order, crate::proofs::Orders::swap_rises))]
 pub(crate) fn swap(
     alloc: Global,
     shown: &mut Shown,
@@ -154,28 +266,23 @@ pub(crate) fn swap(
     ticket: u64,
 ) -> Result<u64, Memory>
     requires order { IsInOrder limits.now (state_of (map arc_value changes.now) shown.old) }
-    requires owned { IsOwned (state_of (map arc_value changes.now) shown.old) ticket }
+    requires begun { IsTrue (is_begun (state_of (map arc_value changes.now) shown.old) ticket) }
     requires few { length (writes_of (map arc_value changes.now)) ≤ 4194304 }
     requires fits { All WriteFits (writes_of (map arc_value changes.now)) }
-    ensures step { SwapStep (state_of (map arc_value changes.now) shown.old) ticket result (state_of (map arc_value changes.now) shown.new) }
+    ensures step { Swaps (state_of (map arc_value changes.now) shown.old) ticket result (state_of (map arc_value changes.now) shown.new) }
     ensures order { IsInOrder limits.now (state_of (map arc_value changes.now) shown.new) }
-    ensures tables { OnOk result (arc_value shown.new.tables ≡ tables_of meta.now (take shown.new.published (map arc_value changes.now))) }
+    ensures tables { OnOk result (contents_in (arc_value shown.new.tables) ≡ tables_of meta.now (take shown.new.published (map arc_value changes.now))) }
     ensures err { OnErr result (shown.new ≡ shown.old) }
     ensures rises { IfOk result (λ number. shown.old.published ≤ number) }
 {
     let _limits = limits;
-    let Some(number) = number_of(shown, ticket) else {
-        return Err(Memory);
-    };
-    let tables = tables_of_front(alloc, meta, changes, number)?;
-    publish(shown, tables, number);
-    Ok(number)
+    swap_in(alloc, shown, meta, changes, ticket)
 }
 
 pub(crate) fn look(shown: &Shown, asked: u64) -> Result<View, LookFault>
-    ensures step { (log : List Change) → LookStep (state_of log shown.now) asked (published_in result) }
-    ensures tables { (meta : Records) → (log : List Change) → arc_value shown.now.tables ≡ tables_of meta (take shown.now.published log)
-        → IfOk result (λ view. arc_value view.tables ≡ tables_of meta (take view.published log)) }
+    ensures step { (log : List Change) → Looks (state_of log shown.now) asked (published_in result) }
+    ensures tables { (meta : Records) → (log : List Change) → contents_in (arc_value shown.now.tables) ≡ tables_of meta (take shown.now.published log)
+        → IfOk result (λ view. contents_in (arc_value view.tables) ≡ tables_of meta (take view.published log)) }
 {
     if shown.published < asked {
         return Err(LookFault::NotYet {
@@ -191,9 +298,22 @@ pub(crate) fn look(shown: &Shown, asked: u64) -> Result<View, LookFault>
     }
 }
 
-// Takes away the update that is begun.
-pub(crate) fn drop_staged(shown: &mut Shown)
-    ensures { shown.new ≡ record shown.old { staged = None } }
+// Takes away the update with this ticket.
+fn take_away(shown: &mut Shown, ticket: u64)
+    ensures tables { shown.new.tables ≡ shown.old.tables }
+    ensures published { shown.new.published ≡ shown.old.published }
+    ensures state { (log : List Change) → state_of log shown.new ≡ after_drop (state_of log shown.old) ticket }
 {
-    shown.staged = None;
+    let kind = kind_of(shown, ticket);
+    set_staged(shown, kind, None);
+}
+
+#[tactic(auto, using(crate::proofs::Orders::drop_in_order))]
+pub(crate) fn drop_staged(shown: &mut Shown, ticket: u64)
+    ensures tables { shown.new.tables ≡ shown.old.tables }
+    ensures published { shown.new.published ≡ shown.old.published }
+    ensures state { (log : List Change) → state_of log shown.new ≡ after_drop (state_of log shown.old) ticket }
+    ensures order { (limits : LogLimits) → (log : List Change) → IsInOrder limits (state_of log shown.old) → IsInOrder limits (state_of log shown.new) }
+{
+    take_away(shown, ticket);
 }

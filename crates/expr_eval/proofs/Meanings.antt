@@ -73,7 +73,7 @@ module _ (entries : List (Option Fraction)) where
     all = λ rest stack. h rest stack ∙ sym (bind_assoc v (λ c. Ok (c ∷ [])) (λ cs. run entries rest 0 (reverse cs ++ stack)));
   }
 
-  -- a code, and one instruction behind it
+  -- a code, and one instruction after it
   then_instr : (code : List Instr) (v : Result Cell Value) (i : Instr) (f : Cell → Result Cell Value) → ((c : Cell) (stack : List Cell) → act entries i (c ∷ stack) ≡ put_on stack (f c)) → Leaves code v → Leaves (code ++ i ∷ []) (then_with v f)
   then_instr code v i f does h rest stack =
       ap (λ (x : List Instr). run entries x 0 stack) (append_assoc code (i ∷ []) rest)
@@ -81,7 +81,7 @@ module _ (entries : List (Option Fraction)) where
       ∙ bind_same v (λ c. run entries (i ∷ rest) 0 (c ∷ stack)) (λ c. then_with (f c) (λ d. run entries rest 0 (d ∷ stack))) (λ c. ap (go_to (run entries rest)) (does c stack) ∙ puts (f c) rest stack)
       ∙ sym (bind_assoc v f (λ d. run entries rest 0 (d ∷ stack)))
 
-  -- two codes, and an operator behind them
+  -- two codes, and an operator after them
   then_two : (x y : List Instr) (v w : Result Cell Value) (i : Instr) (f : Cell → Cell → Result Cell Value) → ((a b : Cell) (stack : List Cell) → act entries i (b ∷ a ∷ stack) ≡ put_on stack (f a b)) → Leaves x v → Leaves y w → Leaves (x ++ (y ++ i ∷ [])) (then_with v (λ a. then_with w (λ b. f a b)))
   then_two x y v w i f does h k rest stack =
       ap (λ (c : List Instr). run entries c 0 stack) (append_assoc x (y ++ i ∷ []) rest ∙ ap (λ (c : List Instr). x ++ c) (append_assoc y (i ∷ []) rest))
@@ -118,7 +118,7 @@ module _ (entries : List (Option Fraction)) where
       (λ a. or_tests (truth_of a) y w k rest stack)
       ∙ sym (bind_assoc v (λ a. cond (truth_of a) (Ok (cell.Truth true)) w) (λ d. run entries rest 0 (d ∷ stack)))
 
-  -- behind the test of an `if`
+  -- after the test of an `if`
   if_tests : (b : Bool) (y z : List Instr) (w u : Result Cell Value) → Leaves y w → Leaves z u → (rest : List Instr) (stack : List Cell)
       → run entries (y ++ (instr.GoOn (length z) ∷ (z ++ rest))) (cond b 0 (length y + 1)) stack ≡ then_with (cond b w u) (λ d. run entries rest 0 (d ∷ stack))
   if_tests true y z w u k m rest stack =

@@ -138,7 +138,7 @@ run entries [] skip stack = Ok stack
 run entries (i ∷ code) (suc skip) stack = run entries code skip stack
 run entries (i ∷ code) zero stack = go_to (run entries code) (act entries i stack)
 
--- the place of the next instruction behind one at a place and so many that are passed
+-- the place of the next instruction after one at a place and so many that are passed
 abbrev pub passed_to : ℕ → ℕ → ℕ → ℕ
 passed_to at skip count = min (at + 1 + skip) count
 

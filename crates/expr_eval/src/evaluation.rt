@@ -206,7 +206,7 @@ fn act(entries: &[Option<Frac>], instr: &Instr, stack: &mut Stack<Cell>) -> Resu
     }
 }
 
-/// The place of the next instruction behind so many that are passed.
+/// The place of the next instruction after so many that are passed.
 fn passed(at: usize, skip: usize, count: usize) -> usize
     requires { at < count }
     ensures within { result ≤ count }

@@ -35,7 +35,7 @@ pub joins : (cf : CallFrame) (nodes : List Spot) → 1 ≤ cf.count → is_list_
 joins cf nodes some list = let t : nat_lt 0 cf.count ≡ true = grind (arith, nat_tests) in ap (λ (x : Bool). cond (x && is_list_of cf.call) (nodes ++ spot_of cf.at (node.Binary binary.Comma) ∷ []) nodes) t ∙ ap (λ (x : Bool). cond x (nodes ++ spot_of cf.at (node.Binary binary.Comma) ∷ []) nodes) list
 
 module _ (p : Place) (days : List (List ℕ)) (text : List ℕ) where
-  -- an argument and the comma behind it
+  -- an argument and the comma after it
   pub record Comma (cf : CallFrame) (fs : List Frame) (ns : List Spot) (q : Bool) (r : Reader) (at : ℕ) (bytes rest : List ℕ) (told : Told) : Type 0 where
     pub own : List Spot
     pub opened : ℕ
@@ -188,7 +188,7 @@ module _ (p : Place) (days : List (List ℕ)) (text : List ℕ) where
     at_within : (at : ℕ) (bytes : List ℕ) → At text at bytes → at + length bytes ≤ 4096
     at_within at bytes here = omega (arith, here.all)
 
-    -- the comma behind arguments
+    -- the comma after arguments
     more_argument : (name : Call) (k : ℕ) (fs : List Frame) (ns : List Spot) (q : Bool) (r : Reader) (at : ℕ) (bytes b behind : List ℕ) (shape : Told) → later_argument name ≡ expect.Operand → most_arguments name ≡ 4096 → IsBlank b
         → (one : Listing (call_frame k name 0) fs ns q r at bytes (symbol_text b symbol.Comma behind) shape)
         → (past : ℕ) × Goes p text (rd (expect.Operator one.power) one.frames one.nodes one.opened one.crowded q) one.past (symbol_text b symbol.Comma behind) (rd expect.Operand (frame.Call (counted_of one.last) ∷ fs) (ns ++ one.own) one.opened one.crowded q) past behind × (one.past + 1 ≤ past)

@@ -65,7 +65,7 @@ blank_calm c e =
     at : (k : ℕ) → c ≡ k → (is_ascii_digit k ≡ false) × (nat_eq k 46 ≡ false) × (nat_eq 61 k ≡ false) → (is_ascii_digit c ≡ false) × (nat_eq c 46 ≡ false) × (nat_eq 61 c ≡ false)
     at k same h = subst (λ (x : ℕ). (is_ascii_digit x ≡ false) × (nat_eq x 46 ≡ false) × (nat_eq 61 x ≡ false)) (sym same) h
 
--- a word that begins so, behind blanks
+-- a word that begins so, after blanks
 pub calm_follows : (b t rest : List ℕ) → IsBlank b → first_is (λ c. not (is_ascii_digit c) && not (nat_eq c 46)) t ≡ true → Follows (after_blanks b t rest)
 calm_follows [] [] rest h e = absurd cc
 calm_follows [] (c ∷ cs) rest h e = let parts = both (not (is_ascii_digit c)) (not (nat_eq c 46)) e in (not_true _ parts.0, not_true _ parts.1)
@@ -219,7 +219,7 @@ pub behind_both : (text : List ℕ) (days : List (List ℕ)) (xs ys : List Spot)
 behind_both text days [] ys stack = refl
 behind_both text days (x ∷ xs) ys stack = behind_both text days xs ys (shapes_after text days x.at x.node stack)
 
--- the nodes are those of a tree, each behind its operands
+-- the nodes are those of a tree, each after its operands
 pub record Evals (text : List ℕ) (days : List (List ℕ)) (nodes : List Spot) (tree : Shape) : Type 0 where
   pub is : (stack : List Shape) → shapes_behind text days nodes stack ≡ tree ∷ stack
 

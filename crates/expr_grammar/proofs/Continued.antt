@@ -81,7 +81,7 @@ front_most (c ∷ cs) (b ∷ bs) = by_test (fits_of c b) (front_most cs bs)
     by_test true h = omega arith
     by_test false h = omega arith
 
--- a front that is no word is that of a longer one
+-- a prefix that is no word is that of a longer one
 record Longer (all : List Symbol) (allowed : Allowed) (bytes : List ℕ) (n : ℕ) : Type 0 where
   word : Symbol
   among : IsAmong word all
@@ -290,7 +290,7 @@ exponent_err bytes n h = by_tests (nat_eq (digit_count 2 bytes) 0) (nat_le (digi
     by_tests false true x y e = absurd cc
     by_tests false false x y e = absurd cc
 
--- digits, and a point behind them
+-- digits, and a point after them
 record Pointed (bytes : List ℕ) (n : ℕ) : Type 0 where
   digits : List ℕ
   rest : List ℕ
@@ -501,7 +501,7 @@ one_quote [] q h = absurd h
 one_quote (b ∷ []) q h = let e : nat_eq b 39 ≡ true = grind (arith, nat_tests, h.0) in ap (λ (t : Bool). cond t (not q) q) e
 one_quote (b ∷ c ∷ cs) q h = absurd h.1
 
--- the quoted text behind a token
+-- the quoted text after a token
 mark_cases : (t : Token) → (is_mark t ≡ false) ⊎ (t ≡ token.Word symbol.Quote)
 mark_cases (token.Word symbol.Quote) = inr refl
 mark_cases t = inl refl

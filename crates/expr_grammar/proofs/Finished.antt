@@ -92,7 +92,7 @@ many_takes call.Greatest F h = (refl, tt)
 many_takes call.Least F h = (refl, tt)
 many_takes name F h = absurd h
 
--- a form stands there, and the words that close come behind these blanks
+-- a form stands there, and the words that close come after these blanks
 pub finish_parts : (p : Place) (ps : List Part) (F : Form) (w : List ℕ) → IsBlank w → Fit p ps → IsForm p (quoted_of ps) (hole ps) F → Ends p w (λ rest. spelled_parts ps (spelled F rest))
 finish_parts p [] F w blank fit is = record { more = []; form = F; behind = w ++ []; blank = subst IsBlank (sym (nothing w)) blank; whole = whole_is p F is; same = refl }
   where

@@ -244,7 +244,7 @@ open_token expect.Operand at fs ns o c q h = refl
 open_token e at fs ns o c q h = absurd h
 
 module _ (p : Place) (text : List ℕ) where
-  -- the reader gets to a state somewhere behind
+  -- the reader gets to a state somewhere after
   abbrev pub Comes : Reader → ℕ → List ℕ → Reader → List ℕ → Type 0
   Comes r at bytes to rest = (past : ℕ) × Goes p text r at bytes to past rest
 
@@ -322,7 +322,7 @@ module _ (p : Place) (text : List ℕ) where
   sign_move e fs ns o c q at b sign rest h blank is here = absurd is
 
   module _ (power : Bool) (F : List Frame) (N : List Spot) (o : ℕ) (c : Option ℕ) (q : Bool) (at : ℕ) (b rest : List ℕ) (blank : IsBlank b) where
-    -- behind an operand, where a call or a bracket or a quote is open
+    -- after an operand, where a call or a bracket or a quote is open
     pub comma_move : (cf : CallFrame) (fs : List Frame) (ns : List Spot) → enclosing_of F ≡ Some (frame.Call cf) → frames_reduced 1 F ≡ frame.Call cf ∷ fs → nodes_reduced 1 F N ≡ ns → cf.count + 1 < most_arguments cf.call → At text at (symbol_text b symbol.Comma rest)
         → Comes (rd (expect.Operator power) F N o c q) at (symbol_text b symbol.Comma rest) (rd (later_argument cf.call) (frame.Call (counted_of cf) ∷ fs) (joined cf ns) o c q) rest
     unfolding with_token with_word with_comma allowed_after

@@ -53,7 +53,7 @@ value_behind n [] = omega arith
 value_behind n (d ∷ ds) =
     omega (arith, value_behind (n * 10 + digit_value d) ds, value_behind (0 * 10 + digit_value d) ds, ap (λ (x : ℕ). n * x) (ten_more (length ds)))
 
--- ---- behind the point
+-- ---- after the point
 
 digit_below : (k n : ℕ) → n < 10 ^ suc k → n / 10 ^ k < 10
 digit_below k n lt = below (10 ^ k) n (tens_some k) (omega (arith, ten_more k))

@@ -317,7 +317,7 @@ text_counts p text nodes e = read_counts p most_words new_reader 0 text (bracket
 abbrev deepened : Brackets → ℕ → Brackets
 deepened s m = brackets s.now (max s.most (s.now + m))
 
--- behind a form as many are open as before it
+-- after a form as many are open as before it
 abbrev Deepens : (List ℕ → List ℕ) → ℕ → Type 0
 Deepens write m = (rest : List ℕ) (s : Brackets) → s.now ≤ s.most → scanned (write rest) s ≡ scanned rest (deepened s m)
 

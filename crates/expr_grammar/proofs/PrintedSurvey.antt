@@ -98,7 +98,7 @@ known_three place k l m test one other f g h =
 known_leaf : (place : ℕ) (it : Leaf) → IsKnown (leaf_known_of place it) (Operand it)
 known_leaf place it = record { depth = refl; sort = refl; fits = refl }
 
--- ---- of nodes behind one another
+-- ---- of nodes one after another
 
 -- how many operands a node has
 abbrev operands_in : Node → ℕ

@@ -24,7 +24,7 @@ use Rattle.expr_grammar.proofs.Steps.{At, Goes, then_goes}
 use Rattle.expr_grammar.proofs.Moves.{rd, IsOpen, Comes, number_move, item_move, open_move, sign_move, caret_move, exponent_move, operator_move, bracket_move}
 use Rattle.expr_grammar.proofs.Completed.{Told, told_of, Tells, Follows, calm_follows, close_calm, caret_calm, operator_calm, form_starts, Loose, loose_up, loose_same, levels, evals_one, evals_two, evals_number, evals_item}
 
--- the reader behind a form that stands where these frames and nodes were
+-- the reader after a form that stands where these frames and nodes were
 pub record After (L : ℕ) (fs : List Frame) (ns : List Spot) (power : Bool) (frames : List Frame) (nodes own : List Spot) : Type 0 where
   pub atom : 8 ≤ L → (power ≡ true) × (frames ≡ fs) × (nodes ≡ ns ++ own)
   pub outer : enclosing_of frames ≡ enclosing_of fs
@@ -53,7 +53,7 @@ module _ (p : Place) (days : List (List ℕ)) (text : List ℕ) where
   same_after : (L : ℕ) (fs : List Frame) (ns own : List Spot) → After L fs ns true fs (ns ++ own) own
   same_after L fs ns own = record { atom = λ le. (refl, refl, refl); outer = refl; reduced = λ k le. refl; whole = λ k le. refl; compared = λ le. refl }
 
-  -- an atom leaves no frame behind
+  -- an atom leaves no frame after
   pub whole : (L : ℕ) (fs : List Frame) (ns : List Spot) (q : Bool) (r : Reader) (at : ℕ) (bytes rest : List ℕ) (tree : Told) (o : ℕ) (c : Option ℕ) (own : List Spot) → Comes p text r at bytes (rd (expect.Operator true) fs (ns ++ own) o c q) rest → Tells text days own tree → Reading L fs ns q r at bytes rest tree
   whole L fs ns q r at bytes rest tree o c own g h = record { power = true; frames = fs; nodes = ns ++ own; opened = o; crowded = c; past = g.0; own = own; goes = g.1; after = same_after L fs ns own; tree = h }
 

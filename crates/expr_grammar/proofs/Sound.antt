@@ -292,7 +292,7 @@ module _ (p : Place) (text : List ℕ) where
       let may' : May (expect_of s) (stage_frames s) (stage_quoted s) p t = subst (λ (x : Reader). May x.expect x.frames x.quoted p t) e may in
       subst (λ (x : Reader). Next p s (with_token x at t) b lexeme) (sym e) (token_next p r.nodes r.opened r.crowded at b blank s t lexeme v may' is)
 
-  -- the reader goes on behind a token, and not only for so many
+  -- the reader goes on after a token, and not only for so many
   abbrev Sound : ℕ → Type 0
   Sound n = (s : Stage) (r : Reader) (at : ℕ) (bytes : List ℕ) (nodes : Nodes) → Like s r → Valid p s → text ≡ spelled_stage s bytes → read_rest p n r at bytes ≡ Ok nodes → IsText
 

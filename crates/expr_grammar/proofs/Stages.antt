@@ -202,7 +202,7 @@ module _ (p : Place) (ns : List Spot) (o : ℕ) (c : Option ℕ) (at : ℕ) (b :
         spell = λ rest. refl;
       }
 
-  -- ---- behind a name, a quote, a caret
+  -- ---- after a name, a quote, a caret
 
   pub named_open : (ps : List Part) (d : List ℕ) (name : Call) (k : ℕ) → Valid p (Named ps d name k) → After (Named ps d name k) (token.Word symbol.Open) (text_of symbol.Open)
   unfolding with_token with_word with_open

@@ -34,7 +34,7 @@ nothing_behind : (xs : List ℕ) → xs ++ [] ≡ xs
 nothing_behind [] = refl
 nothing_behind (x ∷ xs) = ap (λ (l : List ℕ). x ∷ l) (nothing_behind xs)
 
--- behind the last word
+-- after the last word
 pub read_end : (p : Place) (n : ℕ) (r : Reader) (at : ℕ) (b : List ℕ) → IsBlank b → read_rest p (suc n) r at b ≡ ended r (at + length b)
 read_end p n r at b blank =
     let count : blank_count b ≡ length b = ap blank_count (sym (nothing_behind b)) ∙ blank_is b [] blank refl in

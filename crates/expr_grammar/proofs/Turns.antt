@@ -190,7 +190,7 @@ module _ (p : Place) (ns : List Spot) (o : ℕ) (c : Option ℕ) (at : ℕ) (b :
   comma_quoted (frame.Quote ∷ fs) nodes r = refl
   comma_quoted (frame.Call cf ∷ fs) nodes r = refl
 
-  -- the comma behind an argument
+  -- the comma after an argument
   record Goes_on (parts : List Part) (G : Form) (nodes : List Spot) (r : Reader) : Type 0 where
     to : List Part
     spell : (rest : List ℕ) → spelled_parts parts (spelled G (symbol_text b symbol.Comma rest)) ≡ spelled_parts to rest

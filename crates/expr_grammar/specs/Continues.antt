@@ -3,7 +3,7 @@ use Rattle.std.specs.Prelude.{◌≡◌, ℕ, ◌≤◌, Bool, false, not, List,
 use Rattle.expr_lang.specs.declared.tree.Place.{Place}
 use Rattle.expr_grammar.specs.Grammar.{Form, IsTextOf}
 
--- whether a quoted text is open behind these bytes
+-- whether a quoted text is open after these bytes
 abbrev pub is_quoted : Bool → List ℕ → Bool
 is_quoted inside [] = inside
 is_quoted inside (b ∷ bs) = is_quoted (if nat_eq b 39 then not inside else inside) bs

@@ -14,9 +14,9 @@
 --                | "d2:daysBetween" "(" expr "," expr ")"
 --                | name "(" arguments ")"
 --     arguments := arguments "," expr | expr                           level 0
---     number    := 1 to 12 digits, and behind a point 1 to 6 digits if a point stands there
+--     number    := 1 to 12 digits, and after a point 1 to 6 digits if a point stands there
 --
--- Blanks may stand before each word and behind the last. Which items and calls there are depends on the place.
+-- Blanks may stand before each word and after the last. Which items and calls there are depends on the place.
 use Rattle.std.specs.Prelude.{◌≡◌, ℕ, ◌+◌, ◌-◌, ◌*◌, ◌^◌, ◌≤◌, Bool, true, false, ◌&&◌, ◌⊎◌, List, [], ◌∷◌, ◌++◌, codes, length}
 use Rattle.std.specs.Char.{is_ascii_digit}
 use Rattle.std.specs.Str.Parse.{digits_value}
@@ -54,7 +54,7 @@ pub data Form : Type 0 where
   DaysBetween : List ℕ → List ℕ → Form → List ℕ → Form → List ℕ → Form
   Apply : List ℕ → Call → List ℕ → Form → List ℕ → Form
 
--- the decimals behind their point, if there are any
+-- the decimals after their point, if there are any
 abbrev pub behind_point : List ℕ → List ℕ
 behind_point [] = []
 behind_point (d ∷ ds) = 46 ∷ d ∷ ds
@@ -63,14 +63,14 @@ abbrev pub sign_text : Unary → List ℕ
 sign_text unary.Not = codes "!"
 sign_text _ = codes "-"
 
--- a word with blanks before it and a rest behind it
+-- a word with blanks before it and a rest after it
 abbrev pub after_blanks : List ℕ → List ℕ → List ℕ → List ℕ
 after_blanks blanks word rest = blanks ++ (word ++ rest)
 
 abbrev pub symbol_text : List ℕ → Symbol → List ℕ → List ℕ
 symbol_text blanks word rest = after_blanks blanks (text_of word) rest
 
--- how a form is written, with a rest behind it
+-- how a form is written, with a rest after it
 abbrev pub spelled : Form → List ℕ → List ℕ
 spelled (Number b digits decimals) rest = after_blanks b (digits ++ behind_point decimals) rest
 spelled (Item b form word) rest = after_blanks b word rest
@@ -195,7 +195,7 @@ abbrev pub IsWhole : Place → Form → Type 0
 IsWhole place (Item b form word) = IsBlank b × IsAmong (symbol.Item form) (start_of place) × IsWord (text_of (symbol.Item form)) word
 IsWhole place form = IsForm place false 1 form
 
--- a text is a form of the grammar, with blanks behind it
+-- a text is a form of the grammar, with blanks after it
 abbrev pub IsTextOf : Place → List ℕ → Form → Type 0
 IsTextOf place text form = IsWhole place form × (blanks : List ℕ) × IsBlank blanks × (text ≡ spelled form blanks)
 

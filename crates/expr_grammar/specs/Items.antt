@@ -30,7 +30,7 @@ abbrev pub Different : List Item → List Item → List Item → Type 0
 Different [] so_far all = all ≡ so_far
 Different (i ∷ others) so_far all = (Contains so_far i × Different others so_far all) ⊎ ((¬ Contains so_far i) × Different others (so_far ++ i ∷ []) all)
 
--- Each occurrence of an item in a form with a rest behind it, in a text of so many bytes, from left to right. The place of an
+-- Each occurrence of an item in a form with a rest after it, in a text of so many bytes, from left to right. The place of an
 -- item is the text's length less what is left from it on.
 abbrev pub occurrences_of : List (List ℕ) → ℕ → Form → List ℕ → List Occurrence
 occurrences_of days total (Number b digits decimals) rest = []

@@ -186,7 +186,7 @@ few_digits xs n le =
       | false ↦ λ e. omega (arith, le, whole_extent w (slice_index xs w) (digit_count 6 (drop (w + 1) xs)) (digits_of_front 12 xs) (digits_of_front 6 (drop (w + 1) xs)) e)
     ]) refl
 
--- numbers that agree behind the same digits
+-- numbers that agree after the same digits
 numerals_same : (xs ys : List ℕ) (w n : ℕ) → w ≡ digit_count 12 xs → digit_count 12 ys ≡ w → extent (numeral_in xs w) ≤ n → Agrees (suc n) xs ys → numeral_in ys w ≡ numeral_in xs w
 numerals_same xs ys w n is same le h =
     (elim (nat_eq w 0) as (λ b. nat_eq w 0 ≡ b → numeral_in ys w ≡ numeral_in xs w) [

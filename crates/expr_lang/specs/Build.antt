@@ -20,7 +20,7 @@ abbrev pub under_shape : List Shape → List Shape
 under_shape [] = []
 under_shape (s ∷ ss) = ss
 
--- the stack behind one more node
+-- the stack after one more node
 abbrev pub shapes_after : List ℕ → List (List ℕ) → ℕ → Node → List Shape → List Shape
 shapes_after text days place (node.Unary operator) stack = One operator (top_shape stack) ∷ under_shape stack
 shapes_after text days place (node.Binary operator) stack =
@@ -34,6 +34,6 @@ abbrev pub shapes_behind : List ℕ → List (List ℕ) → List Spot → List S
 shapes_behind text days [] stack = stack
 shapes_behind text days (spot ∷ spots) stack = shapes_behind text days spots (shapes_after text days spot.at spot.node stack)
 
--- the tree with these nodes, each of which stands behind its operands
+-- the tree with these nodes, each of which stands after its operands
 unfoldable pub built : List ℕ → List (List ℕ) → List Spot → Shape
 built text days spots = top_shape (shapes_behind text days spots [])

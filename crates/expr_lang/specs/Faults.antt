@@ -6,7 +6,7 @@ use Rattle.expr_lang.specs.declared.fault.ExprFault.{ExprFault}
 use Rattle.expr_lang.specs.declared.fault.ExprFault.TheVariants as fault
 use Rattle.expr_lang.specs.Parse.{accepted}
 
--- A text that is at fault at one of its bytes is at fault there however it goes on behind that byte: no text that begins with
+-- A text that is at fault at one of its bytes is at fault there however it goes on after that byte: no text that begins with
 -- the bytes up to it and with it is read.
 abbrev pub FaultsAtOnce : Place → List (List ℕ) → Option Sort → List ℕ → ℕ → Type 0
 FaultsAtOnce place days wanted text at =

@@ -12,7 +12,7 @@ use Rattle.expr_lang.specs.Shape.{Shape, shape_of}
 use Rattle.expr_lang.specs.Survey.{survey_of, misfit_of}
 use Rattle.expr_lang.specs.Build.{built}
 
--- a text that goes on behind 4,096 bytes is at fault there, if not before
+-- a text that goes on after 4,096 bytes is at fault there, if not before
 abbrev pub cut_short : Result Nodes ℕ → Result Nodes ℕ
 cut_short (Ok nodes) = Err 4096
 cut_short (Err at) = Err at

@@ -15,7 +15,7 @@ use Rattle.expr_lang.specs.Words.{operator_text_of}
 use Rattle.expr_lang.specs.Reading.{level_of}
 use Rattle.expr_lang.specs.Shape.{Shape, Operand, One, Two, Choice}
 
--- the digits of n / 10 ^ places behind a point, up to the last that isn't 0
+-- the digits of n / 10 ^ places after a point, up to the last that isn't 0
 abbrev pub decimals_text : ℕ → ℕ → List ℕ
 decimals_text zero n = []
 decimals_text (suc places) n = if nat_eq n 0 then [] else (48 + n / 10 ^ places) ∷ decimals_text places (n % 10 ^ places)
@@ -71,7 +71,7 @@ binary_level_of operator = level_of operator
 abbrev pub exponent_text : ℕ → List ℕ
 exponent_text n = if nat_lt n 10 then (48 + n) ∷ [] else (48 + n / 10 % 10) ∷ (48 + n % 10) ∷ []
 
--- what stands before an operand and behind it, and how tightly the operand has to bind
+-- what stands before an operand and after it, and how tightly the operand has to bind
 abbrev pub before_of : Unary → List ℕ
 before_of unary.Negate = codes "-"
 before_of unary.Not = codes "!"

@@ -1,7 +1,7 @@
 -- Reading a text from left to right, one word after the other.
 --
 -- A reader keeps what it has opened or begun, the last of these first, and the nodes of the tree that are whole, each
--- behind its operands. What may come next decides on the next word.
+-- after its operands. What may come next decides on the next word.
 use Rattle.std.specs.Prelude.{◌≡◌, ℕ, zero, suc, ◌+◌, ◌-◌, Bool, true, false, ◌||◌, ◌&&◌, not, List, [], ◌∷◌, ◌++◌, Option, Some, None, Result, Ok, Err, length, take, drop, slice_index, nat_eq, nat_lt, nat_le, if◌then◌else◌, is_some, is_none, option_map}
 use Rattle.std.specs.Char.{is_ascii_digit}
 use Rattle.expr_lang.specs.declared.tree.Binary.{Binary}
@@ -182,7 +182,7 @@ is_count_of (node.Item form.EnrollmentCount) = true
 is_count_of (node.Item form.EntityCount) = true
 is_count_of _ = false
 
--- what may come behind an operand that stands where this is expected
+-- what may come after an operand that stands where this is expected
 abbrev pub after_leaf_of : Expect → Node → Expect
 after_leaf_of expect.Item it = expect.Close
 after_leaf_of expect.Plain it = expect.More
@@ -325,7 +325,7 @@ with_power _ nodes n = nodes
 unfoldable pub with_exponent : Reader → ℕ → Reader
 with_exponent reader n = record reader { expect = expect.Operator false; nodes = with_power reader.expect reader.nodes n }
 
--- the reader behind one more token
+-- the reader after one more token
 unfoldable pub with_token : Reader → ℕ → Token → Reader
 with_token reader at (token.Word word) = with_word reader at word
 with_token reader at (token.Number n) = with_leaf reader at (node.Number n)
@@ -339,7 +339,7 @@ abbrev pub blank_count : List ℕ → ℕ
 blank_count [] = 0
 blank_count (b ∷ bs) = if is_blank_of b then suc (blank_count bs) else 0
 
--- whether a text may end behind what was read
+-- whether a text may end after what was read
 abbrev pub may_end_in : Expect → List Frame → Bool
 may_end_in (expect.Operator with_caret) frames = is_none (enclosing_of frames)
 may_end_in expect.End frames = true
@@ -350,7 +350,7 @@ ended reader at =
     if may_end_in reader.expect reader.frames
     then Ok (record { nodes = nodes_reduced 1 reader.frames reader.nodes; crowded = reader.crowded }) else Err at
 
--- goes on behind a token
+-- goes on after a token
 abbrev pub go_on : (Reader → ℕ → List ℕ → Result Nodes ℕ) → Reader → ℕ → List ℕ → Result Found ℕ → Result Nodes ℕ
 go_on next reader at rest (Err n) = Err (at + n)
 go_on next reader at rest (Ok f) = next (with_token reader at f.token) (at + f.len) (drop f.len rest)

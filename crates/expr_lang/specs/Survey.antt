@@ -132,7 +132,7 @@ abbrev pub below : List Known → List Known
 below [] = []
 below (k ∷ ks) = ks
 
--- the operands on a stack, the last on top, behind one more node
+-- the operands on a stack, the last on top, after one more node
 abbrev pub known_after : List ℕ → List (List ℕ) → ℕ → Node → List Known → List Known
 known_after text days place (node.Unary operator) stack = unary_known_of place operator (topmost stack) ∷ below stack
 known_after text days place (node.Binary operator) stack =

@@ -39,7 +39,7 @@ front_of [] bytes = 0
 front_of (c ∷ cs) [] = 0
 front_of (c ∷ cs) (b ∷ bs) = if fits_of c b then suc (front_of cs bs) else 0
 
--- the longer of a front and that of a word; at the same length a whole word
+-- the longer of a prefix and that of a word; at the same length a whole word
 abbrev pub better_of : Front → Symbol → List ℕ → Front
 better_of best word bytes =
     let len = front_of (text_of word) bytes in
@@ -69,7 +69,7 @@ digit_count (suc most) (b ∷ bs) = if is_ascii_digit b then suc (digit_count mo
 abbrev pub digits_of_front : ℕ → List ℕ → ℕ
 digits_of_front most bytes = digits_value 10 (take (digit_count most bytes) bytes)
 
--- a number of 1 to 12 digits, in millionths, with 1 to 6 decimals behind a point if a point stands there; and its
+-- a number of 1 to 12 digits, in millionths, with 1 to 6 decimals after a point if a point stands there; and its
 -- length. Else how many bytes may begin one.
 unfoldable pub number_of : List ℕ → Result (ℕ × ℕ) ℕ
 number_of bytes =

@@ -79,7 +79,7 @@ fn advance(
     }
 }
 
-/// The tree with these nodes, each of which stands behind its operands.
+/// The tree with these nodes, each of which stands after its operands.
 #[tactic(auto, unfolding(crate::specs::Build::built))]
 pub fn build(alloc: Global, text: &[u8], days: &[Uid], nodes: &[Spot]) -> Result<Tree, Memory>
     ensures { IfOk result (λ tree. shape_of tree ≡ built text.now days.now nodes.now) }

@@ -252,7 +252,7 @@ fn unit(places: u8) -> u64
     }
 }
 
-/// The digits of a part behind a point, up to the last that isn't 0.
+/// The digits of a part after a point, up to the last that isn't 0.
 fn put_decimals(out: &mut Vec<u8>, most: u8, part: u64) -> Result<(), Memory>
     requires few { most ≤ 6 }
     requires small { part < 10 ^ most }

@@ -62,17 +62,17 @@ pub enum Expect {
     Item,
     /// An item or a number, as in `firstNonNull`.
     Plain,
-    /// The bracket behind a call's name.
+    /// The bracket after a call's name.
     Bracket,
     /// A quoted text.
     Quote,
-    /// The exponent behind the `^` at this place.
+    /// The exponent after the `^` at this place.
     Exponent(usize),
     /// What may follow an operand, a `^` among it or not.
     Operator(bool),
-    /// The comma behind a quoted text.
+    /// The comma after a quoted text.
     Comma,
-    /// The bracket behind an item, as in `isNull`.
+    /// The bracket after an item, as in `isNull`.
     Close,
     /// A comma or a bracket, as in `firstNonNull`.
     More,
@@ -85,7 +85,7 @@ pub enum Expect {
 pub struct Reader {
     pub expect: Expect,
     pub frames: Stack<Frame>,
-    /// The nodes that are whole, each behind its operands.
+    /// The nodes that are whole, each after its operands.
     pub nodes: Items<Spot>,
     /// How many brackets are open.
     pub opened: usize,
@@ -337,7 +337,7 @@ impl Reader {
     }
 }
 
-/// What may come behind an operand that stands where this is expected.
+/// What may come after an operand that stands where this is expected.
 fn after_leaf(expect: Expect, leaf: Node) -> Expect
     ensures { result ≡ after_leaf_of expect leaf }
 {
@@ -624,7 +624,7 @@ fn may_end(expect: Expect, frames: &Stack<Frame>) -> bool
     }
 }
 
-/// The nodes of a text, each behind its operands, and the first bracket inside 64 others.
+/// The nodes of a text, each after its operands, and the first bracket inside 64 others.
 #[derive(Drop)]
 pub struct Nodes {
     pub nodes: Items<Spot>,

@@ -115,7 +115,7 @@ pub enum Binary {
     Remainder,
     /// `d2:daysBetween(x, y)`
     DaysBetween,
-    /// One more argument behind a list of them, in `firstNonNull`, `greatest` and `least`.
+    /// One more argument after a list of them, in `firstNonNull`, `greatest` and `least`.
     Comma,
 }
 

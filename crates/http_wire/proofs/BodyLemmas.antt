@@ -1,10 +1,12 @@
 -- Bodies, as their bytes come.
-use Rattle.std.proofs.Common.{◌≡◌, ◌∙◌, ℕ, ◌+◌, ◌-◌, ◌<◌, ◌≤◌, Bool, true, false, cond, List, [], ◌∷◌, ◌++◌, length, drop, take, Option, Result, Ok, Err, refl, sym, ap, subst, arith, nat_le, append-nil, length-append}
+use Rattle.std.proofs.Common.{◌≡◌, ◌∙◌, ℕ, ◌+◌, ◌-◌, ◌<◌, ◌≤◌, true, false, cond, List, [], ◌∷◌, ◌++◌, length, drop, take, Option, Ok, Err, refl, sym, ap, subst, arith, nat_le, length-append}
 use Rattle.std.specs.Prelude.{⊤}
-use Rattle.std.proofs.lemmas.List.{drop-append-le, take-append-le, length-drop}
+use Rattle.std.proofs.lemmas.List.{drop-append-le, length-drop}
 use Rattle.std.proofs.Math.Seq.{drop-append_seam}
 use Rattle.std.proofs.lemmas.Bool.Decides.{nat_tests}
-use Rattle.dh_outside.specs.Pieces.{Gains, IsSpent}
+use Rattle.dh_outside.specs.Pieces.{IsSpent}
+use Rattle.dh_outside.specs.Talk.{Talk, Paced}
+use Rattle.dh_outside.proofs.TalkLemmas.{paced_rebase}
 use Rattle.http_wire.specs.Chunks.{Outcome, open_at, and_on, advanced, stepped, step, frame_limit, run, at_first, chunked}
 use Rattle.http_wire.specs.Chunks as body
 use Rattle.http_wire.specs.declared.chunks.Chunks.{Chunks}
@@ -16,15 +18,14 @@ use Rattle.http_wire.specs.declared.chunks.Fed.TheVariants as feeding
 use Rattle.http_wire.proofs.ChunkLemmas.{run_append}
 use Rattle.wire_head.specs.declared.plan.Plan.TheVariants.{Sized, Chunked}
 use Rattle.dh_base.specs.declared.codes.Code.TheVariants.{F3}
-use Rattle.wire_head.specs.declared.plan.Plan.{Plan}
-use Rattle.http_wire.specs.Next.{Body, waiting, wrong, complete, by_chunks, body_of}
-use Rattle.http_wire.specs.Reads.{GivesBody, ReadsBody, GivesChunks, is_stop}
+use Rattle.http_wire.specs.Next.{waiting, complete, by_chunks, body_of}
+use Rattle.http_wire.specs.Reads.{Gathers, GivesBody, ReadsBody, GivesChunks, IsShort, IsWaiting, is_stop}
 use Rattle.http_wire.specs.declared.request.WireFault.{WireFault}
 use Rattle.http_wire.specs.declared.request.WireFault.TheVariants as fault
 
 -- ---- chunks
 
--- more bytes behind those that were fed
+-- more bytes after those that were fed
 pub chunks_on : (bytes bytes' taken : List ℕ) (end at : ℕ) (chunks : Chunks) → end ≤ length bytes → bytes' ≡ bytes ++ taken → at ≡ length bytes
     → run at_first (drop end bytes) ≡ open_at chunks → run at_first (drop end bytes') ≡ run chunks (drop at bytes')
 chunks_on bytes bytes' taken end at chunks within grown place still =
@@ -89,25 +90,32 @@ sized_short all end count short =
     let test : nat_le count (length (drop end all)) ≡ false = grind (arith, nat_tests) in
     ap (λ t. cond t (complete (take count (drop end all)) count) waiting) test
 
-pub reads_sized : {left left' : Option (List ℕ)} {held held1 held' : List ℕ} {read read' : ℕ} (end count : ℕ) (content : List ℕ)
-    → Gains left left' held held1 read read' → end ≤ length held1 → count ≤ length held1 - end → content ≡ take count (drop end held1)
-    → held' ≡ drop (end + count) held1 → ReadsBody left left' held held' read read' end (Sized count) (Ok content)
-reads_sized {left} {left'} {held} {held1} {held'} {read} {read'} end count content gains within enough same rest = record {
+-- a body of so many bytes isn't whole while fewer stand after its head
+paced_sized : {talk talk' : Option Talk} (held taken : List ℕ) (end count : ℕ) → Paced talk talk' (IsShort end count) held taken → Paced talk talk' (IsWaiting end (Sized count)) held taken
+paced_sized {talk} {talk'} held taken end count paced =
+    paced_rebase talk talk' (IsShort end count) (IsWaiting end (Sized count)) held held taken (λ more is. (is.0, sized_short (held ++ more) end count is.1)) paced
+
+pub reads_sized : {left left' : Option (List ℕ)} {talk talk' : Option Talk} {held held1 held' : List ℕ} {read read' : ℕ} (end count : ℕ) (content : List ℕ)
+    → Gathers (IsShort end count) left left' talk talk' held held1 read read' → end ≤ length held1 → count ≤ length held1 - end → content ≡ take count (drop end held1)
+    → held' ≡ drop (end + count) held1 → ReadsBody left left' talk talk' held held' read read' end (Sized count) (Ok content)
+reads_sized {left} {left'} {talk} {talk'} {held} {held1} {held'} {read} {read'} end count content gains within enough same rest = record {
   taken = gains.taken;
   consumed = gains.consumed;
   counted = gains.counted;
   gives = subst (λ all. GivesBody all held' end (Sized count) (IsSpent left' read') (Ok content)) gains.behind
       (count, sized_whole held1 end count within enough ∙ ap (λ xs. complete xs count) (sym same), rest);
+  paced = paced_sized held gains.taken end count gains.paced;
 }
 
-pub reads_sized_stop : {left left' : Option (List ℕ)} {held held1 : List ℕ} {read read' : ℕ} (end count : ℕ) (e : WireFault)
-    → Gains left left' held held1 read read' → length held1 - end < count → is_stop e ≡ true → (e ≡ fault.Truncated → IsSpent left' read')
-    → ReadsBody left left' held held1 read read' end (Sized count) (Err e)
-reads_sized_stop {left} {left'} {held} {held1} {read} {read'} end count e gains short stop spent = record {
+pub reads_sized_stop : {left left' : Option (List ℕ)} {talk talk' : Option Talk} {held held1 : List ℕ} {read read' : ℕ} (end count : ℕ) (e : WireFault)
+    → Gathers (IsShort end count) left left' talk talk' held held1 read read' → length held1 - end < count → is_stop e ≡ true → (e ≡ fault.Truncated → IsSpent left' read')
+    → ReadsBody left left' talk talk' held held1 read read' end (Sized count) (Err e)
+reads_sized_stop {left} {left'} {talk} {talk'} {held} {held1} {read} {read'} end count e gains short stop spent = record {
   taken = gains.taken;
   consumed = gains.consumed;
   counted = gains.counted;
   gives = subst (λ all. GivesBody all held1 end (Sized count) (IsSpent left' read') (Err e)) gains.behind (at_stop e (sized_short held1 end count short) stop spent);
+  paced = paced_sized held gains.taken end count gains.paced;
 }
   where
     at_stop : (e : WireFault) → body_of (Sized count) (drop end held1) ≡ waiting → is_stop e ≡ true → (e ≡ fault.Truncated → IsSpent left' read')
@@ -117,33 +125,36 @@ reads_sized_stop {left} {left'} {held} {held1} {read} {read'} end count e gains 
     at_stop fault.ReadFault still stop spent = (still, refl)
     at_stop fault.Memory still stop spent = refl
 
-pub reads_no_memory : {left left' : Option (List ℕ)} {held held1 held' : List ℕ} {read read' : ℕ} (end : ℕ) (plan : Plan)
-    → Gains left left' held held1 read read' → held' ≡ held1 → ReadsBody left left' held held' read read' end plan (Err fault.Memory)
-reads_no_memory end plan gains same = record {
+pub reads_no_memory : {left left' : Option (List ℕ)} {talk talk' : Option Talk} {held held1 held' : List ℕ} {read read' : ℕ} (end count : ℕ)
+    → Gathers (IsShort end count) left left' talk talk' held held1 read read' → held' ≡ held1 → ReadsBody left left' talk talk' held held' read read' end (Sized count) (Err fault.Memory)
+reads_no_memory {held = held} end count gains same = record {
   taken = gains.taken;
   consumed = gains.consumed;
   counted = gains.counted;
   gives = same ∙ gains.behind;
+  paced = paced_sized held gains.taken end count gains.paced;
 }
 
-pub reads_chunked : {left left' : Option (List ℕ)} {held held1 held' : List ℕ} {read read' : ℕ} (end used : ℕ) (content : List ℕ)
-    → Gains left left' held held1 read read' → chunked (drop end held1) ≡ body.whole content used → held' ≡ drop (end + used) held1
-    → ReadsBody left left' held held' read read' end Chunked (Ok content)
-reads_chunked {left} {left'} {held} {held1} {held'} {read} {read'} end used content gains whole rest = record {
+pub reads_chunked : {left left' : Option (List ℕ)} {talk talk' : Option Talk} {held held1 held' : List ℕ} {read read' : ℕ} (end used : ℕ) (content : List ℕ)
+    → Gathers (IsWaiting end Chunked) left left' talk talk' held held1 read read' → chunked (drop end held1) ≡ body.whole content used → held' ≡ drop (end + used) held1
+    → ReadsBody left left' talk talk' held held' read read' end Chunked (Ok content)
+reads_chunked {left} {left'} {talk} {talk'} {held} {held1} {held'} {read} {read'} end used content gains whole rest = record {
   taken = gains.taken;
   consumed = gains.consumed;
   counted = gains.counted;
   gives = subst (λ all. GivesBody all held' end Chunked (IsSpent left' read') (Ok content)) gains.behind (used, ap by_chunks whole, rest);
+  paced = gains.paced;
 }
 
-pub reads_chunked_stop : {left left' : Option (List ℕ)} {held held1 : List ℕ} {read read' : ℕ} (end : ℕ) (e : WireFault)
-    → Gains left left' held held1 read read' → GivesChunks (drop end held1) (IsSpent left' read') (Err e)
-    → ReadsBody left left' held held1 read read' end Chunked (Err e)
-reads_chunked_stop {left} {left'} {held} {held1} {read} {read'} end e gains gives = record {
+pub reads_chunked_stop : {left left' : Option (List ℕ)} {talk talk' : Option Talk} {held held1 : List ℕ} {read read' : ℕ} (end : ℕ) (e : WireFault)
+    → Gathers (IsWaiting end Chunked) left left' talk talk' held held1 read read' → GivesChunks (drop end held1) (IsSpent left' read') (Err e)
+    → ReadsBody left left' talk talk' held held1 read read' end Chunked (Err e)
+reads_chunked_stop {left} {left'} {talk} {talk'} {held} {held1} {read} {read'} end e gains gives = record {
   taken = gains.taken;
   consumed = gains.consumed;
   counted = gains.counted;
   gives = subst (λ all. GivesBody all held1 end Chunked (IsSpent left' read') (Err e)) gains.behind (at_stop e gives);
+  paced = gains.paced;
 }
   where
     at_stop : (e : WireFault) → GivesChunks (drop end held1) (IsSpent left' read') (Err e) → GivesBody held1 held1 end Chunked (IsSpent left' read') (Err e)

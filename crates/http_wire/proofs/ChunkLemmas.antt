@@ -1,11 +1,11 @@
 -- Bodies of chunks, as their bytes come.
-use Rattle.std.proofs.Common.{◌≡◌, ◌∙◌, ◌≤◌, ◌<◌, ◌+◌, ◌-◌, suc, ℕ, Bool, true, false, cond, List, [], ◌∷◌, ◌++◌, length, take, drop, refl, sym, ap, subst, arith, append_assoc, append-nil, nat_eq, nat_lt, nat_le}
+use Rattle.std.proofs.Common.{◌≡◌, ◌∙◌, ◌≤◌, ◌<◌, ◌+◌, ◌-◌, suc, ℕ, true, false, List, [], ◌∷◌, ◌++◌, length, take, drop, refl, sym, ap, arith, append_assoc, append-nil, nat_eq, nat_lt, nat_le}
 use Rattle.std.proofs.Common.{length-take}
 use Rattle.std.proofs.lemmas.List.{take-append-drop}
 use Rattle.std.proofs.lemmas.Bool.Decides.{nat_tests}
-use Rattle.http_wire.specs.Chunks.{Outcome, open_at, refused, whole, and_on, advanced, run, stepped, step, frame_limit}
+use Rattle.http_wire.specs.Chunks.{Outcome, open_at, refused, whole, and_on, advanced, run, frame_limit}
 use Rattle.http_wire.specs.declared.chunks.Chunks.{Chunks}
-use Rattle.http_wire.specs.declared.chunks.Place.TheVariants.{Content, Feed}
+use Rattle.http_wire.specs.declared.chunks.Place.TheVariants.{Content}
 
 abbrev pub in_content : ℕ → List ℕ → ℕ → Chunks
 in_content left content seen = record { place = Content left; content = content; seen = seen }

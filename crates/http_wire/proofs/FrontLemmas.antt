@@ -3,11 +3,12 @@ use Rattle.std.proofs.Common.{◌≡◌, ◌∙◌, ℕ, ◌+◌, ◌-◌, ◌<�
 use Rattle.std.proofs.Common.{[], ◌++◌, ◌⊎◌, inl, inr, Option, subst, refl, ap, append-nil, append_assoc, length-append}
 use Rattle.std.proofs.KnownBytes.{Consumes-nil, Consumes-trans}
 use Rattle.dh_outside.specs.Pieces.{Gains}
-use Rattle.dh_outside.proofs.PieceLemmas.{Gains-none, Gains-trans}
+use Rattle.dh_outside.specs.Talk.{Talk}
+use Rattle.dh_outside.proofs.TalkLemmas.{paced_none, paced_on, paced_one}
 use Rattle.wire_head.specs.Lines.{blank_length, opening_of, IsPassed}
 use Rattle.wire_head.specs.declared.lines.Opening.TheVariants.{Nothing, Unfinished}
-use Rattle.http_wire.specs.Next.{skipped}
-use Rattle.http_wire.specs.Reads.{Skims}
+use Rattle.http_wire.specs.Next.{Found, ended, cut, behind, IsFoundBy, IsFirst, skipped, IsNext, IsOpen}
+use Rattle.http_wire.specs.Reads.{Gathers, Skims}
 use Rattle.http_wire.proofs.OpeningLaws.{skip_on, skip_twice, blank_skipped, opening_nothing, passed_more, passed_none}
 use Rattle.std.proofs.lemmas.List.{get_or-take, get_or-drop, ext_get_or, length-take, length-drop}
 
@@ -21,36 +22,70 @@ moved_all old new from within len at =
 
 -- ---- what was taken
 
-pub gains_on : {left left' left'' : Option (List ℕ)} {held held' held'' : List ℕ} {read read' read'' : ℕ}
-    → Gains left left' held held' read read' → Gains left' left'' held' held'' read' read'' → Gains left left'' held held'' read read''
-gains_on {left} {left'} {left''} {held} {held'} {held''} {read} {read'} {read''} first second =
-    Gains-trans left left' left'' held held' held'' read read' read'' first second
+pub gathers_none : (Open : List ℕ → Type 0) (left : Option (List ℕ)) (talk : Option Talk) (held : List ℕ) (read : ℕ) → Gathers Open left left talk talk held held read read
+gathers_none Open left talk held read = record {
+  taken = [];
+  consumed = Consumes-nil left;
+  behind = sym (append-nil held);
+  counted = omega arith;
+  paced = paced_none talk Open held;
+}
 
-pub skims_none : (left : Option (List ℕ)) (held : List ℕ) (read : ℕ) → Skims left left held held read read
-skims_none left held read = record {
+-- one more piece, asked for while the bytes held were open
+pub gathers_on : {Open : List ℕ → Type 0} {left left' left'' : Option (List ℕ)} {talk talk' talk'' : Option Talk} {held held' held'' : List ℕ} {read read' read'' : ℕ}
+    → Gathers Open left left' talk talk' held held' read read' → Open held' → Gains left' left'' talk' talk'' held' held'' read' read''
+    → Gathers Open left left'' talk talk'' held held'' read read''
+gathers_on {Open} {left} {left'} {left''} {talk} {talk'} {talk''} {held} {held'} {held''} {read} {read'} {read''} first is second = record {
+  taken = first.taken ++ second.taken;
+  consumed = Consumes-trans left left' left'' first.taken second.taken first.consumed second.consumed;
+  behind = second.behind ∙ ap (λ xs. xs ++ second.taken) first.behind ∙ append_assoc held first.taken second.taken;
+  counted = (let sum = length-append first.taken second.taken in omega (arith, first.counted, second.counted));
+  paced = paced_on talk talk' talk'' Open held first.taken second.taken first.paced
+      (paced_one talk' talk'' Open (held ++ first.taken) second.taken (subst Open first.behind is) second.hears);
+}
+
+pub skip_zero : (b : List ℕ) → blank_length b ≡ 0 → skipped b ≡ b
+skip_zero b none = ap (λ n. drop n b) none
+
+pub next_by : (all front : List ℕ) (first : Found) → front ≡ skipped all → IsFirst front first → IsNext all (behind (blank_length all) first)
+next_by all front first at is = (first, subst (λ xs. IsFirst xs first) at is, refl)
+
+-- bytes are open where no head is found at their front
+pub open_by : (all front : List ℕ) → front ≡ skipped all → (opening_of front ≡ Nothing) ⊎ (opening_of front ≡ Unfinished) → IsOpen all
+open_by all front at (inl nothing) = inl (next_by all front ended at (subst (λ o. IsFoundBy o front ended) (sym nothing) refl))
+open_by all front at (inr still) = inr (next_by all front cut at (subst (λ o. IsFoundBy o front cut) (sym still) refl))
+
+pub skims_none : (left : Option (List ℕ)) (talk : Option Talk) (held : List ℕ) (read : ℕ) → Skims left left talk talk held held read read
+skims_none left talk held read = record {
   taken = [];
   consumed = Consumes-nil left;
   same = sym (ap skipped (append-nil held));
   counted = omega arith;
+  paced = paced_none talk IsOpen held;
 }
 
-pub skims_skipped : {left left' : Option (List ℕ)} {held held' : List ℕ} {read read' : ℕ} (held'' : List ℕ)
-    → Skims left left' held held' read read' → held'' ≡ skipped held' → Skims left left' held held'' read read'
+pub skims_skipped : {left left' : Option (List ℕ)} {talk talk' : Option Talk} {held held' : List ℕ} {read read' : ℕ} (held'' : List ℕ)
+    → Skims left left' talk talk' held held' read read' → held'' ≡ skipped held' → Skims left left' talk talk' held held'' read read'
 skims_skipped {held' = held'} held'' skims at = record {
   taken = skims.taken;
   consumed = skims.consumed;
   same = ap skipped at ∙ skip_twice held' ∙ skims.same;
   counted = skims.counted;
+  paced = skims.paced;
 }
 
-pub skims_more : {left left' left'' : Option (List ℕ)} {held held' held'' : List ℕ} {read read' read'' : ℕ}
-    → Skims left left' held held' read read' → Gains left' left'' held' held'' read' read'' → Skims left left'' held held'' read read''
-skims_more {left} {left'} {left''} {held} {held'} {held''} {read} {read'} {read''} skims gains = record {
+pub skims_more : {left left' left'' : Option (List ℕ)} {talk talk' talk'' : Option Talk} {held held' held'' : List ℕ} {read read' read'' : ℕ}
+    → Skims left left' talk talk' held held' read read' → blank_length held' ≡ 0 → (opening_of held' ≡ Nothing) ⊎ (opening_of held' ≡ Unfinished)
+    → Gains left' left'' talk' talk'' held' held'' read' read'' → Skims left left'' talk talk'' held held'' read read''
+skims_more {left} {left'} {left''} {talk} {talk'} {talk''} {held} {held'} {held''} {read} {read'} {read''} skims front opening gains = record {
   taken = skims.taken ++ gains.taken;
   consumed = Consumes-trans left left' left'' skims.taken gains.taken skims.consumed gains.consumed;
   same = ap skipped gains.behind ∙ skip_on held' gains.taken ∙ ap (λ xs. skipped (xs ++ gains.taken)) skims.same
       ∙ sym (skip_on (held ++ skims.taken) gains.taken) ∙ ap skipped (append_assoc held skims.taken gains.taken);
   counted = (let sum = length-append skims.taken gains.taken in omega (arith, skims.counted, gains.counted));
+  paced = paced_on talk talk' talk'' IsOpen held skims.taken gains.taken skims.paced
+      (paced_one talk' talk'' IsOpen (held ++ skims.taken) gains.taken
+      (open_by (held ++ skims.taken) held' (sym (skip_zero held' front) ∙ skims.same) opening) gains.hears);
 }
 
 pub front_skipped : (held held' : List ℕ) → held' ≡ skipped held → blank_length held' ≡ 0

@@ -1,11 +1,10 @@
 -- At most one thing is next in bytes; what was decided stays decided as more bytes come; a whole request lies within
 -- the bytes.
-use Rattle.std.proofs.Common.{◌≡◌, ◌∙◌, ℕ, ◌+◌, ◌-◌, ◌<◌, ◌≤◌, Bool, true, false, cond, List, [], ◌++◌, length, drop, take, Result, Ok, Err, refl, sym, ap, subst, arith, nat_le, length-append}
+use Rattle.std.proofs.Common.{◌≡◌, ◌∙◌, ℕ, ◌≤◌, Bool, true, false, cond, List, [], ◌++◌, length, drop, take, Result, Ok, Err, refl, sym, ap, subst, arith, nat_le, length-append}
 use Rattle.std.specs.Prelude.{⊤}
 use Rattle.std.proofs.lemmas.List.{drop-append-le, take-append-le, length-drop}
 use Rattle.std.proofs.lemmas.Bool.Decides.{nat_tests}
 use Rattle.dh_base.specs.declared.codes.Code.{Code}
-use Rattle.dh_base.specs.declared.codes.Code.TheVariants.{F2}
 use Rattle.http_wire.specs.Chunks.{Outcome, open_at, and_on, run, at_first, chunked}
 use Rattle.http_wire.specs.Chunks as body
 use Rattle.http_wire.proofs.ChunkLemmas.{run_append}
@@ -17,8 +16,7 @@ use Rattle.wire_head.specs.declared.lines.Opening.TheVariants.{Nothing, Unfinish
 use Rattle.wire_head.specs.declared.plan.Plan.{Plan}
 use Rattle.wire_head.specs.declared.plan.Plan.TheVariants.{Sized, Chunked}
 use Rattle.wire_head.proofs.HeadLaws.{says_unique}
-use Rattle.http_wire.specs.Next.{Found, ended, cut, refused, whole, behind, Body, waiting, wrong, complete, by_chunks, body_of, with_body, behind_head, IsFoundBy, IsFirst, skipped, IsNext}
-use Rattle.http_wire.specs.declared.request.Request.{Request}
+use Rattle.http_wire.specs.Next.{Found, ended, cut, refused, whole, behind, waiting, complete, by_chunks, body_of, with_body, behind_head, IsFoundBy, IsFirst, skipped, IsNext}
 use Rattle.http_wire.proofs.OpeningLaws.{skip_still, blank_within, opening_head, opening_more, opening_long}
 use Rattle.http_wire.proofs.BodyLemmas.{run_within}
 

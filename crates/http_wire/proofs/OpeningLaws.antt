@@ -1,10 +1,9 @@
 -- Empty lines, heads and what stands at the front of bytes, as more bytes come.
-use Rattle.std.proofs.Common.{◌≡◌, ◌∙◌, ℕ, suc, ◌+◌, ◌-◌, ◌<◌, ◌≤◌, ◌&&◌, Bool, true, false, cond, List, [], ◌∷◌, ◌++◌, length, drop, take, Option, Some, None, refl, sym, ap, subst, arith, append-nil, zero, length-append, nat_eq, nat_lt, nat_le}
+use Rattle.std.proofs.Common.{◌≡◌, ◌∙◌, ℕ, suc, ◌+◌, ◌-◌, ◌<◌, ◌≤◌, ◌&&◌, Bool, true, false, cond, List, [], ◌∷◌, ◌++◌, length, drop, take, Option, Some, None, refl, sym, ap, arith, append-nil, zero, length-append, nat_eq, nat_lt, nat_le}
 use Rattle.std.proofs.lemmas.List.{drop-drop, drop-append-le, take-append-le, length-take, take_all}
 use Rattle.std.proofs.Math.Seq.{take-append-add}
 use Rattle.std.proofs.lemmas.Bool.Decides.{nat_tests}
 use Rattle.wire_head.specs.Lines.{empty_line, blank_length, shifted, head_length, head_limit, opening_by, opening_of, IsPassed}
-use Rattle.wire_head.specs.declared.lines.Opening.{Opening}
 use Rattle.wire_head.specs.declared.lines.Opening.TheVariants.{Nothing, Unfinished, TooLong, Whole}
 use Rattle.http_wire.specs.Next.{skipped}
 
@@ -91,7 +90,7 @@ blank_still (x ∷ []) more none two = absurd (omega arith)
 blank_still (x ∷ y ∷ r) more none two =
     still_by (nat_eq x 10) (nat_eq x 13 && nat_eq y 10) (blank_length (y ∷ r)) (blank_length r) (blank_length (y ∷ (r ++ more))) (blank_length (r ++ more)) none
 
--- behind empty lines that are followed by two bytes
+-- after empty lines that are followed by two bytes
 pub skip_still : (b more : List ℕ) → 2 ≤ length (skipped b) → (blank_length (b ++ more) ≡ blank_length b) × (skipped (b ++ more) ≡ skipped b ++ more)
 skip_still b more two =
     let on = blank_on b more in
@@ -181,7 +180,7 @@ shifted_one : (n : ℕ) (found : Option ℕ) → shifted 1 (shifted n found) ≡
 shifted_one n None = refl
 shifted_one n (Some m) = ap Some (omega arith)
 
--- where no head ended, one ends no earlier than behind the last two bytes
+-- where no head ended, one ends no earlier than after the last two bytes
 pub head_resume : (b more : List ℕ) → head_length b ≡ None → head_length (b ++ more) ≡ shifted (length b - 2) (head_length (drop (length b - 2) (b ++ more)))
 head_resume [] more none = sym (shifted_none (head_length more))
 head_resume (x ∷ []) more none = sym (shifted_none (head_length (x ∷ more)))

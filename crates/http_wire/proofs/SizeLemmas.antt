@@ -1,5 +1,5 @@
 -- Sizes of so many digits.
-use Rattle.std.proofs.Common.{◌≡◌, ◌∙◌, ◌≤◌, ◌<◌, ◌+◌, ◌*◌, ◌^◌, ℕ, add-one, arith}
+use Rattle.std.proofs.Common.{◌≡◌, ◌≤◌, ◌<◌, ◌+◌, ◌*◌, ◌^◌, ℕ, add-one, arith}
 use Rattle.std.proofs.Math.Nat.{pow-le-pow_right, pow-suc}
 
 -- one more digit

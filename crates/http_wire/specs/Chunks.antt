@@ -1,6 +1,6 @@
 -- A body in chunks (RFC 9112, section 7.1), byte by byte: a line with a size, so many bytes, a carriage return and a
 -- line feed, and so on up to a size of 0; then the lines of a trailer, of which the last is empty.
-use Rattle.std.specs.Prelude.{ℕ, ◌+◌, ◌-◌, ◌≡◌, ◌≤◌, Bool, true, false, List, [], ◌∷◌, ◌++◌, cond, length, nat_eq, nat_lt, nat_le, ⊤}
+use Rattle.std.specs.Prelude.{ℕ, ◌+◌, ◌-◌, Bool, false, List, [], ◌∷◌, ◌++◌, cond, length, nat_eq, nat_lt, nat_le, ⊤}
 use Rattle.dh_base.specs.declared.codes.Code.{Code}
 use Rattle.dh_base.specs.declared.codes.Code.TheVariants.{F3, F4}
 use Rattle.http_wire.specs.Line.{size_step, IsSized}
@@ -20,7 +20,7 @@ content_limit = 16777216
 abbrev pub frame_limit : ℕ
 frame_limit = 33554432
 
--- behind the line of a chunk, where so many bytes of content stand before it
+-- after the line of a chunk, where so many bytes of content stand before it
 abbrev pub sized : ℕ → ℕ → Step
 sized size held = cond (nat_eq size 0) (Goes Start) (cond (nat_lt content_limit (held + size)) (Fails F3) (Goes (Content size)))
 

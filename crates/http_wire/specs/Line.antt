@@ -1,13 +1,13 @@
--- The line before a chunk: 1 to 16 hexadecimal digits, spaces and tabs, an extension behind a semicolon, a carriage
+-- The line before a chunk: 1 to 16 hexadecimal digits, spaces and tabs, an extension after a semicolon, a carriage
 -- return and a line feed (RFC 9112, section 7.1.1).
-use Rattle.std.specs.Prelude.{ℕ, ◌+◌, ◌*◌, ◌^◌, ◌<◌, Bool, ◌||◌, List, [], ◌∷◌, cond, nat_eq, nat_lt, ⊤}
+use Rattle.std.specs.Prelude.{ℕ, ◌+◌, ◌*◌, ◌^◌, ◌<◌, ◌||◌, cond, nat_eq, nat_lt, ⊤}
 use Rattle.std.specs.Char.{is_ascii_hexdigit, digit_value}
 use Rattle.http_wire.specs.declared.line.SizePlace.{SizePlace}
 use Rattle.http_wire.specs.declared.line.SizePlace.TheVariants.{Digits, Pad, Extension, End}
 use Rattle.http_wire.specs.declared.line.SizeStep.{SizeStep}
 use Rattle.http_wire.specs.declared.line.SizeStep.TheVariants.{Goes, Gives, Fails}
 
--- a byte behind the digits
+-- a byte after the digits
 abbrev pub behind_digits : ℕ → ℕ → SizeStep
 behind_digits size byte =
     cond (nat_eq byte 32 || nat_eq byte 9) (Goes (Pad size)) (cond (nat_eq byte 59) (Goes (Extension size)) (cond (nat_eq byte 13) (Goes (End size)) Fails))

@@ -1,5 +1,5 @@
 -- The request that stands at the front of bytes.
-use Rattle.std.specs.Prelude.{◌≡◌, ◌⊎◌, ℕ, ◌+◌, List, Result, Ok, Err, cond, length, take, drop, nat_le, ⊤}
+use Rattle.std.specs.Prelude.{◌≡◌, ◌⊎◌, ℕ, ◌+◌, List, Result, Ok, Err, cond, length, take, drop, nat_le}
 use Rattle.dh_base.specs.declared.codes.Code.{Code}
 use Rattle.dh_base.specs.declared.codes.Code.TheVariants.{F2}
 use Rattle.wire_head.specs.Lines.{blank_length, opening_of}
@@ -32,7 +32,7 @@ pub data Found : Type 0 where
   refused : Code → Found
   whole : Request → ℕ → Found
 
--- the same behind so many bytes
+-- the same after so many bytes
 abbrev pub behind : ℕ → Found → Found
 behind count ended = ended
 behind count cut = cut
@@ -60,7 +60,7 @@ with_body head waiting = cut
 with_body head (wrong code) = refused code
 with_body head (complete content count) = whole (request_of head content) count
 
--- what is found behind a head
+-- what is found after a head
 abbrev pub behind_head : Result Head Code → List ℕ → Found
 behind_head (Err code) bytes = refused code
 behind_head (Ok head) bytes = with_body head (body_of head.plan bytes)
@@ -75,7 +75,7 @@ IsFoundBy (Whole count) bytes found = (said : Result Head Code) × Says (take co
 abbrev pub IsFirst : List ℕ → Found → Type 0
 IsFirst bytes found = IsFoundBy (opening_of bytes) bytes found
 
--- the bytes behind the empty lines at their front
+-- the bytes after the empty lines at their front
 abbrev pub skipped : List ℕ → List ℕ
 skipped bytes = drop (blank_length bytes) bytes
 

@@ -1,9 +1,10 @@
 -- What reading the next request of a source answers.
-use Rattle.std.specs.Prelude.{◌≡◌, ◌⊎◌, ◌+◌, ℕ, Bool, true, false, List, [], ◌++◌, Option, None, Some, Result, Ok, Err, length, take, drop, ⊤}
+use Rattle.std.specs.Prelude.{◌≡◌, ◌⊎◌, ◌+◌, ◌-◌, ◌≤◌, ◌<◌, ℕ, Bool, true, false, List, [], ◌++◌, Option, None, Some, Result, Ok, Err, length, take, drop, ⊤}
 use Rattle.std.specs.Io.KnownBytes.{Consumes}
 use Rattle.dh_base.specs.declared.codes.Code.{Code}
 use Rattle.dh_base.specs.declared.codes.Code.TheVariants.{F2}
 use Rattle.dh_outside.specs.Pieces.{IsSpent}
+use Rattle.dh_outside.specs.Talk.{Talk, Paced}
 use Rattle.wire_head.specs.Lines.{opening_of}
 use Rattle.wire_head.specs.Head.{Says}
 use Rattle.wire_head.specs.declared.head.Head.{Head}
@@ -25,7 +26,7 @@ pub record RestSeen : Type 0 where
 abbrev pub seen : List ℕ → ℕ → RestSeen
 seen bytes read = record { bytes = bytes; read = read }
 
--- What is answered of all the bytes: those held before and those taken in the call. Behind a request stands what it
+-- What is answered of all the bytes: those held before and those taken in the call. After a request stands what it
 -- leaves. Where nothing was found, all is held but the empty lines at the front.
 abbrev pub Gives : List ℕ → List ℕ → Type 0 → Result (Option Request) WireFault → Type 0
 Gives all held Spent (Ok (Some request)) = (used : ℕ) × IsNext all (whole request used) × (held ≡ drop used all)
@@ -35,12 +36,22 @@ Gives all held Spent (Err fault.Truncated) = IsNext all cut × Spent
 Gives all held Spent (Err fault.ReadFault) = IsOpen all × (held ≡ skipped all)
 Gives all held Spent (Err fault.Memory) = held ≡ skipped all
 
--- what the call took of the source, and what it answers
-pub record Reads (left left' : Option (List ℕ)) (old new : RestSeen) (answer : Result (Option Request) WireFault) : Type 0 where
+-- What the call took of the source, and what it answers. Each piece was asked for while the bytes held were open, so that
+-- nothing is read ahead.
+pub record Reads (left left' : Option (List ℕ)) (talk talk' : Option Talk) (old new : RestSeen) (answer : Result (Option Request) WireFault) : Type 0 where
   pub taken : List ℕ
   pub consumed : Consumes left left' taken
   pub counted : new.read ≡ old.read + length taken
   pub gives : Gives (old.bytes ++ taken) new.bytes (IsSpent left' new.read) answer
+  pub paced : Paced talk talk' IsOpen old.bytes taken
+
+-- the bytes taken stand after those held before; each piece was asked for while something held of the bytes held
+pub record Gathers (Open : List ℕ → Type 0) (left left' : Option (List ℕ)) (talk talk' : Option Talk) (held held' : List ℕ) (read read' : ℕ) : Type 0 where
+  pub taken : List ℕ
+  pub consumed : Consumes left left' taken
+  pub behind : held' ≡ held ++ taken
+  pub counted : read' ≡ read + length taken
+  pub paced : Paced talk talk' Open held taken
 
 -- the empty lines were skipped, and this stands at the front
 abbrev pub Opens : List ℕ → Type 0 → Result (Option ℕ) WireFault → Type 0
@@ -51,16 +62,29 @@ Opens held Spent (Err fault.Truncated) = (opening_of held ≡ Unfinished) × Spe
 Opens held Spent (Err fault.ReadFault) = (opening_of held ≡ Nothing) ⊎ (opening_of held ≡ Unfinished)
 Opens held Spent (Err fault.Memory) = ⊤
 
--- the bytes taken stand behind those held before, and the empty lines at the front are skipped or not yet
-pub record Skims (left left' : Option (List ℕ)) (held held' : List ℕ) (read read' : ℕ) : Type 0 where
+-- the bytes taken stand after those held before, and the empty lines at the front are skipped or not yet
+pub record Skims (left left' : Option (List ℕ)) (talk talk' : Option Talk) (held held' : List ℕ) (read read' : ℕ) : Type 0 where
   pub taken : List ℕ
   pub consumed : Consumes left left' taken
   pub same : skipped held' ≡ skipped (held ++ taken)
   pub counted : read' ≡ read + length taken
+  pub paced : Paced talk talk' IsOpen held taken
 
--- what is found behind a head of so many bytes
+-- what is found after a head of so many bytes
 abbrev pub IsBehind : List ℕ → ℕ → Found → Type 0
 IsBehind all count found = (said : Result Head Code) × Says (take count all) said × (behind_head said (drop count all) ≡ found)
+
+-- the request of a head of so many bytes is cut off
+abbrev pub IsCutBehind : ℕ → List ℕ → Type 0
+IsCutBehind count all = (count ≤ length all) × IsBehind all count cut
+
+-- a body that is planned after a head of so many bytes isn't whole yet
+abbrev pub IsWaiting : ℕ → Plan → List ℕ → Type 0
+IsWaiting count plan all = (count ≤ length all) × (body_of plan (drop count all) ≡ waiting)
+
+-- fewer bytes than these stand after a place
+abbrev pub IsShort : ℕ → ℕ → List ℕ → Type 0
+IsShort end count all = (end ≤ length all) × (length all - end < count)
 
 abbrev pub GivesBehind : List ℕ → List ℕ → ℕ → Type 0 → Result Request WireFault → Type 0
 GivesBehind all held count Spent (Ok request) = (used : ℕ) × IsBehind all count (whole request used) × (held ≡ drop (count + used) all)
@@ -70,13 +94,14 @@ GivesBehind all held count Spent (Err fault.ReadFault) = IsBehind all count cut 
 GivesBehind all held count Spent (Err fault.Memory) = held ≡ all
 
 -- the same with what was taken
-pub record ReadsBehind (left left' : Option (List ℕ)) (held held' : List ℕ) (read read' count : ℕ) (answer : Result Request WireFault) : Type 0 where
+pub record ReadsBehind (left left' : Option (List ℕ)) (talk talk' : Option Talk) (held held' : List ℕ) (read read' count : ℕ) (answer : Result Request WireFault) : Type 0 where
   pub taken : List ℕ
   pub consumed : Consumes left left' taken
   pub counted : read' ≡ read + length taken
   pub gives : GivesBehind (held ++ taken) held' count (IsSpent left' read') answer
+  pub paced : Paced talk talk' (IsCutBehind count) held taken
 
--- what is answered of the body that is planned behind a head of so many bytes
+-- what is answered of the body that is planned after a head of so many bytes
 abbrev pub GivesBody : List ℕ → List ℕ → ℕ → Plan → Type 0 → Result (List ℕ) WireFault → Type 0
 GivesBody all held count plan Spent (Ok content) = (used : ℕ) × (body_of plan (drop count all) ≡ complete content used) × (held ≡ drop (count + used) all)
 GivesBody all held count plan Spent (Err (fault.Refused code)) = body_of plan (drop count all) ≡ wrong code
@@ -84,11 +109,12 @@ GivesBody all held count plan Spent (Err fault.Truncated) = (body_of plan (drop 
 GivesBody all held count plan Spent (Err fault.ReadFault) = (body_of plan (drop count all) ≡ waiting) × (held ≡ all)
 GivesBody all held count plan Spent (Err fault.Memory) = held ≡ all
 
-pub record ReadsBody (left left' : Option (List ℕ)) (held held' : List ℕ) (read read' count : ℕ) (plan : Plan) (answer : Result (List ℕ) WireFault) : Type 0 where
+pub record ReadsBody (left left' : Option (List ℕ)) (talk talk' : Option Talk) (held held' : List ℕ) (read read' count : ℕ) (plan : Plan) (answer : Result (List ℕ) WireFault) : Type 0 where
   pub taken : List ℕ
   pub consumed : Consumes left left' taken
   pub counted : read' ≡ read + length taken
   pub gives : GivesBody (held ++ taken) held' count plan (IsSpent left' read') answer
+  pub paced : Paced talk talk' (IsWaiting count plan) held taken
 
 -- what is answered of a body in chunks, whose bytes are still held
 abbrev pub GivesChunks : List ℕ → Type 0 → Result Chunks WireFault → Type 0

@@ -12,7 +12,7 @@ abbrev pub text_or_none : Option (List ℕ) → List ℕ
 text_or_none None = []
 text_or_none (Some text) = text
 
--- the phrase that stands behind a status
+-- the phrase that stands after a status
 unfoldable pub phrase_of : ℕ → List ℕ
 phrase_of status = text_or_none (reason_phrase status)
 
@@ -31,7 +31,7 @@ abbrev pub closing : Bool → List ℕ
 closing true = codes "Connection: keep-alive\r\n\r\n"
 closing false = codes "Connection: close\r\n\r\n"
 
--- the lines behind those that are there
+-- the lines after those that are there
 abbrev pub behind_front : List ℕ → Option ℕ → Option ℕ → Bool → List ℕ
 behind_front front published change keep =
     front ++ number_line (codes "X-Published: ") published ++ number_line (codes "X-Change: ") change ++ closing keep

@@ -1,9 +1,9 @@
-// Reading the body behind a head.
+// Reading the body after a head.
 ghost use Rattle.std.specs.Prelude.{◌≡◌, ◌≤◌, ◌<◌, ◌+◌, ◌-◌, ◌^◌, Err, IfOk, IfErr, OnOk, OnErr, true, length, drop, take};
 ghost use Rattle.dh_outside.specs.Faults.{Rose};
-ghost use Rattle.dh_outside.specs.Pieces.{Gains, IsSpent};
+ghost use Rattle.dh_outside.specs.Pieces.{IsSpent};
 ghost use Rattle.wire_head.specs.declared.plan.Plan.TheVariants.{Sized, Chunked};
-ghost use Rattle.http_wire.specs.Reads.{GivesChunks, ReadsBody, is_stop};
+ghost use Rattle.http_wire.specs.Reads.{Gathers, GivesChunks, ReadsBody, IsShort, IsWaiting, is_stop};
 ghost use Rattle.http_wire.specs.declared.request.WireFault.TheVariants.{ReadFault, Truncated};
 
 use crate::chunks::{Chunks, Fed, feed, start};
@@ -14,7 +14,7 @@ use dh_outside::Source;
 use std::alloc::{AllocError, Global};
 use wire_head::plan::Plan;
 
-// Reads on until so many bytes are held behind a place.
+// Reads on until so many bytes are held after a place.
 fn wait_for<S: Source>(
     source: &mut S,
     bytes: &mut Vec<u8>,
@@ -24,7 +24,8 @@ fn wait_for<S: Source>(
 ) -> Result<(), WireFault>
     requires within { end ≤ length bytes.old.items }
     requires bound { read.old ≤ 2 ^ 63 }
-    ensures gains { Gains (S.left source.old) (S.left source.new) bytes.old.items bytes.new.items read.old read.new }
+    ensures gains { Gathers (IsShort end count) (S.left source.old) (S.left source.new) (S.source_talk source.old) (S.source_talk source.new)
+        bytes.old.items bytes.new.items read.old read.new }
     ensures within { end ≤ length bytes.new.items }
     ensures enough { OnOk result (count ≤ length bytes.new.items - end) }
     ensures short { OnErr result (length bytes.new.items - end < count) }
@@ -85,7 +86,8 @@ fn read_sized<S: Source>(
 ) -> Result<Items<u8>, WireFault>
     requires within { end ≤ length bytes.old.items }
     requires bound { read.old ≤ 2 ^ 63 }
-    ensures reads { ReadsBody (S.left source.old) (S.left source.new) bytes.old.items bytes.new.items read.old read.new end (Sized count) result }
+    ensures reads { ReadsBody (S.left source.old) (S.left source.new) (S.source_talk source.old) (S.source_talk source.new)
+        bytes.old.items bytes.new.items read.old read.new end (Sized count) result }
     ensures bound { read.new ≤ 2 ^ 63 }
     ensures failed { result ≡ Err ReadFault → Rose (S.source_faults source.old) (S.source_faults source.new) }
     ensures keeps { S.source_faults source.old ≤ S.source_faults source.new }
@@ -104,7 +106,8 @@ fn read_chunks<S: Source>(
 ) -> Result<Chunks, WireFault>
     requires within { end ≤ length bytes.old.items }
     requires bound { read.old ≤ 2 ^ 63 }
-    ensures gains { Gains (S.left source.old) (S.left source.new) bytes.old.items bytes.new.items read.old read.new }
+    ensures gains { Gathers (IsWaiting end Chunked) (S.left source.old) (S.left source.new) (S.source_talk source.old) (S.source_talk source.new)
+        bytes.old.items bytes.new.items read.old read.new }
     ensures within { end ≤ length bytes.new.items }
     ensures gives { GivesChunks (drop end bytes.new.items) (IsSpent (S.left source.new) read.new) result }
     ensures bound { read.new ≤ 2 ^ 63 }
@@ -143,7 +146,8 @@ fn read_chunked<S: Source>(
 ) -> Result<Items<u8>, WireFault>
     requires within { end ≤ length bytes.old.items }
     requires bound { read.old ≤ 2 ^ 63 }
-    ensures reads { ReadsBody (S.left source.old) (S.left source.new) bytes.old.items bytes.new.items read.old read.new end Chunked result }
+    ensures reads { ReadsBody (S.left source.old) (S.left source.new) (S.source_talk source.old) (S.source_talk source.new)
+        bytes.old.items bytes.new.items read.old read.new end Chunked result }
     ensures bound { read.new ≤ 2 ^ 63 }
     ensures failed { result ≡ Err ReadFault → Rose (S.source_faults source.old) (S.source_faults source.new) }
     ensures keeps { S.source_faults source.old ≤ S.source_faults source.new }
@@ -153,7 +157,7 @@ fn read_chunked<S: Source>(
     Ok(chunks.content)
 }
 
-/// Reads the body that is planned behind a head of so many bytes, and drops both from the bytes held.
+/// Reads the body that is planned after a head of so many bytes, and drops both from the bytes held.
 pub(crate) fn read_body<S: Source>(
     alloc: Global,
     source: &mut S,
@@ -164,7 +168,8 @@ pub(crate) fn read_body<S: Source>(
 ) -> Result<Items<u8>, WireFault>
     requires within { end ≤ length bytes.old.items }
     requires bound { read.old ≤ 2 ^ 63 }
-    ensures reads { ReadsBody (S.left source.old) (S.left source.new) bytes.old.items bytes.new.items read.old read.new end plan result }
+    ensures reads { ReadsBody (S.left source.old) (S.left source.new) (S.source_talk source.old) (S.source_talk source.new)
+        bytes.old.items bytes.new.items read.old read.new end plan result }
     ensures bound { read.new ≤ 2 ^ 63 }
     ensures failed { result ≡ Err ReadFault → Rose (S.source_faults source.old) (S.source_faults source.new) }
     ensures keeps { S.source_faults source.old ≤ S.source_faults source.new }

@@ -20,9 +20,9 @@ const FRAME_LIMIT: u64 = 33_554_432;
 pub enum Place {
     /// In the line before a chunk.
     Size(SizePlace),
-    /// Before so many bytes of a chunk; before the carriage return behind it, where there are none left.
+    /// Before so many bytes of a chunk; before the carriage return after it, where there are none left.
     Content(u64),
-    /// Before the line feed behind a chunk.
+    /// Before the line feed after a chunk.
     Feed,
     /// Before a line of the trailer.
     Start,
@@ -60,7 +60,7 @@ pub struct Chunks {
 pub enum Fed {
     /// The body goes on.
     More,
-    /// The body is whole. Bytes may be left behind it.
+    /// The body is whole. Bytes may be left after it.
     Whole,
     /// The body is refused.
     Refused(Code),

@@ -12,7 +12,7 @@ use dh_base::codes::Code;
 use dh_outside::{Piece, Source, take_piece};
 use wire_head::lines::{Opening, blank_length, find_opening};
 
-// Moves the bytes from a place on to the front. What stands behind them is left over.
+// Moves the bytes from a place on to the front. What stands after them is left over.
 fn move_down(bytes: &mut [u8], from: usize)
     requires { from ≤ length bytes.old }
     ensures len { length bytes.new ≡ length bytes.old }
@@ -56,7 +56,7 @@ fn last_two(bytes: &Vec<u8>) -> usize
     bytes.as_slice().len().saturating_sub(2)
 }
 
-// Drops the empty lines at the front, and says what stands behind them. The bytes before `from` were looked at
+// Drops the empty lines at the front, and says what stands after them. The bytes before `from` were looked at
 // before; those before its new value are now.
 fn look(bytes: &mut Vec<u8>, from: &mut usize) -> Opening
     requires { IsPassed bytes.old.items from.old }
@@ -70,14 +70,15 @@ fn look(bytes: &mut Vec<u8>, from: &mut usize) -> Opening
     opening
 }
 
-/// Whether one more piece came behind the bytes held. None comes where the source is over.
+/// Whether one more piece came after the bytes held. None comes where the source is over.
 pub(crate) fn take_more<S: Source>(
     source: &mut S,
     bytes: &mut Vec<u8>,
     read: &mut u64,
 ) -> Result<bool, WireFault>
     requires { read.old ≤ 2 ^ 63 }
-    ensures gains { Gains (S.left source.old) (S.left source.new) bytes.old.items bytes.new.items read.old read.new }
+    ensures gains { Gains (S.left source.old) (S.left source.new) (S.source_talk source.old) (S.source_talk source.new)
+        bytes.old.items bytes.new.items read.old read.new }
     ensures more { result ≡ Ok true → read.old < read.new }
     ensures none { result ≡ Ok false → bytes.new.items ≡ bytes.old.items }
     ensures nothing { OnErr result (bytes.new.items ≡ bytes.old.items) }
@@ -95,7 +96,7 @@ pub(crate) fn take_more<S: Source>(
     }
 }
 
-/// Reads on until a head stands at the front of the bytes held, behind no empty line, and says how many bytes it has.
+/// Reads on until a head stands at the front of the bytes held, after no empty line, and says how many bytes it has.
 /// There is none where the source is over.
 pub(crate) fn find_head<S: Source>(
     source: &mut S,
@@ -103,7 +104,8 @@ pub(crate) fn find_head<S: Source>(
     read: &mut u64,
 ) -> Result<Option<usize>, WireFault>
     requires { read.old ≤ 2 ^ 63 }
-    ensures skims { Skims (S.left source.old) (S.left source.new) bytes.old.items bytes.new.items read.old read.new }
+    ensures skims { Skims (S.left source.old) (S.left source.new) (S.source_talk source.old) (S.source_talk source.new)
+        bytes.old.items bytes.new.items read.old read.new }
     ensures front { blank_length bytes.new.items ≡ 0 }
     ensures opens { Opens bytes.new.items (IsSpent (S.left source.new) read.new) result }
     ensures bound { read.new ≤ 2 ^ 63 }

@@ -8,13 +8,13 @@ use httparse::parse_hex_digit;
 /// A place in the line before a chunk, with the size so far.
 #[derive(Clone, Copy, Drop, PartialEq, Eq)]
 pub enum SizePlace {
-    /// Behind so many digits.
+    /// After so many digits.
     Digits(u32, u64),
-    /// Behind a space or a tab.
+    /// After a space or a tab.
     Pad(u64),
     /// In the extension.
     Extension(u64),
-    /// Behind the carriage return.
+    /// After the carriage return.
     End(u64),
 }
 
@@ -41,7 +41,7 @@ fn more_digits(count: u32, size: u64, digit: u64) -> SizePlace
     SizePlace::Digits(count + 1, size * 16 + digit)
 }
 
-// A byte behind the digits.
+// A byte after the digits.
 fn behind_digits(size: u64, byte: u8) -> SizeStep
     ensures value { result ≡ behind_digits size byte }
     ensures sound { GoesSized result }

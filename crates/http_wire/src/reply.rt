@@ -8,7 +8,7 @@ use itoa::Buffer;
 // More than the longest head has.
 const ROOM: usize = 256;
 
-// Writes a text behind the bytes that are there, and says how many there are now.
+// Writes a text after the bytes that are there, and says how many there are now.
 fn put(buffer: &mut [u8], len: usize, text: &[u8]) -> usize
     requires { len + length text.now ≤ length buffer.old }
     ensures written { take result buffer.new ≡ take len buffer.old ++ text.now }
@@ -47,7 +47,7 @@ fn put_line(buffer: &mut [u8], len: usize, name: &[u8], number: Option<u64>) -> 
     put(buffer, len, b"\r\n")
 }
 
-// The phrase that stands behind a status.
+// The phrase that stands after a status.
 #[tactic(auto, using(crate::proofs::ReplyLemmas::valid_status), unfolding(crate::specs::Reply::phrase_of))]
 fn standard_phrase(status: u16) -> &'static str
     requires { is_reply_status status ≡ true }
@@ -100,7 +100,7 @@ fn closing(keep: bool) -> &'static [u8]
     }
 }
 
-// Writes the lines behind those that are there.
+// Writes the lines after those that are there.
 fn put_behind(
     buffer: &mut [u8],
     len: usize,

@@ -1,5 +1,8 @@
-ghost use Rattle.std.specs.Prelude.{◌≡◌, ◌≤◌, ◌^◌, Ok, Err, [], length, take};
+ghost use Rattle.std.specs.Prelude.{◌≡◌, ◌≤◌, ◌^◌, ℕ, Ok, Err, [], length, take};
+ghost use Rattle.dh_base.specs.declared.codes.Code.{Code};
 ghost use Rattle.dh_outside.specs.Faults.{Rose};
+ghost use Rattle.http_wire.specs.Next.{whole, refused, IsNext};
+ghost use Rattle.http_wire.specs.declared.request.Request.{Request as Asked};
 ghost use Rattle.http_wire.specs.Reads.{Reads, ReadsBehind, seen};
 ghost use Rattle.wire_head.specs.Head.{Says, Answers};
 ghost use Rattle.http_wire.specs.declared.request.WireFault.TheVariants.{ReadFault};
@@ -51,7 +54,7 @@ fn head_at(alloc: Global, bytes: &Vec<u8>, end: usize) -> Result<Head, HeadFault
     read_head(alloc, &bytes[..end])
 }
 
-// Reads the body behind a head of so many bytes.
+// Reads the body after a head of so many bytes.
 fn read_at_head<S: Source>(
     alloc: Global,
     source: &mut S,
@@ -63,7 +66,8 @@ fn read_at_head<S: Source>(
     requires within { end ≤ length bytes.old.items }
     requires bound { read.old ≤ 2 ^ 63 }
     requires says { Says (take end bytes.old.items) (Ok head) }
-    ensures reads { ReadsBehind (S.left source.old) (S.left source.new) bytes.old.items bytes.new.items read.old read.new end result }
+    ensures reads { ReadsBehind (S.left source.old) (S.left source.new) (S.source_talk source.old) (S.source_talk source.new)
+        bytes.old.items bytes.new.items read.old read.new end result }
     ensures bound { read.new ≤ 2 ^ 63 }
     ensures failed { result ≡ Err ReadFault → Rose (S.source_faults source.old) (S.source_faults source.new) }
     ensures keeps { S.source_faults source.old ≤ S.source_faults source.new }
@@ -84,7 +88,8 @@ fn read_behind<S: Source>(
 ) -> Result<Request, WireFault>
     requires within { end ≤ length bytes.old.items }
     requires bound { read.old ≤ 2 ^ 63 }
-    ensures reads { ReadsBehind (S.left source.old) (S.left source.new) bytes.old.items bytes.new.items read.old read.new end result }
+    ensures reads { ReadsBehind (S.left source.old) (S.left source.new) (S.source_talk source.old) (S.source_talk source.new)
+        bytes.old.items bytes.new.items read.old read.new end result }
     ensures bound { read.new ≤ 2 ^ 63 }
     ensures failed { result ≡ Err ReadFault → Rose (S.source_faults source.old) (S.source_faults source.new) }
     ensures keeps { S.source_faults source.old ≤ S.source_faults source.new }
@@ -95,7 +100,7 @@ fn read_behind<S: Source>(
     }
 }
 
-// Reads the next request behind the bytes held.
+// Reads the next request after the bytes held.
 fn read_next<S: Source>(
     alloc: Global,
     source: &mut S,
@@ -103,7 +108,8 @@ fn read_next<S: Source>(
     read: &mut u64,
 ) -> Result<Option<Request>, WireFault>
     requires bound { read.old ≤ 2 ^ 63 }
-    ensures reads { Reads (S.left source.old) (S.left source.new) (seen bytes.old.items read.old) (seen bytes.new.items read.new) result }
+    ensures reads { Reads (S.left source.old) (S.left source.new) (S.source_talk source.old) (S.source_talk source.new)
+        (seen bytes.old.items read.old) (seen bytes.new.items read.new) result }
     ensures bound { read.new ≤ 2 ^ 63 }
     ensures failed { result ≡ Err ReadFault → Rose (S.source_faults source.old) (S.source_faults source.new) }
     ensures keeps { S.source_faults source.old ≤ S.source_faults source.new }
@@ -120,8 +126,9 @@ fn read_next<S: Source>(
     }
 }
 
-/// Reads the next request of a source, behind the bytes that `rest` holds. `None` is the end of the input
+/// Reads the next request of a source, after the bytes that `rest` holds. `None` is the end of the input
 /// between two requests. A refusal leaves the bytes of the request held, so no request follows one.
+/// Nothing is read where the bytes held decide.
 ///
 /// A source counts as ended after 2^63 bytes.
 pub fn next_request<S: Source>(
@@ -129,7 +136,9 @@ pub fn next_request<S: Source>(
     source: &mut S,
     rest: &mut Rest,
 ) -> Result<Option<Request>, WireFault>
-    ensures reads { Reads (S.left source.old) (S.left source.new) rest.old rest.new result }
+    ensures reads { Reads (S.left source.old) (S.left source.new) (S.source_talk source.old) (S.source_talk source.new) rest.old rest.new result }
+    ensures whole { (request : Asked) → (used : ℕ) → IsNext rest.old.bytes (whole request used) → rest.new.read ≡ rest.old.read }
+    ensures refused { (code : Code) → IsNext rest.old.bytes (refused code) → rest.new.read ≡ rest.old.read }
     ensures failed { result ≡ Err ReadFault → Rose (S.source_faults source.old) (S.source_faults source.new) }
     ensures keeps { S.source_faults source.old ≤ S.source_faults source.new }
 {

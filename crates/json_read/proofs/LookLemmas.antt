@@ -59,7 +59,7 @@ data_of_found : (o : Option (Bor (Value Global))) → option_map (λ found. data
 data_of_found None = refl
 data_of_found (Some found) = refl
 
--- what is found behind a key
+-- what is found after a key
 pub get_of : (key : List ℕ) (value : Value Global) (o : Option (Bor (Value Global))) → option_map (λ found. value_view found.now) o ≡ tree.get key (value_view value)
     → option_map (λ found. data_of found.now) o ≡ get key (data_of value)
 get_of key value o e = data_of_found o ∙ ap (option_map meant) e ∙ sym (meant_get key (value_view value))

@@ -17,7 +17,7 @@ abbrev pub behind : List ℕ → List ℕ → List ℕ
 behind step [] = step
 behind step (byte ∷ path) = step ++ 46 ∷ byte ∷ path
 
--- a fault found behind a step has the step in its path
+-- a fault found after a step has the step in its path
 abbrev pub at_step : {A : Type 0} → List ℕ → Formed A → Formed A
 at_step step (Ok value) = Ok value
 at_step step (Err path) = Err (behind step path)

@@ -6,7 +6,7 @@ use Rattle.json_read.specs.Forms.{behind}
 use Rattle.json_read.specs.declared.fault.FormFault.{FormFault}
 use Rattle.json_read.specs.declared.fault.FormFault.TheVariants as fault
 
--- the value that is meant, or the path of the first fault, or that memory was wanting
+-- the value that is meant, or the path of the first fault, or that memory ran out
 abbrev pub Gives : {A : Type 0} → Result A (List ℕ) → Result A FormFault → Type 0
 Gives meant (Ok value) = meant ≡ Ok value
 Gives meant (Err (fault.At path)) = meant ≡ Err path
@@ -18,7 +18,7 @@ IsSeenFrom step (fault.At path) (fault.At longer) = longer ≡ behind step path
 IsSeenFrom step (fault.At path) fault.Memory = ⊤
 IsSeenFrom step fault.Memory seen = seen ≡ fault.Memory
 
--- a fault at this path, or that memory was wanting
+-- a fault at this path, or that memory ran out
 abbrev pub IsAt : List ℕ → FormFault → Type 0
 IsAt path (fault.At found) = found ≡ path
 IsAt path fault.Memory = ⊤

@@ -9,7 +9,7 @@ use std::alloc::{AllocError, AllocFailed};
 pub enum FormFault {
     /// The data isn't in the form. The path leads to the first place that isn't, and is empty for the data itself.
     At(Items<u8>),
-    /// Memory was wanting.
+    /// Memory ran out.
     Memory,
 }
 

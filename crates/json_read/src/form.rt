@@ -133,7 +133,7 @@ pub fn read_list<T: ReadJson>(alloc: Global, value: &Value<'_>) -> Result<Items<
     }
 }
 
-// What stands behind a key.
+// What stands after a key.
 fn read_behind<T: ReadJson>(alloc: Global, key: &str, value: &Value<'_>) -> Result<T, FormFault>
     ensures { Gives (at_step key.now (T.form (data_of value.now))) result }
 {

@@ -15,7 +15,7 @@ use serde_json::Number;
 use std::alloc::Global;
 use std::collections::BTreeMap;
 
-/// What stands behind a key of an object, the last where the key stands there more than once.
+/// What stands after a key of an object, the last where the key stands there more than once.
 #[tactic(auto, using(crate::proofs::LookLemmas::get_of))]
 pub fn member<'v, 'a>(value: &'v Value<'a>, key: &str) -> Option<&'v Value<'a>>
     ensures { option_map (λ found. data_of found.now) result ≡ get key.now (data_of value.now) }
@@ -115,7 +115,7 @@ fn by_key<'v, 'a>(
     Ok(map)
 }
 
-/// The members of an object in the byte order of their keys, each with the last that stands behind its key.
+/// The members of an object in the byte order of their keys, each with the last that stands after its key.
 pub fn members<'v, 'a>(
     alloc: Global,
     value: &'v Value<'a>,

@@ -1,4 +1,4 @@
--- Objects made one behind the other.
+-- Objects made one after the other.
 use Rattle.std.proofs.Common.{◌≡◌, ◌∙◌, ℕ, zero, suc, ◌+◌, ◌<◌, List, [], ◌∷◌, ◌++◌, length, get_or, take, drop, Option, None, refl, sym, ap, subst, arith, add-one, drop-cons}
 use Rattle.std.specs.Option.{option_or}
 use Rattle.std.proofs.lemmas.List.{take_more}
@@ -26,7 +26,7 @@ rest_of (x ∷ ys) (suc i) y rest at = let more = rest_of ys i y rest at in (mor
 split : {A : Type 0} (xs : List A) (i : ℕ) (x : A) → i < length xs → x ≡ get_or xs i x → drop i xs ≡ x ∷ drop (i + 1) xs
 split xs i x within at = rw add-one (drop-cons xs i x within ∙ ap (λ y. y ∷ drop (suc i) xs) (sym at))
 
--- what is known behind one object more
+-- what is known after one object more
 pub record Step {A B C : Type 0} (unread_of : A → Option ExprFault) (IsMade : A → B → C → Type 0) (raw : List A) (links : List B) (i : ℕ) (rest : List B) (all : List C) : Type 0 where
   pub unread : first_unread unread_of (drop i raw) ≡ first_unread unread_of (drop (i + 1) raw)
   pub left : rest ≡ drop (i + 1) links

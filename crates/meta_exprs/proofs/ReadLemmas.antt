@@ -96,7 +96,7 @@ step_behind test (y ∷ items) [] n x within same = absurd (omega arith)
 step_behind test (y ∷ items) (q ∷ places) zero x within same = refl
 step_behind test (y ∷ items) (q ∷ places) (suc n) x within same = step_behind test items places n x (omega arith) (omega arith)
 
--- the search goes on behind an item
+-- the search goes on after an item
 pub missing_place-step : (test : Item → Bool) (items : List Item) (places : List ℕ) (n : ℕ) (x : Item) → n < length items → length items ≡ length places
     → missing_place test (drop n items) (drop n places) ≡ cond (test (get_or items n x)) (Some (get_or places n 0)) (missing_place test (drop (n + 1) items) (drop (n + 1) places))
 missing_place-step test items places n x within same = rw add-one (step_behind test items places n x within same)

@@ -9,7 +9,7 @@ use Rattle.json_read.specs.declared.fault.FormFault.{FormFault}
 use Rattle.json_read.specs.declared.fault.FormFault.TheVariants as fault
 use Rattle.meta_parts.specs.BuiltIn.{is_built_in}
 
--- the number of a place, or that memory was wanting
+-- the number of a place, or that memory ran out
 abbrev pub IsPlace : ℕ → Result ℕ FormFault → Type 0
 IsPlace place (Ok number) = number ≡ place
 IsPlace place (Err error) = error ≡ fault.Memory

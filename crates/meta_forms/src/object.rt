@@ -23,7 +23,7 @@ pub trait ReadObject: Sized + Drop {
     /// What the object stands for, or the path of the first fault in it.
     ghost form: { ℕ → List ℕ → Data → Result Self (List ℕ) };
 
-    /// Reads what is behind the identifier.
+    /// Reads what is after the identifier.
     fn read(alloc: Global, place: u32, id: Uid, value: &Value<'_>) -> Result<Self, FormFault>
         ensures { Gives (form place id (data_of value.now)) result };
 }

@@ -33,14 +33,14 @@ cut-more from (end ∷ ends) xs ys are =
     ap (λ (z : List _). z ∷ cut end (ends ++ length (xs ++ ys) ∷ []) (xs ++ ys)) (piece-append from end xs ys are.0 within)
     ∙ ap (λ (zs : List (List _)). piece from end xs ∷ zs) (cut-more end ends xs ys are.1)
 
--- a piece and what is behind it
+-- a piece and what is after it
 piece-rest : {A : Type 0} (from end : ℕ) (xs : List A) → from ≤ end → piece from end xs ++ drop end xs ≡ drop from xs
 piece-rest from end xs up =
     let deeper : drop (end - from) (drop from xs) ≡ drop (from + (end - from)) xs = drop-drop (end - from) from xs in
     let same : from + (end - from) ≡ end = omega arith in
     ap (λ zs. piece from end xs ++ zs) (ap (λ n. drop n xs) (sym same) ∙ sym deeper) ∙ take-append-drop (end - from) (drop from xs)
 
--- the pieces one behind the other are the list
+-- the pieces one after the other are the list
 pub cut-joined : {A : Type 0} (from : ℕ) (ends : List ℕ) (xs : List A) → AreEnds from ends (length xs) → flat_map (λ (piece : List A). piece) (cut from ends xs) ≡ drop from xs
 cut-joined from [] xs are = sym (drop_all from xs (omega arith))
 cut-joined from (end ∷ ends) xs are =
@@ -75,7 +75,7 @@ ends_more ends more xs ys all are is longer =
     let long : length all ≡ length xs + length ys = ap length is ∙ length-append xs ys in
     subst (λ es. AreEnds 0 es (length all)) (sym longer) (ends-add 0 ends (length xs) (length all) are (omega arith))
 
--- the pieces of a list one behind the other are the list
+-- the pieces of a list one after the other are the list
 pub joined_is : {A : Type 0} (ends : List ℕ) (xs : List A) → AreEnds 0 ends (length xs) → flat_map (λ (piece : List A). piece) (cut 0 ends xs) ≡ xs
 joined_is ends xs are = cut-joined 0 ends xs are
 

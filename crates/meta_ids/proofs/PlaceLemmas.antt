@@ -56,7 +56,7 @@ position_from-not_front t first (suc n) (x ∷ xs) late =
       | false ↦ λ later. position_from-not_front t (first + 1) n xs (λ place at. (let past = later place at in omega arith))
     ] late
 
--- behind the front of a list, where it stands there
+-- after the front of a list, where it stands there
 position_from-rest : {K : Type 0} (t : K → Bool) (first n : ℕ) (xs : List K) (place : ℕ) → position_from t first xs ≡ Some place → first + n ≤ place
     → position_from t (first + n) (drop n xs) ≡ Some place
 position_from-rest t first zero xs place at past = let same : first + zero ≡ first = omega arith in ap (λ m. position_from t m xs) same ∙ at
@@ -86,7 +86,7 @@ place_of-at ids id place at =
     ap (λ n. same_id id (get_or ids n [])) (sym none) ∙ position_from-passes (λ other. same_id id other) 0 ids place [] at in
     sym (same_text id (get_or ids place []) (sym passes))
 
--- what has no place has none behind the front either
+-- what has no place has none after the front either
 position_from-absent : {K : Type 0} (t : K → Bool) (first other n : ℕ) (xs : List K) → position_from t first xs ≡ None → position_from t other (drop n xs) ≡ None
 position_from-absent t first other zero [] absent = refl
 position_from-absent t first other (suc n) [] absent = refl
@@ -97,7 +97,7 @@ position_from-absent t first other (suc n) (x ∷ xs) absent =
     elim (t x) as (λ b. cond b (Some first) (position_from t (first + 1) xs) ≡ None → position_from t other (drop n xs) ≡ None)
     [ true ↦ λ here. absurd (cc) | false ↦ λ later. position_from-absent t (first + 1) other n xs later ] absent
 
--- an identifier that stands earlier isn't behind
+-- an identifier that stands earlier isn't after
 not_behind : (ids : List (List ℕ)) (id : List ℕ) (from early place : ℕ) → repeat_of ids ≡ None → place_of ids id ≡ Some early → early < from
     → place_of (drop from ids) id ≡ Some place → ⊥
 not_behind ids id from early place differ first before at =

@@ -1,4 +1,4 @@
--- A list cut into lists that stand one behind the other.
+-- A list cut into lists that stand one after the other.
 use Rattle.std.specs.Prelude.{◌≡◌, ℕ, ◌-◌, ◌≤◌, ◌<◌, ◌^◌, ◌&&◌, cond, nat_le, nat_lt, List, [], ◌∷◌, take, drop, length, Option, None, Some}
 use Rattle.meta_ids.specs.Places.{repeat_of}
 

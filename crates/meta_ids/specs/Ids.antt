@@ -70,7 +70,7 @@ ids_of parts = map (ids_in parts) kinds
 abbrev pub ids_at : List (List (List ℕ)) → Kind → List (List ℕ)
 ids_at ids kind = get_or ids (kind_place kind) []
 
--- all of them, one kind behind the other
+-- all of them, one kind after the other
 abbrev pub joined : List (List (List ℕ)) → List (List ℕ)
 joined ids = flat_map (λ of_kind. of_kind) ids
 
@@ -81,7 +81,7 @@ all_ids parts = joined (ids_of parts)
 abbrev pub repeated : List (List ℕ) → Option (List ℕ)
 repeated ids = option_map (λ place. get_or ids place []) (repeat_of ids)
 
--- the user of the first token, behind others, that is one of those before it
+-- the user of the first token, after others, that is one of those before it
 abbrev pub user_behind : List (List ℕ) → List (List ℕ × List ℕ) → Option (List ℕ)
 user_behind before [] = None
 user_behind before (token ∷ tokens) = cond (is_one_of before token.0) (Some token.1) (user_behind (before ++ token.0 ∷ []) tokens)

@@ -11,7 +11,7 @@ same_id id other = pointwise nat_eq id other
 abbrev pub place_of : List (List ℕ) → List ℕ → Option ℕ
 place_of ids id = position_from (λ other. same_id id other) 0 ids
 
--- the first identifier of a list, behind others, that is one of those before it
+-- the first identifier of a list, after others, that is one of those before it
 abbrev pub repeat_behind : List (List ℕ) → List (List ℕ) → Option ℕ
 repeat_behind before [] = None
 repeat_behind before (id ∷ ids) =

@@ -11,7 +11,7 @@ pub enum IdsFault {
     /// The first object, of whatever kind, that has the identifier of one before it. Where there is none: the
     /// user of the first token that is one of those before it.
     Twice { uid: Uid },
-    /// Memory was wanting, or there are more objects than numbers of 32 bits.
+    /// Memory ran out, or there are more objects than numbers of 32 bits.
     Memory,
 }
 

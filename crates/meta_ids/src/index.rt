@@ -14,7 +14,7 @@ pub enum IndexFault {
     /// The identifier at this place stands earlier in the list too. It is the first such place.
     #[error("the identifier at place {0} stands twice")]
     Twice(u32),
-    /// Memory was wanting.
+    /// Memory ran out.
     #[error("out of memory")]
     Memory,
 }

@@ -6,7 +6,7 @@ use dh_base::uid::Uid;
 use std::alloc::Global;
 use std::marker::Model;
 
-/// Lists of identifiers that stand one behind the other. `ends` has the place where each ends. Contracts
+/// Lists of identifiers that stand one after the other. `ends` has the place where each ends. Contracts
 /// see the lists.
 #[derive(Drop)]
 pub struct Lists {

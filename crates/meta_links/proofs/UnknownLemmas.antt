@@ -1,4 +1,4 @@
--- The first unknown reference of lists that stand one behind the other.
+-- The first unknown reference of lists that stand one after the other.
 use Rattle.std.proofs.Common.{◌≡◌, ◌∙◌, ℕ, ◌+◌, ◌<◌, Bool, true, false, cond, List, [], ◌∷◌, ◌++◌, length, get_or, drop, Option, Some, None, refl, sym, ap}
 use Rattle.std.specs.Option.{option_or}
 use Rattle.std.specs.List.{flat_map}
@@ -55,5 +55,5 @@ flat_more {X = X} ids has xs i x whole met new within is so_far more =
     ∙ ap (λ (y : X). after ids met (has y ++ flat_map has (drop (i + 1) xs))) (sym is)
     ∙ after_append ids met (has x) (flat_map has (drop (i + 1) xs)) ∙ ap (λ m. after ids m (flat_map has (drop (i + 1) xs))) (sym more)
 
--- references that stand one behind the other
+-- references that stand one after the other
 pub ruleset parts = (after_none, after_append)

@@ -1,9 +1,12 @@
-ghost use Rattle.std.specs.Prelude.{◌≡◌, IfOk, OnOk};
+ghost use Rattle.std.specs.Prelude.{◌≡◌, ◌∷◌, IfOk, OnOk, map};
+ghost use Rattle.std.specs.List.{flat_map};
+ghost use Rattle.meta_links.specs.Held.{built_in_combo, built_in_option_combo, category_combo_held, option_combo_held};
+ghost use Rattle.meta_links.specs.Table.{category_combo_references, option_combo_references};
 ghost use Rattle.meta_links.specs.Groups.{units_references, units_held, combos_references, combos_held, sets_references, sets_held, rules_references, rules_held, programs_references, programs_held, users_references, users_held};
 ghost use Rattle.meta_links.specs.Told.{after};
 
 use crate::built_in::{built_in_combo, built_in_option_combo};
-use crate::link_each::link_all;
+use crate::link_each::{link_all, link_beside};
 use crate::unknown::Unknown;
 use dh_base::items::Items;
 use dh_base::memory::Memory;
@@ -37,13 +40,14 @@ pub fn link_units(
     ensures told { OnOk result (unknown.new ≡ after ids.now unknown.old (units_references parts.now)) }
 {
     let list = &parts.organisation_units;
-    let organisation_units = link_all(alloc, ids, unknown, Vec::new(alloc), list)?;
+    let one = link_all(alloc, ids, unknown, Vec::new(alloc), list)?;
     let list = &parts.organisation_unit_groups;
-    let organisation_unit_groups = link_all(alloc, ids, unknown, Vec::new(alloc), list)?;
+    let two = link_beside(one, alloc, ids, unknown, list)?;
     let list = &parts.category_options;
-    let category_options = link_all(alloc, ids, unknown, Vec::new(alloc), list)?;
+    let three = link_beside(two, alloc, ids, unknown, list)?;
     let list = &parts.categories;
-    let categories = link_all(alloc, ids, unknown, Vec::new(alloc), list)?;
+    let all = link_beside(three, alloc, ids, unknown, list)?;
+    let (((organisation_units, organisation_unit_groups), category_options), categories) = all;
     Ok(UnitLinks {
         organisation_units,
         organisation_unit_groups,
@@ -61,6 +65,38 @@ pub struct ComboLinks {
     pub data_approval_levels: Items<ApprovalLevel>,
 }
 
+// Category combinations, the built-in one before them.
+fn category_combos(
+    alloc: Global,
+    ids: &Ids,
+    unknown: &mut Unknown,
+    parts: &MetaParts,
+) -> Result<Items<CategoryCombo>, Memory>
+    ensures held { IfOk result (λ all. all ≡ built_in_combo ∷ map (category_combo_held ids.now) parts.now.category_combos) }
+    ensures told { OnOk result (unknown.new ≡ after ids.now unknown.old (flat_map category_combo_references parts.now.category_combos)) }
+{
+    let built_in = built_in_combo(alloc)?;
+    link_all(alloc, ids, unknown, built_in, &parts.category_combos)
+}
+
+// Option combinations, the built-in one before them, beside what was linked before.
+fn option_combos_beside<A: Drop>(
+    first: A,
+    alloc: Global,
+    ids: &Ids,
+    unknown: &mut Unknown,
+    parts: &MetaParts,
+) -> Result<(A, Items<OptionCombo>), Memory>
+    ensures first { IfOk result (λ pair. pair.0 ≡ first) }
+    ensures held { IfOk result (λ pair. pair.1 ≡ built_in_option_combo ∷ map (option_combo_held ids.now) parts.now.category_option_combos) }
+    ensures told { OnOk result (unknown.new ≡ after ids.now unknown.old (flat_map option_combo_references parts.now.category_option_combos)) }
+{
+    let built_in = built_in_option_combo(alloc)?;
+    let list = &parts.category_option_combos;
+    let second = link_all(alloc, ids, unknown, built_in, list)?;
+    Ok((first, second))
+}
+
 #[tactic(auto, using(crate::proofs::UnknownLemmas::parts), unfolding(crate::specs::Groups::combos_held))]
 pub fn link_combos(
     alloc: Global,
@@ -71,16 +107,13 @@ pub fn link_combos(
     ensures held { IfOk result (λ held. held ≡ combos_held ids.now parts.now) }
     ensures told { OnOk result (unknown.new ≡ after ids.now unknown.old (combos_references parts.now)) }
 {
-    let built_in = built_in_combo(alloc)?;
-    let list = &parts.category_combos;
-    let category_combos = link_all(alloc, ids, unknown, built_in, list)?;
-    let built_in = built_in_option_combo(alloc)?;
-    let list = &parts.category_option_combos;
-    let category_option_combos = link_all(alloc, ids, unknown, built_in, list)?;
+    let one = category_combos(alloc, ids, unknown, parts)?;
+    let two = option_combos_beside(one, alloc, ids, unknown, parts)?;
     let list = &parts.data_elements;
-    let data_elements = link_all(alloc, ids, unknown, Vec::new(alloc), list)?;
+    let three = link_beside(two, alloc, ids, unknown, list)?;
     let list = &parts.data_approval_levels;
-    let data_approval_levels = link_all(alloc, ids, unknown, Vec::new(alloc), list)?;
+    let all = link_beside(three, alloc, ids, unknown, list)?;
+    let (((category_combos, category_option_combos), data_elements), data_approval_levels) = all;
     Ok(ComboLinks {
         category_combos,
         category_option_combos,
@@ -109,13 +142,14 @@ pub fn link_sets(
     ensures told { OnOk result (unknown.new ≡ after ids.now unknown.old (sets_references parts.now)) }
 {
     let list = &parts.data_approval_workflows;
-    let data_approval_workflows = link_all(alloc, ids, unknown, Vec::new(alloc), list)?;
+    let one = link_all(alloc, ids, unknown, Vec::new(alloc), list)?;
     let list = &parts.data_sets;
-    let data_sets = link_all(alloc, ids, unknown, Vec::new(alloc), list)?;
+    let two = link_beside(one, alloc, ids, unknown, list)?;
     let list = &parts.constants;
-    let constants = link_all(alloc, ids, unknown, Vec::new(alloc), list)?;
+    let three = link_beside(two, alloc, ids, unknown, list)?;
     let list = &parts.indicator_types;
-    let indicator_types = link_all(alloc, ids, unknown, Vec::new(alloc), list)?;
+    let all = link_beside(three, alloc, ids, unknown, list)?;
+    let (((data_approval_workflows, data_sets), constants), indicator_types) = all;
     Ok(SetLinks {
         data_approval_workflows,
         data_sets,
@@ -144,13 +178,14 @@ pub fn link_rules(
     ensures told { OnOk result (unknown.new ≡ after ids.now unknown.old (rules_references parts.now)) }
 {
     let list = &parts.indicators;
-    let indicators = link_all(alloc, ids, unknown, Vec::new(alloc), list)?;
+    let one = link_all(alloc, ids, unknown, Vec::new(alloc), list)?;
     let list = &parts.validation_rules;
-    let validation_rules = link_all(alloc, ids, unknown, Vec::new(alloc), list)?;
+    let two = link_beside(one, alloc, ids, unknown, list)?;
     let list = &parts.tracked_entity_types;
-    let tracked_entity_types = link_all(alloc, ids, unknown, Vec::new(alloc), list)?;
+    let three = link_beside(two, alloc, ids, unknown, list)?;
     let list = &parts.tracked_entity_attributes;
-    let tracked_entity_attributes = link_all(alloc, ids, unknown, Vec::new(alloc), list)?;
+    let all = link_beside(three, alloc, ids, unknown, list)?;
+    let (((indicators, validation_rules), tracked_entity_types), tracked_entity_attributes) = all;
     Ok(RuleLinks {
         indicators,
         validation_rules,
@@ -178,11 +213,12 @@ pub fn link_programs(
     ensures told { OnOk result (unknown.new ≡ after ids.now unknown.old (programs_references parts.now)) }
 {
     let list = &parts.programs;
-    let programs = link_all(alloc, ids, unknown, Vec::new(alloc), list)?;
+    let one = link_all(alloc, ids, unknown, Vec::new(alloc), list)?;
     let list = &parts.program_stages;
-    let program_stages = link_all(alloc, ids, unknown, Vec::new(alloc), list)?;
+    let two = link_beside(one, alloc, ids, unknown, list)?;
     let list = &parts.program_indicators;
-    let program_indicators = link_all(alloc, ids, unknown, Vec::new(alloc), list)?;
+    let all = link_beside(two, alloc, ids, unknown, list)?;
+    let ((programs, program_stages), program_indicators) = all;
     Ok(ProgramLinks {
         programs,
         program_stages,
@@ -209,11 +245,12 @@ pub fn link_users(
     ensures told { OnOk result (unknown.new ≡ after ids.now unknown.old (users_references parts.now)) }
 {
     let list = &parts.user_roles;
-    let user_roles = link_all(alloc, ids, unknown, Vec::new(alloc), list)?;
+    let one = link_all(alloc, ids, unknown, Vec::new(alloc), list)?;
     let list = &parts.users;
-    let users = link_all(alloc, ids, unknown, Vec::new(alloc), list)?;
+    let two = link_beside(one, alloc, ids, unknown, list)?;
     let list = &parts.user_groups;
-    let user_groups = link_all(alloc, ids, unknown, Vec::new(alloc), list)?;
+    let all = link_beside(two, alloc, ids, unknown, list)?;
+    let ((user_roles, users), user_groups) = all;
     Ok(UserLinks {
         user_roles,
         users,

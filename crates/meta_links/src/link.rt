@@ -1,16 +1,35 @@
 ghost use Rattle.std.specs.Prelude.{◌≡◌, ◌++◌, IfOk, OnOk};
-ghost use Rattle.meta_links.specs.Told.{Gives};
+ghost use Rattle.meta_links.specs.Groups.{assembled};
+ghost use Rattle.meta_links.specs.Held.{links_of};
+ghost use Rattle.meta_links.specs.Table.{references};
+ghost use Rattle.meta_links.specs.Told.{Gives, after};
 
 use crate::both::both;
 use crate::fault::LinkFault;
-use crate::groups::{link_combos, link_programs, link_rules, link_sets, link_units, link_users};
+use crate::groups::{
+    ComboLinks, ProgramLinks, RuleLinks, SetLinks, UnitLinks, UserLinks, link_combos,
+    link_programs, link_rules, link_sets, link_units, link_users,
+};
 use crate::tokens::link_tokens;
 use crate::unknown::Unknown;
+use dh_base::items::Items;
 use dh_base::memory::Memory;
 use meta_ids::ids::Ids;
 use meta_parts::held::Links;
 use meta_parts::parts::MetaParts;
 use std::alloc::Global;
+
+// Units, combinations, data sets, rules, programs, users and tokens, as they were linked.
+type Groups = (
+    (
+        (
+            (((UnitLinks, ComboLinks), SetLinks), RuleLinks),
+            ProgramLinks,
+        ),
+        UserLinks,
+    ),
+    Items<(Items<u8>, u32)>,
+);
 
 /// All objects with their references as numbers, a built-in object before those of its kind.
 #[tactic(auto, using(crate::proofs::UnknownLemmas::after_nothing))]
@@ -18,27 +37,23 @@ pub fn link(alloc: Global, ids: &Ids, parts: &MetaParts) -> Result<Links, LinkFa
     ensures { Gives ids.now parts.now result }
 {
     let mut unknown = Unknown::new();
-    let links = look_up(alloc, ids, &mut unknown, parts)?;
+    let groups = look_up(alloc, ids, &mut unknown, parts)?;
     match unknown.into_first() {
-        None => Ok(links),
+        None => Ok(all_links(groups)),
         Some((uid, path)) => {
-            drop(links);
+            drop(groups);
             Err(LinkFault::Unknown { uid, path })
         }
     }
 }
-
-ghost use Rattle.meta_links.specs.Held.{links_of};
-ghost use Rattle.meta_links.specs.Table.{references};
-ghost use Rattle.meta_links.specs.Told.{after};
 
 fn look_up(
     alloc: Global,
     ids: &Ids,
     unknown: &mut Unknown,
     parts: &MetaParts,
-) -> Result<Links, Memory>
-    ensures held { IfOk result (λ links. links ≡ links_of ids.now parts.now) }
+) -> Result<Groups, Memory>
+    ensures held { IfOk result (λ all. assembled all.0.0.0.0.0.0 all.0.0.0.0.0.1 all.0.0.0.0.1 all.0.0.0.1 all.0.0.1 all.0.1 all.1 ≡ links_of ids.now parts.now) }
     ensures told { OnOk result (unknown.new ≡ after ids.now unknown.old (references parts.now)) }
 {
     let units = link_units(alloc, ids, unknown, parts)?;
@@ -48,8 +63,15 @@ fn look_up(
     let five = both(four, link_programs(alloc, ids, unknown, parts))?;
     let six = both(five, link_users(alloc, ids, unknown, parts))?;
     let all = both(six, link_tokens(alloc, ids, unknown, &parts.api_tokens))?;
-    let ((((((units, combos), sets), rules), programs), users), api_tokens) = all;
-    Ok(Links {
+    Ok(all)
+}
+
+// The objects of all groups. This can't fail.
+fn all_links(groups: Groups) -> Links
+    ensures { result ≡ assembled groups.0.0.0.0.0.0 groups.0.0.0.0.0.1 groups.0.0.0.0.1 groups.0.0.0.1 groups.0.0.1 groups.0.1 groups.1 }
+{
+    let ((((((units, combos), sets), rules), programs), users), api_tokens) = groups;
+    Links {
         organisation_units: units.organisation_units,
         organisation_unit_groups: units.organisation_unit_groups,
         category_options: units.category_options,
@@ -73,5 +95,5 @@ fn look_up(
         users: users.users,
         user_groups: users.user_groups,
         api_tokens,
-    })
+    }
 }

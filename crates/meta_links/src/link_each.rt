@@ -26,7 +26,7 @@ pub trait Link {
         ensures told { OnOk result (unknown.new ≡ after ids.now unknown.old (references self.now)) };
 }
 
-/// Objects as they are held, behind some that are built in.
+/// Objects as they are held, after some that are built in.
 fn link_each<T: Link>(
     alloc: Global,
     ids: &Ids,
@@ -56,4 +56,21 @@ pub fn link_all<T: Link>(
     ensures told { OnOk result (unknown.new ≡ after ids.now unknown.old (flat_map T.references objects.now)) }
 {
     link_each(alloc, ids, unknown, built_in, objects.as_slice())
+}
+
+/// The same of another list, beside what was linked before. What stands here isn't held by the caller
+/// while it may have to return early.
+pub fn link_beside<A: Drop, T: Link>(
+    first: A,
+    alloc: Global,
+    ids: &Ids,
+    unknown: &mut Unknown,
+    objects: &Items<T>,
+) -> Result<(A, Items<T::Held>), Memory>
+    ensures first { IfOk result (λ pair. pair.0 ≡ first) }
+    ensures held { IfOk result (λ pair. pair.1 ≡ map (T.held ids.now) objects.now) }
+    ensures told { OnOk result (unknown.new ≡ after ids.now unknown.old (flat_map T.references objects.now)) }
+{
+    let second = link_all(alloc, ids, unknown, Vec::new(alloc), objects)?;
+    Ok((first, second))
 }

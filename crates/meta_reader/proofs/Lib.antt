@@ -4,4 +4,5 @@ pub mod IdLemmas
 pub mod StageLemmas
 pub mod FaultLemmas
 pub mod ReadyLemmas
+pub mod RecordLemmas
 pub mod ReadLemmas

@@ -7,7 +7,7 @@ use Rattle.meta_reader.specs.declared.fault.MetaFault.{MetaFault}
 use Rattle.meta_reader.specs.declared.fault.MetaFault.TheVariants as fault
 use Rattle.meta_reader.specs.Read.{Reads}
 
--- want of memory is an answer to every file
+-- a lack of memory is an answer to every file
 pub no_memory : (meant : Result MetaParts FileFault) → Reads meant (Err fault.Memory)
 no_memory (Ok parts) = tt
 no_memory (Err found) = tt

@@ -26,7 +26,7 @@ use Rattle.dh_metadata.specs.Linked.{IsLinked}
 use Rattle.meta_reader.specs.declared.fault.MetaFault.{MetaFault}
 use Rattle.meta_reader.specs.Records.{expressions_in, records_of, links_in, IsMetadata}
 use Rattle.meta_reader.specs.Stages.{stages_unfit}
-use Rattle.meta_reader.specs.Faults.{broken, passed, stage_fault, limit_fault, late_fault, IsMet, Unless}
+use Rattle.meta_reader.specs.Faults.{broken, passed, stage_fault, limit_fault, late_fault, paired, IsMet, Unless}
 use Rattle.meta_reader.proofs.KnownLemmas.{Ids, Known}
 use Rattle.meta_reader.proofs.LinkedLemmas.{linked}
 use Rattle.meta_reader.proofs.IdLemmas.{have_ids, counts, are_few, few_positions, own_ids, combos_below}
@@ -88,10 +88,18 @@ ready parts ids r held met same known is ruled late none =
       rules_of parts r held is ruled fits,
     )
 
--- the answer of what comes behind is the answer where nothing was met before
+-- the answer of what comes after is the answer where nothing was met before
 pub then_unless : {X : Type 0} (a b : Option MetaFault) (Is : X → Type 0) (result : Result X MetaFault) → a ≡ None → Unless b Is result → Unless (option_or a b) Is result
 then_unless a b Is (Ok x) none is = (none_of a b none is.0, is.1)
 then_unless a b Is (Err found) none is = met_then a b found none is
+
+-- two answers, where nothing was met before the second one
+pub unless_both : {A B : Type 0} (a b : Option MetaFault) (Is : A → Type 0) (Other : B → Type 0) (first : A) (second : Result B MetaFault) (result : Result (A × B) MetaFault) → a ≡ None → Is first → Unless b Other second → result ≡ paired first second
+    → Unless (option_or a b) (λ pair. Is pair.0 × Other pair.1) result
+unless_both a b Is Other first (Ok second) result none is other made =
+    subst (λ r. Unless (option_or a b) (λ pair. Is pair.0 × Other pair.1) r) (sym made) (none_of a b none other.0, (is, other.1))
+unless_both a b Is Other first (Err found) result none is other made =
+    subst (λ r. Unless (option_or a b) (λ pair. Is pair.0 × Other pair.1) r) (sym made) (met_then a b found none other)
 
 -- what linked objects need so that they can be tried
 pub linked_ready : (parts : MetaParts) (ids : Ids) (links : Links) → ids ≡ ids_of parts → twice_of parts ≡ None → first_unknown ids (references parts) ≡ None → links ≡ links_of ids parts

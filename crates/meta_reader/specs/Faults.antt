@@ -76,7 +76,7 @@ linked_fault ids parts links = option_or (option_or (unread_fault ids parts) (ru
 unfoldable pub fault_of : MetaParts → Option MetaFault
 fault_of parts = option_or (twice_fault parts) (option_or (unknown_fault (ids_of parts) parts) (linked_fault (ids_of parts) parts (links_in parts)))
 
--- the fault is met, unless memory was wanting
+-- the fault is met, unless memory ran out
 abbrev pub IsMet : Option MetaFault → MetaFault → Type 0
 IsMet meant fault.Memory = ⊤
 IsMet meant fault.NotJson = meant ≡ Some fault.NotJson
@@ -92,6 +92,11 @@ abbrev pub Unless : {X : Type 0} → Option MetaFault → (X → Type 0) → Res
 Unless meant Is (Ok x) = (meant ≡ None) × Is x
 Unless meant Is (Err fault) = IsMet meant fault
 
--- the metadata of what a file says, exactly where it has no fault; else the first fault, or that memory was wanting
+-- a value and another, where that was made
+abbrev pub paired : {A B : Type 0} → A → Result B MetaFault → Result (A × B) MetaFault
+paired first (Ok second) = Ok (first, second)
+paired first (Err fault) = Err fault
+
+-- the metadata of what a file says, exactly where it has no fault; else the first fault, or that memory ran out
 abbrev pub Builds : MetaParts → Result Records MetaFault → Type 0
 Builds parts result = Unless (fault_of parts) (IsMetadata parts) result

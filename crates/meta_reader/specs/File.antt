@@ -25,7 +25,7 @@ most_bytes = 67108864
 unfoldable pub file_of : List ℕ → Result MetaParts FileFault
 file_of bytes = cond (nat_lt most_bytes (length bytes)) (Err fault.TooLong) (option_map_or shaped_of (document_of bytes) (Err fault.NotJson))
 
--- what is meant, or that memory was wanting
+-- what is meant, or that memory ran out
 abbrev pub GivesFile : Result MetaParts FileFault → Result MetaParts FileFault → Type 0
 GivesFile meant (Ok parts) = meant ≡ Ok parts
 GivesFile meant (Err fault.TooLong) = meant ≡ Err fault.TooLong

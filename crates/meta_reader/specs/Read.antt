@@ -16,7 +16,7 @@ told file.NotJson = fault.NotJson
 told (file.Shape path) = fault.Shape path
 told file.Memory = fault.Memory
 
--- the file is refused with that fault, unless memory was wanting
+-- the file is refused with that fault, unless memory ran out
 abbrev pub Refuses : MetaFault → Result Records MetaFault → Type 0
 Refuses meant (Ok _) = ⊥
 Refuses meant (Err found) = IsMet (Some meant) found

@@ -1,7 +1,7 @@
 -- The text of a fault.
 use Rattle.std.specs.Prelude.{ℕ, List, [], ◌∷◌, ◌++◌}
 
--- a text with a space and a detail behind it; an empty detail and its space are left out
+-- a text with a space and a detail after it; an empty detail and its space are left out
 abbrev pub with_detail : List ℕ → List ℕ → List ℕ
 with_detail text [] = text
 with_detail text (byte ∷ detail) = text ++ 32 ∷ byte ∷ detail

@@ -34,7 +34,10 @@ fn finished(
     ensures { Unless (late_fault (ids_of parts.now) parts.now (links_in parts.now)) (λ meta. meta ≡ records) result }
 {
     match late(&ids, parts, &records, &held) {
-        Some(fault) => Err(fault),
+        Some(fault) => {
+            drop((ids, records, held));
+            Err(fault)
+        }
         None => Ok(Metadata::of(alloc, records, ids, held)?),
     }
 }
@@ -47,8 +50,13 @@ fn joined(alloc: Global, ids: Ids, parts: &MetaParts, links: Links) -> Result<Me
     requires known { first_unknown ids (references parts.now) ≡ None }
     ensures { Unless (linked_fault (ids_of parts.now) parts.now (links_in parts.now)) (IsMetadata parts.now) result }
 {
-    let (records, held) = tried(alloc, &ids, parts, links)?;
-    finished(alloc, ids, parts, records, held)
+    match tried(alloc, &ids, parts, links) {
+        Ok((records, held)) => finished(alloc, ids, parts, records, held),
+        Err(fault) => {
+            drop(ids);
+            Err(fault)
+        }
+    }
 }
 
 #[tactic(auto, using(crate::proofs::FaultLemmas::faults, crate::proofs::ReadyLemmas::then_unless))]
@@ -57,16 +65,29 @@ fn numbered_parts(alloc: Global, ids: Ids, parts: &MetaParts) -> Result<Metadata
     requires differ { twice_of parts.now ≡ None }
     ensures { Unless (option_or (unknown_fault (ids_of parts.now) parts.now) (linked_fault (ids_of parts.now) parts.now (links_in parts.now))) (IsMetadata parts.now) result }
 {
-    let links = linked(alloc, &ids, parts)?;
-    joined(alloc, ids, parts, links)
+    match linked(alloc, &ids, parts) {
+        Ok(links) => joined(alloc, ids, parts, links),
+        Err(fault) => {
+            drop(ids);
+            Err(fault)
+        }
+    }
+}
+
+#[tactic(auto, using(crate::proofs::FaultLemmas::faults, crate::proofs::ReadyLemmas::then_unless), unfolding(crate::specs::Faults::fault_of))]
+fn build_of(alloc: Global, parts: &MetaParts) -> Result<Metadata, MetaFault>
+    ensures { Builds parts.now result }
+{
+    let ids = numbered(alloc, parts)?;
+    numbered_parts(alloc, ids, parts)
 }
 
 /// The metadata of what a file says, or its first fault: an identifier or a token that stands twice, a
 /// reference to nothing, an expression, a rule, a limit.
-#[tactic(auto, using(crate::proofs::FaultLemmas::faults, crate::proofs::ReadyLemmas::then_unless), unfolding(crate::specs::Faults::fault_of))]
 pub fn build(alloc: Global, parts: MetaParts) -> Result<Metadata, MetaFault>
     ensures { Builds parts result }
 {
-    let ids = numbered(alloc, &parts)?;
-    numbered_parts(alloc, ids, &parts)
+    let made = build_of(alloc, &parts);
+    drop(parts);
+    made
 }

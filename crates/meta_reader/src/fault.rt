@@ -10,7 +10,7 @@ use meta_rules::fault::BrokenRule;
 use meta_rules::limits::LimitFault;
 
 /// A limit that a file passes.
-#[derive(Clone, Copy, PartialEq, Eq)]
+#[derive(Clone, Copy)]
 pub enum Which {
     /// The file has too many bytes.
     Bytes,
@@ -35,7 +35,7 @@ pub enum MetaFault {
     Rule { uid: Option<Uid>, which: BrokenRule },
     /// A limit is passed.
     Limit { which: Which },
-    /// Memory was wanting.
+    /// Memory ran out.
     Memory,
 }
 

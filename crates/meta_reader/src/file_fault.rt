@@ -8,7 +8,7 @@ use dh_base::memory::Memory;
 use thiserror::Error;
 
 /// Why the bytes of a file aren't read as metadata.
-#[derive(Debug, Drop, PartialEq, Eq, Error)]
+#[derive(Debug, Drop, Error)]
 pub enum FileFault {
     /// The file has more than 67,108,864 bytes.
     #[error("the file is too long")]

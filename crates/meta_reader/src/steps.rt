@@ -15,10 +15,13 @@ ghost use Rattle.meta_rules.specs.Held.{IsHeld};
 ghost use Rattle.meta_rules.specs.Limits.{first_passed};
 ghost use Rattle.meta_rules.specs.Trees.{tree_rows};
 ghost use Rattle.meta_reader.specs.Told.{twice_told, unknown_uid, unknown_told};
-ghost use Rattle.meta_reader.specs.Faults.{broken, passed, twice_fault, unknown_fault, unread_fault, rule_fault, Unless};
-ghost use Rattle.meta_reader.specs.Records.{AreRecords, unread_of};
+ghost use Rattle.meta_reader.specs.Faults.{broken, passed, twice_fault, unknown_fault, unread_fault, rule_fault, paired, Unless};
+ghost use Rattle.meta_parts.specs.declared.parts.MetaParts.{MetaParts as Parts};
+ghost use Rattle.meta_exprs.specs.declared.all.Expressions.{Expressions as Made};
+ghost use Rattle.meta_reader.specs.Records.{AreRecords, unread_of, records_of};
 
 use crate::fault::{MetaFault, Which};
+use dh_base::items::Items;
 use dh_base::uid::Uid;
 use meta_exprs::all::{Expressions, Unread, read_all};
 use meta_exprs::fault::ExprError;
@@ -33,8 +36,9 @@ use meta_rules::fault::{RuleError, RuleFault};
 use meta_rules::held::{Held, rules};
 use meta_rules::limits::first_passed;
 use std::alloc::Global;
+use std::mem::replace;
 
-// Identifiers are read behind a `&`, since this crate can't take them out of another's enum.
+// Identifiers are read after a `&`, since this crate can't take them out of another's enum.
 fn twice(fault: &IdsFault) -> MetaFault
     ensures { result ≡ twice_told fault.now }
 {
@@ -109,25 +113,23 @@ fn read(
     }
 }
 
-/// The objects with their expressions, where each text is one.
-pub(crate) fn with_expressions(
-    alloc: Global,
-    ids: &Ids,
-    parts: &MetaParts,
-    links: Links,
-) -> Result<Records, MetaFault>
-    requires indicators { length parts.now.indicators ≡ length links.indicators }
-    requires validation_rules { length parts.now.validation_rules ≡ length links.validation_rules }
-    requires program_indicators { length parts.now.program_indicators ≡ length links.program_indicators }
-    ensures { Unless (unread_fault ids.now parts.now) (AreRecords parts.now links) result }
+// Takes the references of the objects with expressions out of the others.
+fn take_unread(alloc: Global, links: &mut Links) -> Unread
+    ensures unread { result ≡ unread_of links.old }
+    ensures others { (parts : Parts) → (made : Made) → records_of parts links.new made ≡ records_of parts links.old made }
 {
-    let unread = Unread {
-        indicators: links.indicators,
-        validation_rules: links.validation_rules,
-        program_indicators: links.program_indicators,
-    };
-    let made = read(alloc, ids, parts, unread)?;
-    Ok(Records {
+    Unread {
+        indicators: replace(&mut links.indicators, Items::new(alloc)),
+        validation_rules: replace(&mut links.validation_rules, Items::new(alloc)),
+        program_indicators: replace(&mut links.program_indicators, Items::new(alloc)),
+    }
+}
+
+// The objects that were linked, with those whose expressions were read.
+fn records_with(parts: &MetaParts, links: Links, made: Expressions) -> Records
+    ensures { result ≡ records_of parts.now links made }
+{
+    Records {
         organisation_units: links.organisation_units,
         organisation_unit_groups: links.organisation_unit_groups,
         category_options: links.category_options,
@@ -152,7 +154,30 @@ pub(crate) fn with_expressions(
         user_groups: links.user_groups,
         api_tokens: links.api_tokens,
         acceptance_required: parts.acceptance_required,
-    })
+    }
+}
+
+/// The objects with their expressions, where each text is one.
+pub(crate) fn with_expressions(
+    alloc: Global,
+    ids: &Ids,
+    parts: &MetaParts,
+    links: Links,
+) -> Result<Records, MetaFault>
+    requires indicators { length parts.now.indicators ≡ length links.indicators }
+    requires validation_rules { length parts.now.validation_rules ≡ length links.validation_rules }
+    requires program_indicators { length parts.now.program_indicators ≡ length links.program_indicators }
+    ensures { Unless (unread_fault ids.now parts.now) (AreRecords parts.now links) result }
+{
+    let mut links = links;
+    let unread = take_unread(alloc, &mut links);
+    match read(alloc, ids, parts, unread) {
+        Ok(made) => Ok(records_with(parts, links, made)),
+        Err(fault) => {
+            drop(links);
+            Err(fault)
+        }
+    }
 }
 
 fn broken(fault: RuleFault) -> MetaFault
@@ -190,8 +215,22 @@ pub(crate) fn ruled(alloc: Global, parts: &MetaParts, links: &Links) -> Result<H
     }
 }
 
+// Two values, where the second one was made. What stands here isn't held by the caller while it may
+// have to return early.
+fn both<A: Drop, B: Drop>(first: A, second: Result<B, MetaFault>) -> Result<(A, B), MetaFault>
+    ensures { result ≡ paired first second }
+{
+    match second {
+        Ok(second) => Ok((first, second)),
+        Err(fault) => {
+            drop(first);
+            Err(fault)
+        }
+    }
+}
+
 /// The objects with their expressions, and what the rules hand on.
-#[tactic(auto, using(crate::proofs::FaultLemmas::faults))]
+#[tactic(auto, using(crate::proofs::FaultLemmas::faults, crate::proofs::ReadyLemmas::unless_both))]
 pub(crate) fn tried(
     alloc: Global,
     ids: &Ids,
@@ -206,9 +245,13 @@ pub(crate) fn tried(
     ensures { Unless (option_or (unread_fault ids.now parts.now) (rule_fault parts.now links)) (λ pair. AreRecords parts.now links pair.0 × IsHeld links pair.1) result }
 {
     let held = ruled(alloc, parts, &links);
-    let records = with_expressions(alloc, ids, parts, links)?;
-    let held = held?;
-    Ok((records, held))
+    match with_expressions(alloc, ids, parts, links) {
+        Ok(records) => both(records, held),
+        Err(fault) => {
+            drop(held);
+            Err(fault)
+        }
+    }
 }
 
 fn unfit(ids: &Ids, records: &Records) -> Option<MetaFault>

@@ -110,7 +110,7 @@ all_met-several : (ws : List ℕ) → all_met Several ws ≡ Several
 all_met-several [] = refl
 all_met-several (w ∷ ws) = all_met-several ws
 
--- what stands behind a first workflow
+-- what stands after a first workflow
 all_met-one : (first : ℕ) (ws : List ℕ) → all_met (One first) ws ≡ cond (list_any (λ o. not (o == first)) ws) Several (One first)
 all_met-one first [] = refl
 all_met-one first (w ∷ ws) =

@@ -14,7 +14,7 @@ limit_text (Objects kind) = key_of kind
 limit_text Levels = codes "levels"
 limit_text Tokens = codes "apiTokens"
 
--- the limits in the order of the keys; that of a workflow's levels stands behind that of the workflows
+-- the limits in the order of the keys; that of a workflow's levels stands after that of the workflows
 abbrev pub limits : List LimitFault
 limits =
     Objects OrganisationUnit ∷ Objects OrganisationUnitGroup ∷ Objects CategoryOption ∷ Objects Category ∷ Objects CategoryCombo

@@ -11,7 +11,7 @@ met Nothing workflow = One workflow
 met (One other) workflow = cond (other == workflow) (One other) Several
 met Several workflow = Several
 
--- behind more workflows
+-- after more workflows
 abbrev pub all_met : Seen → List ℕ → Seen
 all_met seen [] = seen
 all_met seen (workflow ∷ workflows) = all_met (met seen workflow) workflows

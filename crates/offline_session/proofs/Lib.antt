@@ -1,3 +1,2 @@
 pub mod ServeLemmas
 pub mod OverLemmas
-pub mod OwnLemmas

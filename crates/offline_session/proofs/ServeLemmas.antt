@@ -5,14 +5,17 @@ use Rattle.http_wire.specs.declared.request.Request.{Request}
 use Rattle.meta_parts.specs.declared.held.Records.{Records}
 use Rattle.change_log.specs.Log.{NeverFails}
 use Rattle.engine.specs.Seen.{Seen}
-use Rattle.request_replies.specs.Steps.{ReplyStep, MachineStep}
+use Rattle.request_replies.specs.Steps.{MachineStep}
+use Rattle.request_replies.specs.Unseen.{UnseenStep}
+use Rattle.request_replies.proofs.UnseenLemmas.{unseen_step}
 use Rattle.request_session.specs.Session.{Ran}
 use Rattle.request_session.specs.declared.ended.Ended.{Ended}
 use Rattle.request_session.specs.declared.ended.Ended.TheVariants.{ReadFault}
 use Rattle.request_session.specs.Along.{Carries}
 use Rattle.request_session.proofs.AlongLemmas.{ran_along}
 use Rattle.request_session.proofs.ToldLemmas.{over_all}
-use Rattle.offline_session.specs.Serving.{SessionStep, Served, ServedOver, most_requests, started}
+use Rattle.engine.specs.InMemory.{started}
+use Rattle.offline_session.specs.Serving.{SessionStep, Served, ServedOver, most_requests}
 
 -- the steps of a machine with an engine and a clock
 abbrev machine_step : {M K C : Type 0} → (M → Seen) → (M → C) → (K → ℕ) → (C → ℤ → Type 0) → M → Request → Bool → List ℕ → M → Type 0
@@ -25,8 +28,9 @@ is_sure engine clock lent machine = (clock machine ≡ lent) × ((engine machine
 carries : {M K C : Type 0} (engine : M → Seen) (clock : M → C) (count : K → ℕ) (shows : C → ℤ → Type 0) (lent : C) → NeverFails count
     → Carries engine (is_sure engine clock lent) (machine_step engine clock count shows) (SessionStep (shows lent))
 carries engine clock count shows lent never old new request keep text sure step =
-    let none : (engine new).faults ≡ 0 = step.sure never sure.1 in (
-      (subst (λ c. ReplyStep (shows c) (engine old) request keep text (engine new)) sure.0 step.replies, none),
+    let none : (engine new).faults ≡ 0 = step.sure never sure.1 in
+    let replies = unseen_step (shows (clock old)) (engine old) (engine new) request keep text step.replies in (
+      (subst (λ c. UnseenStep (shows c) (engine old) request keep text (engine new)) sure.0 replies, none),
       (step.clock ∙ sure.0, none),
     )
 

@@ -38,7 +38,7 @@ abbrev pub IsRefused : List ℕ → (List ℕ → Type 0) → Type 0
 IsRefused bytes Writes = (found : MetaFault) × (file_fault bytes ≡ Some found) × Writes (refusal_line found)
 
 -- A session over a metadata file: the file is refused before the input is read, or the session is held over its
--- metadata. Where memory is wanting before it begins nothing is read or written.
+-- metadata. If memory runs out before it begins nothing is read or written.
 abbrev pub SessionOver : (ℤ → Type 0) → List ℕ → Option (List ℕ) → Option (List ℕ) → Option (List ℕ) → Option (List ℕ) → SessionEnd → Type 0
 SessionOver shows bytes left left' written written' end.Refused = IsRefused bytes (Appends written written') × (left' ≡ left)
 SessionOver shows bytes left left' written written' end.Unwritten = IsRefused bytes (AppendsFront written written') × (left' ≡ left)

@@ -1,29 +1,20 @@
 -- A session over metadata: it starts with an empty log, and what it is told is kept in memory alone.
-use Rattle.std.specs.Prelude.{◌≡◌, ℕ, ℤ, Bool, List, Option, None}
+use Rattle.std.specs.Prelude.{◌≡◌, ℕ, ℤ, Bool, List, Option}
 use Rattle.http_wire.specs.declared.request.Request.{Request}
 use Rattle.meta_parts.specs.declared.held.Records.{Records}
-use Rattle.change_log.specs.declared.limits.Limits.{Limits}
-use Rattle.engine.specs.Machine.{start}
 use Rattle.engine.specs.Seen.{Seen}
-use Rattle.request_replies.specs.Steps.{ReplyStep}
+use Rattle.engine.specs.InMemory.{started}
+use Rattle.request_replies.specs.Unseen.{UnseenStep}
 use Rattle.request_session.specs.Session.{Ran, RanOver}
 use Rattle.request_session.specs.declared.ended.Ended.{Ended}
-
--- the limits of the log: the largest that there may be
-abbrev pub largest : Limits
-largest = record { writes = 4194304; bytes = 536870912; updates = 1000000000000 }
 
 -- the most requests that a session answers
 abbrev pub most_requests : ℕ
 most_requests = 1000000
 
--- the machine before the first request: no change is there, and no fault of the store
-abbrev pub started : Records → Seen
-started meta = record { state = start; limits = largest; meta = meta; acknowledged = 0; kept = None; faults = 0 }
-
--- one reply of a session; nothing is stored outside, so there is no fault of the store
+-- one reply of a session, which nothing that its user doesn't see changes; nothing is stored outside, so there is no fault of the store
 abbrev pub SessionStep : (ℤ → Type 0) → Seen → Request → Bool → List ℕ → Seen → Type 0
-SessionStep shows old request keep text new = ReplyStep shows old request keep text new × (new.faults ≡ 0)
+SessionStep shows old request keep text new = UnseenStep shows old request keep text new × (new.faults ≡ 0)
 
 -- a session over metadata: what it took of its source, what it wrote, and how it ended
 abbrev pub Served : (ℤ → Type 0) → Option (List ℕ) → Option (List ℕ) → Option (List ℕ) → Option (List ℕ) → Records → Ended → Type 0

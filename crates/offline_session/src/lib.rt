@@ -2,10 +2,8 @@
 //! another, by a machine that keeps its log in memory alone.
 #![tactic(auto)]
 
-mod keeper;
 mod over_file;
 mod serving;
 
-pub use keeper::Unkept;
 pub use over_file::{SessionEnd, refuse_long, session_over};
 pub use serving::serve_session;

@@ -25,7 +25,7 @@ pub enum SessionEnd {
     Unwritten,
     /// The session was held over the metadata, and ended so.
     Ended(Ended),
-    /// Memory was wanting before the session began. Nothing was read or written.
+    /// Memory ran out before the session began. Nothing was read or written.
     Memory,
 }
 
@@ -43,7 +43,7 @@ fn refusal_line(alloc: Global, fault: &MetaFault) -> Result<Vec<u8>, Memory>
 
 #[tactic(auto, using(request_session::proofs::SendLemmas::sent_by))]
 fn send<O: Sink>(output: &mut O, text: &[u8]) -> Result<(), Failed>
-    ensures sent { Sent result (O.written output.old) (O.written output.new) text.now }
+    ensures sent { Sent result (O.written output.old) (O.written output.new) (O.sink_talk output.old) (O.sink_talk output.new) text.now }
     ensures failed { OnErr result (Rose (O.sink_faults output.old) (O.sink_faults output.new)) }
     ensures keeps { O.sink_faults output.old ≤ O.sink_faults output.new }
 {

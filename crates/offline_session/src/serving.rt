@@ -4,35 +4,18 @@ ghost use Rattle.dh_outside.specs.Faults.{Rose};
 ghost use Rattle.engine.specs.Seen.{Seen};
 ghost use Rattle.request_session.specs.Session.{Ran};
 ghost use Rattle.request_session.specs.declared.ended.Ended.TheVariants.{ReadFault, WriteFault};
-ghost use Rattle.offline_session.specs.Serving.{SessionStep, Served, ServedOver, most_requests, started};
+ghost use Rattle.offline_session.specs.Serving.{SessionStep, Served, ServedOver, most_requests};
 
-use crate::keeper::Unkept;
-use change_log::Limits;
 use dh_base::memory::Memory;
 use dh_metadata::metadata::Metadata;
 use dh_outside::{Clock, Sink, Source};
-use engine::Engine;
+use engine::{Unkept, engine_in_memory};
 use request_replies::Replier;
 use request_session::{Ended, serve_requests};
 use std::alloc::Global;
-use std::sync::Arc;
-
-// The limits of the log: the largest that there may be.
-const LARGEST: Limits = Limits {
-    writes: 4_194_304,
-    bytes: 536_870_912,
-    updates: 1_000_000_000_000,
-};
 
 // The most requests that a session answers.
 const MOST_REQUESTS: u64 = 1_000_000;
-
-// The machine before the first request.
-fn begun(alloc: Global, meta: Metadata) -> Result<Engine<Unkept>, Memory>
-    ensures { IfOk result (λ engine. engine ≡ started meta) }
-{
-    Engine::new(alloc, Arc::new(alloc, meta)?, Unkept::new(), LARGEST)
-}
 
 // Answers the requests by a machine whose store has counted no fault.
 fn answer_all<S: Source, O: Sink, C: Clock>(
@@ -66,7 +49,7 @@ fn serve<S: Source, O: Sink, C: Clock>(
     ensures input { S.source_faults input.old ≤ S.source_faults input.new }
     ensures output { O.sink_faults output.old ≤ O.sink_faults output.new }
 {
-    let engine = begun(alloc, meta)?;
+    let engine = engine_in_memory(alloc, meta)?;
     let mut machine = Replier::of(engine, clock);
     Ok(answer_all(alloc, &mut machine, input, output))
 }

@@ -138,7 +138,7 @@ before-in_subtree us t z x y h i under not_under =
     ∙ ahead-below_right us (way_to us z) (way_to us y) front.1.0 (front-not_under us z y front.0 not_under)
     ∙ sym (is_before-ahead us t z y h front.0)
 
--- and comes behind one in it exactly where it comes behind y
+-- and comes after one in it exactly where it comes after y
 pub behind-subtree : (us : List UnitRow) → IsTree us → (z x y : ℕ) → z < length us → x < length us → is_under us x y ≡ true → is_under us z y ≡ false → is_before us x z ≡ is_before us y z
 behind-subtree us t z x y h i under not_under =
     let front = front-from_under us t x y i under in

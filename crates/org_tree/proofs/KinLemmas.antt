@@ -172,7 +172,7 @@ elder_sooner us kin t fam i p v h l up up_v elder =
       ],
     )
 
--- the place of a unit right behind a sibling in the list
+-- the place of a unit right after a sibling in the list
 pub order-behind_sibling : (us : List UnitRow) (kin : List ℕ) → IsTree us → InFamilies us kin → (i p : ℕ) → i < length us → 0 < i → parent_of us (get_or kin i 0) ≡ Some p → parent_of us (get_or kin (i - 1) 0) ≡ Some p → order_of us (get_or kin i 0) ≡ order_of us (get_or kin (i - 1) 0) + size_of us (get_or kin (i - 1) 0)
 order-behind_sibling us kin t fam i p h pos up_c up_s =
     let c = get_or kin i 0 in
@@ -197,7 +197,7 @@ order-behind_sibling us kin t fam i p h pos up_c up_s =
           | inr same ↦ elim same.1 [ inl low ↦ absurd (omega arith) | inr both ↦ ap is_lt both.1 ]
         ]
 
--- and of one that stands behind none
+-- and of one that stands after none
 pub order-behind_parent : (us : List UnitRow) (kin : List ℕ) → IsTree us → InFamilies us kin → (i p : ℕ) → i < length us → parent_of us (get_or kin i 0) ≡ Some p → (0 < i → parent_of us (get_or kin (i - 1) 0) ≡ Some p → ⊥) → order_of us (get_or kin i 0) ≡ order_of us p + 1
 order-behind_parent us kin t fam i p h up none_before =
     let c = get_or kin i 0 in

@@ -145,7 +145,7 @@ child_on_way us t z p h under =
     ])
     z h under
 
--- with a front in common, ways stand as what follows it
+-- with a prefix in common, ways stand as what follows it
 ahead-common : (us : List UnitRow) (front way other : List ℕ) → ahead us (front ++ way) (front ++ other) ≡ ahead us way other
 ahead-common us [] way other = refl
 ahead-common us (a ∷ front) way other = rw (eq-eqb a a refl) (ahead-common us front way other)
@@ -176,7 +176,7 @@ before-child us t z p v c rest h i up through =
     ∙ ap (ahead us (way_to us p ++ v ∷ rest)) (way_to-child us t c p i up)
     ∙ ahead-common us (way_to us p) (v ∷ rest) (c ∷ []) ∙ ahead-at us v rest c
 
--- the first child comes right behind its parent
+-- the first child comes right after its parent
 pub order-first_child : (us : List UnitRow) → IsTree us → (c p : ℕ) → c < length us → parent_of us c ≡ Some p → ((v : ℕ) → v < length us → parent_of us v ≡ Some p → is_elder us v c ≡ false) → order_of us c ≡ order_of us p + 1
 unfolding order_of
 order-first_child us t c p h up no_elder =
@@ -254,7 +254,7 @@ under-child us t z p v s rest h i up through =
           ]
     ]
 
--- the next child comes right behind the subtree of the one before it
+-- the next child comes right after the subtree of the one before it
 pub order-next_child : (us : List UnitRow) → IsTree us → (c s p : ℕ) → c < length us → s < length us → parent_of us c ≡ Some p → parent_of us s ≡ Some p → is_elder us s c ≡ true → ((v : ℕ) → v < length us → parent_of us v ≡ Some p → is_elder us v c ≡ true → (v ≡ s) ⊎ (is_elder us v s ≡ true)) → order_of us c ≡ order_of us s + size_of us s
 unfolding order_of size_of
 order-next_child us t c s p h i up_c up_s elder nearest =

@@ -193,7 +193,7 @@ level_falls us t x h =
           omega arith
     ]
 
--- the place of a unit that stands behind a sibling in the list by families
+-- the place of a unit that stands after a sibling in the list by families
 pub order_after_sibling : (us : List UnitRow) (kin orders sizes : List ℕ) (i p s : ℕ) → IsTree us → InFamilies us kin → AreSizes us sizes → OrdersSoFar us kin i orders → i < length us → parent_of us (get_or kin i 0) ≡ Some p → 0 < i → s ≡ get_or kin (i - 1) 0 → is_child us s p ≡ true → get_or orders s 0 + get_or sizes s 0 ≡ order_of us (get_or kin i 0)
 order_after_sibling us kin orders sizes i p s t fam sized so_far h up pos at child =
     let before = get_or kin (i - 1) 0 in
@@ -203,7 +203,7 @@ order_after_sibling us kin orders sizes i p s t fam sized so_far h up pos at chi
     let place : order_of us (get_or kin i 0) ≡ order_of us before + size_of us before = order-behind_sibling us kin t fam i p h pos up up_s in
     subst (λ (v : ℕ). get_or orders v 0 + get_or sizes v 0 ≡ order_of us (get_or kin i 0)) (sym at) (omega arith)
 
--- and of one that stands behind none
+-- and of one that stands after none
 pub order_after_parent : (us : List UnitRow) (kin orders : List ℕ) (i p : ℕ) → IsTree us → InFamilies us kin → OrdersSoFar us kin i orders → i < length us → parent_of us (get_or kin i 0) ≡ Some p → (0 < i → is_child us (get_or kin (i - 1) 0) p ≡ false) → get_or orders p 0 + 1 ≡ order_of us (get_or kin i 0)
 order_after_parent us kin orders i p t fam so_far h up none_before =
     let at = parent_sooner us kin t fam i p h up in

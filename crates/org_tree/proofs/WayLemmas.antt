@@ -138,7 +138,7 @@ among-itself : (x : ℕ) (above rest : List ℕ) → among x ((above ++ x ∷ []
 among-itself x [] rest = ap (λ b. b || list_any (λ v. v == x) rest) (eq-eqb x x refl)
 among-itself x (a ∷ above) rest = rw (among-itself x above rest) (or_swap (a == x) true)
 
--- who has y's way as a front of its own is under y
+-- who has y's way as a prefix of its own is under y
 pub under-from_front : (us : List UnitRow) (z y : ℕ) (rest : List ℕ) → y < length us → way_to us z ≡ way_to us y ++ rest → is_under us z y ≡ true
 under-from_front us z y rest h front =
     let last = way_to-last us y h in
@@ -181,7 +181,7 @@ tree_induction us t P at_root at_child x h = down 12 x h (t.twelve_levels x h)
               at_child x up.0 h in_range up.1 (down steps up.0 in_range (sym (climb-child steps us x up.0 up.1) ∙ ends))
         ]
 
--- who is under y has y's way as a front of its own
+-- who is under y has y's way as a prefix of its own
 pub front-from_under : (us : List UnitRow) → IsTree us → (z y : ℕ) → z < length us → is_under us z y ≡ true → (y < length us) × ((rest : List ℕ) × (way_to us z ≡ way_to us y ++ rest))
 front-from_under us t z y h =
     tree_induction us t (λ z. is_under us z y ≡ true → (y < length us) × ((rest : List ℕ) × (way_to us z ≡ way_to us y ++ rest)))

@@ -6,7 +6,7 @@ use crate::rows::parent;
 use dh_base::uid::Uid;
 use std::alloc::{AllocError, Global};
 
-/// Where each unit's children stand in the list by families: the first place, and the one behind the last.
+/// Where each unit's children stand in the list by families: the first place, and the one after the last.
 pub fn spans(
     alloc: Global,
     units: &[(Uid, Option<u32>)],

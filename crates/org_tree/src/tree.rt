@@ -53,7 +53,7 @@ impl Tree {
         ensures units { IfOk result (λ tree. tree ≡ units.now) }
         ensures tree { OnOk result (IsTree units.now) }
         ensures none { OnOk result (tree_fault units.now ≡ None) }
-        // a fault other than want of memory comes exactly where it is the first that the units have
+        // a fault other than a lack of memory comes exactly where it is the first that the units have
         ensures fault { IfErr result (λ e. (e ≡ fault.Memory) ⊎ (tree_fault units.now ≡ Some e)) }
         // the unit of a loop has a parent however far one goes up
         ensures loop_node { IfErr result (λ e. NeverReaches units.now e) }

@@ -75,7 +75,7 @@ fn order_at(
     }
 }
 
-/// The place of a child: behind the subtree of the sibling before it, else behind its parent.
+/// The place of a child: after the subtree of the sibling before it, else after its parent.
 fn order_of_child(
     units: &[(Uid, Option<u32>)],
     kin: &[u32],

@@ -9,7 +9,7 @@ use Rattle.dh_periods.specs.declared.name.PeriodName.{PeriodName}
 use Rattle.meta_parts.specs.declared.held.Records.{Records}
 use Rattle.dh_metadata.specs.Linked.{AreBelow, IsBelow}
 use Rattle.dh_metadata.specs.Objects.{count_of}
-use Rattle.agg_types.specs.declared.sample.Sample.{Sample}
+use Rattle.seen_rows.specs.Seen.{SeenRecords}
 use Rattle.indicator_values.specs.declared.arithmetic.CellValue.{CellValue}
 use Rattle.indicator_values.specs.declared.arithmetic.CellValue.TheVariants as cell
 use Rattle.query_forms.specs.declared.plain.Dx.{Dx}
@@ -46,33 +46,33 @@ row_is r asked place dx period unit (cell.Number x) within there =
 row_is r asked place dx period unit cell.None within there = All-nil (IsRow r asked)
 row_is r asked place dx period unit cell.Wide within there = All-nil (IsRow r asked)
 
-period_are : (r : Records) (samples : List Sample) (asked : List Dx) (place : ℕ) (dx : Dx) (units : List (Slot ℕ)) (period : Slot PeriodName)
+period_are : (r : Records) (shown : SeenRecords) (asked : List Dx) (place : ℕ) (dx : Dx) (units : List (Slot ℕ)) (period : Slot PeriodName)
     → place < length asked → AllByRecursion (λ (slot : Slot ℕ). IsBelow (length r.organisation_units) slot.label) units
-    → All (IsRow r asked) (period_rows r samples place dx units period)
+    → All (IsRow r asked) (period_rows r shown place dx units period)
 unfolding period_rows unit_rows
-period_are r samples asked place dx units period within there =
+period_are r shown asked place dx units period within there =
     all_flat (λ (slot : Slot ℕ). IsBelow (length r.organisation_units) slot.label) (IsRow r asked) _ units
-    (λ unit one. row_is r asked place dx period unit (slot_value r samples dx period unit) within one) there
+    (λ unit one. row_is r asked place dx period unit (slot_value r shown dx period unit) within one) there
 
 any_slot : (periods : List (Slot PeriodName)) → AllByRecursion (λ (slot : Slot PeriodName). Unit {0}) periods
 any_slot [] = tt
 any_slot (x ∷ xs) = (tt, any_slot xs)
 
-dx_are : (r : Records) (samples : List Sample) (query : Query) (asked : List Dx) (place : ℕ) (dx : Dx) → place < length asked
-    → AreBelow (length r.organisation_units) query.units.items → All (IsRow r asked) (dx_rows r samples query place dx)
+dx_are : (r : Records) (shown : SeenRecords) (query : Query) (asked : List Dx) (place : ℕ) (dx : Dx) → place < length asked
+    → AreBelow (length r.organisation_units) query.units.items → All (IsRow r asked) (dx_rows r shown query place dx)
 unfolding dx_rows
-dx_are r samples query asked place dx within below =
+dx_are r shown query asked place dx within below =
     all_flat (λ (slot : Slot PeriodName). Unit {0}) (IsRow r asked) _ (period_slots query)
-    (λ period one. period_are r samples asked place dx (unit_slots query) period within (units_there _ query.units.filter query.units.items below))
+    (λ period one. period_are r shown asked place dx (unit_slots query) period within (units_there _ query.units.filter query.units.items below))
     (any_slot (period_slots query))
 
-rows_are : (r : Records) (samples : List Sample) (query : Query) (asked : List Dx) (place : ℕ) (more : List Dx) → place + length more ≡ length asked
-    → AreBelow (length r.organisation_units) query.units.items → All (IsRow r asked) (rows_from r samples query place more)
-rows_are r samples query asked place [] ends below = All-nil (IsRow r asked)
-rows_are r samples query asked place (dx ∷ more) ends below =
-    All-append (IsRow r asked) (dx_rows r samples query place dx) (rows_from r samples query (place + 1) more)
-    (dx_are r samples query asked place dx (omega arith) below)
-    (rows_are r samples query asked (place + 1) more (omega arith) below)
+rows_are : (r : Records) (shown : SeenRecords) (query : Query) (asked : List Dx) (place : ℕ) (more : List Dx) → place + length more ≡ length asked
+    → AreBelow (length r.organisation_units) query.units.items → All (IsRow r asked) (rows_from r shown query place more)
+rows_are r shown query asked place [] ends below = All-nil (IsRow r asked)
+rows_are r shown query asked place (dx ∷ more) ends below =
+    All-append (IsRow r asked) (dx_rows r shown query place dx) (rows_from r shown query (place + 1) more)
+    (dx_are r shown query asked place dx (omega arith) below)
+    (rows_are r shown query asked (place + 1) more (omega arith) below)
 
 there_by : (r : Records) (dx : Dx) (kind : DxKind) → dx.kind ≡ kind → can_answer_dx r dx ≡ true → IsThere r dx
 there_by r dx dx_kind.Element is can =
@@ -89,31 +89,31 @@ are_there r (dx ∷ more) can =
     All-cons (IsThere r) dx more (there_by r dx dx.kind refl parts.0) (are_there r more parts.1)
 
 -- the rows of a query that can be answered make a body
-pub is_answer : (r : Records) (samples : List Sample) (query : Query) → CanAnswer r query → IsAnswer r query (rows_from r samples query 0 query.dx)
-is_answer r samples query can = record {
+pub is_answer : (r : Records) (shown : SeenRecords) (query : Query) → CanAnswer r query → IsAnswer r query (rows_from r shown query 0 query.dx)
+is_answer r shown query can = record {
   dx = are_there r query.dx can.dx;
   units = can.units;
-  rows = rows_are r samples query query.dx 0 query.dx (zero-add (length query.dx)) can.units;
+  rows = rows_are r shown query query.dx 0 query.dx (zero-add (length query.dx)) can.units;
 }
 
-wide_with : (r : Records) (query : Query) (samples : List Sample) (found : Option Dx) (id : List ℕ) → Some id ≡ option_map (λ (dx : Dx). dx.text) found
-    → Answers (Err (Wide id)) (answer_with r query samples found)
-wide_with r query samples None id e = absurd (cc)
-wide_with r query samples (Some dx) id e = cc
+wide_with : (r : Records) (query : Query) (shown : SeenRecords) (found : Option Dx) (id : List ℕ) → Some id ≡ option_map (λ (dx : Dx). dx.text) found
+    → Answers (Err (Wide id)) (answer_with r query shown found)
+wide_with r query shown None id e = absurd (cc)
+wide_with r query shown (Some dx) id e = cc
 
 -- the first dx item with a cell that is too wide is told
-pub wide_answer : (r : Records) (query : Query) (samples : List Sample) (id : List ℕ) → Some id ≡ option_map (λ (dx : Dx). dx.text) (wide_dx r query samples)
-    → Answers (Err (Wide id)) (answer_of r query samples)
+pub wide_answer : (r : Records) (query : Query) (shown : SeenRecords) (id : List ℕ) → Some id ≡ option_map (λ (dx : Dx). dx.text) (wide_dx r query shown)
+    → Answers (Err (Wide id)) (answer_of r query shown)
 unfolding answer_of
-wide_answer r query samples id e = wide_with r query samples (wide_dx r query samples) id e
+wide_answer r query shown id e = wide_with r query shown (wide_dx r query shown) id e
 
-body_with : (r : Records) (query : Query) (samples : List Sample) (found : Option Dx) (bytes : Vec ℕ Global) → None ≡ option_map (λ (dx : Dx). dx.text) found
-    → bytes.items ≡ compact_text (body_of r query (rows_from r samples query 0 query.dx)) → Answers (Ok bytes) (answer_with r query samples found)
-body_with r query samples None bytes e is = is
-body_with r query samples (Some dx) bytes e is = absurd (cc)
+body_with : (r : Records) (query : Query) (shown : SeenRecords) (found : Option Dx) (bytes : Vec ℕ Global) → None ≡ option_map (λ (dx : Dx). dx.text) found
+    → bytes.items ≡ compact_text (body_of r query (rows_from r shown query 0 query.dx)) → Answers (Ok bytes) (answer_with r query shown found)
+body_with r query shown None bytes e is = is
+body_with r query shown (Some dx) bytes e is = absurd (cc)
 
 -- where there is none, the body is written
-pub body_answer : (r : Records) (query : Query) (samples : List Sample) (bytes : Vec ℕ Global) → None ≡ option_map (λ (dx : Dx). dx.text) (wide_dx r query samples)
-    → bytes.items ≡ compact_text (body_of r query (rows_from r samples query 0 query.dx)) → Answers (Ok bytes) (answer_of r query samples)
+pub body_answer : (r : Records) (query : Query) (shown : SeenRecords) (bytes : Vec ℕ Global) → None ≡ option_map (λ (dx : Dx). dx.text) (wide_dx r query shown)
+    → bytes.items ≡ compact_text (body_of r query (rows_from r shown query 0 query.dx)) → Answers (Ok bytes) (answer_of r query shown)
 unfolding answer_of
-body_answer r query samples bytes e is = body_with r query samples (wide_dx r query samples) bytes e is
+body_answer r query shown bytes e is = body_with r query shown (wide_dx r query shown) bytes e is

@@ -1,4 +1,4 @@
 pub mod AskedLemmas
 pub mod LoopLemmas
 pub mod AnswerLemmas
-pub mod UnseenLaws
+pub mod UnseenLemmas

@@ -5,7 +5,7 @@ use Rattle.std.proofs.lemmas.Grind.{flat_map-append}
 use Rattle.std.proofs.lemmas.List.{map_more, length-map, get_or-map}
 use Rattle.std.proofs.lemmas.List.Folds.{list_any-append, list_any_at}
 use Rattle.meta_parts.specs.declared.held.Records.{Records}
-use Rattle.agg_types.specs.declared.sample.Sample.{Sample}
+use Rattle.seen_rows.specs.Seen.{SeenRecords}
 use Rattle.query_forms.specs.declared.plain.Dx.{Dx}
 use Rattle.query_forms.specs.declared.plain.Query.{Query}
 use Rattle.answer_body.specs.declared.rows.AnswerRow.{AnswerRow}
@@ -65,12 +65,12 @@ find_none test [] none = refl
 find_none test (x ∷ xs) none = rw (first_false (test x) _ none) (find_none test xs (second_false (test x) _ none))
 
 -- the rows of one dx item more
-pub dx_step : (r : Records) (samples : List Sample) (query : Query) (xs : List Dx) (i : ℕ) (dx : Dx) (mid all : List AnswerRow) → i < length xs
-    → dx ≡ get_or xs i dx → mid ++ rows_from r samples query i (drop i xs) ≡ all
-    → (mid ++ dx_rows r samples query i dx) ++ rows_from r samples query (i + 1) (drop (i + 1) xs) ≡ all
-dx_step r samples query xs i dx mid all within here so_far =
-    let more = rows_from r samples query (i + 1) (drop (i + 1) xs) in
+pub dx_step : (r : Records) (shown : SeenRecords) (query : Query) (xs : List Dx) (i : ℕ) (dx : Dx) (mid all : List AnswerRow) → i < length xs
+    → dx ≡ get_or xs i dx → mid ++ rows_from r shown query i (drop i xs) ≡ all
+    → (mid ++ dx_rows r shown query i dx) ++ rows_from r shown query (i + 1) (drop (i + 1) xs) ≡ all
+dx_step r shown query xs i dx mid all within here so_far =
+    let more = rows_from r shown query (i + 1) (drop (i + 1) xs) in
     let next : drop i xs ≡ get_or xs i dx ∷ drop (i + 1) xs = rw (add-one, drop-cons xs i dx) refl in
-    let rows : rows_from r samples query i (drop i xs) ≡ dx_rows r samples query i dx ++ more =
-    ap (rows_from r samples query i) next ∙ ap (λ d. dx_rows r samples query i d ++ more) (sym here) in
-    append_assoc mid (dx_rows r samples query i dx) more ∙ ap (λ l. mid ++ l) (sym rows) ∙ so_far
+    let rows : rows_from r shown query i (drop i xs) ≡ dx_rows r shown query i dx ++ more =
+    ap (rows_from r shown query i) next ∙ ap (λ d. dx_rows r shown query i d ++ more) (sym here) in
+    append_assoc mid (dx_rows r shown query i dx) more ∙ ap (λ l. mid ++ l) (sym rows) ∙ so_far

@@ -4,7 +4,7 @@ use Rattle.std.specs.declared.alloc.Global.{Global}
 use Rattle.serde_json.specs.Data.{Data}
 use Rattle.serde_json.specs.Written.{compact_text}
 use Rattle.meta_parts.specs.declared.held.Records.{Records}
-use Rattle.agg_types.specs.declared.sample.Sample.{Sample}
+use Rattle.seen_rows.specs.Seen.{SeenRecords}
 use Rattle.query_forms.specs.declared.plain.Dx.{Dx}
 use Rattle.query_forms.specs.declared.plain.Query.{Query}
 use Rattle.answer_body.specs.Body.{body_of}
@@ -13,18 +13,18 @@ use Rattle.query_answer.specs.declared.whole.AnswerFault.TheVariants.{Wide, Memo
 use Rattle.query_answer.specs.Rows.{dx_is_wide, rows_from}
 
 -- the first dx item with a cell that is too wide
-abbrev pub wide_dx : Records → Query → List Sample → Option Dx
-wide_dx r query samples = find (dx_is_wide r samples query) query.dx
+abbrev pub wide_dx : Records → Query → SeenRecords → Option Dx
+wide_dx r query shown = find (dx_is_wide r shown query) query.dx
 
-abbrev pub answer_with : Records → Query → List Sample → Option Dx → Result Data (List ℕ)
-answer_with r query samples (Some dx) = Err dx.text
-answer_with r query samples None = Ok (body_of r query (rows_from r samples query 0 query.dx))
+abbrev pub answer_with : Records → Query → SeenRecords → Option Dx → Result Data (List ℕ)
+answer_with r query shown (Some dx) = Err dx.text
+answer_with r query shown None = Ok (body_of r query (rows_from r shown query 0 query.dx))
 
 -- the body over the seen records, or the text of the first dx item with a cell that is too wide
-unfoldable pub answer_of : Records → Query → List Sample → Result Data (List ℕ)
-answer_of r query samples = answer_with r query samples (wide_dx r query samples)
+unfoldable pub answer_of : Records → Query → SeenRecords → Result Data (List ℕ)
+answer_of r query shown = answer_with r query shown (wide_dx r query shown)
 
--- the call answers so, unless memory is wanting
+-- the call answers so, unless memory runs out
 abbrev pub Answers : Result (Vec ℕ Global) AnswerFault → Result Data (List ℕ) → Type 0
 Answers (Ok bytes) (Ok body) = bytes.items ≡ compact_text body
 Answers (Err (Wide id)) (Err text) = id ≡ text

@@ -7,6 +7,7 @@ use Rattle.dh_periods.specs.declared.name.PeriodName.{PeriodName}
 use Rattle.meta_parts.specs.declared.held.Records.{Records}
 use Rattle.meta_parts.specs.declared.records.Indicator.{Indicator}
 use Rattle.agg_types.specs.declared.sample.Sample.{Sample}
+use Rattle.seen_rows.specs.Seen.{SeenRecords}
 use Rattle.cell_values.specs.Cells.{cell_of, aggregate_of, days_in}
 use Rattle.cell_values.specs.Items.{item_value_of}
 use Rattle.indicator_values.specs.declared.arithmetic.CellValue.{CellValue}
@@ -25,19 +26,19 @@ unfoldable pub element_cell : Records → List Sample → ℕ → Option ℕ →
 element_cell r samples element part periods units = of_option (aggregate_of r samples (cell_of element part None periods units false))
 
 -- an indicator's cell is its value by the values of its items in the cell
-unfoldable pub indicator_cell : Records → List Sample → Indicator → List PeriodName → List ℕ → CellValue
-indicator_cell r samples indicator periods units =
-    indicator_value_of r (λ item. item_value_of r samples item periods units false) (days_in periods) indicator
+unfoldable pub indicator_cell : Records → SeenRecords → Indicator → List PeriodName → List ℕ → CellValue
+indicator_cell r shown indicator periods units =
+    indicator_value_of r (λ item. item_value_of r shown item periods units false) (days_in periods) indicator
 
-abbrev pub cell_by : Records → List Sample → DxKind → ℕ → Option ℕ → List PeriodName → List ℕ → CellValue
-cell_by r samples dx_kind.Element n part periods units = element_cell r samples n part periods units
-cell_by r samples dx_kind.Indicator n part periods units =
-    option_map_or (λ indicator. indicator_cell r samples indicator periods units) (slice_get r.indicators n) cell.None
-cell_by r samples other n part periods units = cell.None
+abbrev pub cell_by : Records → SeenRecords → DxKind → ℕ → Option ℕ → List PeriodName → List ℕ → CellValue
+cell_by r shown dx_kind.Element n part periods units = element_cell r shown.samples n part periods units
+cell_by r shown dx_kind.Indicator n part periods units =
+    option_map_or (λ indicator. indicator_cell r shown indicator periods units) (slice_get r.indicators n) cell.None
+cell_by r shown other n part periods units = cell.None
 
 -- the value of a dx item over the seen records in some periods and under some units
-unfoldable pub cell_value : Records → List Sample → Dx → List PeriodName → List ℕ → CellValue
-cell_value r samples dx periods units = cell_by r samples dx.kind dx.number dx.part periods units
+unfoldable pub cell_value : Records → SeenRecords → Dx → List PeriodName → List ℕ → CellValue
+cell_value r shown dx periods units = cell_by r shown dx.kind dx.number dx.part periods units
 
 abbrev pub is_wide : CellValue → Bool
 is_wide cell.Wide = true

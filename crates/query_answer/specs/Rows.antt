@@ -3,7 +3,7 @@ use Rattle.std.specs.Prelude.{◌≡◌, ℕ, ◌+◌, Bool, true, false, List, 
 use Rattle.std.specs.List.{list_any}
 use Rattle.dh_periods.specs.declared.name.PeriodName.{PeriodName}
 use Rattle.meta_parts.specs.declared.held.Records.{Records}
-use Rattle.agg_types.specs.declared.sample.Sample.{Sample}
+use Rattle.seen_rows.specs.Seen.{SeenRecords}
 use Rattle.indicator_values.specs.declared.arithmetic.CellValue.{CellValue}
 use Rattle.indicator_values.specs.declared.arithmetic.CellValue.TheVariants as cell
 use Rattle.query_forms.specs.declared.plain.Dx.{Dx}
@@ -36,36 +36,36 @@ row_with r place dx period unit (cell.Number x) =
     record { dx = place; period = period.label; unit = unit.label; value = value_text r dx x } ∷ []
 row_with r place dx period unit _ = []
 
-abbrev pub slot_value : Records → List Sample → Dx → Slot PeriodName → Slot ℕ → CellValue
-slot_value r samples dx period unit = cell_value r samples dx period.items unit.items
+abbrev pub slot_value : Records → SeenRecords → Dx → Slot PeriodName → Slot ℕ → CellValue
+slot_value r shown dx period unit = cell_value r shown dx period.items unit.items
 
 -- the cell is too wide
-unfoldable pub unit_is_wide : Records → List Sample → Dx → Slot PeriodName → Slot ℕ → Bool
-unit_is_wide r samples dx period unit = is_wide (slot_value r samples dx period unit)
+unfoldable pub unit_is_wide : Records → SeenRecords → Dx → Slot PeriodName → Slot ℕ → Bool
+unit_is_wide r shown dx period unit = is_wide (slot_value r shown dx period unit)
 
-unfoldable pub unit_rows : Records → List Sample → ℕ → Dx → Slot PeriodName → Slot ℕ → List AnswerRow
-unit_rows r samples place dx period unit = row_with r place dx period unit (slot_value r samples dx period unit)
+unfoldable pub unit_rows : Records → SeenRecords → ℕ → Dx → Slot PeriodName → Slot ℕ → List AnswerRow
+unit_rows r shown place dx period unit = row_with r place dx period unit (slot_value r shown dx period unit)
 
 -- some cell of these units is too wide
-unfoldable pub period_is_wide : Records → List Sample → Dx → List (Slot ℕ) → Slot PeriodName → Bool
-period_is_wide r samples dx units period = list_any (unit_is_wide r samples dx period) units
+unfoldable pub period_is_wide : Records → SeenRecords → Dx → List (Slot ℕ) → Slot PeriodName → Bool
+period_is_wide r shown dx units period = list_any (unit_is_wide r shown dx period) units
 
-unfoldable pub period_rows : Records → List Sample → ℕ → Dx → List (Slot ℕ) → Slot PeriodName → List AnswerRow
-period_rows r samples place dx units period = flat_map (unit_rows r samples place dx period) units
+unfoldable pub period_rows : Records → SeenRecords → ℕ → Dx → List (Slot ℕ) → Slot PeriodName → List AnswerRow
+period_rows r shown place dx units period = flat_map (unit_rows r shown place dx period) units
 
 -- some cell of the dx item is too wide
-unfoldable pub dx_is_wide : Records → List Sample → Query → Dx → Bool
-dx_is_wide r samples query dx = list_any (period_is_wide r samples dx (unit_slots query)) (period_slots query)
+unfoldable pub dx_is_wide : Records → SeenRecords → Query → Dx → Bool
+dx_is_wide r shown query dx = list_any (period_is_wide r shown dx (unit_slots query)) (period_slots query)
 
-unfoldable pub dx_rows : Records → List Sample → Query → ℕ → Dx → List AnswerRow
-dx_rows r samples query place dx = flat_map (period_rows r samples place dx (unit_slots query)) (period_slots query)
+unfoldable pub dx_rows : Records → SeenRecords → Query → ℕ → Dx → List AnswerRow
+dx_rows r shown query place dx = flat_map (period_rows r shown place dx (unit_slots query)) (period_slots query)
 
 -- the rows of dx items from a place on
-abbrev pub rows_from : Records → List Sample → Query → ℕ → List Dx → List AnswerRow
-rows_from r samples query place [] = []
-rows_from r samples query place (dx ∷ more) = dx_rows r samples query place dx ++ rows_from r samples query (place + 1) more
+abbrev pub rows_from : Records → SeenRecords → Query → ℕ → List Dx → List AnswerRow
+rows_from r shown query place [] = []
+rows_from r shown query place (dx ∷ more) = dx_rows r shown query place dx ++ rows_from r shown query (place + 1) more
 
--- what came of some cells: whether one of them is too wide, and if not, their rows behind those that were there
+-- what came of some cells: whether one of them is too wide, and if not, their rows after those that were there
 pub record Wrote {X : Type 0} (test : X → Bool) (rows_of : X → List AnswerRow) (cells : List X) (old new : List AnswerRow) (wide : Bool) : Type 0 where
   pub tells : wide ≡ list_any test cells
   pub rows : wide ≡ false → new ≡ old ++ flat_map rows_of cells

@@ -5,7 +5,7 @@ ghost use Rattle.dh_base.specs.Decimals.{printed};
 ghost use Rattle.indicator_values.specs.Value.{AreSides};
 ghost use Rattle.dh_metadata.specs.Linked.{AreBelow};
 ghost use Rattle.seen_rows.specs.Held.{IsSeer};
-ghost use Rattle.seen_rows.specs.Seen.{seen};
+ghost use Rattle.seen_rows.specs.Seen.{seen, seen_of, contents_of};
 ghost use Rattle.cell_values.specs.Items.{item_value_of};
 ghost use Rattle.query_answer.specs.Asked.{can_answer_dx};
 ghost use Rattle.query_answer.specs.Cells.{of_option, element_cell, indicator_cell, cell_value, places_of, decimals_of, value_text};
@@ -93,7 +93,7 @@ fn item_values<S: RowStore>(
     requires seer { IsSeer meta.now seer.now }
     requires periods { 0 < length periods.now }
     requires units { AreBelow (length meta.now.organisation_units) units.now }
-    ensures { IfOk result (λ values. values.items ≡ map (λ item. item_value_of meta.now (seen meta.now seer.now.user (S.rows store.now)) item periods.now units.now false) items.now) }
+    ensures { IfOk result (λ values. values.items ≡ map (λ item. item_value_of meta.now (seen_of meta.now seer.now.user (contents_of (S.rows store.now) (S.events store.now) (S.regs store.now))) item periods.now units.now false) items.now) }
 {
     let mut values = Vec::new(alloc);
     for item in items {
@@ -118,7 +118,7 @@ fn indicator_cell<S: RowStore>(
     requires sides { AreSides meta.now indicator.now sides.now }
     requires periods { 0 < length periods.now }
     requires units { AreBelow (length meta.now.organisation_units) units.now }
-    ensures { IfOk result (λ cell. cell ≡ indicator_cell meta.now (seen meta.now seer.now.user (S.rows store.now)) indicator.now periods.now units.now) }
+    ensures { IfOk result (λ cell. cell ≡ indicator_cell meta.now (seen_of meta.now seer.now.user (contents_of (S.rows store.now) (S.events store.now) (S.regs store.now))) indicator.now periods.now units.now) }
 {
     let numerator = indicator.numerator.items();
     let over = item_values(alloc, meta, store, seer, numerator, periods, units)?;
@@ -129,7 +129,7 @@ fn indicator_cell<S: RowStore>(
 }
 
 /// The value of the item's cell over these periods and units.
-#[tactic(auto, unfolding(crate::specs::Cells::cell_value))]
+#[tactic(auto, unfolding(crate::specs::Cells::cell_value, seen_rows::specs::Seen::seen_of))]
 pub fn cell_value<S: RowStore>(
     alloc: Global,
     meta: &Metadata,
@@ -145,7 +145,7 @@ pub fn cell_value<S: RowStore>(
     requires plan { IsPlan meta.now dx.now plan.now }
     requires periods { 0 < length periods.now }
     requires units { AreBelow (length meta.now.organisation_units) units.now }
-    ensures { IfOk result (λ cell. cell ≡ cell_value meta.now (seen meta.now seer.now.user (S.rows store.now)) dx.now periods.now units.now) }
+    ensures { IfOk result (λ cell. cell ≡ cell_value meta.now (seen_of meta.now seer.now.user (contents_of (S.rows store.now) (S.events store.now) (S.regs store.now))) dx.now periods.now units.now) }
 {
     match plan {
         Plan::Element => element_cell(alloc, meta, store, seer, dx.number, dx.part, periods, units),

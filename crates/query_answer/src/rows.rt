@@ -3,7 +3,7 @@
 ghost use Rattle.std.specs.Prelude.{◌≡◌, ◌<◌, ◌++◌, [], ◌∷◌, length, true, false, Some, None, find, option_map, IfOk};
 ghost use Rattle.dh_metadata.specs.Linked.{AreBelow};
 ghost use Rattle.seen_rows.specs.Held.{IsSeer};
-ghost use Rattle.seen_rows.specs.Seen.{seen};
+ghost use Rattle.seen_rows.specs.Seen.{seen_of, contents_of};
 ghost use Rattle.query_answer.specs.Asked.{CanAnswer, can_answer_dx};
 ghost use Rattle.query_answer.specs.Plans.{IsPlan};
 ghost use Rattle.query_answer.specs.Rows.{Slot, alone, slots, period_slots, unit_slots, unit_is_wide, unit_rows, period_is_wide, period_rows, dx_is_wide, dx_rows, rows_from, Wrote};
@@ -57,8 +57,8 @@ fn write_cell<S: RowStore>(
     requires plan { IsPlan meta.now dx.now plan.now }
     requires periods { 0 < length periods.now }
     requires units { AreBelow (length meta.now.organisation_units) units.now }
-    ensures wide { IfOk result (λ wide. wide ≡ unit_is_wide meta.now (seen meta.now seer.now.user (S.rows store.now)) dx.now (record { label = label.now.period; items = periods.now }) (record { label = label.now.unit; items = units.now })) }
-    ensures rows { IfOk result (λ wide. rows.new.items ≡ rows.old.items ++ unit_rows meta.now (seen meta.now seer.now.user (S.rows store.now)) label.now.place dx.now (record { label = label.now.period; items = periods.now }) (record { label = label.now.unit; items = units.now })) }
+    ensures wide { IfOk result (λ wide. wide ≡ unit_is_wide meta.now (seen_of meta.now seer.now.user (contents_of (S.rows store.now) (S.events store.now) (S.regs store.now))) dx.now (record { label = label.now.period; items = periods.now }) (record { label = label.now.unit; items = units.now })) }
+    ensures rows { IfOk result (λ wide. rows.new.items ≡ rows.old.items ++ unit_rows meta.now (seen_of meta.now seer.now.user (contents_of (S.rows store.now) (S.events store.now) (S.regs store.now))) label.now.place dx.now (record { label = label.now.period; items = periods.now }) (record { label = label.now.unit; items = units.now })) }
 {
     match cell_value(alloc, meta, store, seer, dx, plan, periods, units)? {
         CellValue::Wide => Ok(true),
@@ -95,8 +95,8 @@ fn write_each_unit<S: RowStore>(
     requires periods { 0 < length periods.now }
     requires units { AreBelow (length meta.now.organisation_units) units.now }
     ensures { IfOk result (λ wide. Wrote
-        (unit_is_wide meta.now (seen meta.now seer.now.user (S.rows store.now)) dx.now (record { label = label.now.period; items = periods.now }))
-        (unit_rows meta.now (seen meta.now seer.now.user (S.rows store.now)) label.now.place dx.now (record { label = label.now.period; items = periods.now }))
+        (unit_is_wide meta.now (seen_of meta.now seer.now.user (contents_of (S.rows store.now) (S.events store.now) (S.regs store.now))) dx.now (record { label = label.now.period; items = periods.now }))
+        (unit_rows meta.now (seen_of meta.now seer.now.user (contents_of (S.rows store.now) (S.events store.now) (S.regs store.now))) label.now.place dx.now (record { label = label.now.period; items = periods.now }))
         (slots false units.now) rows.old.items rows.new.items wide) }
 {
     for unit in units {
@@ -128,8 +128,8 @@ fn write_units<S: RowStore>(
     requires periods { 0 < length periods.now }
     requires units { AreBelow (length meta.now.organisation_units) units.now.items }
     ensures { IfOk result (λ wide. Wrote
-        (unit_is_wide meta.now (seen meta.now seer.now.user (S.rows store.now)) dx.now (record { label = label.now.period; items = periods.now }))
-        (unit_rows meta.now (seen meta.now seer.now.user (S.rows store.now)) label.now.place dx.now (record { label = label.now.period; items = periods.now }))
+        (unit_is_wide meta.now (seen_of meta.now seer.now.user (contents_of (S.rows store.now) (S.events store.now) (S.regs store.now))) dx.now (record { label = label.now.period; items = periods.now }))
+        (unit_rows meta.now (seen_of meta.now seer.now.user (contents_of (S.rows store.now) (S.events store.now) (S.regs store.now))) label.now.place dx.now (record { label = label.now.period; items = periods.now }))
         (slots units.now.filter units.now.items) rows.old.items rows.new.items wide) }
 {
     let all = units.items.as_slice();
@@ -163,8 +163,8 @@ fn write_period<S: RowStore>(
     requires plan { IsPlan meta.now dx.now plan.now }
     requires periods { 0 < length periods.now }
     requires units { AreBelow (length meta.now.organisation_units) units.now.items }
-    ensures wide { IfOk result (λ wide. wide ≡ period_is_wide meta.now (seen meta.now seer.now.user (S.rows store.now)) dx.now (slots units.now.filter units.now.items) (record { label = period; items = periods.now })) }
-    ensures rows { IfOk result (λ wide. wide ≡ false → rows.new.items ≡ rows.old.items ++ period_rows meta.now (seen meta.now seer.now.user (S.rows store.now)) place dx.now (slots units.now.filter units.now.items) (record { label = period; items = periods.now })) }
+    ensures wide { IfOk result (λ wide. wide ≡ period_is_wide meta.now (seen_of meta.now seer.now.user (contents_of (S.rows store.now) (S.events store.now) (S.regs store.now))) dx.now (slots units.now.filter units.now.items) (record { label = period; items = periods.now })) }
+    ensures rows { IfOk result (λ wide. wide ≡ false → rows.new.items ≡ rows.old.items ++ period_rows meta.now (seen_of meta.now seer.now.user (contents_of (S.rows store.now) (S.events store.now) (S.regs store.now))) place dx.now (slots units.now.filter units.now.items) (record { label = period; items = periods.now })) }
 {
     let label = Label {
         place,
@@ -194,8 +194,8 @@ fn write_each_period<S: RowStore>(
     requires plan { IsPlan meta.now dx.now plan.now }
     requires units { AreBelow (length meta.now.organisation_units) units.now.items }
     ensures { IfOk result (λ wide. Wrote
-        (period_is_wide meta.now (seen meta.now seer.now.user (S.rows store.now)) dx.now (slots units.now.filter units.now.items))
-        (period_rows meta.now (seen meta.now seer.now.user (S.rows store.now)) place dx.now (slots units.now.filter units.now.items))
+        (period_is_wide meta.now (seen_of meta.now seer.now.user (contents_of (S.rows store.now) (S.events store.now) (S.regs store.now))) dx.now (slots units.now.filter units.now.items))
+        (period_rows meta.now (seen_of meta.now seer.now.user (contents_of (S.rows store.now) (S.events store.now) (S.regs store.now))) place dx.now (slots units.now.filter units.now.items))
         (slots false periods.now) rows.old.items rows.new.items wide) }
 {
     for period in periods {
@@ -236,8 +236,8 @@ fn write_periods<S: RowStore>(
     requires plan { IsPlan meta.now dx.now plan.now }
     requires query { CanAnswer meta.now query.now }
     ensures { IfOk result (λ wide. Wrote
-        (period_is_wide meta.now (seen meta.now seer.now.user (S.rows store.now)) dx.now (unit_slots query.now))
-        (period_rows meta.now (seen meta.now seer.now.user (S.rows store.now)) place dx.now (unit_slots query.now))
+        (period_is_wide meta.now (seen_of meta.now seer.now.user (contents_of (S.rows store.now) (S.events store.now) (S.regs store.now))) dx.now (unit_slots query.now))
+        (period_rows meta.now (seen_of meta.now seer.now.user (contents_of (S.rows store.now) (S.events store.now) (S.regs store.now))) place dx.now (unit_slots query.now))
         (period_slots query.now) rows.old.items rows.new.items wide) }
 {
     let all = query.periods.items.as_slice();
@@ -266,8 +266,8 @@ fn write_dx<S: RowStore>(
     requires seer { IsSeer meta.now seer.now }
     requires dx { can_answer_dx meta.now dx.now ≡ true }
     requires query { CanAnswer meta.now query.now }
-    ensures wide { IfOk result (λ wide. wide ≡ dx_is_wide meta.now (seen meta.now seer.now.user (S.rows store.now)) query.now dx.now) }
-    ensures rows { IfOk result (λ wide. wide ≡ false → rows.new.items ≡ rows.old.items ++ dx_rows meta.now (seen meta.now seer.now.user (S.rows store.now)) query.now place dx.now) }
+    ensures wide { IfOk result (λ wide. wide ≡ dx_is_wide meta.now (seen_of meta.now seer.now.user (contents_of (S.rows store.now) (S.events store.now) (S.regs store.now))) query.now dx.now) }
+    ensures rows { IfOk result (λ wide. wide ≡ false → rows.new.items ≡ rows.old.items ++ dx_rows meta.now (seen_of meta.now seer.now.user (contents_of (S.rows store.now) (S.events store.now) (S.regs store.now))) query.now place dx.now) }
 {
     let plan = plan_of(alloc, meta, dx)?;
     write_periods(alloc, meta, store, seer, dx, &plan, place, query, rows)
@@ -294,8 +294,8 @@ pub fn write_rows<S: RowStore>(
     requires seer { IsSeer meta.now seer.now }
     requires query { CanAnswer meta.now query.now }
     requires empty { rows.old.items ≡ [] }
-    ensures wide { IfOk result (λ found. found ≡ option_map (λ dx. dx.text) (find (dx_is_wide meta.now (seen meta.now seer.now.user (S.rows store.now)) query.now) query.now.dx)) }
-    ensures rows { IfOk result (λ found. found ≡ None → rows.new.items ≡ rows_from meta.now (seen meta.now seer.now.user (S.rows store.now)) query.now 0 query.now.dx) }
+    ensures wide { IfOk result (λ found. found ≡ option_map (λ dx. dx.text) (find (dx_is_wide meta.now (seen_of meta.now seer.now.user (contents_of (S.rows store.now) (S.events store.now) (S.regs store.now))) query.now) query.now.dx)) }
+    ensures rows { IfOk result (λ found. found ≡ None → rows.new.items ≡ rows_from meta.now (seen_of meta.now seer.now.user (contents_of (S.rows store.now) (S.events store.now) (S.regs store.now))) query.now 0 query.now.dx) }
 {
     let items = query.dx.as_slice();
     for place in 0..items.len() {

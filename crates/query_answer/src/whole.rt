@@ -1,9 +1,9 @@
 //! The answer.
 
-ghost use Rattle.std.specs.Prelude.{◌≡◌, List};
-ghost use Rattle.table_rows.specs.declared.row.Row.{Row};
+ghost use Rattle.std.specs.Prelude.{◌≡◌};
+ghost use Rattle.table_rows.specs.Store.{Contents};
 ghost use Rattle.seen_rows.specs.Held.{IsSeer};
-ghost use Rattle.seen_rows.specs.Seen.{seen};
+ghost use Rattle.seen_rows.specs.Seen.{seen_of, contents_of, SameSeen};
 ghost use Rattle.query_answer.specs.Asked.{CanAnswer};
 ghost use Rattle.query_answer.specs.Answer.{answer_of, Answers};
 
@@ -23,7 +23,7 @@ pub enum AnswerFault {
     /// A cell is too wide to be computed. It carries the text of the first `dx` item that has such
     /// a cell.
     Wide { id: Items<u8> },
-    /// Memory was wanting.
+    /// Memory ran out.
     Memory,
 }
 
@@ -47,8 +47,8 @@ pub fn answer<S: RowStore>(
 ) -> Result<Vec<u8>, AnswerFault>
     requires seer { IsSeer meta.now seer.now }
     requires query { CanAnswer meta.now query.now }
-    ensures answer { Answers result (answer_of meta.now query.now (seen meta.now seer.now.user (S.rows store.now))) }
-    ensures unseen { (rows : List Row) → seen meta.now seer.now.user rows ≡ seen meta.now seer.now.user (S.rows store.now) → Answers result (answer_of meta.now query.now (seen meta.now seer.now.user rows)) }
+    ensures answer { Answers result (answer_of meta.now query.now (seen_of meta.now seer.now.user (contents_of (S.rows store.now) (S.events store.now) (S.regs store.now)))) }
+    ensures unseen { (held : Contents) → SameSeen (seen_of meta.now seer.now.user (contents_of (S.rows store.now) (S.events store.now) (S.regs store.now))) (seen_of meta.now seer.now.user held) → Answers result (answer_of meta.now query.now (seen_of meta.now seer.now.user held)) }
 {
     let mut rows = Vec::new(alloc);
     match write_rows(alloc, meta, store, seer, query, &mut rows)? {

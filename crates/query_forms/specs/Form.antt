@@ -54,7 +54,7 @@ is_colon b = b == 58
 unfoldable pub head_of : List ℕ → List ℕ
 head_of value = option_map_or (λ at. take at value) (position is_colon value) value
 
--- what stands behind the first colon
+-- what stands after the first colon
 unfoldable pub tail_of : List ℕ → Option (List ℕ)
 tail_of value = option_map (λ at. drop (at + 1) value) (position is_colon value)
 

@@ -1,4 +1,4 @@
--- What a reader answers: what is meant, or the first refusal, or that memory was wanting.
+-- What a reader answers: what is meant, or the first refusal, or that memory ran out.
 use Rattle.std.specs.Prelude.{◌≡◌, ℕ, List, Result, Ok, Err, Option, Some, None, ⊤}
 use Rattle.dh_base.specs.declared.codes.Code.{Code}
 use Rattle.dh_base.specs.declared.codes.Refusal.{Refusal}
@@ -18,7 +18,7 @@ abbrev pub or_refuse : {A : Type 0} → Code → List ℕ → Option A → Resul
 or_refuse code detail (Some value) = Ok value
 or_refuse code detail None = Err (refusal code detail)
 
--- the value that is meant, or the refusal that is meant, or that memory was wanting
+-- the value that is meant, or the refusal that is meant, or that memory ran out
 abbrev pub Gives : {A : Type 0} → Result A Refusal → Result A TextFault → Type 0
 Gives meant (Ok value) = meant ≡ Ok value
 Gives meant (Err (fault.Refused refused)) = meant ≡ Err refused
@@ -30,7 +30,7 @@ Becomes meant (Ok _) new = meant ≡ Ok new
 Becomes meant (Err (fault.Refused refused)) new = meant ≡ Err refused
 Becomes meant (Err fault.Memory) new = ⊤
 
--- the fault is this refusal, or that memory was wanting
+-- the fault is this refusal, or that memory ran out
 abbrev pub IsFault : Refusal → TextFault → Type 0
 IsFault meant (fault.Refused refused) = refused ≡ meant
 IsFault meant fault.Memory = ⊤

@@ -29,7 +29,7 @@ abbrev pub part_by : Option Rate → List ℕ → List ℕ → Option DxForm
 part_by (Some figure) id rest = Some (dx.Rate id figure)
 part_by None id rest = option_map (λ combo. dx.Operand id combo) (uid_of rest)
 
--- behind an identifier and a point stands the name of a rate or another identifier
+-- after an identifier and a point stands the name of a rate or another identifier
 abbrev pub part_form : List ℕ → List ℕ → Option DxForm
 part_form id rest = part_by (rate_named rest) id rest
 
@@ -107,7 +107,7 @@ dx_items text = each dx_item (item_texts text)
 unfoldable pub unit_items : List ℕ → Option (List UnitItem)
 unit_items text = each unit_item (item_texts text)
 
--- the periods of items behind others, each once
+-- the periods of items after others, each once
 abbrev pub periods_from : ℤ → List PeriodName → List (List ℕ) → Option (List PeriodName)
 periods_from day kept [] = Some kept
 periods_from day kept (text ∷ texts) = option_and_then (λ found. periods_from day (once_from same_period kept found) texts) (period_form day text)

@@ -13,7 +13,7 @@ use std::alloc::{AllocError, AllocFailed, Global};
 pub enum TextFault {
     /// Refused by a rule of the query text.
     Refused(Refusal),
-    /// Memory was wanting.
+    /// Memory ran out.
     Memory,
 }
 

@@ -52,6 +52,6 @@ pub struct Query {
 pub enum QueryFault {
     /// Refused by a rule of the query text.
     Refused(Refusal),
-    /// Memory was wanting.
+    /// Memory ran out.
     Memory,
 }

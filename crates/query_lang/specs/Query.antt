@@ -59,7 +59,7 @@ query_from r user cells form =
 unfoldable pub query_of : Records → ℕ → ℤ → ℕ → List ℕ → Result Query Refusal
 query_of r user day cells text = and_then (form_of day text) (query_from r user cells)
 
--- the fault is the refusal, or that memory was wanting
+-- the fault is the refusal, or that memory ran out
 abbrev pub IsFaultOf : Result Query Refusal → QueryFault → Type 0
 IsFaultOf meant (fault.Refused refused) = meant ≡ Err refused
 IsFaultOf meant fault.Memory = ⊤

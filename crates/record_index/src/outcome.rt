@@ -46,6 +46,6 @@ pub struct Verdict {
 pub enum BodyFault {
     /// The path of the first place that isn't of its form.
     Bad { path: Items<u8> },
-    /// Memory was wanting.
+    /// Memory ran out.
     Memory,
 }

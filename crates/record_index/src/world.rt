@@ -154,7 +154,7 @@ impl World {
     }
 
     /// Makes room for these writes and copies what they say, in place of those before. What each
-    /// key holds stays as it was, also where memory is wanting.
+    /// key holds stays as it was, also if memory runs out.
     #[tactic(auto, unfolding(crate::specs::World::facts))]
     pub fn reserve(&mut self, alloc: Global, writes: &[Write]) -> Result<(), Memory>
         ensures same { facts self.new ≡ facts self.old }

@@ -18,7 +18,7 @@ use std::process::ExitCode;
 
 const LONGEST_TABLE: u64 = 1_048_576;
 
-// Nothing where the row isn't one, or memory was wanting.
+// Nothing where the row isn't one, or memory ran out.
 fn row(alloc: Global, out: &mut Vec<u8>, line: &str) -> Option<()> {
     let (kind, row) = line.split_once('|')?;
     match kind {

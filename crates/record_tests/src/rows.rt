@@ -6,26 +6,28 @@ use std::alloc::Global;
 use std::process::Abort;
 use table_rows::{ListRows, Row, RowStore, is_store};
 
-fn row(rt: &impl Abort, text: &[u8], approved: Option<u8>, micros: i64) -> Row {
+fn row(rt: &impl Abort, text: &[u8], order: u32, approved: Option<u8>, micros: i64) -> Row {
     Row {
         element: 1,
         combo: 1,
         attribute: 1,
         period: Period::parse(text).expect(rt, "a period"),
         approved,
-        order: 3,
+        order,
         micros: Some(micros),
     }
 }
 
 fn rows(rt: &impl Abort, alloc: Global) -> Vec<Row> {
     let mut rows = Vec::new(alloc);
-    rows.push(row(rt, b"202401", Some(0), 5))
+    rows.push(row(rt, b"202401", 4, Some(0), 5))
         .expect(rt, "memory");
-    rows.push(row(rt, b"202401", None, 100))
+    rows.push(row(rt, b"202401", 3, None, 100))
         .expect(rt, "memory");
-    rows.push(row(rt, b"2024Q1", None, 1)).expect(rt, "memory");
-    rows.push(row(rt, b"202403", None, 1)).expect(rt, "memory");
+    rows.push(row(rt, b"2024Q1", 3, None, 1))
+        .expect(rt, "memory");
+    rows.push(row(rt, b"202403", 3, None, 1))
+        .expect(rt, "memory");
     rows
 }
 

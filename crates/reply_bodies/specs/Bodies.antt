@@ -13,7 +13,7 @@ abbrev pub text_or_none : Option (List ℕ) → List ℕ
 text_or_none None = []
 text_or_none (Some text) = text
 
--- the phrase that stands behind a status
+-- the phrase that stands after a status
 unfoldable pub phrase_of : ℕ → List ℕ
 phrase_of status = text_or_none (reason_phrase status)
 
@@ -43,7 +43,7 @@ refusal_of refusal = error_of (number_of refusal.code) (status_of refusal.code) 
 unfoldable pub error_text : Refusal → List ℕ
 error_text refusal = compact_text (refusal_of refusal)
 
--- want of memory
+-- a lack of memory
 unfoldable pub memory_text : List ℕ
 memory_text = compact_text (error_of (codes "M") 507 (codes "Memory"))
 

@@ -4,10 +4,11 @@ ghost use Rattle.serde_json.specs.View.{view};
 ghost use Rattle.http.specs.StatusCode.{IsStatusCode};
 ghost use Rattle.reply_bodies.specs.Bodies.{message_of, error_of, refusal_of, error_text};
 
+use crate::members::{with_number, with_text, with_value};
 use crate::phrase::phrase;
 use dh_base::codes::Refusal;
 use dh_base::memory::Memory;
-use serde_json::{Value, json};
+use serde_json::{Map, Value};
 use std::alloc::{AllocError, Global};
 
 // The name of the code and, where there is a detail, a space and the detail.
@@ -32,10 +33,13 @@ fn error_value(
     requires { IsStatusCode status }
     ensures { IfOk result (λ v. view v ≡ error_of number.now status (utf8_lossy message.now)) }
 {
-    let message = String::from_utf8_lossy(alloc, message)?;
-    let phrase = phrase(status);
-    let status = u64::from(status);
-    json!(in alloc; {"errorCode": number, "httpStatus": phrase, "httpStatusCode": status, "message": message, "status": "ERROR"})
+    let message = Value::String(String::from_utf8_lossy(alloc, message)?);
+    let members = with_value(alloc, Map::new(alloc), "message", message)?;
+    let members = with_text(alloc, members, "errorCode", number)?;
+    let members = with_text(alloc, members, "httpStatus", phrase(status))?;
+    let members = with_number(alloc, members, "httpStatusCode", u64::from(status))?;
+    let members = with_text(alloc, members, "status", "ERROR")?;
+    Ok(Value::Object(members))
 }
 
 #[tactic(auto, using(crate::proofs::BodyLemmas::has_status))]

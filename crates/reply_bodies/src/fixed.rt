@@ -2,7 +2,7 @@
 ghost use Rattle.std.specs.Prelude.{◌≡◌};
 ghost use Rattle.reply_bodies.specs.Bodies.{memory_text, plain_text};
 
-/// The body of a reply for want of memory, with the status 507.
+/// The body of a reply for a lack of memory, with the status 507.
 #[tactic(auto, using(crate::proofs::BodyLemmas::memory_bytes))]
 pub fn memory_body() -> &'static [u8]
     ensures { result.now ≡ memory_text }

@@ -3,6 +3,7 @@
 
 mod errors;
 mod fixed;
+mod members;
 mod phrase;
 mod summary;
 mod updates;

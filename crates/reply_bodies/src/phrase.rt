@@ -4,7 +4,7 @@ ghost use Rattle.reply_bodies.specs.Bodies.{phrase_of};
 
 use http::StatusCode;
 
-/// The phrase that stands behind a status.
+/// The phrase that stands after a status.
 #[tactic(auto, unfolding(crate::specs::Bodies::phrase_of))]
 pub(crate) fn phrase(status: u16) -> &'static str
     requires { IsStatusCode status }

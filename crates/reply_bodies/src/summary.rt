@@ -5,18 +5,20 @@ ghost use Rattle.http.specs.StatusCode.{IsStatusCode};
 ghost use Rattle.reply_bodies.specs.Bodies.{reply_of};
 ghost use Rattle.reply_bodies.specs.Summary.{conflict_of, counts_of, response_of, summary_of, summary_status_of, is_clean, word_within, word_of, summary_response, summary_text};
 
+use crate::members::{with_number, with_text, with_value};
 use crate::phrase::phrase;
 use dh_base::memory::Memory;
 use record_index::outcome::{Conflict, Verdict};
-use serde_json::{Value, json};
+use serde_json::{Map, Value};
 use std::alloc::{AllocError, Global};
 
 #[tactic(auto, unfolding(crate::specs::Summary::conflict_of))]
 fn conflict_value(alloc: Global, conflict: &Conflict) -> Result<Value, AllocError>
     ensures { IfOk result (λ v. view v ≡ conflict_of conflict.now) }
 {
-    let number = conflict.code.number();
-    json!(in alloc; {"errorCode": number, "index": conflict.index})
+    let members = with_text(alloc, Map::new(alloc), "errorCode", conflict.code.number())?;
+    let members = with_number(alloc, members, "index", conflict.index)?;
+    Ok(Value::Object(members))
 }
 
 fn conflict_values(alloc: Global, conflicts: &[Conflict]) -> Result<Vec<Value>, Memory>
@@ -39,7 +41,11 @@ fn conflict_list(alloc: Global, conflicts: &[Conflict]) -> Result<Value, Memory>
 fn counts_value(alloc: Global, verdict: &Verdict) -> Result<Value, AllocError>
     ensures { IfOk result (λ v. view v ≡ counts_of verdict.now) }
 {
-    json!(in alloc; {"deleted": verdict.deleted, "ignored": verdict.ignored, "imported": verdict.imported, "updated": verdict.updated})
+    let members = with_number(alloc, Map::new(alloc), "deleted", verdict.deleted)?;
+    let members = with_number(alloc, members, "ignored", verdict.ignored)?;
+    let members = with_number(alloc, members, "imported", verdict.imported)?;
+    let members = with_number(alloc, members, "updated", verdict.updated)?;
+    Ok(Value::Object(members))
 }
 
 #[tactic(auto, unfolding(crate::specs::Summary::response_of))]
@@ -51,7 +57,11 @@ fn response_value(
 ) -> Result<Value, AllocError>
     ensures { IfOk result (λ v. view v ≡ response_of (view conflicts) (view counts) word.now) }
 {
-    json!(in alloc; {"conflicts": conflicts, "importCount": counts, "responseType": "ImportSummary", "status": word})
+    let members = with_value(alloc, Map::new(alloc), "conflicts", conflicts)?;
+    let members = with_value(alloc, members, "importCount", counts)?;
+    let members = with_text(alloc, members, "responseType", "ImportSummary")?;
+    let members = with_text(alloc, members, "status", word)?;
+    Ok(Value::Object(members))
 }
 
 #[tactic(auto, unfolding(crate::specs::Bodies::reply_of))]
@@ -59,9 +69,11 @@ fn reply_value(alloc: Global, status: u16, response: Value, word: &str) -> Resul
     requires { IsStatusCode status }
     ensures { IfOk result (λ v. view v ≡ reply_of status (view response) word.now) }
 {
-    let phrase = phrase(status);
-    let status = u64::from(status);
-    json!(in alloc; {"httpStatus": phrase, "httpStatusCode": status, "response": response, "status": word})
+    let members = with_value(alloc, Map::new(alloc), "response", response)?;
+    let members = with_text(alloc, members, "httpStatus", phrase(status))?;
+    let members = with_number(alloc, members, "httpStatusCode", u64::from(status))?;
+    let members = with_text(alloc, members, "status", word)?;
+    Ok(Value::Object(members))
 }
 
 #[tactic(auto, unfolding(crate::specs::Summary::is_clean))]

@@ -41,7 +41,7 @@ impl UpdateBody {
     }
 }
 
-// Writes a text behind the bytes that are there, and says how many there are now.
+// Writes a text after the bytes that are there, and says how many there are now.
 fn put(buffer: &mut [u8], len: usize, text: &[u8]) -> usize
     requires { len + length text.now ≤ length buffer.old }
     ensures written { take result buffer.new ≡ take len buffer.old ++ text.now }

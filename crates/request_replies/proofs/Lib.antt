@@ -5,4 +5,4 @@ pub mod ReplyLemmas
 pub mod KeepLaws
 pub mod TellLemmas
 pub mod StepLemmas
-pub mod Unseen
+pub mod UnseenLemmas

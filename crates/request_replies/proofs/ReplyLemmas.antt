@@ -1,5 +1,5 @@
--- Want of memory may leave every request without its reply, and the machine as it is.
-use Rattle.std.proofs.Common.{◌≡◌, ℕ, ℤ, Bool, List, Option, None, Result, Ok, Err, sym, subst, refl}
+-- Out of memory every request may be left without its reply, and the machine as it is.
+use Rattle.std.proofs.Common.{◌≡◌, ℕ, ℤ, Bool, List, Option, None, Some, Result, Ok, Err, sym, subst, refl}
 use Rattle.dh_base.specs.declared.codes.Refusal.{Refusal}
 use Rattle.web_routes.specs.declared.call.Call.{Call}
 use Rattle.web_routes.specs.declared.call.Call.TheVariants as call
@@ -12,17 +12,17 @@ use Rattle.request_replies.specs.Texts.{IsTold, refusal_reply}
 
 pub gives_up : (seen : Seen) (moment : ℤ) (meant : Result Call Refusal) (keep : Bool) → RoutedReply seen moment meant keep None seen
 gives_up seen moment (Err refused) keep = (tt, refl)
-gives_up seen moment (Ok (call.Query user asked query)) keep = (record { found = Err look.Memory; looks = tt; tells = refl }, refl)
+gives_up seen moment (Ok (call.Query user asked query)) keep = (record { found = Err look.Memory; looks = refl; tells = tt }, refl)
 gives_up seen moment (Ok (call.Update kind)) keep =
-    record { found = Err cut.Memory; between = seen.state; begins = refl; ends = (refl, refl); same = refl }
-gives_up seen moment (Ok (call.Values user set)) keep = record { found = Err change.Memory; steps = refl; brought = refl; tells = refl }
-gives_up seen moment (Ok (call.Completion user list)) keep = record { found = Err change.Memory; steps = refl; brought = refl; tells = refl }
+    record { between = seen.state; replies = record { found = Err cut.Memory; begins = refl; ends = (refl, tt) }; same = refl }
+gives_up seen moment (Ok (call.Values user set)) keep = record { found = Err change.Memory; steps = refl; brought = refl; tells = tt; sure = tt }
+gives_up seen moment (Ok (call.Completion user list)) keep = record { found = Err change.Memory; steps = refl; brought = refl; tells = tt; sure = tt }
 
 pub of_call : (old new : Seen) (moment : ℤ) (meant : Result Call Refusal) (asked : Call) (keep : Bool) (made : Option (List ℕ)) → meant ≡ Ok asked
     → CallReply old moment asked keep made new → RoutedReply old moment meant keep made new
 of_call old new moment meant asked keep made is reply = subst (λ (m : Result Call Refusal). RoutedReply old moment m keep made new) (sym is) reply
 
 pub of_refusal : (old : Seen) (moment : ℤ) (meant : Result Call Refusal) (refused : Refusal) (keep : Bool) (made : Option (List ℕ)) → meant ≡ Err refused
-    → IsTold made (refusal_reply None keep refused) → RoutedReply old moment meant keep made old
+    → IsTold made (Some (refusal_reply None keep refused)) → RoutedReply old moment meant keep made old
 of_refusal old moment meant refused keep made is told =
     subst (λ (m : Result Call Refusal). RoutedReply old moment m keep made old) (sym is) (told, refl)

@@ -1,18 +1,16 @@
 -- The status of each code is one that a reply may have.
-use Rattle.std.proofs.Common.{◌≡◌, ◌∙◌, ap, ℤ, Bool, true, false, cond, List, Result, Ok, Err, IfOk, refl}
+use Rattle.std.proofs.Common.{◌≡◌, ◌∙◌, ◌⊎◌, inl, inr, ap, ℕ, Bool, true, false, ◌||◌, List, Result, Ok, Err, IfOk, refl, nat_eq, arith}
+use Rattle.std.proofs.lemmas.Bool.Decides.{nat_tests}
+use Rattle.dh_base.specs.declared.codes.Refusal.{Refusal}
 use Rattle.dh_changes.specs.declared.change.Change.{Change}
-use Rattle.dh_changes.specs.declared.change.Write.{Write}
 use Rattle.meta_parts.specs.declared.held.Records.{Records}
-use Rattle.record_index.specs.declared.outcome.Who.{Who}
-use Rattle.record_index.specs.Facts.{facts_in}
 use Rattle.change_log.specs.declared.limits.Limits.{Limits}
 use Rattle.change_log.specs.Log.{writes_of}
-use Rattle.value_import.specs.Verdicts.{verdict_of, completions_verdict_of}
-use Rattle.reply_bodies.specs.Summary.{is_clean}
-use Rattle.engine.specs.Requests.{judged}
-use Rattle.engine.specs.Machine.{State, Asked, report_of, ChangeStep}
-use Rattle.engine.specs.declared.machine.ChangeRequest.{ChangeRequest}
-use Rattle.engine.specs.declared.machine.ChangeRequest.TheVariants.{Values, Completion}
+use Rattle.change_requests.specs.Requests.{Asked, judged, is_report_status}
+use Rattle.change_requests.specs.declared.request.Judged.{Judged}
+use Rattle.change_requests.proofs.StatusLemmas.{report-status}
+use Rattle.engine.specs.Machine.{State, Step, IsReplyBy, report_of, judged_in}
+use Rattle.engine.specs.Machine.Act.{changed}
 use Rattle.engine.specs.declared.machine.Report.{Report}
 use Rattle.engine.specs.declared.machine.ChangeFault.{ChangeFault}
 use Rattle.dh_base.specs.Codes.{status_of}
@@ -92,23 +90,37 @@ pub ok_status : is_reply_status 200 ≡ true
 unfolding is_reply_status
 ok_status = refl
 
-verdict-status : (clean : Bool) → is_reply_status (cond clean 200 409) ≡ true
-unfolding is_reply_status
-verdict-status true = refl
-verdict-status false = refl
+or-cases : (a b : Bool) → (a || b) ≡ true → (a ≡ true) ⊎ (b ≡ true)
+or-cases true b is = inl refl
+or-cases false b is = inr is
 
-judged-status : (meta : Records) (writes : List Write) (who : Who) (moment : ℤ) (request : ChangeRequest) → is_reply_status (judged meta writes who moment request).status ≡ true
-unfolding judged
-judged-status meta writes who moment (Values set) = verdict-status (is_clean (verdict_of (facts_in writes) meta who moment set))
-judged-status meta writes who moment (Completion list) = verdict-status (is_clean (completions_verdict_of (facts_in writes) meta who moment list))
+same-number : (m n : ℕ) → nat_eq m n ≡ true → m ≡ n
+same-number m n is = grind (arith, nat_tests)
+
+ok-has : is_reply_status 200 ≡ true
+unfolding is_reply_status
+ok-has = refl
+
+warning-has : is_reply_status 409 ≡ true
+unfolding is_reply_status
+warning-has = refl
+
+either-has : (status : ℕ) → (nat_eq status 200 ≡ true) ⊎ (nat_eq status 409 ≡ true) → is_reply_status status ≡ true
+either-has status (inl is) = ap is_reply_status (same-number status 200 is) ∙ ok-has
+either-has status (inr is) = ap is_reply_status (same-number status 409 is) ∙ warning-has
+
+report-has : (status : ℕ) → is_report_status status ≡ true → is_reply_status status ≡ true
+report-has status is = either-has status (or-cases (nat_eq status 200) (nat_eq status 409) is)
 
 -- so is that of a report
-pub report_has : (meta : Records) (log : List Change) (asked : Asked) → is_reply_status (report_of meta log asked).status ≡ true
+by-verdict : (meta : Records) (limits : Limits) (log : List Change) (asked : Asked) (found : Result Judged Refusal) (report : Report) → judged meta (writes_of log) asked ≡ found
+    → IsReplyBy meta limits log asked found (Ok report) → is_reply_status report.status ≡ true
 unfolding report_of
-report_has meta log asked = judged-status meta (writes_of log) asked.who asked.moment asked.request
+by-verdict meta limits log asked (Ok found) report is reply =
+    ap (λ (r : Report). is_reply_status r.status) reply.1 ∙ report-has found.status (report-status meta (writes_of log) asked found is)
+by-verdict meta limits log asked (Err refused) report is reply = absurd (cc)
 
 pub report_status : (meta : Records) (limits : Limits) (old : State) (asked : Asked) (found : Result Report ChangeFault) (new : State)
-    → ChangeStep meta limits old asked found new → IfOk found (λ report. is_reply_status report.status ≡ true)
-report_status meta limits old asked (Ok report) new step =
-    ap (λ (r : Report). is_reply_status r.status) step.0.1 ∙ report_has meta old.log asked
+    → Step meta limits old (changed asked found) new → IfOk found (λ report. is_reply_status report.status ≡ true)
+report_status meta limits old asked (Ok report) new step = by-verdict meta limits old.log asked (judged_in meta old.log asked) report refl step.0
 report_status meta limits old asked (Err fault) new step = tt

@@ -3,27 +3,42 @@ use Rattle.std.proofs.Common.{◌≡◌, ℕ, Bool, List, Option, None, Some, Re
 use Rattle.std.specs.Prelude.{OnErr}
 use Rattle.dh_base.specs.declared.memory.Memory.{Memory}
 use Rattle.dh_base.specs.declared.plain.CutKind.{CutKind}
+use Rattle.meta_parts.specs.declared.held.Records.{Records}
+use Rattle.change_log.specs.declared.limits.Limits.{Limits}
+use Rattle.query_answer.specs.Answer.{answer_of}
+use Rattle.query_forms.specs.declared.plain.Query.{Query}
 use Rattle.request_session.specs.Replies.{text_in}
 use Rattle.request_session.specs.declared.reply.Reply.{Reply}
-use Rattle.engine.specs.Machine.{State, Issued, SwapStep, DropStep}
+use Rattle.seen_rows.specs.Seen.{seen_of}
+use Rattle.table_rows.specs.Store.{Listed, Contents, contents_in}
+use Rattle.engine.specs.Machine.{State, Step}
+use Rattle.engine.specs.Machine.Act.{swapped, dropped}
 use Rattle.engine.specs.declared.machine.Report.{Report}
-use Rattle.request_replies.specs.Texts.{told, IsTold, IsChangeText, report_reply, update_reply}
-use Rattle.request_replies.specs.Updates.{Ends}
+use Rattle.request_replies.specs.Texts.{told, IsTold, answer_reply, report_reply, update_reply}
+use Rattle.request_replies.specs.Updates.{EndsUpdate}
 
-pub is_told : (r : Result Reply Memory) (meant : List ℕ) → IfOk r (λ reply. text_in reply ≡ meant) → IsTold (told r) meant
-is_told (Ok reply) meant is = is
+pub is_told : (r : Result Reply Memory) (meant : List ℕ) → IfOk r (λ reply. text_in reply ≡ meant) → IsTold (told r) (Some meant)
+is_told (Ok reply) meant is = ap Some (sym is)
 is_told (Err e) meant is = tt
 
-pub change_told : (keep : Bool) (report : Report) (reply : Reply) → text_in reply ≡ report_reply keep report → IsChangeText keep (Ok report) (told (Ok reply))
+pub change_told : (keep : Bool) (report : Report) (reply : Reply) → text_in reply ≡ report_reply keep report → told (Ok reply) ≡ Some (report_reply keep report)
 change_told keep report reply is = ap Some is
 
-pub ends_of : (keep : Bool) (kind : CutKind) (issued : Issued) (between new : State) (text : List ℕ) (r : Result Reply Memory)
-    → text ≡ update_reply issued.number keep kind → IfOk r (λ _. SwapStep {E = Memory} between issued.ticket (Ok issued.number) new)
-    → IfOk r (λ reply. text_in reply ≡ text) → OnErr r (DropStep between issued.ticket new) → Ends keep kind (Ok issued) between (told r) new
-ends_of keep kind issued between new text (Ok reply) is swapped same dropped = (swapped, same ∙ is)
-ends_of keep kind issued between new text (Err e) is swapped same dropped = dropped
+-- the answer over the rows of a store is that over what it holds
+pub answer_told : (r : Result Reply Memory) (meta : Records) (user published : ℕ) (query : Query) (keep : Bool) (listed : Listed) (contents : Contents) → contents_in listed ≡ contents
+    → IfOk r (λ reply. text_in reply ≡ answer_reply published keep (answer_of meta query (seen_of meta user (contents_in listed))))
+    → IsTold (told r) (Some (answer_reply published keep (answer_of meta query (seen_of meta user contents))))
+answer_told r meta user published query keep listed contents same is =
+    is_told r (answer_reply published keep (answer_of meta query (seen_of meta user contents)))
+    (subst (λ (c : Contents). IfOk r (λ reply. text_in reply ≡ answer_reply published keep (answer_of meta query (seen_of meta user c)))) same is)
 
-pub dropped_of : (keep : Bool) (kind : CutKind) (issued : Issued) (between new : State) (r : Result Reply Memory)
-    → told r ≡ None → DropStep between issued.ticket new → Ends keep kind (Ok issued) between (told r) new
-dropped_of keep kind issued between new r none dropped =
-    subst (λ (made : Option (List ℕ)). Ends keep kind (Ok issued) between made new) (sym none) dropped
+pub ends_of : (meta : Records) (limits : Limits) (kind : CutKind) (ticket published : ℕ) (keep : Bool) (later new : State) (text : List ℕ) (r : Result Reply Memory)
+    → text ≡ update_reply published keep kind → IfOk r (λ _. Step meta limits later (swapped ticket (Ok published)) new)
+    → IfOk r (λ reply. text_in reply ≡ text) → OnErr r (Step meta limits later (dropped ticket) new) → EndsUpdate meta limits kind ticket keep later (told r) new
+ends_of meta limits kind ticket published keep later new text (Ok reply) is swaps same drops = record { published = published; swaps = swaps; tells = same ∙ is }
+ends_of meta limits kind ticket published keep later new text (Err e) is swaps same drops = drops
+
+pub dropped_of : (meta : Records) (limits : Limits) (kind : CutKind) (ticket : ℕ) (keep : Bool) (later new : State) (r : Result Reply Memory)
+    → told r ≡ None → Step meta limits later (dropped ticket) new → EndsUpdate meta limits kind ticket keep later (told r) new
+dropped_of meta limits kind ticket keep later new r none step =
+    subst (λ (made : Option (List ℕ)). EndsUpdate meta limits kind ticket keep later made new) (sym none) step

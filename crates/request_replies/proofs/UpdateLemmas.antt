@@ -1,46 +1,81 @@
 -- Facts on updates.
-use Rattle.std.proofs.Common.{◌≡◌, ◌∙◌, ℕ, Bool, List, Ok, Err, Result, Option, Some, None, IfOk, sym, ap, subst, refl}
+use Rattle.std.proofs.Common.{◌≡◌, ◌∙◌, ℕ, Bool, List, Ok, Err, Result, Option, Some, IfOk, sym, ap, subst, refl}
+use Rattle.std.specs.Prelude.{IsTrue, max}
 use Rattle.dh_base.specs.declared.memory.Memory.{Memory}
 use Rattle.dh_base.specs.declared.plain.CutKind.{CutKind}
+use Rattle.dh_base.specs.declared.plain.CutKind.TheVariants.{Full, Latest}
+use Rattle.meta_parts.specs.declared.held.Records.{Records}
 use Rattle.change_log.specs.declared.limits.Limits.{Limits}
 use Rattle.engine.specs.declared.machine.Staged.{Staged}
 use Rattle.engine.specs.declared.machine.Cut.{Cut}
 use Rattle.engine.specs.declared.machine.CutFault.{CutFault}
-use Rattle.engine.specs.Machine.{State, IsStaged, IsSwapReply, SwapStep, CutStep, IsOwned}
-use Rattle.engine.specs.Seen.{Seen, issued_in}
-use Rattle.request_replies.specs.Texts.{IsCutText}
-use Rattle.request_replies.specs.Updates.{Ends}
+use Rattle.engine.specs.Machine.{State, Step, staged_of, is_begun, number_of}
+use Rattle.engine.specs.Machine.Act.{begun, swapped, dropped}
+use Rattle.engine.specs.Seen.{Seen, IsSound, update_in}
+use Rattle.engine.proofs.HistoryLaws.{staged-is-begun, number-is}
+use Rattle.request_replies.specs.Texts.{IsTold, cut_text}
+use Rattle.request_replies.specs.Updates.{Ends, OwnUpdateReply}
 
-abbrev number-of : Option Staged → ℕ → ℕ
-number-of None n = n
-number-of (Some update) n = update.number
+abbrev update-with : ℕ → ℕ → Staged
+update-with ticket number = record { ticket = ticket; number = number }
 
-swaps_its_number : (state : State) (update : Staged) (ticket number : ℕ) → IsStaged state update → IsSwapReply state ticket number → number ≡ update.number
-swaps_its_number state update ticket number staged (found, (is, (t, n))) =
-    sym n ∙ ap (λ o. number-of o 0) (sym is ∙ staged)
+-- the number that the swap answers is known before it
+pub swaps_it : (meta : Records) (limits : Limits) (old new : State) (ticket published answered : ℕ) → published ≡ max old.published (number_of old ticket)
+    → Step meta limits old (swapped ticket (Ok answered)) new → Step meta limits old (swapped ticket (Ok published)) new
+swaps_it meta limits old new ticket published answered is step =
+    subst (λ (n : ℕ). Step meta limits old (swapped ticket (Ok n)) new) (step.0.1 ∙ sym is) step
 
--- the number that is published is that of the update
-pub swaps_it : (old new : State) (ticket number published : ℕ) (kind : CutKind) → IsStaged old (record { ticket = ticket; kind = kind; number = number })
-    → SwapStep {E = Memory} old ticket (Ok published) new → SwapStep {E = Memory} old ticket (Ok number) new
-swaps_it old new ticket number published kind staged step =
-    subst (λ (n : ℕ). SwapStep {E = Memory} old ticket (Ok n) new)
-    (swaps_its_number old (record { ticket = ticket; kind = kind; number = number }) ticket published staged step.0) step
+-- what was dropped after a swap that lacked memory
+pub dropped_after : (old between new : Seen) (ticket : ℕ) (fault : Memory) → Step old.meta old.limits old.state (swapped ticket (Err fault)) between.state
+    → Step between.meta between.limits between.state (dropped ticket) new.state → Step old.meta old.limits old.state (dropped ticket) new.state
+dropped_after old between new ticket fault stays step = subst (λ (s : State). Step old.meta old.limits s (dropped ticket) new.state) stays step
 
-pub owns : (old : State) (ticket number : ℕ) (kind : CutKind) → IsStaged old (record { ticket = ticket; kind = kind; number = number }) → IsOwned old ticket
-owns old ticket number kind staged = (record { ticket = ticket; kind = kind; number = number }, (staged, refl))
+pub begun_by : (state : State) (kind : CutKind) (ticket number : ℕ) → staged_of state kind ≡ Some (record { ticket = ticket; number = number }) → IsTrue (is_begun state ticket)
+begun_by state kind ticket number is = staged-is-begun state kind (update-with ticket number) is
+
+pub swap_number : (seen : Seen) (kind : CutKind) (ticket number published : ℕ) → IsSound seen → staged_of seen.state kind ≡ Some (record { ticket = ticket; number = number })
+    → published ≡ max seen.state.published number → published ≡ max seen.state.published (number_of seen.state ticket)
+swap_number seen kind ticket number published sound staged is =
+    is ∙ ap (max seen.state.published) (sym (number-is seen.limits seen.state kind (update-with ticket number) sound.order staged))
+
+cut-staged : (meta : Records) (limits : Limits) (old between : State) (kind : CutKind) (update : Staged) → Step meta limits old (begun kind (Ok update)) between
+    → staged_of between kind ≡ Some update
+cut-staged meta limits old between Full update step = ap (λ (s : State). s.full) step.1
+cut-staged meta limits old between Latest update step = ap (λ (s : State). s.latest) step.1
 
 -- an update that was cut is staged
-pub is_begun : (limits : Limits) (old between : State) (kind : CutKind) (found : Result Cut CutFault) → CutStep limits old kind (issued_in found) between
-    → IfOk found (λ begun. IsStaged between (record { ticket = begun.ticket; kind = kind; number = begun.number }))
-is_begun limits old between kind (Ok begun) step = ap (λ (s : State). s.staged) step.1
-is_begun limits old between kind (Err fault) step = tt
+pub cut_begins : (meta : Records) (limits : Limits) (old between : State) (kind : CutKind) (found : Result Cut CutFault) → Step meta limits old (begun kind (update_in found)) between
+    → IfOk found (λ begun. staged_of between kind ≡ Some (record { ticket = begun.ticket; number = begun.number }))
+cut_begins meta limits old between kind (Ok found) step = cut-staged meta limits old between kind (update-with found.ticket found.number) step
+cut_begins meta limits old between kind (Err fault) step = tt
 
 -- two calls that keep all but the state keep all but the state
 pub same_twice : (old between new : Seen) → between ≡ record old { state = between.state } → new ≡ record between { state = new.state }
     → new ≡ record old { state = new.state }
 same_twice old between new first second = second ∙ ap (λ (s : Seen). record s { state = new.state }) first
 
-pub refused_of : (keep : Bool) (kind : CutKind) (found : Result Cut CutFault) (fault : CutFault) (between : State) (text : Option (List ℕ)) → found ≡ Err fault
-    → IsCutText keep fault text → Ends keep kind (issued_in found) between text between
-refused_of keep kind found fault between text is tells =
-    subst (λ (f : Result Cut CutFault). Ends keep kind (issued_in f) between text between) (sym is) (refl, tells)
+pub refused_of : (meta : Records) (limits : Limits) (kind : CutKind) (keep : Bool) (found : Result Cut CutFault) (fault : CutFault) (later : State) (text : Option (List ℕ))
+    → found ≡ Err fault → IsTold text (cut_text keep fault) → Ends meta limits kind keep (update_in found) later text later
+refused_of meta limits kind keep found fault later text is tells =
+    subst (λ (f : Result Cut CutFault). Ends meta limits kind keep (update_in f) later text later) (sym is) (refl, tells)
+
+ends-under : (meta meta' : Records) (limits limits' : Limits) (kind : CutKind) (keep : Bool) (found : Result Staged CutFault) (later : State) (text : Option (List ℕ)) (new : State)
+    → meta ≡ meta' → limits ≡ limits' → Ends meta limits kind keep found later text new → Ends meta' limits' kind keep found later text new
+ends-under meta meta' limits limits' kind keep found later text new m l ends =
+    subst (λ (x : Records). Ends x limits' kind keep found later text new) m (subst (λ (x : Limits). Ends meta x kind keep found later text new) l ends)
+
+-- a cut and its end, with nothing between
+pub own_reply : (old between new : Seen) (kind : CutKind) (keep : Bool) (found : Result Cut CutFault) (text : Option (List ℕ))
+    → Step old.meta old.limits old.state (begun kind (update_in found)) between.state → between ≡ record old { state = between.state }
+    → Ends between.meta between.limits kind keep (update_in found) between.state text new.state → new ≡ record between { state = new.state }
+    → OwnUpdateReply old kind keep text new
+own_reply old between new kind keep found text begins first ends second = record {
+  between = between.state;
+  replies = record {
+    found = update_in found;
+    begins = begins;
+    ends = ends-under between.meta old.meta between.limits old.limits kind keep (update_in found) between.state text new.state
+        (ap (λ (s : Seen). s.meta) first) (ap (λ (s : Seen). s.limits) first) ends;
+  };
+  same = same_twice old between new first second;
+}

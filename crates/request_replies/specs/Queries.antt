@@ -1,11 +1,13 @@
 -- A query: a look at the tables, and the answer over what the user sees of them.
-use Rattle.std.specs.Prelude.{◌≡◌, ℕ, Bool, List, take, Option, None, Result, Ok, Err}
+use Rattle.std.specs.Prelude.{ℕ, Bool, List, take, Option, None, Some, Result, Ok, Err}
 use Rattle.dh_changes.specs.declared.change.Change.{Change}
 use Rattle.meta_parts.specs.declared.held.Records.{Records}
 use Rattle.query_forms.specs.declared.plain.Query.{Query}
 use Rattle.query_answer.specs.Answer.{answer_of}
-use Rattle.seen_rows.specs.Seen.{seen}
-use Rattle.engine.specs.Machine.{State, LookStep}
+use Rattle.seen_rows.specs.Seen.{seen_of}
+use Rattle.engine.specs.Machine.{Step}
+use Rattle.engine.specs.Machine.Act.{looked}
+use Rattle.engine.specs.Seen.{Seen}
 use Rattle.engine.specs.Tables.{tables_of}
 use Rattle.engine.specs.declared.machine.LookFault.{LookFault}
 use Rattle.engine.specs.declared.machine.LookFault.TheVariants as look
@@ -14,15 +16,15 @@ use Rattle.request_replies.specs.Texts.{IsTold, answer_reply, not_yet_reply}
 -- the answer over the tables of the first changes of a log
 unfoldable pub answer_over : Records → List Change → ℕ → Query → Bool → ℕ → List ℕ
 answer_over meta log user query keep published =
-    answer_reply published keep (answer_of meta query (seen meta user (tables_of meta (take published log)).rows))
+    answer_reply published keep (answer_of meta query (seen_of meta user (tables_of meta (take published log))))
 
-abbrev pub IsLookText : Records → List Change → ℕ → Query → Bool → Result ℕ LookFault → Option (List ℕ) → Type 0
-IsLookText meta log user query keep (Ok published) text = IsTold text (answer_over meta log user query keep published)
-IsLookText meta log user query keep (Err (look.NotYet published)) text = IsTold text (not_yet_reply published keep)
-IsLookText meta log user query keep (Err look.Memory) text = text ≡ None
+abbrev pub look_text : Records → List Change → ℕ → Query → Bool → Result ℕ LookFault → Option (List ℕ)
+look_text meta log user query keep (Ok published) = Some (answer_over meta log user query keep published)
+look_text meta log user query keep (Err (look.NotYet published)) = Some (not_yet_reply published keep)
+look_text meta log user query keep (Err look.Memory) = None
 
 -- the reply to a query that asks for tables of at least so many changes; the machine stays
-pub record QueryReply (meta : Records) (state : State) (user asked : ℕ) (query : Query) (keep : Bool) (text : Option (List ℕ)) : Type 0 where
+pub record QueryReply (machine : Seen) (user asked : ℕ) (query : Query) (keep : Bool) (text : Option (List ℕ)) : Type 0 where
   pub found : Result ℕ LookFault
-  pub looks : LookStep state asked found
-  pub tells : IsLookText meta state.log user query keep found text
+  pub looks : Step machine.meta machine.limits machine.state (looked asked found) machine.state
+  pub tells : IsTold text (look_text machine.meta machine.state.log user query keep found)

@@ -1,4 +1,4 @@
--- The texts of replies by what the machine answered. `None` stands for want of memory.
+-- The texts of replies by what the machine answered. A call out of memory has none.
 use Rattle.std.specs.Prelude.{◌≡◌, ℕ, Bool, List, [], decimal, Option, None, Some, Result, Ok, Err, ⊤}
 use Rattle.serde_json.specs.Data.{Data}
 use Rattle.serde_json.specs.Written.{compact_text}
@@ -17,7 +17,7 @@ use Rattle.engine.specs.declared.machine.ChangeFault.TheVariants as change
 use Rattle.engine.specs.declared.machine.CutFault.{CutFault}
 use Rattle.engine.specs.declared.machine.CutFault.TheVariants as cut
 
--- the text of the reply that a call answered, or none where memory was wanting
+-- the text of the reply that a call answered, or none out of memory
 abbrev pub told : Result Reply Memory → Option (List ℕ)
 told (Ok reply) = Some (text_in reply)
 told (Err fault) = None
@@ -27,12 +27,12 @@ abbrev pub text_of : Bool → Option (List ℕ) → List ℕ
 text_of keep (Some text) = text
 text_of keep None = memory_reply keep
 
--- this text, unless memory was wanting
-abbrev pub IsTold : Option (List ℕ) → List ℕ → Type 0
-IsTold (Some text) meant = text ≡ meant
+-- this text, unless memory ran out
+abbrev pub IsTold : Option (List ℕ) → Option (List ℕ) → Type 0
+IsTold (Some text) meant = meant ≡ Some text
 IsTold None meant = ⊤
 
--- the reply that refuses a request; it tells how many changes are published where the tables were asked
+-- the reply that refuses a request; it says how many changes are published if the tables were asked
 unfoldable pub refusal_reply : Option ℕ → Bool → Refusal → List ℕ
 refusal_reply published keep refused = reply_text (status_of refused.code) published None keep (error_text refused)
 
@@ -52,18 +52,12 @@ not_yet_reply published keep = refusal_reply None keep (refusal F19 (decimal pub
 unfoldable pub report_reply : Bool → Report → List ℕ
 report_reply keep report = reply_text report.status None (Some report.number) keep report.body
 
-abbrev pub full_reply : ℕ → Bool → List ℕ
-full_reply limit keep = refusal_reply None keep (refusal F22 (decimal limit))
-
-abbrev pub store_reply : Bool → List ℕ
-store_reply keep = refusal_reply None keep (refusal F23 [])
-
--- a change that was made has its report told: want of memory never stands in its place
-abbrev pub IsChangeText : Bool → Result Report ChangeFault → Option (List ℕ) → Type 0
-IsChangeText keep (Ok report) text = text ≡ Some (report_reply keep report)
-IsChangeText keep (Err (change.LogFull limit)) text = IsTold text (full_reply limit keep)
-IsChangeText keep (Err change.StoreFault) text = IsTold text (store_reply keep)
-IsChangeText keep (Err change.Memory) text = text ≡ None
+abbrev pub change_text : Bool → Result Report ChangeFault → Option (List ℕ)
+change_text keep (Ok report) = Some (report_reply keep report)
+change_text keep (Err (change.Refused refused)) = Some (refusal_reply None keep refused)
+change_text keep (Err (change.LogFull limit)) = Some (refusal_reply None keep (refusal F22 (decimal limit)))
+change_text keep (Err change.StoreFault) = Some (refusal_reply None keep (refusal F23 []))
+change_text keep (Err change.Memory) = None
 
 -- ---- an update
 
@@ -72,7 +66,7 @@ unfoldable pub update_reply : ℕ → Bool → CutKind → List ℕ
 update_reply published keep kind = reply_text 200 (Some published) None keep (update_text kind published)
 
 -- no update was begun
-abbrev pub IsCutText : Bool → CutFault → Option (List ℕ) → Type 0
-IsCutText keep (cut.Busy ticket) text = IsTold text (refusal_reply None keep (refusal F30 (decimal ticket)))
-IsCutText keep (cut.UpdatesSpent limit) text = IsTold text (refusal_reply None keep (refusal F32 (decimal limit)))
-IsCutText keep cut.Memory text = text ≡ None
+abbrev pub cut_text : Bool → CutFault → Option (List ℕ)
+cut_text keep (cut.Busy ticket) = Some (refusal_reply None keep (refusal F30 (decimal ticket)))
+cut_text keep (cut.UpdatesSpent limit) = Some (refusal_reply None keep (refusal F32 (decimal limit)))
+cut_text keep cut.Memory = None

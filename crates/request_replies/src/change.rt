@@ -1,18 +1,21 @@
 // The reply to a change.
-ghost use Rattle.std.specs.Prelude.{◌≡◌, ◌<◌, true, length, IfOk};
+ghost use Rattle.std.specs.Prelude.{◌≡◌, ◌<◌, true, [], length, Some, None, IfOk};
 ghost use Rattle.http_wire.specs.Reply.{is_reply_status};
 ghost use Rattle.change_log.specs.Log.{NeverFails};
 ghost use Rattle.engine.specs.Seen.{IsSound};
 ghost use Rattle.request_session.specs.Replies.{text_in};
-ghost use Rattle.request_replies.specs.Texts.{told, report_reply, IsChangeText, store_reply};
+ghost use Rattle.request_replies.specs.Texts.{told, report_reply, IsTold, change_text, refusal_reply};
+ghost use Rattle.query_forms.specs.Given.{refusal};
+ghost use Rattle.dh_base.specs.declared.codes.Code.TheVariants.{F23};
 ghost use Rattle.request_replies.specs.Changes.{ChangeReply, asking};
 
 use crate::texts::{number_reply, refusal_reply};
+use change_requests::ChangeRequest;
 use dh_base::codes::{Code, Refusal};
 use dh_base::items::Items;
 use dh_base::memory::Memory;
 use dh_outside::Keeper;
-use engine::{ChangeFault, ChangeRequest, Engine, Report};
+use engine::{ChangeFault, Engine, Report};
 use record_index::outcome::Who;
 use request_session::{Reply, whole_reply};
 use std::alloc::Global;
@@ -32,7 +35,7 @@ fn accepted(report: Report, keep: bool) -> Reply
 }
 
 fn not_stored(alloc: Global, keep: bool) -> Result<Reply, Memory>
-    ensures { IfOk result (λ reply. text_in reply ≡ store_reply keep) }
+    ensures { IfOk result (λ reply. text_in reply ≡ refusal_reply None keep (refusal F23 [])) }
 {
     let refused = Refusal {
         code: Code::F23,
@@ -45,10 +48,12 @@ fn not_stored(alloc: Global, keep: bool) -> Result<Reply, Memory>
 #[tactic(auto, using(crate::proofs::TellLemmas::is_told, crate::proofs::TellLemmas::change_told))]
 fn tell(alloc: Global, found: Result<Report, ChangeFault>, keep: bool) -> Result<Reply, Memory>
     requires { IfOk found (λ report. is_reply_status report.status ≡ true) }
-    ensures { IsChangeText keep found (told result) }
+    ensures tells { IsTold (told result) (change_text keep found) }
+    ensures sure { IfOk found (λ report. told result ≡ Some (report_reply keep report)) }
 {
     match found {
         Ok(report) => Ok(accepted(report, keep)),
+        Err(ChangeFault::Refused(refused)) => refusal_reply(alloc, None, keep, &refused),
         Err(ChangeFault::LogFull { limit }) => number_reply(alloc, keep, Code::F22, limit),
         Err(ChangeFault::StoreFault) => not_stored(alloc, keep),
         Err(ChangeFault::Memory) => Err(Memory),

@@ -9,5 +9,5 @@ mod replier;
 mod texts;
 mod update;
 
-pub use laws::{replies_keep, unseen_changes_nothing};
+pub use laws::replies_keep;
 pub use replier::Replier;

@@ -7,10 +7,11 @@ ghost use Rattle.query_answer.specs.Asked.{CanAnswer};
 ghost use Rattle.query_answer.specs.Answer.{answer_of};
 ghost use Rattle.query_lang.specs.Askable.{IsAskable};
 ghost use Rattle.query_forms.specs.Given.{refusal};
-ghost use Rattle.seen_rows.specs.Seen.{seen};
+ghost use Rattle.table_rows.specs.Store.{contents_in};
+ghost use Rattle.seen_rows.specs.Seen.{contents_of, seen_of};
 ghost use Rattle.request_session.specs.Replies.{text_in, reply_text};
-ghost use Rattle.request_replies.specs.Texts.{told, answer_reply, refusal_reply};
-ghost use Rattle.request_replies.specs.Queries.{QueryReply, IsLookText};
+ghost use Rattle.request_replies.specs.Texts.{told, IsTold, answer_reply, refusal_reply};
+ghost use Rattle.request_replies.specs.Queries.{QueryReply, look_text};
 ghost use Rattle.dh_base.specs.declared.codes.Code.TheVariants.{F18};
 
 use crate::texts::{number_reply, refusal_reply};
@@ -25,7 +26,7 @@ use query_forms::Query;
 use request_session::{Reply, whole_reply};
 use seen_rows::Seer;
 use std::alloc::Global;
-use table_rows::ListRows;
+use table_rows::RowStore;
 
 // The answer is told.
 #[tactic(auto, using(crate::proofs::Statuses::ok_status))]
@@ -47,18 +48,18 @@ fn too_wide(alloc: Global, published: u64, keep: bool, id: Items<u8>) -> Result<
 
 // The answer over the rows of tables that stand for so many changes.
 #[tactic(auto, unfolding(crate::specs::Texts::answer_reply))]
-fn over_rows(
+fn over_rows<S: RowStore>(
     alloc: Global,
     meta: &Metadata,
     user: u32,
-    store: &ListRows,
+    store: &S,
     query: &Query,
     published: u64,
     keep: bool,
 ) -> Result<Reply, Memory>
     requires user { user < length meta.now.users }
     requires query { CanAnswer meta.now query.now }
-    ensures { IfOk result (λ reply. text_in reply ≡ answer_reply published keep (answer_of meta.now query.now (seen meta.now user store.now.rows))) }
+    ensures { IfOk result (λ reply. text_in reply ≡ answer_reply published keep (answer_of meta.now query.now (seen_of meta.now user (contents_of (S.rows store.now) (S.events store.now) (S.regs store.now))))) }
 {
     let seer = Seer::of(alloc, meta, user)?;
     match answer(alloc, meta, store, &seer, query) {
@@ -69,7 +70,7 @@ fn over_rows(
 }
 
 // What the look at the tables came to is told.
-#[tactic(auto, using(crate::proofs::TellLemmas::is_told), unfolding(crate::specs::Queries::answer_over))]
+#[tactic(auto, using(crate::proofs::TellLemmas::is_told, crate::proofs::TellLemmas::answer_told), unfolding(crate::specs::Queries::answer_over))]
 fn tell<K: Keeper>(
     alloc: Global,
     engine: &Engine<K>,
@@ -80,15 +81,15 @@ fn tell<K: Keeper>(
 ) -> Result<Reply, Memory>
     requires user { user < length engine.now.meta.users }
     requires query { CanAnswer engine.now.meta query.now }
-    requires tables { IfOk found (λ view. arc_value view.tables ≡ tables_of engine.now.meta (take view.published engine.now.state.log)) }
-    ensures { IsLookText engine.now.meta engine.now.state.log user query.now keep (published_in found) (told result) }
+    requires tables { IfOk found (λ view. contents_in (arc_value view.tables) ≡ tables_of engine.now.meta (take view.published engine.now.state.log)) }
+    ensures { IsTold (told result) (look_text engine.now.meta engine.now.state.log user query.now keep (published_in found)) }
 {
     match found {
         Ok(view) => over_rows(
             alloc,
             engine.meta(),
             user,
-            &view.tables,
+            &*view.tables,
             query,
             view.published,
             keep,
@@ -110,7 +111,7 @@ pub(crate) fn reply_to_query<K: Keeper>(
 ) -> Result<Reply, Memory>
     requires user { user < length engine.now.meta.users }
     requires query { IsAskable engine.now.meta user query.now }
-    ensures { QueryReply engine.now.meta engine.now.state user asked query.now keep (told result) }
+    ensures { QueryReply engine.now user asked query.now keep (told result) }
 {
     let found = engine.look(asked);
     tell(alloc, engine, user, found, query, keep)

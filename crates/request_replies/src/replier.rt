@@ -10,10 +10,11 @@ use crate::change::reply_to_change;
 use crate::query::reply_to_query;
 use crate::texts::refusal_reply;
 use crate::update::reply_to_update;
+use change_requests::ChangeRequest;
 use dh_base::memory::Memory;
 use dh_outside::{Clock, Keeper};
 use dh_periods::day_of;
-use engine::{ChangeRequest, Engine};
+use engine::Engine;
 use http_wire::Request;
 use request_session::{Machine, Reply};
 use std::alloc::Global;
@@ -96,12 +97,19 @@ impl<'a, K: Keeper, C: Clock> Replier<'a, K, C> {
 }
 
 impl<'a, K: Keeper, C: Clock> Machine for Replier<'a, K, C> {
+    ghost use Rattle.std.specs.Prelude.{IfOk, OnErr};
+    ghost use Rattle.request_session.specs.Replies.{text_in, memory_reply};
     ghost use Rattle.request_replies.specs.Steps.{MachineStep};
+    ghost use Rattle.request_replies.specs.Unseen.{UnseenReply};
 
     ghost step = { λ old request keep text new. MachineStep K.keeper_faults C.shows old.clock.now new.clock.now old.engine request keep text new.engine };
 
-    #[tactic(auto, using(crate::proofs::StepLemmas::step_told, crate::proofs::StepLemmas::step_wanting))]
-    fn reply(&mut self, alloc: Global, request: &Request, keep: bool) -> Result<Reply, Memory> {
+    fn reply(&mut self, alloc: Global, request: &Request, keep: bool) -> Result<Reply, Memory>
+        ensures replies { IfOk result (λ reply. MachineStep K.keeper_faults C.shows self.old.clock.now self.new.clock.now self.old.engine request.now keep (text_in reply) self.new.engine) }
+        ensures memory { OnErr result (MachineStep K.keeper_faults C.shows self.old.clock.now self.new.clock.now self.old.engine request.now keep (memory_reply keep) self.new.engine) }
+        // nothing that the user doesn't see changes it
+        ensures unseen { IfOk result (λ reply. UnseenReply (C.shows self.old.clock.now) self.old.engine request.now keep (text_in reply) self.new.engine) }
+    {
         let moment = self.clock.now();
         reply_at(alloc, &mut self.engine, moment, request, keep)
     }

@@ -1,12 +1,12 @@
 // The reply to an update of the tables.
-ghost use Rattle.std.specs.Prelude.{◌≡◌, None, Ok, IfOk, OnErr};
-ghost use Rattle.dh_base.specs.declared.memory.Memory.{Memory as Wanting};
+ghost use Rattle.std.specs.Prelude.{◌≡◌, IsTrue, max, None, Some, Ok, IfOk, OnErr};
 ghost use Rattle.dh_base.specs.declared.plain.CutKind.TheVariants.{Full};
-ghost use Rattle.engine.specs.Machine.{IsOwned, IsStaged, SwapStep, DropStep};
-ghost use Rattle.engine.specs.Seen.{IsSound, issued_in};
+ghost use Rattle.engine.specs.Machine.{Step, is_begun, number_of, staged_of};
+ghost use Rattle.engine.specs.Machine.Act.{swapped, dropped};
+ghost use Rattle.engine.specs.Seen.{IsSound, update_in};
 ghost use Rattle.request_session.specs.Replies.{text_in};
-ghost use Rattle.request_replies.specs.Texts.{told, IsCutText, update_reply};
-ghost use Rattle.request_replies.specs.Updates.{UpdateReply, Ends};
+ghost use Rattle.request_replies.specs.Texts.{told, IsTold, cut_text};
+ghost use Rattle.request_replies.specs.Updates.{OwnUpdateReply, EndsUpdate, Ends};
 
 use crate::texts::{number_reply, update_reply};
 use dh_base::codes::Code;
@@ -20,7 +20,7 @@ use std::alloc::Global;
 // Why no update was begun is told.
 #[tactic(auto, using(crate::proofs::TellLemmas::is_told))]
 fn not_begun(alloc: Global, fault: CutFault, keep: bool) -> Result<Reply, Memory>
-    ensures { IsCutText keep fault (told result) }
+    ensures { IsTold (told result) (cut_text keep fault) }
 {
     match fault {
         CutFault::Busy { ticket } => number_reply(alloc, keep, Code::F30, ticket),
@@ -29,11 +29,11 @@ fn not_begun(alloc: Global, fault: CutFault, keep: bool) -> Result<Reply, Memory
     }
 }
 
-// Memory is wanting: the update is dropped.
+// Out of memory the update is dropped.
 fn give_up<K: Keeper>(engine: &mut Engine<K>, ticket: u64) -> Result<Reply, Memory>
-    requires { IsOwned engine.old.state ticket }
+    requires { IsTrue (is_begun engine.old.state ticket) }
     ensures none { told result ≡ None }
-    ensures dropped { DropStep engine.old.state ticket engine.new.state }
+    ensures dropped { Step engine.old.meta engine.old.limits engine.old.state (dropped ticket) engine.new.state }
     ensures same { engine.new ≡ record engine.old { state = engine.new.state } }
     ensures sound { IsSound engine.new }
 {
@@ -41,32 +41,61 @@ fn give_up<K: Keeper>(engine: &mut Engine<K>, ticket: u64) -> Result<Reply, Memo
     Err(Memory)
 }
 
-// Publishes the update, whose reply is made already. Where memory is wanting the update is dropped.
-#[tactic(auto, using(crate::proofs::UpdateLemmas::swaps_it, crate::proofs::UpdateLemmas::owns))]
+// Publishes the update, whose reply is made already. Out of memory the update is dropped.
+#[tactic(auto, using(crate::proofs::UpdateLemmas::swaps_it, crate::proofs::UpdateLemmas::dropped_after, crate::proofs::UpdateLemmas::same_twice))]
 fn publish<K: Keeper>(
     alloc: Global,
     engine: &mut Engine<K>,
     ticket: u64,
-    number: u64,
-    kind: CutKind,
+    published: u64,
     reply: Reply,
 ) -> Result<Reply, Memory>
-    requires staged { IsStaged engine.old.state (record { ticket = ticket; kind = kind; number = number }) }
-    ensures swapped { IfOk result (λ made. SwapStep {E = Wanting} engine.old.state ticket (Ok number) engine.new.state) }
+    requires begun { IsTrue (is_begun engine.old.state ticket) }
+    requires number { published ≡ max engine.old.state.published (number_of engine.old.state ticket) }
+    ensures swapped { IfOk result (λ made. Step engine.old.meta engine.old.limits engine.old.state (swapped ticket (Ok published)) engine.new.state) }
     ensures text { IfOk result (λ made. text_in made ≡ text_in reply) }
-    ensures dropped { OnErr result (DropStep engine.old.state ticket engine.new.state) }
+    ensures dropped { OnErr result (Step engine.old.meta engine.old.limits engine.old.state (dropped ticket) engine.new.state) }
     ensures same { engine.new ≡ record engine.old { state = engine.new.state } }
     ensures sound { IsSound engine.new }
 {
-    let _parts = (number, kind);
+    let _published = published;
     match engine.swap(alloc, ticket) {
-        Ok(_published) => Ok(reply),
+        Ok(_swapped) => Ok(reply),
+        Err(_) => give_up(engine, ticket),
+    }
+}
+
+// How many changes are published after an update to so many is swapped in.
+fn published_with<K: Keeper>(engine: &Engine<K>, number: u64) -> u64
+    ensures { result ≡ max engine.now.state.published number }
+{
+    engine.standing().published.max(number)
+}
+
+// Swaps the update in that is begun. The reply is made before.
+#[tactic(auto, using(crate::proofs::TellLemmas::ends_of, crate::proofs::TellLemmas::dropped_of))]
+fn swap_in<K: Keeper>(
+    alloc: Global,
+    engine: &mut Engine<K>,
+    ticket: u64,
+    published: u64,
+    kind: CutKind,
+    keep: bool,
+) -> Result<Reply, Memory>
+    requires begun { IsTrue (is_begun engine.old.state ticket) }
+    requires number { published ≡ max engine.old.state.published (number_of engine.old.state ticket) }
+    ensures ends { EndsUpdate engine.old.meta engine.old.limits kind ticket keep engine.old.state (told result) engine.new.state }
+    ensures same { engine.new ≡ record engine.old { state = engine.new.state } }
+    ensures sound { IsSound engine.new }
+{
+    match update_reply(alloc, published, keep, kind) {
+        Ok(reply) => publish(alloc, engine, ticket, published, reply),
         Err(_) => give_up(engine, ticket),
     }
 }
 
 // Ends the update that is begun.
-#[tactic(auto, using(crate::proofs::UpdateLemmas::owns, crate::proofs::TellLemmas::ends_of, crate::proofs::TellLemmas::dropped_of))]
+#[tactic(auto, using(crate::proofs::UpdateLemmas::begun_by, crate::proofs::UpdateLemmas::swap_number))]
 fn finish<K: Keeper>(
     alloc: Global,
     engine: &mut Engine<K>,
@@ -75,18 +104,17 @@ fn finish<K: Keeper>(
     kind: CutKind,
     keep: bool,
 ) -> Result<Reply, Memory>
-    requires staged { IsStaged engine.old.state (record { ticket = ticket; kind = kind; number = number }) }
-    ensures ends { Ends keep kind (Ok (record { ticket = ticket; number = number })) engine.old.state (told result) engine.new.state }
+    requires staged { staged_of engine.old.state kind ≡ Some (record { ticket = ticket; number = number }) }
+    requires sound { IsSound engine.old }
+    ensures ends { Ends engine.old.meta engine.old.limits kind keep (Ok (record { ticket = ticket; number = number })) engine.old.state (told result) engine.new.state }
     ensures same { engine.new ≡ record engine.old { state = engine.new.state } }
     ensures sound { IsSound engine.new }
 {
-    match update_reply(alloc, number, keep, kind) {
-        Ok(reply) => publish(alloc, engine, ticket, number, kind, reply),
-        Err(_) => give_up(engine, ticket),
-    }
+    let published = published_with(engine, number);
+    swap_in(alloc, engine, ticket, published, kind, keep)
 }
 
-// Ends the update where it is begun, and tells why it isn't where it is not.
+// Ends the update if it is begun, and else tells why it isn't.
 #[tactic(auto, using(crate::proofs::UpdateLemmas::refused_of))]
 fn end<K: Keeper>(
     alloc: Global,
@@ -95,10 +123,11 @@ fn end<K: Keeper>(
     kind: CutKind,
     keep: bool,
 ) -> Result<Reply, Memory>
-    requires staged { IfOk found (λ begun. IsStaged engine.old.state (record { ticket = begun.ticket; kind = kind; number = begun.number })) }
-    ensures ends { Ends keep kind (issued_in found) engine.old.state (told result) engine.new.state }
+    requires staged { IfOk found (λ begun. staged_of engine.old.state kind ≡ Some (record { ticket = begun.ticket; number = begun.number })) }
+    requires sound { IsSound engine.old }
+    ensures ends { Ends engine.old.meta engine.old.limits kind keep (update_in found) engine.old.state (told result) engine.new.state }
     ensures same { engine.new ≡ record engine.old { state = engine.new.state } }
-    ensures sound { IsSound engine.old → IsSound engine.new }
+    ensures sound { IsSound engine.new }
 {
     match found {
         Ok(begun) => finish(alloc, engine, begun.ticket, begun.number, kind, keep),
@@ -106,9 +135,8 @@ fn end<K: Keeper>(
     }
 }
 
-/// The reply to an update. It is made before the tables are published, so that want of memory leaves
-/// those that are published.
-#[tactic(auto, using(crate::proofs::UpdateLemmas::is_begun, crate::proofs::UpdateLemmas::same_twice))]
+/// The reply to an update. It is made before the tables are published, so that these stay out of memory.
+#[tactic(auto, using(crate::proofs::UpdateLemmas::cut_begins, crate::proofs::UpdateLemmas::own_reply))]
 pub(crate) fn reply_to_update<K: Keeper>(
     alloc: Global,
     engine: &mut Engine<K>,
@@ -116,7 +144,7 @@ pub(crate) fn reply_to_update<K: Keeper>(
     keep: bool,
 ) -> Result<Reply, Memory>
     requires { kind ≡ Full }
-    ensures replies { UpdateReply engine.old kind keep (told result) engine.new }
+    ensures replies { OwnUpdateReply engine.old kind keep (told result) engine.new }
     ensures faults { engine.new.faults ≡ engine.old.faults }
     ensures sound { IsSound engine.new }
 {

@@ -1,8 +1,10 @@
 pub mod AlongLemmas
 pub mod CodeLaws
+pub mod PromptLemmas
 pub mod ReplyLemmas
 pub mod RequestLemmas
 pub mod SendLemmas
 pub mod SessionLaws
 pub mod SessionLemmas
 pub mod ToldLemmas
+pub mod TurnLemmas

@@ -6,7 +6,7 @@ use Rattle.http_wire.specs.declared.request.Request.{Request}
 use Rattle.http_wire.proofs.NextLaws.{next_stays, next_within}
 use Rattle.request_session.specs.Session.{Requests, Replies, keeps}
 
--- more bytes behind leave the requests as they are
+-- more bytes after them leave the requests as they are
 pub requests_longer : (bytes more : List ℕ) (requests : List Request) (rest : List ℕ) → Requests bytes requests rest → Requests (bytes ++ more) requests (rest ++ more)
 requests_longer bytes more [] rest found = ap (λ xs. xs ++ more) found
 requests_longer bytes more (request ∷ requests) rest found =
@@ -16,7 +16,7 @@ requests_longer bytes more (request ∷ requests) rest found =
       subst (λ xs. Requests xs requests (rest ++ more)) (sym (drop-append-le found.0 bytes more within)) (requests_longer (drop found.0 bytes) more requests rest found.2),
     )
 
--- one more request stands behind
+-- one more request stands after
 pub requests_one : (bytes : List ℕ) (requests : List Request) (rest : List ℕ) (request : Request) (used : ℕ) (held : List ℕ) → Requests bytes requests rest
     → IsNext rest (whole request used) → held ≡ drop used rest → Requests bytes (requests ++ request ∷ []) held
 requests_one bytes [] rest request used held found next is =

@@ -1,4 +1,4 @@
--- The bytes decide the requests of a session and how it ends, but for faults and want of memory.
+-- The bytes decide the requests of a session and how it ends, but for faults and a lack of memory.
 use Rattle.std.proofs.Common.{◌≡◌, ◌∙◌, ◌≤◌, ◌<◌, ◌&&◌, ◌⊎◌, inl, inr, ℕ, Bool, true, false, List, [], ◌∷◌, ◌++◌, length, drop, take, refl, sym, ap, subst, arith, length-append, take-append-drop}
 use Rattle.std.specs.Prelude.{⊤}
 use Rattle.std.specs.List.{list_all}
@@ -13,7 +13,7 @@ use Rattle.request_session.specs.declared.ended.Ended.TheVariants as end
 
 -- ---- two lists of requests of the same bytes
 
--- the second list goes on behind the first
+-- the second list goes on after the first
 abbrev Longer : List Request → List ℕ → List Request → Type 0
 Longer shorter rest longer = (request : Request) × (more : List Request) × (used : ℕ) × (longer ≡ shorter ++ request ∷ more) × IsNext rest (whole request used)
 
@@ -49,7 +49,7 @@ compare bytes (a ∷ first) (b ∷ second) rest rest' one two =
     compared_behind a b first second rest rest' (ap (request_in a) found)
     (compare (drop one.0 bytes) first second rest rest' one.2 (subst (λ n. Requests (drop n bytes) second rest') (sym used) two.2))
 
--- ---- behind which requests a session goes on
+-- ---- after which requests a session goes on
 
 both_true : (a b : Bool) → (a && b) ≡ true → (a ≡ true) × (b ≡ true)
 both_true true b is = (refl, is)
@@ -68,7 +68,7 @@ all_last (request ∷ first) last all = all_last first last (both_true request.k
 goes_front : (most : ℕ) (first more : List Request) → GoesOn most (first ++ more) → GoesOn most first
 goes_front most first more goes = (all_front first more goes.0, (let sum = length-append first more in omega (arith, goes.1)))
 
--- all but the last of a list have the front of it that leaves something behind
+-- all but the last of a list have the prefix of it that leaves something over
 front_before : (first more before : List Request) (request last : Request) → before ++ last ∷ [] ≡ first ++ request ∷ more → before ≡ first ++ drop (length first) before
 front_before first more before request last is =
     let left = length-append before (last ∷ []) in
@@ -168,7 +168,7 @@ agree most first second rest rest' how how' (inr (inl longer)) one two =
 agree most first second rest rest' how how' (inr (inr longer)) one two =
     absurd (not_here most second rest' how' longer.0 longer.2 two (goes_before most first second longer.1 longer.0 rest how one longer.3) longer.4)
 
--- two sessions over the same bytes that no fault and no want of memory ends have the same requests and the same end
+-- two sessions over the same bytes that no fault and no lack of memory ends have the same requests and the same end
 pub sessions_agree : {M : Type 0} (step : M → Request → Bool → List ℕ → M → Type 0) (most : ℕ) (bytes : List ℕ) (old new old' new' : M) (how how' : Ended) (text text' : List ℕ)
     (first : Session step most bytes ⊤ old new how text) (second : Session step most bytes ⊤ old' new' how' text') → is_decided how ≡ true → is_decided how' ≡ true
     → (first.requests ≡ second.requests) × (how ≡ how')

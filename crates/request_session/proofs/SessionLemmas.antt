@@ -10,12 +10,15 @@ use Rattle.http_wire.specs.declared.request.Request.{Request}
 use Rattle.http_wire.specs.declared.request.WireFault.{WireFault}
 use Rattle.http_wire.specs.declared.request.WireFault.TheVariants as fault
 use Rattle.request_session.specs.Session.{Requests, Replies, GoesOn, EndsBy, WritesUpTo, Ran}
-use Rattle.request_session.specs.SoFar.{SoFar}
+use Rattle.dh_outside.specs.Talk.{Talk}
+use Rattle.request_session.specs.Prompt.{Prompt}
+use Rattle.request_session.specs.SoFar.{SoFar, PromptSoFar}
 use Rattle.request_session.specs.Turn.{Turns, Follows, Responds, Stops}
 use Rattle.request_session.specs.declared.ended.Ended.{Ended}
 use Rattle.request_session.specs.declared.ended.Ended.TheVariants as end
 use Rattle.request_session.specs.declared.ended.Turn.{Turn}
 use Rattle.request_session.specs.declared.ended.Turn.TheVariants.{Answered, Stopped}
+use Rattle.request_session.proofs.PromptLemmas.{prompt_start, prompt_reads, prompt_says, prompt_end}
 use Rattle.request_session.proofs.RequestLemmas.{requests_longer, requests_one, replies_one}
 use Rattle.request_session.proofs.SendLemmas.{front_behind}
 
@@ -27,9 +30,9 @@ rose_later {old} {mid} {new} first (inr last) = inr last
 
 -- ---- the start
 
-pub at_start : {M : Type 0} (step : M → Request → Bool → List ℕ → M → Type 0) (most : ℕ) (left written : Option (List ℕ)) (held : RestSeen) (old : M)
-    → 0 < most → held.bytes ≡ [] → held.read ≡ 0 → SoFar step most left left written written held old old 0
-at_start step most left written held old some none unread = record {
+pub at_start : {M : Type 0} (step : M → Request → Bool → List ℕ → M → Type 0) (most : ℕ) (left : Option (List ℕ)) (talk : Option Talk) (written : Option (List ℕ)) (held : RestSeen) (old : M)
+    → 0 < most → held.bytes ≡ [] → held.read ≡ 0 → SoFar step most left left talk talk written written held old old 0
+at_start step most left talk written held old some none unread = record {
   taken = [];
   consumed = Consumes-nil left;
   counted = unread;
@@ -40,6 +43,7 @@ at_start step most left written held old some none unread = record {
   replies = [];
   given = (refl, refl);
   writes = Appends-nil written;
+  prompt = prompt_start step most old talk;
 }
 
 -- none is allowed
@@ -99,8 +103,8 @@ abbrev how_of : Turn → Ended
 how_of (Answered keep) = end.Limit
 how_of (Stopped how) = how
 
-module _ {M : Type 0} (step : M → Request → Bool → List ℕ → M → Type 0) (most : ℕ) (left mid left' written middle written' : Option (List ℕ)) (held held' : RestSeen) (old now new : M) (served : ℕ) where
-  grown : (request : Request) (reply : List ℕ) (so : SoFar step most left mid written middle held old now served) → Reads mid left' held held' (Ok (Some request))
+module _ {M : Type 0} (step : M → Request → Bool → List ℕ → M → Type 0) (most : ℕ) (left mid left' : Option (List ℕ)) (talk told talk' : Option Talk) (written middle written' : Option (List ℕ)) (held held' : RestSeen) (old now new : M) (served : ℕ) where
+  grown : {heard : Option Talk} (request : Request) (reply : List ℕ) (so : SoFar step most left mid talk told written middle held old now served) → Reads mid left' told heard held held' (Ok (Some request))
       → step now request (request.keep && nat_lt (served + 1) most) reply new
       → Grown step most left left' held' old new served request (so.replies ++ reply)
   grown request reply so reads steps = record {
@@ -116,7 +120,7 @@ module _ {M : Type 0} (step : M → Request → Bool → List ℕ → M → Type
         (subst (λ n. step now request (request.keep && nat_lt (n + 1) most) reply new) (let same : served ≡ 0 + length so.requests = omega (arith, so.count) in same) steps);
   }
 
-  -- the session ends behind a request
+  -- the session ends after a request
   behind_one : (request : Request) (replies : List ℕ) (how : Ended) (g : Grown step most left left' held' old new served request replies) → held'.read ≤ 2 ^ 63
       → EndsBy most (g.earlier ++ request ∷ []) held'.bytes (IsSpent left' (length g.taken)) how [] → WritesUpTo how written written' replies
       → Ran step most left left' written written' old new how
@@ -139,7 +143,7 @@ module _ {M : Type 0} (step : M → Request → Bool → List ℕ → M → Type
   }
 
   -- the session ends where no request was read
-  no_more : (answer : Result (Option Request) WireFault) (how : Ended) (last : List ℕ) (so : SoFar step most left mid written middle held old now served) (reads : Reads mid left' held held' answer)
+  no_more : {heard : Option Talk} (answer : Result (Option Request) WireFault) (how : Ended) (last : List ℕ) (so : SoFar step most left mid talk told written middle held old now served) (reads : Reads mid left' told heard held held' answer)
       → held'.read ≤ 2 ^ 63 → new ≡ now
       → EndsBy most so.requests (held.bytes ++ reads.taken) (IsSpent left' (length (so.taken ++ reads.taken))) how last → WritesUpTo how written written' (so.replies ++ last)
       → Ran step most left left' written written' old new how
@@ -162,24 +166,36 @@ module _ {M : Type 0} (step : M → Request → Bool → List ℕ → M → Type
   }
 
   -- what is spent by the bytes read is spent by those taken
-  spent : (answer : Result (Option Request) WireFault) (so : SoFar step most left mid written middle held old now served) (reads : Reads mid left' held held' answer)
+  spent : {heard : Option Talk} (answer : Result (Option Request) WireFault) (so : SoFar step most left mid talk told written middle held old now served) (reads : Reads mid left' told heard held held' answer)
       → IsSpent left' held'.read → IsSpent left' (length (so.taken ++ reads.taken))
   spent answer so reads is =
       let sum = length-append so.taken reads.taken in
       let same : held'.read ≡ length (so.taken ++ reads.taken) = omega (arith, so.counted, reads.counted) in
       subst (IsSpent left') same is
 
-  -- ---- an answer behind which the session goes on, closes or has reached the limit
+  -- what was read came after the replies to all requests before
+  heard_too : {heard : Option Talk} (answer : Result (Option Request) WireFault) (so : SoFar step most left mid talk told written middle held old now served)
+      (reads : Reads mid left' told heard held held' answer) → PromptSoFar step most talk heard old (so.taken ++ reads.taken) so.replies
+  heard_too {heard} answer so reads =
+      prompt_reads step most old talk told heard so.taken reads.taken so.replies held.bytes so.requests now so.found so.goes so.given so.prompt reads.paced
 
-  pub goes_on : (keep : Bool) → SoFar step most left mid written middle held old now served → Turns step (nat_lt (served + 1) most) mid left' held held' middle written' now new (Answered keep)
-      → served < most → served + 1 ≢ most → keep ≡ true → SoFar step most left left' written written' held' old new (served + 1)
+  pub prompt : {turn : Turn} → SoFar step most left mid talk told written middle held old now served
+      → Turns step (nat_lt (served + 1) most) mid left' told talk' held held' middle written' now new turn → Prompt step most talk talk' old
+  prompt so turn =
+      prompt_end step most old talk turn.heard talk' (so.taken ++ turn.reads.taken) so.replies (heard_too turn.answer so turn.reads) turn.speaks
+
+  -- ---- an answer after which the session goes on, closes or has reached the limit
+
+  pub goes_on : (keep : Bool) → SoFar step most left mid talk told written middle held old now served → Turns step (nat_lt (served + 1) most) mid left' told talk' held held' middle written' now new (Answered keep)
+      → served < most → served + 1 ≢ most → keep ≡ true → SoFar step most left left' talk talk' written written' held' old new (served + 1)
+  unfolding grown
   goes_on keep so turn below other is = by_answer turn.answer turn.reads turn.follows
     where
-      by_answer : (answer : Result (Option Request) WireFault) → Reads mid left' held held' answer → Follows step (nat_lt (served + 1) most) middle written' now new answer (Answered keep)
-          → SoFar step most left left' written written' held' old new (served + 1)
+      by_answer : (answer : Result (Option Request) WireFault) → Reads mid left' told turn.heard held held' answer → Follows step (nat_lt (served + 1) most) middle written' turn.heard talk' now new answer (Answered keep)
+          → SoFar step most left left' talk talk' written written' held' old new (served + 1)
       by_answer (Ok (Some request)) reads follows =
           let g = grown request follows.0 so reads follows.1 in record {
-            taken = g.taken;
+            taken = so.taken ++ reads.taken;
             consumed = g.consumed;
             counted = g.counted;
             requests = g.earlier ++ request ∷ [];
@@ -189,15 +205,16 @@ module _ {M : Type 0} (step : M → Request → Bool → List ℕ → M → Type
             replies = so.replies ++ follows.0;
             given = g.given;
             writes = Appends-trans written middle written' so.replies follows.0 so.writes follows.2;
+            prompt = prompt_says step most old talk turn.heard talk' (so.taken ++ reads.taken) so.replies follows.0 (heard_too (Ok (Some request)) so reads) follows.4;
           }
       by_answer (Ok None) reads follows = absurd (cc)
       by_answer (Err found) reads follows = absurd (cc)
 
-  pub closes : (keep : Bool) → SoFar step most left mid written middle held old now served → Turns step (nat_lt (served + 1) most) mid left' held held' middle written' now new (Answered keep)
+  pub closes : (keep : Bool) → SoFar step most left mid talk told written middle held old now served → Turns step (nat_lt (served + 1) most) mid left' told talk' held held' middle written' now new (Answered keep)
       → held'.read ≤ 2 ^ 63 → served < most → served + 1 ≢ most → keep ≡ false → Ran step most left left' written written' old new end.Closed
   closes keep so turn bound below other is = by_answer turn.answer turn.reads turn.follows
     where
-      by_answer : (answer : Result (Option Request) WireFault) → Reads mid left' held held' answer → Follows step (nat_lt (served + 1) most) middle written' now new answer (Answered keep)
+      by_answer : (answer : Result (Option Request) WireFault) → Reads mid left' told turn.heard held held' answer → Follows step (nat_lt (served + 1) most) middle written' turn.heard talk' now new answer (Answered keep)
           → Ran step most left left' written written' old new end.Closed
       by_answer (Ok (Some request)) reads follows =
           let g = grown request follows.0 so reads follows.1 in
@@ -208,11 +225,11 @@ module _ {M : Type 0} (step : M → Request → Bool → List ℕ → M → Type
       by_answer (Ok None) reads follows = absurd (cc)
       by_answer (Err found) reads follows = absurd (cc)
 
-  pub at_limit : (keep : Bool) → SoFar step most left mid written middle held old now served → Turns step (nat_lt (served + 1) most) mid left' held held' middle written' now new (Answered keep)
+  pub at_limit : (keep : Bool) → SoFar step most left mid talk told written middle held old now served → Turns step (nat_lt (served + 1) most) mid left' told talk' held held' middle written' now new (Answered keep)
       → held'.read ≤ 2 ^ 63 → served + 1 ≡ most → Ran step most left left' written written' old new end.Limit
   at_limit keep so turn bound is = by_answer turn.answer turn.reads turn.follows
     where
-      by_answer : (answer : Result (Option Request) WireFault) → Reads mid left' held held' answer → Follows step (nat_lt (served + 1) most) middle written' now new answer (Answered keep)
+      by_answer : (answer : Result (Option Request) WireFault) → Reads mid left' told turn.heard held held' answer → Follows step (nat_lt (served + 1) most) middle written' turn.heard talk' now new answer (Answered keep)
           → Ran step most left left' written written' old new end.Limit
       by_answer (Ok (Some request)) reads follows =
           let g = grown request follows.0 so reads follows.1 in
@@ -226,11 +243,11 @@ module _ {M : Type 0} (step : M → Request → Bool → List ℕ → M → Type
   -- ---- the end of a session
 
   -- nothing was written in the turn
-  unwritten : (so : SoFar step most left mid written middle held old now served) → Appends middle written' [] → Appends written written' (so.replies ++ [])
+  unwritten : (so : SoFar step most left mid talk told written middle held old now served) → Appends middle written' [] → Appends written written' (so.replies ++ [])
   unwritten so none = Appends-trans written middle written' so.replies [] so.writes none
 
-  by_request : (request : Request) (how : Ended) (so : SoFar step most left mid written middle held old now served) → Reads mid left' held held' (Ok (Some request)) → held'.read ≤ 2 ^ 63
-      → Responds step (nat_lt (served + 1) most) middle written' now new request (Stopped how) → Ran step most left left' written written' old new how
+  by_request : {heard : Option Talk} (request : Request) (how : Ended) (so : SoFar step most left mid talk told written middle held old now served) → Reads mid left' told heard held held' (Ok (Some request)) → held'.read ≤ 2 ^ 63
+      → Responds step (nat_lt (served + 1) most) middle written' heard talk' now new request (Stopped how) → Ran step most left left' written written' old new how
   by_request request end.Closed so reads bound follows = absurd follows
   by_request request end.Truncated so reads bound follows = absurd follows
   by_request request (end.Refused code) so reads bound follows = absurd follows
@@ -242,13 +259,13 @@ module _ {M : Type 0} (step : M → Request → Bool → List ℕ → M → Type
       (front_behind written middle written' so.replies follows.0 so.writes follows.2)
   by_request request end.Memory so reads bound follows = absurd follows
 
-  by_end : (how : Ended) (so : SoFar step most left mid written middle held old now served) → Reads mid left' held held' (Ok None) → held'.read ≤ 2 ^ 63
+  by_end : {heard : Option Talk} (how : Ended) (so : SoFar step most left mid talk told written middle held old now served) → Reads mid left' told heard held held' (Ok None) → held'.read ≤ 2 ^ 63
       → how ≡ end.Closed → new ≡ now → Appends middle written' [] → Ran step most left left' written written' old new how
   by_end how so reads bound is same none =
       subst (λ h. Ran step most left left' written written' old new h) (sym is)
       (no_more (Ok None) end.Closed [] so reads bound same (refl, inr (so.goes, reads.gives.0, spent (Ok None) so reads reads.gives.2)) (unwritten so none))
 
-  by_fault : (found : WireFault) (how : Ended) (so : SoFar step most left mid written middle held old now served) → Reads mid left' held held' (Err found) → held'.read ≤ 2 ^ 63
+  by_fault : {heard : Option Talk} (found : WireFault) (how : Ended) (so : SoFar step most left mid talk told written middle held old now served) → Reads mid left' told heard held held' (Err found) → held'.read ≤ 2 ^ 63
       → new ≡ now → Stops middle written' found how → Ran step most left left' written written' old new how
   by_fault (fault.Refused code) end.Closed so reads bound same stops = absurd stops
   by_fault (fault.Refused code) end.Truncated so reads bound same stops = absurd stops
@@ -285,11 +302,11 @@ module _ {M : Type 0} (step : M → Request → Bool → List ℕ → M → Type
   by_fault fault.Memory end.WriteFault so reads bound same stops = absurd stops
   by_fault fault.Memory end.Memory so reads bound same stops = no_more (Err fault.Memory) end.Memory [] so reads bound same (refl, so.goes) (unwritten so stops)
 
-  pub stopped : (how : Ended) → SoFar step most left mid written middle held old now served → Turns step (nat_lt (served + 1) most) mid left' held held' middle written' now new (Stopped how)
+  pub stopped : (how : Ended) → SoFar step most left mid talk told written middle held old now served → Turns step (nat_lt (served + 1) most) mid left' told talk' held held' middle written' now new (Stopped how)
       → held'.read ≤ 2 ^ 63 → Ran step most left left' written written' old new how
   stopped how so turn bound = by_answer turn.answer turn.reads turn.follows
     where
-      by_answer : (answer : Result (Option Request) WireFault) → Reads mid left' held held' answer → Follows step (nat_lt (served + 1) most) middle written' now new answer (Stopped how)
+      by_answer : (answer : Result (Option Request) WireFault) → Reads mid left' told turn.heard held held' answer → Follows step (nat_lt (served + 1) most) middle written' turn.heard talk' now new answer (Stopped how)
           → Ran step most left left' written written' old new how
       by_answer (Ok (Some request)) reads follows = by_request request how so reads bound follows
       by_answer (Ok None) reads follows = by_end how so reads bound (ap how_of follows.0) follows.1 follows.2

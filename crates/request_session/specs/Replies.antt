@@ -14,14 +14,14 @@ text_in reply = reply.head ++ reply.body.items
 unfoldable pub reply_text : ℕ → Option ℕ → Option ℕ → Bool → List ℕ → List ℕ
 reply_text status published change keep body = head_of status (length body) published change keep ++ body
 
--- the reply for want of memory
+-- the reply for a lack of memory
 unfoldable pub memory_reply : Bool → List ℕ
 memory_reply keep = reply_text 507 None None keep memory_text
 
--- the reply that refuses what isn't a request, behind which the connection ends
+-- the reply that refuses what isn't a request, after which the connection ends
 unfoldable pub refused_text : Code → List ℕ
 refused_text code = reply_text (status_of code) None None false (error_text (record { code = code; detail = [] }))
 
--- the same, or the one for want of memory in its place
+-- the same, or the one for a lack of memory in its place
 abbrev pub RefusesBy : Code → List ℕ → Type 0
 RefusesBy code text = (text ≡ refused_text code) ⊎ (text ≡ memory_reply false)

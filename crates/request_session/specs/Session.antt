@@ -1,4 +1,4 @@
--- A session: the requests of an input, one behind the other, and their replies in order.
+-- A session: the requests of an input, one after the other, and their replies in order.
 use Rattle.std.specs.Prelude.{◌≡◌, ◌⊎◌, ◌<◌, ◌≤◌, ◌&&◌, ◌+◌, ◌^◌, ℕ, Bool, true, false, List, [], ◌∷◌, ◌++◌, Option, length, take, drop, nat_lt, ⊤}
 use Rattle.std.specs.List.{list_all}
 use Rattle.std.specs.Io.KnownBytes.{Consumes, Appends}
@@ -10,7 +10,7 @@ use Rattle.request_session.specs.Replies.{RefusesBy}
 use Rattle.request_session.specs.declared.ended.Ended.{Ended}
 use Rattle.request_session.specs.declared.ended.Ended.TheVariants as end
 
--- these requests stand at the front of bytes, one behind the other, and this stands behind them
+-- these requests stand at the front of bytes, one after the other, and this stands after them
 abbrev pub Requests : List ℕ → List Request → List ℕ → Type 0
 Requests bytes [] rest = rest ≡ bytes
 Requests bytes (request ∷ requests) rest = (used : ℕ) × IsNext bytes (whole request used) × Requests (drop used bytes) requests rest
@@ -28,7 +28,7 @@ Replies {M} step most before old (request ∷ requests) text new =
     (reply : List ℕ) × (behind : List ℕ) × (next : M) × step old request (keeps most before request) reply next
     × Replies step most (before + 1) next requests behind new × (text ≡ reply ++ behind)
 
--- behind these requests the session goes on: none asks to close, and they are fewer than are allowed
+-- after these requests the session goes on: none asks to close, and they are fewer than are allowed
 abbrev pub GoesOn : ℕ → List Request → Type 0
 GoesOn most requests = (list_all (λ request. request.keep) requests ≡ true) × (length requests < most)
 
@@ -44,11 +44,11 @@ AsksToClose most requests = (before : List Request) × (last : Request) × OneMo
 abbrev pub IsFull : ℕ → List Request → Type 0
 IsFull most requests = (length requests ≡ most) × ((requests ≡ []) ⊎ ((before : List Request) × (last : Request) × OneMore most requests before last))
 
--- what stands behind the requests is refused, and this is its reply
+-- what stands after the requests is refused, and this is its reply
 abbrev pub IsRefused : ℕ → List Request → List ℕ → Code → List ℕ → Type 0
 IsRefused most requests rest code text = GoesOn most requests × IsNext rest (refused code) × RefusesBy code text
 
--- How a session ends, by its requests and what stands behind them; with the text behind their replies. Where the input
+-- How a session ends, by its requests and what stands after them; with the text after their replies. Where the input
 -- ends it is spent.
 abbrev pub EndsBy : ℕ → List Request → List ℕ → Type 0 → Ended → List ℕ → Type 0
 EndsBy most requests rest Spent end.Closed text = (text ≡ []) × (AsksToClose most requests ⊎ (GoesOn most requests × IsNext rest ended × Spent))
@@ -60,7 +60,7 @@ EndsBy most requests rest Spent end.WriteFault text =
     ((text ≡ []) × (before : List Request) × (last : Request) × OneMore most requests before last) ⊎ ((code : Code) × IsRefused most requests rest code text)
 EndsBy most requests rest Spent end.Memory text = (text ≡ []) × GoesOn most requests
 
--- a session over bytes, of at most so many requests: its text is the replies and what stands behind them
+-- a session over bytes, of at most so many requests: its text is the replies and what stands after them
 pub record Session {M : Type 0} (step : M → Request → Bool → List ℕ → M → Type 0) (most : ℕ) (bytes : List ℕ) (Spent : Type 0) (old new : M) (how : Ended) (text : List ℕ) : Type 0 where
   pub requests : List Request
   pub rest : List ℕ
@@ -71,11 +71,11 @@ pub record Session {M : Type 0} (step : M → Request → Bool → List ℕ → 
   pub ends : EndsBy most requests rest Spent how last
   pub whole : text ≡ replies ++ last
 
--- a front of the text was written
+-- a prefix of the text was written
 abbrev pub AppendsFront : Option (List ℕ) → Option (List ℕ) → List ℕ → Type 0
 AppendsFront old new text = (front : List ℕ) × (more : List ℕ) × (text ≡ front ++ more) × Appends old new front
 
--- the text was written, at a fault of writing a front of it
+-- the text was written, at a fault of writing a prefix of it
 abbrev pub WritesUpTo : Ended → Option (List ℕ) → Option (List ℕ) → List ℕ → Type 0
 WritesUpTo end.WriteFault old new text = AppendsFront old new text
 WritesUpTo _ old new text = Appends old new text
@@ -98,7 +98,7 @@ abbrev pub RanOver : {M : Type 0} → (M → Request → Bool → List ℕ → M
 RanOver step most bytes written written' old new how =
     (text : List ℕ) × Session step most (counting bytes) ⊤ old new how text × WritesUpTo how written written' text
 
--- ends that the bytes decide, and not a fault or want of memory
+-- ends that the bytes decide, and not a fault or a lack of memory
 abbrev pub is_decided : Ended → Bool
 is_decided end.Closed = true
 is_decided end.Truncated = true

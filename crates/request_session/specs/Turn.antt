@@ -1,6 +1,7 @@
 -- One turn of a session: a request is read and answered, or the session ends.
 use Rattle.std.specs.Prelude.{◌≡◌, ◌&&◌, ℕ, Bool, List, [], Option, None, Some, Result, Ok, Err}
 use Rattle.std.specs.Io.KnownBytes.{Appends}
+use Rattle.dh_outside.specs.Talk.{Talk, Says}
 use Rattle.dh_outside.specs.declared.Failed.{Failed}
 use Rattle.http_wire.specs.Reads.{RestSeen, Reads}
 use Rattle.http_wire.specs.declared.request.Request.{Request}
@@ -13,19 +14,23 @@ use Rattle.request_session.specs.declared.ended.Ended.TheVariants as end
 use Rattle.request_session.specs.declared.ended.Turn.{Turn}
 use Rattle.request_session.specs.declared.ended.Turn.TheVariants.{Answered, Stopped}
 
--- a text was written whole, or a front of it
-abbrev pub Sent : {T : Type 0} → Result T Failed → Option (List ℕ) → Option (List ℕ) → List ℕ → Type 0
-Sent (Ok v) old new text = Appends old new text
-Sent (Err e) old new text = AppendsFront old new text
+-- something was written, and nothing read
+abbrev pub Speaks : Option Talk → Option Talk → Type 0
+Speaks talk talk' = (text : List ℕ) × Says talk talk' text
+
+-- a text was written whole, or a prefix of it
+abbrev pub Sent : {T : Type 0} → Result T Failed → Option (List ℕ) → Option (List ℕ) → Option Talk → Option Talk → List ℕ → Type 0
+Sent (Ok v) old new talk talk' text = Appends old new text × Says talk talk' text
+Sent (Err e) old new talk talk' text = AppendsFront old new text × Speaks talk talk'
 
 -- What comes of a request: the machine's reply is written, which says that the connection is kept where the request asks
 -- for it and more requests are allowed.
-abbrev pub Responds : {M : Type 0} → (M → Request → Bool → List ℕ → M → Type 0) → Bool → Option (List ℕ) → Option (List ℕ) → M → M → Request → Turn → Type 0
-Responds step more written written' old new request (Answered keep) =
-    (reply : List ℕ) × step old request (request.keep && more) reply new × Appends written written' reply × (keep ≡ request.keep)
-Responds step more written written' old new request (Stopped end.WriteFault) =
+abbrev pub Responds : {M : Type 0} → (M → Request → Bool → List ℕ → M → Type 0) → Bool → Option (List ℕ) → Option (List ℕ) → Option Talk → Option Talk → M → M → Request → Turn → Type 0
+Responds step more written written' talk talk' old new request (Answered keep) =
+    (reply : List ℕ) × step old request (request.keep && more) reply new × Appends written written' reply × (keep ≡ request.keep) × Says talk talk' reply
+Responds step more written written' talk talk' old new request (Stopped end.WriteFault) =
     (reply : List ℕ) × step old request (request.keep && more) reply new × AppendsFront written written' reply
-Responds step more written written' old new request _ = ⊥
+Responds step more written written' talk talk' old new request _ = ⊥
 
 -- what comes where there is no request
 abbrev pub Stops : Option (List ℕ) → Option (List ℕ) → WireFault → Ended → Type 0
@@ -37,13 +42,15 @@ Stops written written' fault.Memory end.Memory = Appends written written' []
 Stops written written' _ _ = ⊥
 
 -- what comes of what was read
-abbrev pub Follows : {M : Type 0} → (M → Request → Bool → List ℕ → M → Type 0) → Bool → Option (List ℕ) → Option (List ℕ) → M → M → Result (Option Request) WireFault → Turn → Type 0
-Follows step more written written' old new (Ok (Some request)) turn = Responds step more written written' old new request turn
-Follows step more written written' old new (Ok None) turn = (turn ≡ Stopped end.Closed) × (new ≡ old) × Appends written written' []
-Follows step more written written' old new (Err found) turn = (how : Ended) × (turn ≡ Stopped how) × (new ≡ old) × Stops written written' found how
+abbrev pub Follows : {M : Type 0} → (M → Request → Bool → List ℕ → M → Type 0) → Bool → Option (List ℕ) → Option (List ℕ) → Option Talk → Option Talk → M → M → Result (Option Request) WireFault → Turn → Type 0
+Follows step more written written' talk talk' old new (Ok (Some request)) turn = Responds step more written written' talk talk' old new request turn
+Follows step more written written' talk talk' old new (Ok None) turn = (turn ≡ Stopped end.Closed) × (new ≡ old) × Appends written written' []
+Follows step more written written' talk talk' old new (Err found) turn = (how : Ended) × (turn ≡ Stopped how) × (new ≡ old) × Stops written written' found how
 
--- a turn: what was read of the source, and what came of it
-pub record Turns {M : Type 0} (step : M → Request → Bool → List ℕ → M → Type 0) (more : Bool) (left left' : Option (List ℕ)) (held held' : RestSeen) (written written' : Option (List ℕ)) (old new : M) (turn : Turn) : Type 0 where
+-- a turn: what was read of the source, what came of it, and that all writes came after all reads
+pub record Turns {M : Type 0} (step : M → Request → Bool → List ℕ → M → Type 0) (more : Bool) (left left' : Option (List ℕ)) (talk talk' : Option Talk) (held held' : RestSeen) (written written' : Option (List ℕ)) (old new : M) (turn : Turn) : Type 0 where
   pub answer : Result (Option Request) WireFault
-  pub reads : Reads left left' held held' answer
-  pub follows : Follows step more written written' old new answer turn
+  pub heard : Option Talk
+  pub reads : Reads left left' talk heard held held' answer
+  pub follows : Follows step more written written' heard talk' old new answer turn
+  pub speaks : Speaks heard talk'

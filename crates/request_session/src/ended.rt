@@ -13,7 +13,7 @@ pub enum Ended {
     Limit,
     /// A read failed, and the source's count of faults rose.
     ReadFault,
-    /// A write failed, and the sink's count of faults rose. A front of the text is written.
+    /// A write failed, and the sink's count of faults rose. A prefix of the text is written.
     WriteFault,
     /// No memory was found while a request was read.
     Memory,

@@ -9,7 +9,7 @@ ghost use Rattle.request_session.specs.declared.ended.Ended.{Ended};
 
 use crate::machine::Machine;
 
-/// Two sessions over the same bytes that no fault and no want of memory ends have the same requests
+/// Two sessions over the same bytes that no fault and no lack of memory ends have the same requests
 /// and the same end.
 pub fn sessions_agree<M: Machine>()
     ensures { (most : ℕ) → (bytes text text' : List ℕ) → (old new old' new' : M) → (how how' : Ended) → (first : Session M.step most bytes ⊤ old new how text) → (second : Session M.step most bytes ⊤ old' new' how' text') → is_decided how ≡ true → is_decided how' ≡ true → (first.requests ≡ second.requests) × (how ≡ how') }

@@ -7,6 +7,7 @@ ghost use Rattle.request_session.specs.Replies.{memory_reply, RefusesBy, text_in
 ghost use Rattle.request_session.specs.Turn.{Sent};
 
 use crate::machine::Machine;
+use crate::peer::Peer;
 use crate::reply::Reply;
 use crate::texts::refused_reply;
 use dh_base::codes::Code;
@@ -18,17 +19,17 @@ use std::alloc::Global;
 
 #[tactic(auto, using(crate::proofs::SendLemmas::sent_by))]
 fn send<O: Sink>(output: &mut O, text: &[u8]) -> Result<(), Failed>
-    ensures sent { Sent result (O.written output.old) (O.written output.new) text.now }
+    ensures sent { Sent result (O.written output.old) (O.written output.new) (O.sink_talk output.old) (O.sink_talk output.new) text.now }
     ensures failed { OnErr result (Rose (O.sink_faults output.old) (O.sink_faults output.new)) }
     ensures keeps { O.sink_faults output.old ≤ O.sink_faults output.new }
 {
     write_all(output, text)
 }
 
-// Writes two texts, one behind the other.
-#[tactic(auto, using(crate::proofs::SendLemmas::sent_behind, crate::proofs::SendLemmas::front_first))]
+// Writes two texts, one after the other.
+#[tactic(auto, using(crate::proofs::SendLemmas::sent_behind))]
 fn send_both<O: Sink>(output: &mut O, first: &[u8], second: &[u8]) -> Result<(), Failed>
-    ensures sent { Sent result (O.written output.old) (O.written output.new) (first.now ++ second.now) }
+    ensures sent { Sent result (O.written output.old) (O.written output.new) (O.sink_talk output.old) (O.sink_talk output.new) (first.now ++ second.now) }
     ensures failed { OnErr result (Rose (O.sink_faults output.old) (O.sink_faults output.new)) }
     ensures keeps { O.sink_faults output.old ≤ O.sink_faults output.new }
 {
@@ -38,7 +39,7 @@ fn send_both<O: Sink>(output: &mut O, first: &[u8], second: &[u8]) -> Result<(),
     }
 }
 
-// The head of the reply for want of memory.
+// The head of the reply for a lack of memory.
 #[tactic(auto, using(crate::proofs::ReplyLemmas::memory_status))]
 fn memory_head(keep: bool) -> Head
     ensures { result ≡ head_of 507 (length memory_text) None None keep }
@@ -46,10 +47,10 @@ fn memory_head(keep: bool) -> Head
     head(507, memory_body().len() as u64, None, None, keep)
 }
 
-// Writes the reply for want of memory, which takes none.
+// Writes the reply for a lack of memory, which takes none.
 #[tactic(auto, unfolding(crate::specs::Replies::memory_reply, crate::specs::Replies::reply_text))]
-fn send_memory<O: Sink>(output: &mut O, keep: bool) -> Result<(), Failed>
-    ensures sent { Sent result (O.written output.old) (O.written output.new) (memory_reply keep) }
+pub(crate) fn send_memory<O: Sink>(output: &mut O, keep: bool) -> Result<(), Failed>
+    ensures sent { Sent result (O.written output.old) (O.written output.new) (O.sink_talk output.old) (O.sink_talk output.new) (memory_reply keep) }
     ensures failed { OnErr result (Rose (O.sink_faults output.old) (O.sink_faults output.new)) }
     ensures keeps { O.sink_faults output.old ≤ O.sink_faults output.new }
 {
@@ -58,8 +59,8 @@ fn send_memory<O: Sink>(output: &mut O, keep: bool) -> Result<(), Failed>
 }
 
 // Writes a reply: its head, and then its body.
-fn send_reply<O: Sink>(output: &mut O, reply: &Reply) -> Result<(), Failed>
-    ensures sent { Sent result (O.written output.old) (O.written output.new) (text_in reply.now) }
+pub(crate) fn send_reply<O: Sink>(output: &mut O, reply: &Reply) -> Result<(), Failed>
+    ensures sent { Sent result (O.written output.old) (O.written output.new) (O.sink_talk output.old) (O.sink_talk output.new) (text_in reply.now) }
     ensures failed { OnErr result (Rose (O.sink_faults output.old) (O.sink_faults output.new)) }
     ensures keeps { O.sink_faults output.old ≤ O.sink_faults output.new }
 {
@@ -67,31 +68,38 @@ fn send_reply<O: Sink>(output: &mut O, reply: &Reply) -> Result<(), Failed>
 }
 
 /// Writes the machine's reply to a request.
-pub(crate) fn answer<M: Machine, O: Sink>(
+pub(crate) fn answer<M: Machine, P: Peer>(
     alloc: Global,
     machine: &mut M,
-    output: &mut O,
+    peer: &mut P,
     request: &Request,
     keep: bool,
 ) -> Result<(), Failed>
-    ensures answered { (text : List ℕ) × M.step machine.old request.now keep text machine.new × Sent result (O.written output.old) (O.written output.new) text }
-    ensures failed { OnErr result (Rose (O.sink_faults output.old) (O.sink_faults output.new)) }
-    ensures keeps { O.sink_faults output.old ≤ O.sink_faults output.new }
+    ensures answered { (text : List ℕ) × M.step machine.old request.now keep text machine.new × Sent result (P.written peer.old) (P.written peer.new)
+        (P.talk peer.old) (P.talk peer.new) text }
+    ensures left { P.left peer.new ≡ P.left peer.old }
+    ensures lends { P.lends peer.new ≡ P.lends peer.old }
+    ensures failed { OnErr result (Rose (P.write_faults peer.old) (P.write_faults peer.new)) }
+    ensures reading { P.read_faults peer.old ≤ P.read_faults peer.new }
+    ensures writing { P.write_faults peer.old ≤ P.write_faults peer.new }
 {
     match machine.reply(alloc, request, keep) {
-        Ok(reply) => send_reply(output, &reply),
-        Err(_) => send_memory(output, keep),
+        Ok(reply) => peer.send_reply(&reply),
+        Err(_) => peer.send_memory(keep),
     }
 }
 
 /// Writes the reply that refuses what isn't a request.
-pub(crate) fn refuse<O: Sink>(alloc: Global, output: &mut O, code: Code) -> Result<(), Failed>
-    ensures refused { (text : List ℕ) × RefusesBy code text × Sent result (O.written output.old) (O.written output.new) text }
-    ensures failed { OnErr result (Rose (O.sink_faults output.old) (O.sink_faults output.new)) }
-    ensures keeps { O.sink_faults output.old ≤ O.sink_faults output.new }
+pub(crate) fn refuse<P: Peer>(alloc: Global, peer: &mut P, code: Code) -> Result<(), Failed>
+    ensures refused { (text : List ℕ) × RefusesBy code text × Sent result (P.written peer.old) (P.written peer.new) (P.talk peer.old) (P.talk peer.new) text }
+    ensures left { P.left peer.new ≡ P.left peer.old }
+    ensures lends { P.lends peer.new ≡ P.lends peer.old }
+    ensures failed { OnErr result (Rose (P.write_faults peer.old) (P.write_faults peer.new)) }
+    ensures reading { P.read_faults peer.old ≤ P.read_faults peer.new }
+    ensures writing { P.write_faults peer.old ≤ P.write_faults peer.new }
 {
     match refused_reply(alloc, code) {
-        Ok(refusal) => send_reply(output, &refusal),
-        Err(_) => send_memory(output, false),
+        Ok(refusal) => peer.send_reply(&refusal),
+        Err(_) => peer.send_memory(false),
     }
 }

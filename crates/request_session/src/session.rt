@@ -1,35 +1,38 @@
 // The loop of a session.
 ghost use Rattle.std.specs.Prelude.{◌≡◌, ◌≢◌, ◌≤◌, ◌<◌, List, ℕ, Some};
 ghost use Rattle.dh_outside.specs.Faults.{Rose};
+ghost use Rattle.request_session.specs.Prompt.{Prompt};
 ghost use Rattle.request_session.specs.Session.{Ran, RanOver};
 ghost use Rattle.request_session.specs.declared.ended.Ended.TheVariants.{ReadFault, WriteFault};
 
 use crate::ended::{Ended, Turn};
 use crate::machine::Machine;
+use crate::peer::{Apart, Joint, Peer};
 use crate::turn::turn;
-use dh_outside::{Sink, Source};
+use dh_outside::{Link, Sink, Source};
 use http_wire::Rest;
 use std::alloc::Global;
 
 // Answers requests, of which at least one is allowed.
-fn answer_each<M: Machine, S: Source, O: Sink>(
+fn answer_each<M: Machine, P: Peer>(
     alloc: Global,
     machine: &mut M,
-    input: &mut S,
-    output: &mut O,
+    peer: &mut P,
     most: u64,
 ) -> Ended
     requires { 0 < most }
-    ensures ran { Ran M.step most (S.left input.old) (S.left input.new) (O.written output.old) (O.written output.new) machine.old machine.new result }
-    ensures read_fault { result ≡ ReadFault → Rose (S.source_faults input.old) (S.source_faults input.new) }
-    ensures write_fault { result ≡ WriteFault → Rose (O.sink_faults output.old) (O.sink_faults output.new) }
-    ensures input { S.source_faults input.old ≤ S.source_faults input.new }
-    ensures output { O.sink_faults output.old ≤ O.sink_faults output.new }
+    ensures ran { Ran M.step most (P.left peer.old) (P.left peer.new) (P.written peer.old) (P.written peer.new) machine.old machine.new result }
+    ensures prompt { Prompt M.step most (P.talk peer.old) (P.talk peer.new) machine.old }
+    ensures lends { P.lends peer.new ≡ P.lends peer.old }
+    ensures read_fault { result ≡ ReadFault → Rose (P.read_faults peer.old) (P.read_faults peer.new) }
+    ensures write_fault { result ≡ WriteFault → Rose (P.write_faults peer.old) (P.write_faults peer.new) }
+    ensures reading { P.read_faults peer.old ≤ P.read_faults peer.new }
+    ensures writing { P.write_faults peer.old ≤ P.write_faults peer.new }
 {
     let mut rest = Rest::new(alloc);
     let mut served = 0;
     loop {
-        match turn(alloc, machine, input, output, &mut rest, served + 1 < most) {
+        match turn(alloc, machine, peer, &mut rest, served + 1 < most) {
             Turn::Answered(keep) => {
                 served += 1;
                 if served == most {
@@ -44,7 +47,23 @@ fn answer_each<M: Machine, S: Source, O: Sink>(
     }
 }
 
-fn run<M: Machine, S: Source, O: Sink>(
+fn run<M: Machine, P: Peer>(alloc: Global, machine: &mut M, peer: &mut P, most: u64) -> Ended
+    ensures ran { Ran M.step most (P.left peer.old) (P.left peer.new) (P.written peer.old) (P.written peer.new) machine.old machine.new result }
+    ensures prompt { Prompt M.step most (P.talk peer.old) (P.talk peer.new) machine.old }
+    ensures lends { P.lends peer.new ≡ P.lends peer.old }
+    ensures read_fault { result ≡ ReadFault → Rose (P.read_faults peer.old) (P.read_faults peer.new) }
+    ensures write_fault { result ≡ WriteFault → Rose (P.write_faults peer.old) (P.write_faults peer.new) }
+    ensures reading { P.read_faults peer.old ≤ P.read_faults peer.new }
+    ensures writing { P.write_faults peer.old ≤ P.write_faults peer.new }
+{
+    if most == 0 {
+        return Ended::Limit;
+    }
+    answer_each(alloc, machine, peer, most)
+}
+
+// The same over a source and a sink.
+fn run_apart<M: Machine, S: Source, O: Sink>(
     alloc: Global,
     machine: &mut M,
     input: &mut S,
@@ -57,10 +76,26 @@ fn run<M: Machine, S: Source, O: Sink>(
     ensures input { S.source_faults input.old ≤ S.source_faults input.new }
     ensures output { O.sink_faults output.old ≤ O.sink_faults output.new }
 {
-    if most == 0 {
-        return Ended::Limit;
-    }
-    answer_each(alloc, machine, input, output, most)
+    let mut peer = Apart { input, output };
+    run(alloc, machine, &mut peer, most)
+}
+
+/// Answers the requests of a link one after another, `most` of them at most, and writes the replies to it. Whenever
+/// it reads, the replies to all requests that were whole before are written, if the link tells the order.
+pub fn serve_link<M: Machine, N: Link>(
+    alloc: Global,
+    machine: &mut M,
+    link: &mut N,
+    most: u64,
+) -> Ended
+    ensures ran { Ran M.step most (N.left link.old) (N.left link.new) (N.written link.old) (N.written link.new) machine.old machine.new result }
+    ensures prompt { Prompt M.step most (N.source_talk link.old) (N.source_talk link.new) machine.old }
+    ensures read_fault { result ≡ ReadFault → Rose (N.source_faults link.old) (N.source_faults link.new) }
+    ensures write_fault { result ≡ WriteFault → Rose (N.sink_faults link.old) (N.sink_faults link.new) }
+    ensures keeps { N.source_faults link.old ≤ N.source_faults link.new }
+{
+    let mut peer = Joint { link };
+    run(alloc, machine, &mut peer, most)
 }
 
 /// Answers the requests of `input` one after another, `most` of them at most, and writes the replies to `output`.
@@ -73,11 +108,12 @@ pub fn serve_requests<M: Machine, S: Source, O: Sink>(
     most: u64,
 ) -> Ended
     ensures ran { Ran M.step most (S.left input.old) (S.left input.new) (O.written output.old) (O.written output.new) machine.old machine.new result }
-    ensures told { (bytes : List ℕ) → S.left input.old ≡ Some bytes → result ≢ ReadFault → RanOver M.step most bytes (O.written output.old) (O.written output.new) machine.old machine.new result }
+    ensures told { (bytes : List ℕ) → S.left input.old ≡ Some bytes → result ≢ ReadFault → RanOver M.step most bytes
+        (O.written output.old) (O.written output.new) machine.old machine.new result }
     ensures read_fault { result ≡ ReadFault → Rose (S.source_faults input.old) (S.source_faults input.new) }
     ensures write_fault { result ≡ WriteFault → Rose (O.sink_faults output.old) (O.sink_faults output.new) }
     ensures input { S.source_faults input.old ≤ S.source_faults input.new }
     ensures output { O.sink_faults output.old ≤ O.sink_faults output.new }
 {
-    run(alloc, machine, input, output, most)
+    run_apart(alloc, machine, input, output, most)
 }

@@ -27,7 +27,7 @@ pub fn whole_reply(
     Reply { head, body }
 }
 
-/// The reply that refuses what isn't a request, behind which the connection ends.
+/// The reply that refuses what isn't a request, after which the connection ends.
 #[tactic(auto, using(crate::proofs::ReplyLemmas::has_reply), unfolding(crate::specs::Replies::refused_text))]
 pub(crate) fn refused_reply(alloc: Global, code: Code) -> Result<Reply, Memory>
     ensures { IfOk result (λ reply. text_in reply ≡ refused_text code) }

@@ -22,7 +22,7 @@ sample-step list new all n i x y s below drawn next more so_far =
     ∙ ap (λ m. list ++ samples m x) (left-suc n i below)
     ∙ so_far
 
--- and the state behind it
+-- and the state after it
 pub state-step : (n i x y all : ℕ) → i < n → y ≡ after_sample x → after_samples (n - i) x ≡ all → after_samples (n - (i + 1)) y ≡ all
 state-step n i x y all below next so_far =
     ap (λ z. after_samples (n - (i + 1)) z) next ∙ ap (λ m. after_samples m x) (left-suc n i below) ∙ so_far

@@ -25,7 +25,7 @@ abbrev pub samples : ℕ → ℕ → List Sample
 samples zero x = []
 samples (suc n) x = sample_from x ∷ samples n (after_sample x)
 
--- the state behind them
+-- the state after them
 abbrev pub after_samples : ℕ → ℕ → ℕ
 after_samples zero x = x
 after_samples (suc n) x = after_samples n (after_sample x)

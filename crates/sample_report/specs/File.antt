@@ -3,7 +3,7 @@
 use Rattle.std.specs.Prelude.{ℕ, zero, suc, ◌/◌, nat_eq, if◌then◌else◌, List, [], ◌∷◌, ◌++◌, codes}
 use Rattle.sample_report.specs.Ids.{country_id, district_id, facility_id}
 
--- the texts of the numbers below a number, one behind the other
+-- the texts of the numbers below a number, one after the other
 unfoldable pub each_below : (ℕ → List ℕ) → ℕ → List ℕ
 each_below text zero = []
 each_below text (suc n) = each_below text n ++ text n

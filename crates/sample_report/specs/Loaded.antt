@@ -10,7 +10,7 @@ use Rattle.value_import.specs.Verdicts.{verdict_of}
 use Rattle.sample_report.specs.declared.draws.Sample.{Sample}
 use Rattle.sample_report.specs.Sets.{set_of}
 
--- what the loader writes where it brings a set of samples behind a log
+-- what the loader writes where it brings a set of samples after a log
 unfoldable pub writes_for : Records → ℤ → List Change → List Sample → List Write
 writes_for r moment log set = (verdict_of (facts_in (writes_of log)) r Loader moment (set_of set)).writes
 
@@ -21,7 +21,7 @@ change_of moment writes = record { user = None; moment = moment; writes = writes
 abbrev pub grown : ℤ → List Change → List Write → List Change
 grown moment log writes = if nat_lt 0 (length writes) then log ++ change_of moment writes ∷ [] else log
 
--- the log that sets of samples leave behind another
+-- the log that sets of samples leave after another
 abbrev pub log_with : Records → ℤ → List Change → List (List Sample) → List Change
 log_with r moment log [] = log
 log_with r moment log (set ∷ more) = log_with r moment (grown moment log (writes_for r moment log set)) more

@@ -10,13 +10,13 @@ use std::alloc::Global;
 pub struct Sample {
     /// The number of the facility, from 0 to 99.
     pub facility: u32,
-    /// How many months the month comes behind January 2023, from 0 to 23.
+    /// How many months the month comes after January 2023, from 0 to 23.
     pub month: u32,
     /// The value, from 1 to 1,000.
     pub amount: u32,
 }
 
-/// Draws of samples, one behind the other.
+/// Draws of samples, one after the other.
 #[derive(Drop)]
 pub struct Draws {
     /// The state of the generator.

@@ -44,8 +44,9 @@ fn writes_for(
     ensures small { IfOk result (λ writes. AreSmall (length samples.now) writes) }
 {
     let set = set_of(alloc, samples)?;
-    let found = verdict(alloc, world, meta, Who::Loader, moment, &set)?;
-    Ok(found.writes)
+    let found = verdict(alloc, world, meta, Who::Loader, moment, &set);
+    drop(set);
+    Ok(found?.writes)
 }
 
 // Puts a change with these writes last.
@@ -82,7 +83,7 @@ fn put(alloc: Global, moment: i64, loaded: &mut Loaded, writes: Items<Write>) ->
     put_change(alloc, moment, loaded, writes)
 }
 
-// Brings samples behind the log.
+// Brings samples after the log.
 fn bring(
     alloc: Global,
     meta: &Metadata,

@@ -59,8 +59,9 @@ fn total_over(alloc: Global, meta: &Metadata, loaded: &Loaded) -> Result<Vec<u8>
     ensures { IfOk result (λ text. text.items ≡ total_text (total_of meta.now (listed_in meta.now (writes_of (map arc_value loaded.now.log.items))).rows)) }
 {
     let store = build(alloc, meta, loaded.log.as_slice())?;
-    let total = total_of(alloc, meta, &store)?;
-    total_text(alloc, total)
+    let total = total_of(alloc, meta, &store);
+    drop(store);
+    total_text(alloc, total?)
 }
 
 /// The report on a number of values that were brought.

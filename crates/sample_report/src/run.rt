@@ -21,7 +21,9 @@ fn report_over(alloc: Global, meta: &Metadata, moment: i64, count: u32) -> Resul
     ensures { IfOk result (λ text. text ≡ generated_text meta.now moment count) }
 {
     let loaded = load(alloc, meta, moment, count)?;
-    report_of(alloc, meta, count, &loaded)
+    let text = report_of(alloc, meta, count, &loaded);
+    drop(loaded);
+    text
 }
 
 // The metadata are refused with a fault.
@@ -46,7 +48,11 @@ pub fn generated(alloc: Global, count: u32, moment: i64) -> Result<Items<u8>, Me
 {
     let file = sample_file(alloc)?;
     match read(alloc, &file) {
-        Ok(meta) => report_over(alloc, &meta, moment, count),
+        Ok(meta) => {
+            let text = report_over(alloc, &meta, moment, count);
+            drop(meta);
+            text
+        }
         Err(MetaFault::Memory) => Err(Memory),
         Err(fault) => refused(alloc, &fault),
     }

@@ -15,7 +15,7 @@ in_both a b c d n = grind (arith, nat_tests)
 pub in_overlap : (x y : ℕ × ℕ) (n : ℕ) → is_in_range n (overlap_of x y) ≡ (is_in_range n x && is_in_range n y)
 in_overlap x y n = in_both x.0 x.1 y.0 y.1 n
 
--- what the ranges behind one hold lies behind its end
+-- what the ranges after one hold lies after its end
 pub behind : (ranges : List (ℕ × ℕ)) (j n : ℕ) → AreApart ranges → is_within (drop (j + 1) ranges) n ≡ true → (get_or ranges j (0, 0)).1 < n
 behind ranges j n apart inside =
     let found = Any-from_list_any (is_in_range n) (drop (j + 1) ranges) inside in
@@ -52,7 +52,7 @@ right_done false false false true b h = refl
 right_done false true a false b h = refl
 right_done false false a false b h = refl
 
--- a number of a range isn't in those behind one that ends no sooner
+-- a number of a range isn't in those after one that ends no sooner
 not_behind : (ranges : List (ℕ × ℕ)) (j n : ℕ) (x : ℕ × ℕ) → AreApart ranges → x.1 ≤ (get_or ranges j (0, 0)).1 → is_in_range n x ≡ true → is_within (drop (j + 1) ranges) n ≡ false
 not_behind ranges j n x apart ends inside =
     elim (cases_Bool (is_within (drop (j + 1) ranges) n)) [

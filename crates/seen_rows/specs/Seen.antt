@@ -1,5 +1,5 @@
 -- Who sees what.
-use Rattle.std.specs.Prelude.{ℕ, Bool, false, ◌&&◌, List, map, slice_get}
+use Rattle.std.specs.Prelude.{ℕ, Bool, false, ◌&&◌, List, map, slice_get, IsPermutation}
 use Rattle.std.specs.List.{filter, list_all}
 use Rattle.std.specs.Option.{option_map_or}
 use Rattle.dh_base.specs.declared.plain.Need.{Need}
@@ -15,6 +15,7 @@ use Rattle.table_rows.specs.declared.event.EventRow.{EventRow}
 use Rattle.table_rows.specs.declared.event.RegRow.{RegRow}
 use Rattle.table_rows.specs.declared.row.Row.{Row}
 use Rattle.table_rows.specs.Rows.{meets}
+use Rattle.table_rows.specs.Store.{Contents}
 use Rattle.agg_types.specs.declared.sample.Sample.{Sample}
 use Rattle.agg_types.specs.RowSamples.{sample_of}
 use Rattle.seen_rows.specs.Places.{is_at_some}
@@ -62,3 +63,23 @@ is_reg_seen r user reg =
 
 abbrev pub seen_regs : Records → ℕ → List RegRow → List RegRow
 seen_regs r user regs = filter (is_reg_seen r user) regs
+
+-- ---- all that a user sees
+
+pub record SeenRecords : Type 0 where
+  pub samples : List Sample
+  pub events : List EventRow
+  pub regs : List RegRow
+
+abbrev pub contents_of : List Row → List EventRow → List RegRow → Contents
+contents_of rows events regs = record { rows = rows; events = events; regs = regs }
+
+-- what the user sees of what a store holds
+unfoldable pub seen_of : Records → ℕ → Contents → SeenRecords
+seen_of r user held = record { samples = seen r user held.rows; events = seen_events r user held.events; regs = seen_regs r user held.regs }
+
+-- the same is seen, in whatever order it stands
+pub record SameSeen (one other : SeenRecords) : Type 0 where
+  pub samples : IsPermutation one.samples other.samples
+  pub events : IsPermutation one.events other.events
+  pub regs : IsPermutation one.regs other.regs

@@ -1,10 +1,10 @@
 // Sessions that end by their limit, by a read that fails or by a write that fails; and a text that no route writes yet.
 use dh_base::memory::Memory;
 use dh_base::plain::CutKind;
-use dh_outside::{MemSink, MemSource};
+use dh_outside::{MemLink, MemSink, MemSource};
 use http_wire::Request;
 use reply_bodies::update_body;
-use request_session::{Ended, Machine, Reply, serve_requests, whole_reply};
+use request_session::{Ended, Machine, Reply, serve_link, serve_requests, whole_reply};
 use std::alloc::Global;
 use std::test::Fail;
 
@@ -50,6 +50,17 @@ fn ends(alloc: Global, most: u64, failing: u64, room: u64, text: &str) -> Result
 fn the_last_reply_that_is_allowed_closes(rt: HostRuntime) -> Result<(), Fail> {
     assert!(rt; ends(rt.alloc(), 2, 0, 1000, LAST_CLOSES)? == Ended::Limit);
     assert!(rt; ends(rt.alloc(), 3, 0, 1000, REPLIES)? == Ended::Closed);
+    Ok(())
+}
+
+#[test]
+fn a_link_is_answered(rt: HostRuntime) -> Result<(), Fail> {
+    let alloc = rt.alloc();
+    let bytes = REQUESTS.as_bytes().to_vec(alloc)?;
+    let mut link = MemLink::with(alloc, bytes, Vec::new(alloc));
+    assert!(rt; serve_link(alloc, &mut Paths, &mut link, 3) == Ended::Closed);
+    assert!(rt; link.written() == REPLIES.as_bytes());
+    assert!(rt; link.heard().len() == 1);
     Ok(())
 }
 

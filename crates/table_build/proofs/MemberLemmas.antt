@@ -1,5 +1,5 @@
 -- An ascending list is told by its members.
-use Rattle.std.proofs.Common.{◌≡◌, ◌∙◌, ◌⊎◌, inl, inr, List, [], ◌∷◌, refl, sym, ap, subst, Ordering, Less, Equal, Greater}
+use Rattle.std.proofs.Common.{◌≡◌, ◌∙◌, ◌⊎◌, inl, inr, Bool, true, false, List, [], ◌∷◌, refl, sym, ap, subst, Ordering, Less, Equal, Greater}
 use Rattle.std.specs.Cmp.{IsTotalOrder, tied_itself}
 use Rattle.std.specs.FinMap.{IsAntisymmetric}
 use Rattle.std.specs.List.{AllByRecursion}
@@ -8,6 +8,9 @@ use Rattle.std.specs.Ordering.{ordering_reverse, match_ordering}
 use Rattle.std.specs.BTreeMap.{insert_entry}
 use Rattle.std.specs.Map.{values_of}
 use Rattle.std.proofs.lemmas.List.Elements.{All-from_recursion, recursion_from_All}
+use Rattle.std.proofs.lemmas.Bool.{cases_Bool}
+use Rattle.table_rows.specs.Store.{all_differ}
+use Rattle.table_rows.proofs.DifferLemmas.{differ-more}
 use Rattle.table_build.specs.Ordered.{put_all, in_order}
 use Rattle.table_build.proofs.OrderedLemmas.{Keyed, insert-keyed, in_order-All, in_order-sorted}
 
@@ -42,7 +45,7 @@ module _ {X : Type 0} (cmp : X → X → Ordering) (total : IsTotalOrder cmp) wh
       let turned : cmp x y ≡ Greater = total.antisymm x y ∙ ap ordering_reverse back in
       (cc)
 
-  -- the member of the one list is the first of the other or stands behind it
+  -- the member of the one list is the first of the other or stands after it
   first-is : (a b : X) (bs : List X) → IsIn a (b ∷ bs) → AllByRecursion (λ z. cmp b z ≡ Less) bs → (a ≡ b) ⊎ (cmp b a ≡ Less)
   first-is a b bs (inl e) above = inl e
   first-is a b bs (inr later) above = inr (at-member (λ z. cmp b z ≡ Less) a bs above later)
@@ -73,6 +76,25 @@ module _ {X : Type 0} (cmp : X → X → Ordering) (total : IsTotalOrder cmp) wh
       let from_rest : (x : X) → IsIn x right → IsIn x left = λ x is. later-is a x left (from x (inr is)) (ap (λ y. cmp y x) same ∙ at-member (λ z. cmp b z ≡ Less) x right t.0 is) in
       let rest = sorted-same left right s.1 t.1 to_rest from_rest in
       λ i. same i ∷ rest i
+
+-- ---- of an ascending list no member is like a later one, where a test tells members apart
+
+module _ {X : Type 0} (cmp : X → X → Ordering) (total : IsTotalOrder cmp) (like : X → X → Bool) (P : X → Type 0) (one : (x y : X) → P x → P y → like x y ≡ true → x ≡ y) where
+  unlike : (x y : X) → P x → P y → cmp x y ≡ Less → like x y ≡ false
+  unlike x y p q less =
+      elim (cases_Bool (like x y)) [
+        | inl is ↦ absurd (not-below cmp total x y less (one x y p q is))
+        | inr not ↦ not
+      ]
+
+  unlike-all : (x : X) (ys : List X) → P x → AllByRecursion P ys → AllByRecursion (λ y. cmp x y ≡ Less) ys → AllByRecursion (λ y. like x y ≡ false) ys
+  unlike-all x [] p all above = tt
+  unlike-all x (y ∷ ys) p all above = (unlike x y p all.0 above.0, unlike-all x ys p all.1 above.1)
+
+  pub sorted-differ : (xs : List X) → AllByRecursion P xs → IsStrictlySortedBy cmp xs → all_differ like xs ≡ true
+  unfolding IsStrictlySortedBy
+  sorted-differ [] all s = refl
+  sorted-differ (x ∷ xs) all s = differ-more like x xs (unlike-all x xs all.0 all.1 s.0) (sorted-differ xs all.1 s.1)
 
 -- ---- the members of an ordered list
 

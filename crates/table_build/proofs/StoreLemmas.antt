@@ -32,7 +32,7 @@ use Rattle.table_rows.specs.declared.event.ItemValue.TheVariants.{Number, Day, P
 use Rattle.table_rows.specs.Rows.{key_of}
 use Rattle.table_rows.specs.Order.{key_cmp, row_cmp}
 use Rattle.table_rows.specs.Events.{event_cmp, reg_cmp, is_day, is_day_if_any, is_value_with_day, has_day, have_days, has_days}
-use Rattle.table_rows.specs.Store.{Listed, is_store, is_short, rises}
+use Rattle.table_rows.specs.Store.{Listed, is_store, is_short, rises, have_own_places}
 use Rattle.table_rows.proofs.OrderLemmas.{key_total}
 use Rattle.table_build.specs.declared.events.EventPlace.{EventPlace}
 use Rattle.table_build.specs.Log.{value_named, reg_named, event_named, values_named, regs_named, events_named, is_of_days}
@@ -118,8 +118,8 @@ short list writes fit few = le-leb (length list) 4194304 (omega arith)
 reg-day : (r : Records) (facts : Facts) → HaveDays facts → (key : RegKey) (reg : RegRow) → registrations.reg_of r facts key ≡ Some reg → is_day reg.day ≡ true
 unfolding registrations.reg_of registrations.reg_with
 reg-day r facts days key reg e =
-    let held = and_then-some (λ day. option_map (registrations.reg_with r key day) (registrations.objects_of r key)) (facts.registration key) reg e in
-    let objects = map-some (registrations.reg_with r key held.0) (registrations.objects_of r key) reg held.2 in
+    let held = and_then-some (λ day. option_map (registrations.reg_with r facts key day) (registrations.objects_of r key)) (facts.registration key) reg e in
+    let objects = map-some (registrations.reg_with r facts key held.0) (registrations.objects_of r key) reg held.2 in
     ap (λ (x : RegRow). is_day x.day) (sym objects.2) ∙ days.registration key held.0 held.1
 
 regs-days : (r : Records) (facts : Facts) → HaveDays facts → (keys : List RegKey) → list_all (λ (reg : RegRow). is_day reg.day) (registrations.regs_of r facts keys) ≡ true
@@ -228,9 +228,9 @@ events-days r facts days ids =
 abbrev pub IsStore : Listed → Type 0
 IsStore lists = is_store lists.rows lists.events lists.regs lists.years ≡ true
 
-listed-by : (r : Records) (facts : Facts) (writes : List Write) → length writes ≤ 4194304 → HaveDays facts → IsStore (listed_by r facts writes)
+listed-by : (r : Records) (facts : Facts) (writes : List Write) → length writes ≤ 4194304 → HaveDays facts → have_own_places (values.rows_of r facts (values_named writes)) ≡ true → IsStore (listed_by r facts writes)
 unfolding is_store
-listed-by r facts writes few days =
+listed-by r facts writes few days own =
     and_from _ _ (short _ writes (rows-fit r facts writes) few)
     (and_from _ _ (short _ writes (events-fit r facts writes) few)
     (and_from _ _ (short _ writes (regs-fit r facts writes) few)
@@ -238,11 +238,12 @@ listed-by r facts writes few days =
     (and_from _ _ (events-rise r facts (events_named writes))
     (and_from _ _ (regs-rise r facts (regs_named writes))
     (and_from _ _ (years-rise _ _ _)
-    (and_from _ _ (events-days r facts days (events_named writes)) (regs-days r facts days (regs_named writes)))))))))
+    (and_from _ _ (events-days r facts days (events_named writes))
+    (and_from _ _ (regs-days r facts days (regs_named writes)) own))))))))
 
-pub listed-store : (r : Records) (writes : List Write) → length writes ≤ 4194304 → list_all is_of_days writes ≡ true → IsStore (listed_in r writes)
+pub listed-store : (r : Records) (writes : List Write) → length writes ≤ 4194304 → list_all is_of_days writes ≡ true → have_own_places (listed_in r writes).rows ≡ true → IsStore (listed_in r writes)
 unfolding listed_in
-listed-store r writes few days = listed-by r (facts_in writes) writes few (facts-days writes days)
+listed-store r writes few days own = listed-by r (facts_in writes) writes few (facts-days writes days) own
 
 -- ---- lists that were made in turn
 
@@ -265,8 +266,11 @@ made r writes facts keys ids names rows events regs years held key row id event 
 
 -- they are those of a store
 pub made-store : (r : Records) (writes : List Write) (rows : List Row) (events : List EventRow) (regs : List RegRow) (years : List ℤ) → length writes ≤ 4194304 → list_all is_of_days writes ≡ true
+    → have_own_places rows ≡ true
     → ◌≡◌ {A = Listed} (record { rows = rows; events = events; regs = regs; years = years }) (listed_in r writes) → is_store rows events regs years ≡ true
-made-store r writes rows events regs years few days is = ap (λ (lists : Listed). is_store lists.rows lists.events lists.regs lists.years) is ∙ listed-store r writes few days
+made-store r writes rows events regs years few days own is =
+    ap (λ (lists : Listed). is_store lists.rows lists.events lists.regs lists.years) is
+    ∙ listed-store r writes few days (sym (ap (λ (lists : Listed). have_own_places lists.rows) is) ∙ own)
 
 -- a store of such lists
 pub made-result : (r : Records) (writes : List Write) (store : Listed) (rows : List Row) (events : List EventRow) (regs : List RegRow) (years : List ℤ)

@@ -12,8 +12,8 @@ use Rattle.org_tree.specs.Units.{order_of}
 use Rattle.meta_parts.specs.declared.held.Records.{Records}
 use Rattle.meta_parts.specs.declared.kind.Kind.TheVariants.{OrganisationUnit, Program, ProgramStage}
 use Rattle.dh_metadata.specs.Objects.{find_of}
-use Rattle.dh_metadata.specs.Approval.{unit_rows}
 use Rattle.record_index.specs.Facts.{Facts}
+use Rattle.dh_records.specs.Access.{tree}
 use Rattle.table_rows.specs.declared.event.EventRow.{EventRow}
 use Rattle.table_rows.specs.declared.event.ItemValue.{ItemValue}
 use Rattle.table_build.specs.declared.events.EventObjects.{EventObjects}
@@ -69,7 +69,7 @@ event_with r facts place event objects = record {
   entity = entity_id (entity_of facts event);
   program = objects.program;
   stage = objects.stage;
-  order = order_of (unit_rows r) objects.unit;
+  order = order_of (tree facts r) objects.unit;
   day = place.day;
   enrolled = enrolled_day (enrollment_of facts event);
   values = element_values r event.values;

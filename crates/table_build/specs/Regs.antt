@@ -8,8 +8,8 @@ use Rattle.org_tree.specs.Units.{order_of}
 use Rattle.meta_parts.specs.declared.held.Records.{Records}
 use Rattle.meta_parts.specs.declared.kind.Kind.TheVariants.{DataSet, OrganisationUnit, CategoryOptionCombo}
 use Rattle.dh_metadata.specs.Objects.{find_of}
-use Rattle.dh_metadata.specs.Approval.{unit_rows}
 use Rattle.record_index.specs.Facts.{Facts}
+use Rattle.dh_records.specs.Access.{tree}
 use Rattle.table_rows.specs.declared.event.RegRow.{RegRow}
 use Rattle.table_rows.specs.Order.{period_cmp}
 use Rattle.table_build.specs.declared.regs.RegObjects.{RegObjects}
@@ -25,18 +25,18 @@ objects_of r key =
     option_and_then (λ set. option_and_then (λ unit. option_map (λ attribute. reg_objects set unit attribute)
     (find_of r CategoryOptionCombo key.attribute)) (find_of r OrganisationUnit key.unit)) (find_of r DataSet key.set)
 
-unfoldable pub reg_with : Records → RegKey → ℤ → RegObjects → RegRow
-reg_with r key day objects = record {
+unfoldable pub reg_with : Records → Facts → RegKey → ℤ → RegObjects → RegRow
+reg_with r facts key day objects = record {
   set = objects.set;
   period = key.period;
-  order = order_of (unit_rows r) objects.unit;
+  order = order_of (tree facts r) objects.unit;
   attribute = objects.attribute;
   day = day;
 }
 
 -- the row of a key that holds a day and whose objects stand in the metadata
 unfoldable pub reg_of : Records → Facts → RegKey → Option RegRow
-reg_of r facts key = option_and_then (λ day. option_map (reg_with r key day) (objects_of r key)) (facts.registration key)
+reg_of r facts key = option_and_then (λ day. option_map (reg_with r facts key day) (objects_of r key)) (facts.registration key)
 
 -- what registrations are ordered by
 abbrev pub place_of : RegRow → RegPlace

@@ -7,8 +7,8 @@ use Rattle.meta_parts.specs.declared.held.Records.{Records}
 use Rattle.meta_parts.specs.declared.records.Element.{Element}
 use Rattle.meta_parts.specs.declared.kind.Kind.TheVariants.{DataElement, OrganisationUnit, CategoryOptionCombo}
 use Rattle.dh_metadata.specs.Objects.{find_of}
-use Rattle.dh_metadata.specs.Approval.{unit_rows}
 use Rattle.record_index.specs.Facts.{Facts}
+use Rattle.dh_records.specs.Access.{tree}
 use Rattle.dh_records.specs.Approved.{approved_at}
 use Rattle.dh_records.specs.Values.{number_of}
 use Rattle.table_rows.specs.declared.row.Row.{Row}
@@ -37,7 +37,7 @@ row_with r facts key text objects = record {
   attribute = objects.attribute;
   period = key.period;
   approved = approved_at facts r key;
-  order = order_of (unit_rows r) objects.unit;
+  order = order_of (tree facts r) objects.unit;
   micros = number_at r objects.element text;
 }
 

@@ -12,6 +12,7 @@ use dh_base::memory::Memory;
 use dh_base::uid::Uid;
 use dh_changes::tracker::{Enrollment, Entity, Event};
 use dh_metadata::metadata::Metadata;
+use dh_records::access::tree_of;
 use meta_parts::kind::Kind;
 use record_index::world::World;
 use std::alloc::Global;
@@ -158,7 +159,7 @@ fn event_with(
         entity: entity_id(entity),
         program: objects.program,
         stage: objects.stage,
-        order: meta.tree().order(objects.unit),
+        order: tree_of(world, meta).order(objects.unit),
         day: place.day,
         enrolled: enrolled_day(enrollment_of(world, event)),
         values,

@@ -9,6 +9,7 @@ use dh_base::memory::Memory;
 use dh_changes::keys::RegKey;
 use dh_metadata::metadata::Metadata;
 use dh_periods::Period;
+use dh_records::access::tree_of;
 use meta_parts::kind::Kind;
 use record_index::world::World;
 use std::alloc::Global;
@@ -50,14 +51,14 @@ fn objects_of(meta: &Metadata, key: &RegKey) -> Option<RegObjects>
 }
 
 #[tactic(auto, unfolding(crate::specs::Regs::reg_with))]
-fn reg_with(meta: &Metadata, key: &RegKey, day: i32, objects: RegObjects) -> RegRow
+fn reg_with(meta: &Metadata, world: &World, key: &RegKey, day: i32, objects: RegObjects) -> RegRow
     requires { objects.unit < length meta.now.organisation_units }
-    ensures { result ≡ known.reg_with meta.now key.now day objects }
+    ensures { result ≡ known.reg_with meta.now (facts world.now) key.now day objects }
 {
     RegRow {
         set: objects.set,
         period: key.period,
-        order: meta.tree().order(objects.unit),
+        order: tree_of(world, meta).order(objects.unit),
         attribute: objects.attribute,
         day,
     }
@@ -69,7 +70,7 @@ fn reg_of(meta: &Metadata, world: &World, key: &RegKey) -> Option<RegRow>
 {
     let day = world.registration(key)?;
     let objects = objects_of(meta, key)?;
-    Some(reg_with(meta, key, day, objects))
+    Some(reg_with(meta, world, key, day, objects))
 }
 
 fn place_of(reg: &RegRow) -> RegPlace

@@ -1,12 +1,12 @@
 //! The rows of data values.
-ghost use Rattle.std.specs.Prelude.{◌≡◌, ◌<◌, [], length, OnOk, IfOk, IfSome};
+ghost use Rattle.std.specs.Prelude.{◌≡◌, ◌<◌, true, [], length, OnOk, IfOk, IfSome};
 ghost use Rattle.std.specs.List.{filter_map};
 ghost use Rattle.dh_metadata.specs.Objects.{count_of};
-ghost use Rattle.dh_metadata.specs.Approval.{unit_rows};
 ghost use Rattle.org_tree.specs.Units.{order_of};
 ghost use Rattle.record_index.specs.World.{facts};
 ghost use Rattle.table_rows.specs.Rows.{key_of};
 ghost use Rattle.table_rows.specs.Order.{key_cmp};
+ghost use Rattle.table_rows.specs.Store.{have_own_places};
 ghost use Rattle.table_build.specs.Ordered.{put_all};
 ghost use Rattle.table_build.specs.Values as known;
 
@@ -14,6 +14,7 @@ use dh_base::memory::Memory;
 use dh_base::uid::Uid;
 use dh_changes::keys::ValueKey;
 use dh_metadata::metadata::Metadata;
+use dh_records::access::tree_of;
 use dh_records::approved::approved_at;
 use dh_records::number::number_of;
 use meta_parts::kind::Kind;
@@ -79,7 +80,7 @@ fn row_with(
         attribute: objects.attribute,
         period: key.period,
         approved: approved_at(world, meta, key),
-        order: meta.tree().order(objects.unit),
+        order: tree_of(world, meta).order(objects.unit),
         micros: number_at(meta, objects.element, text),
     }
 }
@@ -110,10 +111,8 @@ fn row_map(
     Ok(map)
 }
 
-/// The rows of these keys, in row order: of those that hold a text and name objects that stand in
-/// the metadata.
 #[tactic(auto, unfolding(crate::specs::Values::rows_of))]
-pub fn rows_of(
+fn ordered_rows(
     alloc: Global,
     meta: &Metadata,
     world: &World,
@@ -123,4 +122,21 @@ pub fn rows_of(
 {
     let map = row_map(alloc, meta, world, keys)?;
     Ok(map.into_values().collect(alloc)?)
+}
+
+/// The rows of these keys, in row order: of those that hold a text and name objects that stand in
+/// the metadata. Of a group each unit has at most one.
+pub fn rows_of(
+    alloc: Global,
+    meta: &Metadata,
+    world: &World,
+    keys: &[ValueKey],
+) -> Result<Vec<Row>, Memory>
+    ensures rows { IfOk result (λ rows. rows.items ≡ known.rows_of meta.now (facts world.now) keys.now) }
+    ensures own_places { IfOk result (λ rows. have_own_places rows.items ≡ true) }
+{
+    // since the units are a tree, no two have one order
+    let _units = tree_of(world, meta).count();
+    let rows = ordered_rows(alloc, meta, world, keys)?;
+    Ok(rows)
 }

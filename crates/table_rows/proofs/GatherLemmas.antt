@@ -1,4 +1,4 @@
--- The rows of a cell are those of its groups, one group behind the other.
+-- The rows of a cell are those of its groups, one group after the other.
 use Rattle.std.proofs.Common.{◌≡◌, ◌∙◌, ℕ, Bool, true, false, not, cond, ◌&&◌, List, [], ◌∷◌, ◌++◌, map, inl, inr, refl, sym, ap, Ordering, Less, Equal, Greater}
 use Rattle.std.specs.List.{filter, AllByRecursion}
 use Rattle.std.specs.Ordering.{is_gt, is_eq, ordering_reverse}
@@ -186,7 +186,7 @@ group_part element t u rows g of =
     by_test true = refl
     by_test false = filter-never (λ r. false && (is_in_group g r && u r)) rows (λ r. refl)
 
--- in rows in their order those of a cell are the rows of its groups that pass, one group behind the other
+-- in rows in their order those of a cell are the rows of its groups that pass, one group after the other
 pub cell-gathered : (element : ℕ) (t : Group → Bool) (u : Row → Bool) (rows : List Row) → rises row_cmp rows ≡ true
     → cell_rows element t u rows ≡ gathered (group_rows u rows) (filter t (groups_of element rows))
 unfolding groups_of

@@ -46,7 +46,7 @@ each_once-push same (y ∷ ys) x =
 
 -- ---- the last group
 
--- the last of the groups is one of these, and none of these stands behind it
+-- the last of the groups is one of these, and none of these stands after it
 abbrev pub IsTop : Option Group → List Group → Type 0
 IsTop None hs = hs ≡ []
 IsTop (Some top) hs = Contains hs top × All (λ h. is_gt (group_cmp h top) ≡ false) hs

@@ -7,3 +7,4 @@ pub mod SplitLemmas
 pub mod CellLemmas
 pub mod RunLemmas
 pub mod GatherLemmas
+pub mod DifferLemmas

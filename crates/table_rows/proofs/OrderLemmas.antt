@@ -56,7 +56,7 @@ tie Less a b = absurd (cc)
 tie Equal a b = refl
 tie Greater a b = absurd (cc)
 
--- groups of which neither stands behind the other are the same
+-- groups of which neither stands after the other are the same
 pub same_group-tie : (a b : Group) → is_gt (group_cmp a b) ≡ false → is_gt (group_cmp b a) ≡ false → same_group a b ≡ true
 same_group-tie a b x y = group_ties a b ∙ tie (group_cmp a b) x (ap is_gt (sym (group_total.antisymm b a)) ∙ y)
 
@@ -65,6 +65,6 @@ front Less rest e = refl
 front Equal rest e = refl
 front Greater rest e = absurd (cc)
 
--- of two rows in order the first one's group doesn't stand behind the second one's
+-- of two rows in order the first one's group doesn't stand after the second one's
 pub group_upto : (a b : Row) → row_cmp a b ≡ Less → is_gt (group_cmp (group_of a) (group_of b)) ≡ false
 group_upto a b e = front (group_cmp (group_of a) (group_of b)) _ e

@@ -13,7 +13,7 @@ use Rattle.table_rows.specs.Store.{rises}
 use Rattle.table_rows.proofs.OrderLemmas.{row_total, group_ties, group_upto}
 use Rattle.table_rows.proofs.RiseLemmas.{sorted_from_rises}
 
--- none stands behind a later one
+-- none stands after a later one
 abbrev pub IsUp : List Group → Type 0
 IsUp [] = Unit {0}
 IsUp (h ∷ hs) = AllByRecursion (λ g. is_gt (group_cmp h g) ≡ false) hs × IsUp hs

@@ -44,7 +44,7 @@ abbrev pub how_many : {A : Type 0} → (A → Bool) → List A → ℕ
 how_many t [] = 0
 how_many t (a ∷ rest) = times (t a) + how_many t rest
 
--- the lists that f gives of the members, one behind the other
+-- the lists that f gives of the members, one after the other
 abbrev pub gathered : {A B : Type 0} → (A → List B) → List A → List B
 gathered f [] = []
 gathered f (a ∷ rest) = f a ++ gathered f rest

@@ -31,6 +31,10 @@ is_of_element element row = nat_eq row.element element
 abbrev pub is_in_group : Group → Row → Bool
 is_in_group group row = same_group (group_of row) group
 
+-- two rows are of one group and have one order
+abbrev pub same_place : Row → Row → Bool
+same_place a b = is_in_group (group_of b) a && nat_eq a.order b.order
+
 -- an approved position meets a need: any does where all rows are taken, and else one that is there and is at most the one asked for
 abbrev pub meets : Need → Option ℕ → Bool
 meets need.All position = true

@@ -1,10 +1,11 @@
 //! Whether lists are those of a store.
 ghost use Rattle.std.specs.Prelude.{◌≡◌};
-ghost use Rattle.std.specs.List.{list_all};
+ghost use Rattle.std.specs.List.{list_all, list_any};
 ghost use Rattle.std.specs.Ordering.{int_cmp, is_lt};
 ghost use Rattle.table_rows.specs.Order.{row_cmp};
 ghost use Rattle.table_rows.specs.Events.{event_cmp, reg_cmp, is_day, is_day_if_any, has_day, have_days, has_days};
-ghost use Rattle.table_rows.specs.Store.{is_store, rises};
+ghost use Rattle.table_rows.specs.Rows.{same_place};
+ghost use Rattle.table_rows.specs.Store.{is_store, rises, have_own_places};
 
 use crate::event::{EventRow, ItemValue, RegRow};
 use crate::row::Row;
@@ -23,6 +24,23 @@ fn rows_rise(rows: &[Row]) -> bool
 {
     for i in 1..rows.len() {
         if !rows[i - 1].is_before(&rows[i]) {
+            return false;
+        }
+    }
+    true
+}
+
+fn is_placed_again(row: &Row, later: &[Row]) -> bool
+    ensures { result ≡ list_any (same_place row.now) later.now }
+{
+    later.iter().any(|other| row.has_place_of(other))
+}
+
+fn have_own_places(rows: &[Row]) -> bool
+    ensures { result ≡ have_own_places rows.now }
+{
+    for i in 0..rows.len() {
+        if is_placed_again(&rows[i], &rows[i + 1..]) {
             return false;
         }
     }
@@ -122,7 +140,8 @@ fn regs_have_days(regs: &[RegRow]) -> bool
 }
 
 /// Whether these are the lists of a store: each in its order without a repeat and of at most
-/// 4,194,304 members, with days from 1900-01-01 to 2100-12-31, the years ascending.
+/// 4,194,304 members, with days from 1900-01-01 to 2100-12-31, the years ascending, and of a group
+/// no two rows of one order. Each row is compared with each: this is for a few rows.
 #[tactic(auto, unfolding(crate::specs::Store::is_store))]
 pub fn is_store(rows: &[Row], events: &[EventRow], regs: &[RegRow], years: &[i32]) -> bool
     ensures { result ≡ is_store rows.now events.now regs.now years.now }
@@ -136,4 +155,5 @@ pub fn is_store(rows: &[Row], events: &[EventRow], regs: &[RegRow], years: &[i32
         && years_rise(years)
         && events_have_days(events)
         && regs_have_days(regs)
+        && have_own_places(rows)
 }

@@ -1,7 +1,7 @@
 //! Rows of values, and what they are grouped and ordered by.
 ghost use Rattle.std.specs.Prelude.{◌≡◌};
 ghost use Rattle.std.specs.Ordering.{is_lt};
-ghost use Rattle.table_rows.specs.Rows.{group_of, key_of, position_of, meets, in_range, is_in_group, is_wanted, is_of_element};
+ghost use Rattle.table_rows.specs.Rows.{group_of, key_of, position_of, meets, in_range, is_in_group, is_wanted, is_of_element, same_place};
 ghost use Rattle.table_rows.specs.Order.{row_cmp, key_cmp};
 
 use dh_base::plain::Need;
@@ -107,6 +107,13 @@ impl Row {
         ensures { result ≡ is_in_group group.now self.now }
     {
         self.group() == *group
+    }
+
+    /// Whether both are of one group and of one order.
+    pub fn has_place_of(&self, other: &Row) -> bool
+        ensures { result ≡ same_place self.now other.now }
+    {
+        self.is_in(&other.group()) && self.order == other.order
     }
 
     /// Whether its unit's order is from `from` up to below `to`.

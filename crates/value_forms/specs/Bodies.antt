@@ -12,7 +12,7 @@ use Rattle.record_index.specs.declared.outcome.BodyFault.TheVariants as fault
 abbrev pub body_of : {A : Type 0} → (Data → Formed A) → List ℕ → Formed A
 body_of meaning bytes = and_then (or_fault (document_of bytes)) meaning
 
--- the value that is meant, or the path of the first fault, or that memory was wanting
+-- the value that is meant, or the path of the first fault, or that memory ran out
 abbrev pub Gives : {A : Type 0} → Formed A → Result A BodyFault → Type 0
 Gives meant (Ok value) = meant ≡ Ok value
 Gives meant (Err (fault.Bad path)) = meant ≡ Err path

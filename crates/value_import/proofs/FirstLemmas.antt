@@ -1,4 +1,4 @@
--- The first condition of lists that stand one behind the other.
+-- The first condition of lists that stand one after the other.
 use Rattle.std.proofs.Common.{◌≡◌, ◌∙◌, true, false, cond, List, [], ◌∷◌, ◌++◌, Option, Some, None, refl, sym, ap}
 use Rattle.std.specs.Option.{option_or}
 use Rattle.dh_base.specs.declared.codes.Code.{Code}

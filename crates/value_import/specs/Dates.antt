@@ -7,7 +7,7 @@ abbrev pub is_time : List ℕ → Bool
 is_time [] = true
 is_time (byte ∷ more) = byte == 84
 
--- the day of a text whose first ten bytes are a date, and whose bytes behind them, if there are any, begin with `T`
+-- the day of a text whose first ten bytes are a date, and whose bytes after them, if there are any, begin with `T`
 unfoldable pub dated : List ℕ → Option ℤ
 dated text = cond (is_time (drop 10 text)) (civil_of (take 10 text)) None
 

@@ -63,15 +63,15 @@ place_conditions facts r who place =
     ∷ (C10, of_user (λ user. not (is_captured facts r place user)) who)
     ∷ []
 
--- so many periods of its type may be open behind the one with today
+-- so many periods of its type may be open after the one with today
 unfoldable pub open_periods : Records → ℕ → ℤ
 open_periods r set = option_map_or (λ (found : sets.DataSet). found.open_future_periods) (slice_get r.data_sets set) (pos 0)
 
--- so many days a period of the set stays open behind its last day; 0 stands for ever
+-- so many days a period of the set stays open after its last day; 0 stands for ever
 unfoldable pub expiry_days : Records → ℕ → ℤ
 expiry_days r set = option_map_or (λ (found : sets.DataSet). found.expiry_days) (slice_get r.data_sets set) (pos 0)
 
--- the period comes more than so many places behind the one of its type with today
+-- the period comes more than so many places after the one of its type with today
 unfoldable pub is_beyond : ℤ → ℤ → PeriodName → Bool
 is_beyond today most period =
     option_map_or (λ now. int_lt most (pos (ordinal_of period) -ℤ pos (ordinal_of now))) (containing_of period.kind today today) false
@@ -79,7 +79,7 @@ is_beyond today most period =
 unfoldable pub is_future : Records → ℤ → Place → Bool
 is_future r today place = is_beyond today (open_periods r place.set) place.period
 
--- today is more than so many days behind the last day of the period, where these aren't 0
+-- today is more than so many days after the last day of the period, where these aren't 0
 unfoldable pub is_past : ℤ → ℤ → PeriodName → Bool
 is_past today days period = not (int_eq days (pos 0)) && int_lt days (today -ℤ last_day period)
 

@@ -4,11 +4,11 @@ use Rattle.std.specs.Prelude.{ℕ, Bool, nat_le, nat_lt, not, ◌&&◌, ◌==◌
 use Rattle.std.specs.List.{list_all, list_any}
 use Rattle.std.specs.Char.{is_ascii_digit}
 
--- so many digits stand at the front, and a slash behind them
+-- so many digits stand at the front, and a slash after them
 unfoldable pub has_version : ℕ → List ℕ → Bool
 has_version digits text = nat_lt digits (length text) && (slice_index text digits == 47 && list_all is_ascii_digit (take digits text))
 
--- what stands behind the version, all of the text where there is none
+-- what stands after the version, all of the text where there is none
 unfoldable pub without_version : List ℕ → List ℕ
 without_version text =
     if has_version 1 text then drop 2 text
@@ -28,7 +28,7 @@ is_slash b = b == 47
 unfoldable pub is_id : List ℕ → Bool
 is_id text = nat_lt 0 (length text) && not (list_any is_slash text)
 
--- a front, and an identifier behind it
+-- a prefix, and an identifier after it
 unfoldable pub is_front_and_id : List ℕ → List ℕ → Bool
 is_front_and_id front text =
     nat_le (length front) (length text) && (bytes_eq (take (length front) text) front && is_id (drop (length front) text))

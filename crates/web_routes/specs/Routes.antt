@@ -70,7 +70,7 @@ authority_of route.Unapprove = None
 authority_of route.Accept = None
 authority_of route.Unaccept = None
 
--- an identifier stands behind the name
+-- an identifier stands after the name
 abbrev pub takes_id : Route → Bool
 takes_id route.Query = false
 takes_id route.Check = true

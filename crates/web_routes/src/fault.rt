@@ -14,7 +14,7 @@ use std::alloc::{AllocError, AllocFailed, Global};
 pub enum RouteFault {
     /// Refused by a rule of routes, parameters, bodies or queries.
     Refused(Refusal),
-    /// Memory was wanting.
+    /// Memory ran out.
     Memory,
 }
 

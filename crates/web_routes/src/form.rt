@@ -1,5 +1,5 @@
 //! The forms of parameters.
-ghost use Rattle.std.specs.Prelude.{◌≡◌, ◌<◌, ◌≤◌, ◌^◌, true, false, codes, length, IfOk, IfSome};
+ghost use Rattle.std.specs.Prelude.{◌≡◌, ◌<◌, ◌≤◌, ◌^◌, ◌||◌, true, false, bytes_eq, codes, length, IfOk, IfSome};
 ghost use Rattle.std.specs.Char.{is_ascii_digit};
 ghost use Rattle.std.specs.List.{list_all};
 ghost use Rattle.std.specs.Option.{option_copied};
@@ -31,20 +31,26 @@ fn truth_of(text: &[u8]) -> Option<bool>
     None
 }
 
+fn is_either(text: &[u8], one: &[u8], other: &[u8]) -> bool
+    ensures { result ≡ (bytes_eq text.now one.now || bytes_eq text.now other.now) }
+{
+    text == one || text == other
+}
+
 #[tactic(auto, unfolding(crate::specs::Parameters::strategy_of))]
 fn strategy_of(text: &[u8]) -> Option<ImportStrategy>
     ensures { result ≡ strategy_of text.now }
 {
-    if text == b"CREATE".as_slice() || text == b"NEW".as_slice() {
+    if is_either(text, b"CREATE", b"NEW") {
         return Some(ImportStrategy::Create);
     }
-    if text == b"UPDATE".as_slice() || text == b"UPDATES".as_slice() {
+    if is_either(text, b"UPDATE", b"UPDATES") {
         return Some(ImportStrategy::Update);
     }
-    if text == b"CREATE_AND_UPDATE".as_slice() || text == b"NEW_AND_UPDATES".as_slice() {
+    if is_either(text, b"CREATE_AND_UPDATE", b"NEW_AND_UPDATES") {
         return Some(ImportStrategy::CreateAndUpdate);
     }
-    if text == b"DELETE".as_slice() || text == b"DELETES".as_slice() {
+    if is_either(text, b"DELETE", b"DELETES") {
         return Some(ImportStrategy::Delete);
     }
     None

@@ -11,7 +11,7 @@ pub(crate) fn all_digits(text: &[u8]) -> bool
     text.iter().all(|byte| byte.is_ascii_digit())
 }
 
-/// Whether so many digits stand at the front, and a slash behind them.
+/// Whether so many digits stand at the front, and a slash after them.
 #[tactic(auto, unfolding(crate::specs::Paths::has_version))]
 fn has_version(text: &[u8], digits: usize) -> bool
     ensures { result ≡ has_version digits text.now }
@@ -38,7 +38,7 @@ fn without_version(text: &[u8]) -> &[u8]
     text
 }
 
-/// What stands behind `/api/` and a version of one to three digits; `None` where the path begins otherwise.
+/// What stands after `/api/` and a version of one to three digits; `None` where the path begins otherwise.
 #[tactic(auto, unfolding(crate::specs::Paths::rest_of))]
 pub fn rest_of(path: &[u8]) -> Option<&[u8]>
     ensures { option_copied result ≡ rest_of path.now }
@@ -62,7 +62,7 @@ fn is_id(text: &[u8]) -> bool
     !text.is_empty() && !has_slash(text)
 }
 
-/// Whether the text is the front with an identifier behind it: one or more bytes without a slash.
+/// Whether the text is the front with an identifier after it: one or more bytes without a slash.
 #[tactic(auto, unfolding(crate::specs::Paths::is_front_and_id))]
 pub(crate) fn is_front_and_id(text: &[u8], front: &[u8]) -> bool
     ensures { result ≡ is_front_and_id front.now text.now }

@@ -5,7 +5,7 @@ use Rattle.std.proofs.Math.Seq.{drop-cons}
 use Rattle.std.proofs.Common.{get_or, Option, Some, None, suc}
 use Rattle.wire_head.specs.Lines.{empty_line, blank_length, head_length, shifted}
 
--- the first empty line, and those behind it
+-- the first empty line, and those after it
 pub blank_step : (bytes : List ℕ) → 0 < empty_line bytes → blank_length bytes ≡ empty_line bytes + blank_length (drop (empty_line bytes) bytes)
 blank_step [] some = absurd (omega arith)
 blank_step (b ∷ []) some =

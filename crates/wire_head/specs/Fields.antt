@@ -27,7 +27,7 @@ abbrev pub last_named : List ℕ → List Field → Option (List ℕ)
 last_named name [] = None
 last_named name (field ∷ fields) = or_else (last_named name fields) (cond (is_named name field) (Some field.1) None)
 
--- what stands before and behind a place, or all and nothing
+-- what stands before and after a place, or all and nothing
 abbrev pub before : Option ℕ → List ℕ → List ℕ
 before None text = text
 before (Some place) text = take place text
@@ -36,7 +36,7 @@ abbrev pub behind : Option ℕ → List ℕ → List ℕ
 behind None text = []
 behind (Some place) text = drop (place + 1) text
 
--- the path of a target, and its query behind the first question mark
+-- the path of a target, and its query after the first question mark
 unfoldable pub path_of : List ℕ → List ℕ
 path_of target = before (position (λ b. nat_eq b 63) target) target
 
@@ -80,7 +80,7 @@ names_other_media field = is_named (codes "content-type") field && not (is_json 
 unfoldable pub asks_to_close : Field → Bool
 asks_to_close field = is_named (codes "connection") field && str_eq_ignore_ascii_case field.1 (codes "close")
 
--- the text behind `ApiToken ` in any case
+-- the text after `ApiToken ` in any case
 unfoldable pub token_in : List ℕ → Option (List ℕ)
 token_in value = cond (nat_le 9 (length value) && str_eq_ignore_ascii_case (take 9 value) (codes "ApiToken ")) (Some (drop 9 value)) None
 

@@ -61,7 +61,7 @@ IsMeantBy false bytes meant = (parts : Option Parts) × IsRead bytes parts × (m
 abbrev pub Says : List ℕ → Result Head Code → Type 0
 Says bytes meant = IsMeantBy (nat_lt 64 (field_lines bytes)) bytes meant
 
--- the answer is what is meant, or memory was wanting
+-- the answer is what is meant, or memory ran out
 abbrev pub Answers : Result Head HeadFault → (Result Head Code → Type 0) → Type 0
 Answers (Ok head) Meant = Meant (Ok head)
 Answers (Err (Refused code)) Meant = Meant (Err code)

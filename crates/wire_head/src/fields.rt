@@ -80,7 +80,7 @@ pub fn path(target: &[u8]) -> &[u8]
     before(target, b'?')
 }
 
-/// The query of a target, behind the first question mark.
+/// The query of a target, after the first question mark.
 #[tactic(auto, unfolding(crate::specs::Fields::query_of))]
 pub fn query(target: &[u8]) -> &[u8]
     ensures { result.now ≡ query_of target.now }
@@ -179,7 +179,7 @@ fn asks_to_close(header: &Header) -> bool
     is_named(header, b"connection") && same_text(header.value, b"close")
 }
 
-// The text behind `ApiToken `.
+// The text after `ApiToken `.
 #[tactic(auto, unfolding(crate::specs::Fields::token_in))]
 fn token_in(value: &[u8]) -> Option<&[u8]>
     ensures { option_map (λ token. token.now) result ≡ token_in value.now }
@@ -214,7 +214,7 @@ fn has_close(headers: &[Header]) -> bool
     false
 }
 
-/// Whether the connection is kept behind the reply to a request of HTTP/1.`minor`.
+/// Whether the connection is kept after the reply to a request of HTTP/1.`minor`.
 #[tactic(auto, unfolding(crate::specs::Fields::is_kept))]
 pub fn is_kept(minor: u8, headers: &[Header]) -> bool
     ensures { result ≡ is_kept minor (map header_parts headers.now) }

@@ -22,13 +22,13 @@ pub struct Head {
     pub method: Items<u8>,
     /// The target up to the first question mark.
     pub path: Items<u8>,
-    /// The target behind it.
+    /// The target after it.
     pub query: Items<u8>,
-    /// The text of the one `Authorization` behind `ApiToken `.
+    /// The text of the one `Authorization` after `ApiToken `.
     pub token: Option<Items<u8>>,
     /// The value of the last `X-Min-Change`.
     pub asked: Option<Items<u8>>,
-    /// Whether the connection goes on behind the reply.
+    /// Whether the connection goes on after the reply.
     pub keep: bool,
     /// The body that is announced.
     pub plan: Plan,

@@ -63,7 +63,7 @@ fn line_behind(bytes: &[u8], at: usize) -> usize
     }
 }
 
-// How many bytes the head at the front has. It is known to end behind no earlier line than one that begins at `from`.
+// How many bytes the head at the front has. It is known to end after no earlier line than one that begins at `from`.
 fn head_length(bytes: &[u8], from: usize) -> Option<usize>
     requires { head_length bytes.now ≡ shifted from (head_length (drop from bytes.now)) }
     ensures { result ≡ head_length bytes.now }

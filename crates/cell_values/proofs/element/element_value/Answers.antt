@@ -1,4 +1,4 @@
-use Rattle.std.proofs.Common.{◌≡◌, ◌≤◌, ◌∙◌, List, ℕ, length, sym, ap, subst, arith}
+use Rattle.std.proofs.Common.{◌≡◌, ◌≤◌, ◌∙◌, List, ℕ, length, map, sym, ap, subst, arith}
 use Rattle.std.specs.Prelude.{IfOk}
 use Rattle.std.specs.List.{filter}
 use Rattle.std.proofs.lemmas.Bool.{leb-true}
@@ -6,10 +6,12 @@ use Rattle.table_rows.specs.Cells.{gathered}
 use Rattle.table_rows.specs.Groups.{groups_of}
 use Rattle.table_rows.specs.Sums.{sum_over}
 use Rattle.table_rows.proofs.StoreLemmas.{store-holds, true_from}
+use Rattle.agg_types.specs.RowSamples.{sample_of}
 use Rattle.seen_rows.specs.Held.{AreSeenOrders}
 use Rattle.seen_rows.specs.Seen.{need_for}
-use Rattle.cell_values.specs.Parts.{is_group_asked, group_sum, ranged_rows, value_in}
+use Rattle.cell_values.specs.Parts.{is_group_asked, group_sum, ranged_rows, value_in, HaveOwnKeys}
 use Rattle.cell_values.proofs.GlueLemmas.{element-value, gathered-few}
+use Rattle.cell_values.proofs.OwnKeyLemmas.{own-samples}
 use Rattle.cell_values.proofs.PartLemmas.{groups_sum-few}
 use Rattle.cell_values.proofs.element.element_value.Goals as goal
 
@@ -40,6 +42,16 @@ value_in-requires-clause-found g c =
     let short = gathered-few c.args.element t c.need_for-need.result c.parts.result.now rows holds.rows_rise c.parts.ensures.apart in
     subst (λ gs. length (gathered (ranged_rows rows c.need_for-need.result c.parts.result.now) gs) ≤ 4194304)
     (sym (c.deref.ensures.value ∙ c.in_ok-groups.ensures.groups)) (omega (arith, short, few))
+
+pub value_in-requires-clause-own_keys : goal.value_in-requires-clause-own_keys
+value_in-requires-clause-own_keys g c =
+    let s = c.args.store.now in
+    let rows = g.S.RowStore.rows s in
+    let holds = store-holds rows (g.S.RowStore.events s) (g.S.RowStore.regs s) (g.S.RowStore.built s) (true_from _ c.asked_groups.ensures.store) in
+    let t = is_group_asked c.args.meta.now c.args.seer.now.user c.args.combo c.args.attribute c.args.periods.now in
+    subst (λ gs. HaveOwnKeys (map sample_of (gathered (ranged_rows rows c.need_for-need.result c.parts.result.now) gs)))
+    (sym (c.deref.ensures.value ∙ c.in_ok-groups.ensures.groups))
+    (own-samples c.args.element t c.need_for-need.result c.parts.result.now rows holds.rows_rise c.parts.ensures.apart holds.own_places)
 
 pub returns : goal.returns
 returns g c =

@@ -3,6 +3,7 @@ use Rattle.std.specs.List.{list_all}
 use Rattle.std.specs.Arc.{arc_value}
 use Rattle.table_build.specs.Log.{is_of_days}
 use Rattle.table_build.specs.Listed.{listed_in}
+use Rattle.table_rows.specs.Store.{contents_in}
 use Rattle.engine.specs.Tables.{tables_of}
 use Rattle.engine.proofs.Days.{all-of-days, writes-are}
 use Rattle.engine.proofs.tables.tables_of.Goals as goal
@@ -17,4 +18,4 @@ build-requires c =
 
 pub returns : goal.returns
 unfolding tables_of
-returns c = c.in_ok-new.ensures.ok ∙ c.in_ok-rows.ensures ∙ ap (listed_in c.args.meta.now) (writes-are (map arc_value c.args.changes.now))
+returns c = ap contents_in (c.in_ok-new.ensures.ok ∙ c.in_ok-store.ensures ∙ ap (listed_in c.args.meta.now) (writes-are (map arc_value c.args.changes.now)))

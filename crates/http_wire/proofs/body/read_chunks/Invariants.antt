@@ -1,11 +1,13 @@
 use Rattle.std.proofs.Common.{◌≡◌, ◌≤◌, ◌-◌, ◌^◌, length, drop}
-use Rattle.dh_outside.specs.Pieces.{Gains}
+use Rattle.wire_head.specs.declared.plan.Plan.TheVariants.{Chunked}
+use Rattle.http_wire.specs.Reads.{Gathers, IsWaiting}
 use Rattle.http_wire.specs.Chunks.{run, at_first, IsSound}
 use Rattle.http_wire.proofs.body.read_chunks.Given as goal
 
 abbrev pub invariant-loop-chunks : goal.invariant-loop-chunks
 invariant-loop-chunks g l = record {
-  gains : Gains (g.S.Source.left l.initial.source) (g.S.Source.left l.source) l.initial.bytes.items l.bytes.items l.initial.read l.read;
+  gains : Gathers (IsWaiting l.end Chunked) (g.S.Source.left l.initial.source) (g.S.Source.left l.source)
+      (g.S.Source.source_talk l.initial.source) (g.S.Source.source_talk l.source) l.initial.bytes.items l.bytes.items l.initial.read l.read;
   runs : run at_first (drop l.end l.bytes.items) ≡ run l.chunks (drop l.at l.bytes.items);
   sound : IsSound l.chunks.place;
   within : l.end ≤ length l.bytes.items;

@@ -1,12 +1,11 @@
-use Rattle.std.proofs.Common.{◌≡◌, ◌∙◌, inl, inr, ap, sym, arith, Ok}
-use Rattle.wire_head.specs.Lines.{opening_of}
+use Rattle.std.proofs.Common.{◌∙◌, inl, inr, ap, sym, arith, Ok}
 use Rattle.http_wire.proofs.OpeningLaws.{passed_none}
 use Rattle.http_wire.proofs.FrontLemmas.{skims_none, skims_skipped, skims_more, front_skipped, front_same, passed_on}
 use Rattle.http_wire.proofs.front.find_head.Goals as goal
 
 pub loop-end-init : goal.loop-end-init
 loop-end-init g c = record {
-  skims = skims_none (g.S.Source.left c.args.source.now) c.args.bytes.now.items c.args.read.now;
+  skims = skims_none (g.S.Source.left c.args.source.now) (g.S.Source.source_talk c.args.source.now) c.args.bytes.now.items c.args.read.now;
   passed = passed_none c.args.bytes.now.items;
   bound = omega arith;
   keeps = omega arith;
@@ -26,7 +25,8 @@ returns-in-TooLong-clause-front g c = front_skipped c.loop-end.bytes.items c.loo
 
 pub returns-in_err-take_more-in-Nothing-clause-skims : goal.returns-in_err-take_more-in-Nothing-clause-skims
 returns-in_err-take_more-in-Nothing-clause-skims g c =
-    skims_more (skims_skipped c.look.new.bytes.items c.loop-end.invariant.skims c.look.ensures.skipped) c.take_more.ensures.gains
+    skims_more (skims_skipped c.look.new.bytes.items c.loop-end.invariant.skims c.look.ensures.skipped)
+    (front_skipped c.loop-end.bytes.items c.look.new.bytes.items c.look.ensures.skipped) (inl (sym c.look.ensures.opening ∙ c.in-Nothing.is)) c.take_more.ensures.gains
 
 pub returns-in_err-take_more-in-Nothing-clause-front : goal.returns-in_err-take_more-in-Nothing-clause-front
 returns-in_err-take_more-in-Nothing-clause-front g c =
@@ -34,11 +34,13 @@ returns-in_err-take_more-in-Nothing-clause-front g c =
 
 pub returns-then-not-branch-clause-skims : goal.returns-then-not-branch-clause-skims
 returns-then-not-branch-clause-skims g c =
-    skims_more (skims_skipped c.look.new.bytes.items c.loop-end.invariant.skims c.look.ensures.skipped) c.take_more.ensures.gains
+    skims_more (skims_skipped c.look.new.bytes.items c.loop-end.invariant.skims c.look.ensures.skipped)
+    (front_skipped c.loop-end.bytes.items c.look.new.bytes.items c.look.ensures.skipped) (inl (sym c.look.ensures.opening ∙ c.in-Nothing.is)) c.take_more.ensures.gains
 
 pub loop-end-preserved-else-not-branch : goal.loop-end-preserved-else-not-branch
 loop-end-preserved-else-not-branch g c = record {
-  skims = skims_more (skims_skipped c.look.new.bytes.items c.loop-end.invariant.skims c.look.ensures.skipped) c.take_more.ensures.gains;
+  skims = skims_more (skims_skipped c.look.new.bytes.items c.loop-end.invariant.skims c.look.ensures.skipped)
+      (front_skipped c.loop-end.bytes.items c.look.new.bytes.items c.look.ensures.skipped) (inl (sym c.look.ensures.opening ∙ c.in-Nothing.is)) c.take_more.ensures.gains;
   passed = passed_on c.look.new.bytes.items c.take_more.new.bytes.items c.take_more.ensures.gains.taken c.look.new.from
       (inl (sym c.look.ensures.opening ∙ c.in-Nothing.is)) c.look.ensures.from c.take_more.ensures.gains.behind;
   bound = c.take_more.ensures.bound;
@@ -47,7 +49,8 @@ loop-end-preserved-else-not-branch g c = record {
 
 pub returns-in_err-take_more-in-Unfinished-clause-skims : goal.returns-in_err-take_more-in-Unfinished-clause-skims
 returns-in_err-take_more-in-Unfinished-clause-skims g c =
-    skims_more (skims_skipped c.look.new.bytes.items c.loop-end.invariant.skims c.look.ensures.skipped) c.take_more-in-Unfinished.ensures.gains
+    skims_more (skims_skipped c.look.new.bytes.items c.loop-end.invariant.skims c.look.ensures.skipped)
+    (front_skipped c.loop-end.bytes.items c.look.new.bytes.items c.look.ensures.skipped) (inr (sym c.look.ensures.opening ∙ c.in-Unfinished.is)) c.take_more-in-Unfinished.ensures.gains
 
 pub returns-in_err-take_more-in-Unfinished-clause-front : goal.returns-in_err-take_more-in-Unfinished-clause-front
 returns-in_err-take_more-in-Unfinished-clause-front g c =
@@ -55,7 +58,8 @@ returns-in_err-take_more-in-Unfinished-clause-front g c =
 
 pub returns-then-not-branch-2-clause-skims : goal.returns-then-not-branch-2-clause-skims
 returns-then-not-branch-2-clause-skims g c =
-    skims_more (skims_skipped c.look.new.bytes.items c.loop-end.invariant.skims c.look.ensures.skipped) c.take_more-in-Unfinished.ensures.gains
+    skims_more (skims_skipped c.look.new.bytes.items c.loop-end.invariant.skims c.look.ensures.skipped)
+    (front_skipped c.loop-end.bytes.items c.look.new.bytes.items c.look.ensures.skipped) (inr (sym c.look.ensures.opening ∙ c.in-Unfinished.is)) c.take_more-in-Unfinished.ensures.gains
 
 pub returns-then-not-branch-2-clause-front : goal.returns-then-not-branch-2-clause-front
 returns-then-not-branch-2-clause-front g c =
@@ -64,7 +68,8 @@ returns-then-not-branch-2-clause-front g c =
 
 pub loop-end-preserved : goal.loop-end-preserved
 loop-end-preserved g c = record {
-  skims = skims_more (skims_skipped c.look.new.bytes.items c.loop-end.invariant.skims c.look.ensures.skipped) c.take_more-in-Unfinished.ensures.gains;
+  skims = skims_more (skims_skipped c.look.new.bytes.items c.loop-end.invariant.skims c.look.ensures.skipped)
+      (front_skipped c.loop-end.bytes.items c.look.new.bytes.items c.look.ensures.skipped) (inr (sym c.look.ensures.opening ∙ c.in-Unfinished.is)) c.take_more-in-Unfinished.ensures.gains;
   passed = passed_on c.look.new.bytes.items c.take_more-in-Unfinished.new.bytes.items c.take_more-in-Unfinished.ensures.gains.taken c.look.new.from
       (inr (sym c.look.ensures.opening ∙ c.in-Unfinished.is)) c.look.ensures.from c.take_more-in-Unfinished.ensures.gains.behind;
   bound = c.take_more-in-Unfinished.ensures.bound;

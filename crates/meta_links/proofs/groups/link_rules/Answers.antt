@@ -12,10 +12,10 @@ use Rattle.meta_links.proofs.groups.link_rules.Goals as goal
 pub returns-clause-told : goal.returns-clause-told
 unfolding rules_references
 returns-clause-told c =
-    (c.in_ok-tracked_entity_attributes.ensures.told
-    ∙ ap (λ m. after c.args.ids.now m (flat_map attribute_references c.args.parts.now.tracked_entity_attributes)) (c.in_ok-tracked_entity_types.ensures.told
-    ∙ ap (λ m. after c.args.ids.now m (flat_map entity_type_references c.args.parts.now.tracked_entity_types)) (c.in_ok-validation_rules.ensures.told
-    ∙ ap (λ m. after c.args.ids.now m (flat_map rule_references c.args.parts.now.validation_rules)) c.in_ok-indicators.ensures.told
+    (c.in_ok-all.ensures.told
+    ∙ ap (λ m. after c.args.ids.now m (flat_map attribute_references c.args.parts.now.tracked_entity_attributes)) (c.in_ok-three.ensures.told
+    ∙ ap (λ m. after c.args.ids.now m (flat_map entity_type_references c.args.parts.now.tracked_entity_types)) (c.in_ok-two.ensures.told
+    ∙ ap (λ m. after c.args.ids.now m (flat_map rule_references c.args.parts.now.validation_rules)) c.in_ok-one.ensures.told
     ∙ sym (after_append c.args.ids.now c.args.unknown.now (flat_map indicator_references c.args.parts.now.indicators) (flat_map rule_references c.args.parts.now.validation_rules)))
     ∙ sym (after_append c.args.ids.now c.args.unknown.now ((flat_map indicator_references c.args.parts.now.indicators) ++ (flat_map rule_references c.args.parts.now.validation_rules)) (flat_map entity_type_references c.args.parts.now.tracked_entity_types)))
     ∙ sym (after_append c.args.ids.now c.args.unknown.now ((flat_map indicator_references c.args.parts.now.indicators) ++ (flat_map rule_references c.args.parts.now.validation_rules) ++ (flat_map entity_type_references c.args.parts.now.tracked_entity_types)) (flat_map attribute_references c.args.parts.now.tracked_entity_attributes)))

@@ -12,10 +12,10 @@ use Rattle.meta_links.proofs.groups.link_sets.Goals as goal
 pub returns-clause-told : goal.returns-clause-told
 unfolding sets_references
 returns-clause-told c =
-    (c.in_ok-indicator_types.ensures.told
-    ∙ ap (λ m. after c.args.ids.now m (flat_map indicator_type_references c.args.parts.now.indicator_types)) (c.in_ok-constants.ensures.told
-    ∙ ap (λ m. after c.args.ids.now m (flat_map constant_references c.args.parts.now.constants)) (c.in_ok-data_sets.ensures.told
-    ∙ ap (λ m. after c.args.ids.now m (flat_map data_set_references c.args.parts.now.data_sets)) c.in_ok-data_approval_workflows.ensures.told
+    (c.in_ok-all.ensures.told
+    ∙ ap (λ m. after c.args.ids.now m (flat_map indicator_type_references c.args.parts.now.indicator_types)) (c.in_ok-three.ensures.told
+    ∙ ap (λ m. after c.args.ids.now m (flat_map constant_references c.args.parts.now.constants)) (c.in_ok-two.ensures.told
+    ∙ ap (λ m. after c.args.ids.now m (flat_map data_set_references c.args.parts.now.data_sets)) c.in_ok-one.ensures.told
     ∙ sym (after_append c.args.ids.now c.args.unknown.now (flat_map workflow_references c.args.parts.now.data_approval_workflows) (flat_map data_set_references c.args.parts.now.data_sets)))
     ∙ sym (after_append c.args.ids.now c.args.unknown.now ((flat_map workflow_references c.args.parts.now.data_approval_workflows) ++ (flat_map data_set_references c.args.parts.now.data_sets)) (flat_map constant_references c.args.parts.now.constants)))
     ∙ sym (after_append c.args.ids.now c.args.unknown.now ((flat_map workflow_references c.args.parts.now.data_approval_workflows) ++ (flat_map data_set_references c.args.parts.now.data_sets) ++ (flat_map constant_references c.args.parts.now.constants)) (flat_map indicator_type_references c.args.parts.now.indicator_types)))

@@ -12,10 +12,10 @@ use Rattle.meta_links.proofs.groups.link_units.Goals as goal
 pub returns-clause-told : goal.returns-clause-told
 unfolding units_references
 returns-clause-told c =
-    (c.in_ok-categories.ensures.told
-    ∙ ap (λ m. after c.args.ids.now m (flat_map category_references c.args.parts.now.categories)) (c.in_ok-category_options.ensures.told
-    ∙ ap (λ m. after c.args.ids.now m (flat_map category_option_references c.args.parts.now.category_options)) (c.in_ok-organisation_unit_groups.ensures.told
-    ∙ ap (λ m. after c.args.ids.now m (flat_map unit_group_references c.args.parts.now.organisation_unit_groups)) c.in_ok-organisation_units.ensures.told
+    (c.in_ok-all.ensures.told
+    ∙ ap (λ m. after c.args.ids.now m (flat_map category_references c.args.parts.now.categories)) (c.in_ok-three.ensures.told
+    ∙ ap (λ m. after c.args.ids.now m (flat_map category_option_references c.args.parts.now.category_options)) (c.in_ok-two.ensures.told
+    ∙ ap (λ m. after c.args.ids.now m (flat_map unit_group_references c.args.parts.now.organisation_unit_groups)) c.in_ok-one.ensures.told
     ∙ sym (after_append c.args.ids.now c.args.unknown.now (flat_map unit_references c.args.parts.now.organisation_units) (flat_map unit_group_references c.args.parts.now.organisation_unit_groups)))
     ∙ sym (after_append c.args.ids.now c.args.unknown.now ((flat_map unit_references c.args.parts.now.organisation_units) ++ (flat_map unit_group_references c.args.parts.now.organisation_unit_groups)) (flat_map category_option_references c.args.parts.now.category_options)))
     ∙ sym (after_append c.args.ids.now c.args.unknown.now ((flat_map unit_references c.args.parts.now.organisation_units) ++ (flat_map unit_group_references c.args.parts.now.organisation_unit_groups) ++ (flat_map category_option_references c.args.parts.now.category_options)) (flat_map category_references c.args.parts.now.categories)))

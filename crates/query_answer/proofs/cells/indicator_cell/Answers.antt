@@ -3,7 +3,7 @@ use Rattle.dh_base.specs.Fractions.{Fraction}
 use Rattle.expr_lang.specs.declared.tree.Item.{Item}
 use Rattle.expr_lang.specs.Expr.{items_in}
 use Rattle.indicator_values.specs.Value.{indicator_value_of}
-use Rattle.seen_rows.specs.Seen.{seen}
+use Rattle.seen_rows.specs.Seen.{seen_of, contents_of}
 use Rattle.cell_values.specs.Items.{item_value_of}
 use Rattle.query_answer.specs.Cells.{indicator_cell}
 use Rattle.query_answer.proofs.cells.indicator_cell.Goals as goal
@@ -13,7 +13,7 @@ unfolding indicator_cell
 returns g c =
     let r = c.args.meta.now in
     let indicator = c.args.indicator.now in
-    let value : Item → Option Fraction = λ item. item_value_of r (seen r c.args.seer.now.user (g.S.RowStore.rows c.args.store.now)) item c.args.periods.now c.args.units.now false in
+    let value : Item → Option Fraction = λ item. item_value_of r (seen_of r c.args.seer.now.user (contents_of (g.S.RowStore.rows c.args.store.now) (g.S.RowStore.events c.args.store.now) (g.S.RowStore.regs c.args.store.now))) item c.args.periods.now c.args.units.now false in
     let over : c.as_slice.result.now ≡ map value (items_in indicator.numerator) =
     c.as_slice.ensures.value ∙ c.in_ok-over.ensures ∙ ap (map value) c.items-numerator.ensures in
     let under : c.as_slice-2.result.now ≡ map value (items_in indicator.denominator) =

@@ -1,8 +1,8 @@
 use Rattle.std.proofs.Common.{◌≡◌, take, map, false}
-use Rattle.seen_rows.specs.Seen.{seen}
+use Rattle.seen_rows.specs.Seen.{seen_of, contents_of}
 use Rattle.cell_values.specs.Items.{item_value_of}
 use Rattle.query_answer.proofs.cells.item_values.Given as goal
 
 abbrev pub invariant-loop-item : goal.invariant-loop-item
 invariant-loop-item g l =
-    l.values.items ≡ map (λ item. item_value_of l.meta (seen l.meta l.seer.user (g.S.RowStore.rows l.store)) item l.periods l.units false) (take l.item-index l.items)
+    l.values.items ≡ map (λ item. item_value_of l.meta (seen_of l.meta l.seer.user (contents_of (g.S.RowStore.rows l.store) (g.S.RowStore.events l.store) (g.S.RowStore.regs l.store))) item l.periods l.units false) (take l.item-index l.items)

@@ -3,14 +3,14 @@ use Rattle.std.specs.List.{find, list_any}
 use Rattle.std.specs.Option.{option_map}
 use Rattle.std.proofs.lemmas.List.{take_all}
 use Rattle.query_forms.specs.declared.plain.Dx.{Dx}
-use Rattle.seen_rows.specs.Seen.{seen}
+use Rattle.seen_rows.specs.Seen.{seen_of, contents_of}
 use Rattle.query_answer.specs.Rows.{dx_is_wide}
 use Rattle.query_answer.proofs.LoopLemmas.{find_at, find_none}
 use Rattle.query_answer.proofs.rows.write_rows.Goals as goal
 
 pub returns-then-branch-clause-wide : goal.returns-then-branch-clause-wide
 returns-then-branch-clause-wide g c =
-    let test = dx_is_wide c.args.meta.now (seen c.args.meta.now c.args.seer.now.user (g.S.RowStore.rows c.args.store.now)) c.args.query.now in
+    let test = dx_is_wide c.args.meta.now (seen_of c.args.meta.now c.args.seer.now.user (contents_of (g.S.RowStore.rows c.args.store.now) (g.S.RowStore.events c.args.store.now) (g.S.RowStore.regs c.args.store.now))) c.args.query.now in
     let items : List Dx = c.as_slice-items.result.now in
     let x : Dx = c.index-items-place.result in
     let within : c.loop-place.place < length items = omega arith in
@@ -21,7 +21,7 @@ returns-then-branch-clause-wide g c =
 
 pub returns-clause-wide : goal.returns-clause-wide
 returns-clause-wide g c =
-    let test = dx_is_wide c.args.meta.now (seen c.args.meta.now c.args.seer.now.user (g.S.RowStore.rows c.args.store.now)) c.args.query.now in
+    let test = dx_is_wide c.args.meta.now (seen_of c.args.meta.now c.args.seer.now.user (contents_of (g.S.RowStore.rows c.args.store.now) (g.S.RowStore.events c.args.store.now) (g.S.RowStore.regs c.args.store.now))) c.args.query.now in
     let items : List Dx = c.as_slice-items.result.now in
     let all : take c.loop-place.place items ≡ items = take_all c.loop-place.place items (omega arith) in
     let none : list_any test items ≡ false = ap (list_any test) (sym all) ∙ c.loop-place.invariant.none in

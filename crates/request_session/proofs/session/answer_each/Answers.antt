@@ -1,16 +1,16 @@
-use Rattle.std.proofs.Common.{rules, ◌≡◌, ◌≢◌, ◌+◌, true, false, refl, arith}
-use Rattle.request_session.proofs.SessionLemmas.{bound_of, goes_on, closes, at_limit, stopped}
+use Rattle.std.proofs.Common.{rules, ◌∙◌, ◌≡◌, ◌≢◌, ◌+◌, true, false, refl, arith}
+use Rattle.request_session.proofs.SessionLemmas.{bound_of, prompt, goes_on, closes, at_limit, stopped}
 use Rattle.request_session.proofs.session.answer_each.Goals as goal
 
 pub returns-then-served-most-clause-ran : goal.returns-then-served-most-clause-ran
 returns-then-served-most-clause-ran g c =
-    at_limit _ _ _ _ _ _ _ _ _ _ _ _ _ _ c.in-Answered.keep c.loop-keep.invariant.0 c.in-Answered.ensures.turns (bound_of c.rest.view_is c.rest.invariant) c.if-served-most.true
+    at_limit _ _ _ _ _ _ _ _ _ _ _ _ _ _ _ _ _ c.in-Answered.keep c.loop-keep.invariant.0 c.in-Answered.ensures.turns (bound_of c.rest.view_is c.rest.invariant) c.if-served-most.true
 
 pub returns-then-not-keep-clause-ran : goal.returns-then-not-keep-clause-ran
 returns-then-not-keep-clause-ran g c =
     let other : c.loop-keep.served + 1 ≢ c.args.most = search rules in
     let asks : c.in-Answered.keep ≡ false = search rules in
-    closes _ _ _ _ _ _ _ _ _ _ _ _ _ _ c.in-Answered.keep c.loop-keep.invariant.0 c.in-Answered.ensures.turns (bound_of c.rest.view_is c.rest.invariant) c.loop-keep.invariant.1 other asks
+    closes _ _ _ _ _ _ _ _ _ _ _ _ _ _ _ _ _ c.in-Answered.keep c.loop-keep.invariant.0 c.in-Answered.ensures.turns (bound_of c.rest.view_is c.rest.invariant) c.loop-keep.invariant.1 other asks
 
 pub loop-keep-preserved : goal.loop-keep-preserved
 loop-keep-preserved g c =
@@ -19,13 +19,23 @@ loop-keep-preserved g c =
     let below = c.loop-keep.invariant.1 in
     let inputs = c.loop-keep.invariant.3 in
     let outputs = c.loop-keep.invariant.4 in (
-      goes_on _ _ _ _ _ _ _ _ _ _ _ _ _ _ c.in-Answered.keep c.loop-keep.invariant.0 c.in-Answered.ensures.turns c.loop-keep.invariant.1 other kept,
+      goes_on _ _ _ _ _ _ _ _ _ _ _ _ _ _ _ _ _ c.in-Answered.keep c.loop-keep.invariant.0 c.in-Answered.ensures.turns c.loop-keep.invariant.1 other kept,
       omega (arith, below, other),
       refl,
-      omega (arith, inputs, c.turn.ensures.input),
-      omega (arith, outputs, c.turn.ensures.output),
+      omega (arith, inputs, c.turn.ensures.reading),
+      omega (arith, outputs, c.turn.ensures.writing),
+      c.turn.ensures.lends ∙ c.loop-keep.invariant.5,
     )
 
 pub returns-in-Stopped-clause-ran : goal.returns-in-Stopped-clause-ran
 returns-in-Stopped-clause-ran g c =
-    stopped _ _ _ _ _ _ _ _ _ _ _ _ _ _ c.in-Stopped.ended c.loop-keep.invariant.0 c.in-Stopped.ensures.turns (bound_of c.rest.view_is c.rest.invariant)
+    stopped _ _ _ _ _ _ _ _ _ _ _ _ _ _ _ _ _ c.in-Stopped.ended c.loop-keep.invariant.0 c.in-Stopped.ensures.turns (bound_of c.rest.view_is c.rest.invariant)
+
+pub returns-then-served-most-clause-prompt : goal.returns-then-served-most-clause-prompt
+returns-then-served-most-clause-prompt g c = prompt _ _ _ _ _ _ _ _ _ _ _ _ _ _ _ _ _ c.loop-keep.invariant.0 c.in-Answered.ensures.turns
+
+pub returns-then-not-keep-clause-prompt : goal.returns-then-not-keep-clause-prompt
+returns-then-not-keep-clause-prompt g c = prompt _ _ _ _ _ _ _ _ _ _ _ _ _ _ _ _ _ c.loop-keep.invariant.0 c.in-Answered.ensures.turns
+
+pub returns-in-Stopped-clause-prompt : goal.returns-in-Stopped-clause-prompt
+returns-in-Stopped-clause-prompt g c = prompt _ _ _ _ _ _ _ _ _ _ _ _ _ _ _ _ _ c.loop-keep.invariant.0 c.in-Stopped.ensures.turns

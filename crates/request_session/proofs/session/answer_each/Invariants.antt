@@ -4,9 +4,10 @@ use Rattle.request_session.proofs.session.answer_each.Given as goal
 
 abbrev pub invariant-loop-keep : goal.invariant-loop-keep
 invariant-loop-keep g l =
-    SoFar g.M.Machine.step l.fn.most (g.S.Source.left l.fn.input) (g.S.Source.left l.input) (g.O.Sink.written l.fn.output) (g.O.Sink.written l.output) l.rest l.fn.machine l.machine l.served
-    × (l.served < l.most) × (l.most ≡ l.fn.most) × (g.S.Source.source_faults l.fn.input ≤ g.S.Source.source_faults l.input)
-    × (g.O.Sink.sink_faults l.fn.output ≤ g.O.Sink.sink_faults l.output)
+    SoFar g.M.Machine.step l.fn.most (g.P.Peer.left l.fn.peer) (g.P.Peer.left l.peer) (g.P.Peer.talk l.fn.peer) (g.P.Peer.talk l.peer)
+    (g.P.Peer.written l.fn.peer) (g.P.Peer.written l.peer) l.rest l.fn.machine l.machine l.served
+    × (l.served < l.most) × (l.most ≡ l.fn.most) × (g.P.Peer.read_faults l.fn.peer ≤ g.P.Peer.read_faults l.peer)
+    × (g.P.Peer.write_faults l.fn.peer ≤ g.P.Peer.write_faults l.peer) × (g.P.Peer.lends l.peer ≡ g.P.Peer.lends l.fn.peer)
 
 abbrev pub decreases-loop-keep : goal.decreases-loop-keep
 decreases-loop-keep g l = l.most - l.served

@@ -1,0 +1,20 @@
+-- A turn, from what was read and what came of it.
+use Rattle.std.proofs.Common.{◌≡◌, ℕ, Bool, List, Option, Result, sym, subst}
+use Rattle.dh_outside.specs.Talk.{Talk}
+use Rattle.http_wire.specs.Reads.{RestSeen, Reads}
+use Rattle.http_wire.specs.declared.request.Request.{Request}
+use Rattle.http_wire.specs.declared.request.WireFault.{WireFault}
+use Rattle.request_session.specs.Turn.{Turns, Follows, Speaks}
+use Rattle.request_session.specs.declared.ended.Turn.{Turn}
+
+pub turns_by : {M : Type 0} (step : M → Request → Bool → List ℕ → M → Type 0) (more : Bool) {left mid left' : Option (List ℕ)} {talk heard talk' : Option Talk}
+    {held held' : RestSeen} {written middle written' : Option (List ℕ)} {old new : M} (answer : Result (Option Request) WireFault) (turn : Turn)
+    → Reads left mid talk heard held held' answer → middle ≡ written → left' ≡ mid → Follows step more middle written' heard talk' old new answer turn → Speaks heard talk'
+    → Turns step more left left' talk talk' held held' written written' old new turn
+turns_by step more {left} {mid} {left'} {talk} {heard} {talk'} {held} {held'} {written} {middle} {written'} {old} {new} answer turn reads unwritten unread follows speaks = record {
+  answer = answer;
+  heard = heard;
+  reads = subst (λ l. Reads left l talk heard held held' answer) (sym unread) reads;
+  follows = subst (λ w. Follows step more w written' heard talk' old new answer turn) unwritten follows;
+  speaks = speaks;
+}
