@@ -6,7 +6,7 @@ ghost use Rattle.meta_reader.specs.Faults.{fault_of};
 ghost use Rattle.json_read.specs.Forms.{Formed};
 ghost use Rattle.json_read.specs.Given.{Gives};
 ghost use Rattle.dh_periods.specs.Moment.{day_of};
-ghost use Rattle.engine.specs.InMemory.{started};
+ghost use Rattle.engine.specs.InMemory.{started, Loads};
 ghost use Rattle.engine.specs.Tables.{tables_of};
 ghost use Rattle.query_answer.specs.Answer.{answer_of};
 ghost use Rattle.query_answer.specs.Asked.{CanAnswer};
@@ -14,6 +14,7 @@ ghost use Rattle.query_lang.specs.Query.{query_of};
 ghost use Rattle.table_rows.specs.Store.{contents_in};
 ghost use Rattle.seen_rows.specs.Seen.{seen_of};
 ghost use Rattle.value_forms.specs.declared.set.SetValue.{SetValue as Given};
+ghost use Rattle.bundle_reply.specs.Load.{asked_for};
 ghost use Rattle.bundle_reply.specs.Reply.{answer_reply};
 ghost use Rattle.bundle_reply.specs.Answer.{reply_to_query, reply_by_status, reply_to_load, user_named, reply_by_user, reply_with_values};
 ghost use Rattle.bundle_reply.specs.Bytes.{asked, IsOverParts};
@@ -21,7 +22,7 @@ ghost use Rattle.bundle_reply.specs.Bytes.{asked, IsOverParts};
 use crate::bytes::Forms;
 use crate::load::request_of;
 use crate::reply::{Reply, answered, data_refused, meta_refused, query_refused, refusal};
-use dh_base::codes::Code;
+use dh_base::codes::{Code, Refusal};
 use dh_base::items::Items;
 use dh_base::memory::Memory;
 use dh_base::uid::Uid;
@@ -130,6 +131,22 @@ fn reply_by_report(
     }
 }
 
+// Brings the values to the engine. They are let go of here.
+fn load_values(
+    alloc: Global,
+    engine: &mut Engine<Unkept>,
+    moment: i64,
+    values: Items<SetValue>,
+) -> Result<Result<Report, Refusal>, Memory>
+    requires { engine.old.faults ≡ 0 }
+    ensures { Loads engine.old (asked_for moment values) result engine.new }
+{
+    let request = request_of(values);
+    let found = load(alloc, engine, moment, &request);
+    drop(request);
+    found
+}
+
 // The reply over an engine without a change, to which the values are brought.
 #[tactic(auto, unfolding(crate::specs::Answer::reply_to_load))]
 fn reply_to_load(
@@ -144,26 +161,11 @@ fn reply_to_load(
     requires user { user < length engine.old.meta.users }
     ensures { IfOk result (λ reply. reply ≡ reply_to_load engine.old.meta user query.now moment values) }
 {
-    match load(alloc, engine, moment, &request_of(values))? {
+    let found = load_values(alloc, engine, moment, values)?;
+    match found {
         Ok(report) => reply_by_report(alloc, engine, user, query, moment, report),
         Err(refused) => data_refused(error_body(alloc, &refused)?),
     }
-}
-
-// The same over metadata.
-fn over_metadata_of_user(
-    alloc: Global,
-    meta: Metadata,
-    user: u32,
-    query: &[u8],
-    moment: i64,
-    values: Items<SetValue>,
-) -> Result<Reply, Memory>
-    requires user { user < length meta.users }
-    ensures { IfOk result (λ reply. reply ≡ reply_to_load meta user query.now moment values) }
-{
-    let mut engine = engine_in_memory(alloc, meta)?;
-    reply_to_load(alloc, &mut engine, user, query, moment, values)
 }
 
 // The user with an identifier.
@@ -177,25 +179,66 @@ fn user_named(meta: &Metadata, name: &[u8]) -> Option<u32>
     }
 }
 
-// The reply over the values of a bundle.
-fn over_values(
+// The reply to the user with an identifier, over the values of a bundle.
+fn reply_to_user(
     alloc: Global,
-    meta: Metadata,
+    engine: &mut Engine<Unkept>,
     user: &[u8],
     query: &[u8],
     moment: i64,
     values: Items<SetValue>,
 ) -> Result<Reply, Memory>
-    ensures { IfOk result (λ reply. reply ≡ reply_by_user meta (user_named meta user.now) query.now moment values) }
+    requires { engine.old ≡ started engine.old.meta }
+    ensures { IfOk result (λ reply. reply ≡ reply_by_user engine.old.meta (user_named engine.old.meta user.now) query.now moment values) }
 {
-    match user_named(&meta, user) {
-        Some(user) => over_metadata_of_user(alloc, meta, user, query, moment, values),
-        None => query_refused(alloc, &refusal(Code::F8, Items::new(alloc))),
+    match user_named(engine.meta(), user) {
+        Some(user) => reply_to_load(alloc, engine, user, query, moment, values),
+        None => {
+            drop(values);
+            query_refused(alloc, &refusal(Code::F8, Items::new(alloc)))
+        }
     }
 }
 
-// The reply over metadata and what the values of the bundle are.
+// The reply over an engine without a change, and what the values of the bundle are.
 #[tactic(auto, unfolding(crate::specs::Answer::reply_with_values))]
+fn reply_to_values(
+    alloc: Global,
+    engine: &mut Engine<Unkept>,
+    user: &[u8],
+    query: &[u8],
+    moment: i64,
+    values: Result<Items<SetValue>, FormFault>,
+) -> Result<Reply, Memory>
+    requires { engine.old ≡ started engine.old.meta }
+    ensures { IfOk result (λ reply. (formed : Formed (List Given)) → Gives formed values → reply ≡ reply_with_values engine.old.meta user.now query.now moment formed) }
+{
+    match values {
+        Ok(values) => reply_to_user(alloc, engine, user, query, moment, values),
+        Err(FormFault::At(path)) => meta_refused(alloc, &MetaFault::Shape { path }),
+        Err(FormFault::Memory) => Err(Memory),
+    }
+}
+
+// The same over an engine that is let go of afterwards.
+fn over_engine(
+    alloc: Global,
+    engine: Engine<Unkept>,
+    user: &[u8],
+    query: &[u8],
+    moment: i64,
+    values: Result<Items<SetValue>, FormFault>,
+) -> Result<Reply, Memory>
+    requires { engine ≡ started engine.meta }
+    ensures { IfOk result (λ reply. (formed : Formed (List Given)) → Gives formed values → reply ≡ reply_with_values engine.meta user.now query.now moment formed) }
+{
+    let mut engine = engine;
+    let reply = reply_to_values(alloc, &mut engine, user, query, moment, values);
+    drop(engine);
+    reply
+}
+
+// The same over metadata.
 fn over_metadata(
     alloc: Global,
     meta: Metadata,
@@ -206,10 +249,12 @@ fn over_metadata(
 ) -> Result<Reply, Memory>
     ensures { IfOk result (λ reply. (formed : Formed (List Given)) → Gives formed values → reply ≡ reply_with_values meta user.now query.now moment formed) }
 {
-    match values {
-        Ok(values) => over_values(alloc, meta, user, query, moment, values),
-        Err(FormFault::At(path)) => meta_refused(alloc, &MetaFault::Shape { path }),
-        Err(FormFault::Memory) => Err(Memory),
+    match engine_in_memory(alloc, meta) {
+        Ok(engine) => over_engine(alloc, engine, user, query, moment, values),
+        Err(memory) => {
+            drop(values);
+            Err(memory)
+        }
     }
 }
 
