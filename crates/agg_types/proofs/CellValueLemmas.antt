@@ -68,11 +68,13 @@ weigh-micros (r ∷ rows) = ap (λ t. number_in r.micros *ℤ pos (days_of r.per
         → number_in micros *ℤ pos (days_of s.period) +ℤ total weighted (numbered (map sample_of rows))
         ≡ total weighted (cond (is_some micros) (s ∷ numbered (map sample_of rows)) (numbered (map sample_of rows)))
     by_number None s is =
-        ap (λ t. t +ℤ total weighted (numbered (map sample_of rows))) (zero-*ℤ (pos (days_of s.period))) ∙ +ℤ_idl (total weighted (numbered (map sample_of rows)))
+        ap (λ t. t +ℤ total weighted (numbered (map sample_of rows))) (zero-*ℤ (pos (days_of s.period)))
+        ∙ +ℤ_idl (total weighted (numbered (map sample_of rows)))
     by_number (Some micros) s is = ap (λ m. number_in m *ℤ pos (days_of s.period) +ℤ total weighted (numbered (map sample_of rows))) (sym is)
 
 -- rows of one number of days
-same_days : (days : ℕ) (rows : List Row) → AllByRecursion (λ (r : Row). days_of r.period ≡ days) rows → (sum_over weigh rows).micros ≡ (sum_over sum_of_row rows).micros *ℤ pos days
+same_days : (days : ℕ) (rows : List Row) → AllByRecursion (λ (r : Row). days_of r.period ≡ days) rows
+    → (sum_over weigh rows).micros ≡ (sum_over sum_of_row rows).micros *ℤ pos days
 unfolding weigh
 same_days days [] all = sym (zero-*ℤ (pos days))
 same_days days (r ∷ rows) all =
@@ -85,20 +87,24 @@ same_days days (r ∷ rows) all =
     micros_is None = refl
     micros_is (Some micros) = refl
 
-wanted_days : (g : Group) (part : Part) (rows : List Row) → AllByRecursion (λ (r : Row). days_of r.period ≡ days_of g.period) (wanted_rows g part.need part.from part.to rows)
+wanted_days : (g : Group) (part : Part) (rows : List Row)
+    → AllByRecursion (λ (r : Row). days_of r.period ≡ days_of g.period) (wanted_rows g part.need part.from part.to rows)
 wanted_days g part rows =
-    every_same (λ r. is_wanted g part.need part.from part.to r ≡ true) (λ (r : Row). days_of r.period ≡ days_of g.period) (wanted_rows g part.need part.from part.to rows)
+    every_same (λ r. is_wanted g part.need part.from part.to r ≡ true) (λ (r : Row). days_of r.period ≡ days_of g.period)
+    (wanted_rows g part.need part.from part.to rows)
     (λ r e.
     let in_group : is_in_group g r ≡ true = (and_parts (is_in_group g r) (meets part.need r.approved && in_range part.from part.to r) e).0 in
     ap (λ (h : Group). days_of h.period) (same_group-true (group_of r) g in_group))
     (every_kept (is_wanted g part.need part.from part.to) rows)
 
-part_days : (g : Group) (part : Part) (rows : List Row) → (sum_over weigh (wanted_rows g part.need part.from part.to rows)).micros ≡ (part_sum rows g part).micros *ℤ pos (days_of g.period)
+part_days : (g : Group) (part : Part) (rows : List Row)
+    → (sum_over weigh (wanted_rows g part.need part.from part.to rows)).micros ≡ (part_sum rows g part).micros *ℤ pos (days_of g.period)
 unfolding sum_of_rows
 part_days g part rows = same_days (days_of g.period) (wanted_rows g part.need part.from part.to rows) (wanted_days g part rows)
 
 parts_days : (g : Group) (parts : List Part) (rows : List Row)
-    → (sum_over (λ (part : Part). sum_over weigh (wanted_rows g part.need part.from part.to rows)) parts).micros ≡ (sum_over (part_sum rows g) parts).micros *ℤ pos (days_of g.period)
+    → (sum_over (λ (part : Part). sum_over weigh (wanted_rows g part.need part.from part.to rows)) parts).micros
+    ≡ (sum_over (part_sum rows g) parts).micros *ℤ pos (days_of g.period)
 parts_days g [] rows = sym (zero-*ℤ (pos (days_of g.period)))
 parts_days g (part ∷ parts) rows =
     ap (λ t. t +ℤ (sum_over (λ (other : Part). sum_over weigh (wanted_rows g other.need other.from other.to rows)) parts).micros) (part_days g part rows)
@@ -110,7 +116,8 @@ groups_days : (groups : List Group) (parts : Group → List Part) (rows : List R
     ≡ total (λ (g : Group). (sum_over (part_sum rows g) (parts g)).micros *ℤ pos (days_of g.period)) groups
 groups_days [] parts rows = refl
 groups_days (g ∷ groups) parts rows =
-    ap (λ t. t +ℤ (sum_over (λ g. sum_over (λ (part : Part). sum_over weigh (wanted_rows g part.need part.from part.to rows)) (parts g)) groups).micros) (parts_days g (parts g) rows)
+    ap (λ t. t +ℤ (sum_over (λ g. sum_over (λ (part : Part). sum_over weigh (wanted_rows g part.need part.from part.to rows)) (parts g)) groups).micros)
+    (parts_days g (parts g) rows)
     ∙ ap (λ t. (sum_over (part_sum rows g) (parts g)).micros *ℤ pos (days_of g.period) +ℤ t) (groups_days groups parts rows)
 
 -- a cell's sum of numbers times days, from the sums of its parts

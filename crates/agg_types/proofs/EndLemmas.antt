@@ -1,5 +1,6 @@
 -- Of samples in series order the one that counts in each series, found in one pass.
-use Rattle.std.proofs.Common.{◌≡◌, ◌∙◌, ℕ, zero, suc, ◌+◌, ◌<◌, ◌≤◌, Bool, true, false, not, cond, ◌&&◌, ◌||◌, List, [], ◌∷◌, ◌++◌, length, map, take, get_or, ℤ, pos, ◌+ℤ◌, ◌-ℤ◌, Some, None, inl, inr, refl, sym, ap, subst, arith, length-append, Ordering, Less, Equal, Greater}
+use Rattle.std.proofs.Common.{◌≡◌, ◌∙◌, ℕ, zero, suc, ◌+◌, ◌<◌, ◌≤◌, Bool, true, false, not, cond, ◌&&◌, ◌||◌, List, [], ◌∷◌, ◌++◌, length, map, take}
+use Rattle.std.proofs.Common.{get_or, ℤ, pos, ◌+ℤ◌, ◌-ℤ◌, Some, None, inl, inr, refl, sym, ap, subst, arith, length-append, Ordering, Less, Equal, Greater}
 use Rattle.std.specs.Prelude.{nat_eq}
 use Rattle.std.specs.Cmp.{IsTotalOrder}
 use Rattle.std.specs.List.{filter, list_any, list_all, AllByRecursion}
@@ -16,7 +17,8 @@ use Rattle.table_rows.proofs.GroupLemmas.{each_once-push}
 use Rattle.agg_types.specs.declared.ends.Run.{Run}
 use Rattle.agg_types.specs.declared.sample.Sample.{Sample}
 use Rattle.agg_types.specs.declared.sample.Series.{Series}
-use Rattle.agg_types.specs.Samples.{series_cmp, same_series, may_precede, in_series_order, has_number, numbered, number_of, total, series_of, goes_beyond, outermost, backwards}
+use Rattle.agg_types.specs.Samples.{series_cmp, same_series, may_precede, in_series_order, has_number, numbered, number_of, total, series_of, goes_beyond}
+use Rattle.agg_types.specs.Samples.{outermost, backwards}
 use Rattle.agg_types.specs.Ends.{order_of, run_with, next_run, found_if_any}
 use Rattle.agg_types.specs.declared.ends.End.{End}
 use Rattle.agg_types.specs.declared.ends.End.TheVariants.{First, Last}
@@ -166,7 +168,8 @@ abbrev pub IsRun : (PeriodName → PeriodName → Ordering) → List Sample → 
 IsRun order [] run best = (run.micros ≡ pos 0) × (run.series ≡ 0)
 IsRun order (s ∷ ss) run best = Held order (s ∷ ss) run best
 
-run_from_held : (order : PeriodName → PeriodName → Ordering) (ns : List Sample) (x : Sample) (run : Run) (best : Sample) → Held order (ns ++ x ∷ []) run best → IsRun order (ns ++ x ∷ []) run best
+run_from_held : (order : PeriodName → PeriodName → Ordering) (ns : List Sample) (x : Sample) (run : Run) (best : Sample) → Held order (ns ++ x ∷ []) run best
+    → IsRun order (ns ++ x ∷ []) run best
 run_from_held order [] x run best held = held
 run_from_held order (n ∷ ns) x run best held = held
 
@@ -198,7 +201,8 @@ and_true true = refl
 and_true false = refl
 
 counts-push : (order : PeriodName → PeriodName → Ordering) (ns : List Sample) (x s : Sample)
-    → not (list_any (λ other. goes_beyond order other s) (ns ++ x ∷ [])) ≡ (not (list_any (λ other. goes_beyond order other s) ns) && not (goes_beyond order x s))
+    → not (list_any (λ other. goes_beyond order other s) (ns ++ x ∷ []))
+    ≡ (not (list_any (λ other. goes_beyond order other s) ns) && not (goes_beyond order x s))
 counts-push order ns x s =
     ap not (any_push (λ other. goes_beyond order other s) ns x) ∙ not_or (list_any (λ other. goes_beyond order other s) ns) (goes_beyond order x s)
 
@@ -211,13 +215,15 @@ not_beyond_itself order o x =
     and_false false = refl
 
 outermost-push : (order : PeriodName → PeriodName → Ordering) → IsPeriodOrder order → (ns : List Sample) (x : Sample)
-    → outermost order (ns ++ x ∷ []) ≡ filter (λ s. not (goes_beyond order x s)) (outermost order ns) ++ cond (not (list_any (λ other. goes_beyond order other x) ns)) (x ∷ []) []
+    → outermost order (ns ++ x ∷ []) ≡ filter (λ s. not (goes_beyond order x s)) (outermost order ns)
+    ++ cond (not (list_any (λ other. goes_beyond order other x) ns)) (x ∷ []) []
 outermost-push order o ns x =
     let now : Sample → Bool = λ s. not (list_any (λ other. goes_beyond order other s) (ns ++ x ∷ [])) in
     let before : Sample → Bool = λ s. not (list_any (λ other. goes_beyond order other s) ns) in
     let own : now x ≡ before x = counts-push order ns x x ∙ ap (λ b. before x && not b) (not_beyond_itself order o x) ∙ and_true (before x) in
     filter-append now ns (x ∷ [])
-    ∙ ap (λ ys. ys ++ cond (now x) (x ∷ []) []) (filter_same now (λ s. before s && not (goes_beyond order x s)) ns (counts-push order ns x) ∙ sym (filter_both before (λ s. not (goes_beyond order x s)) ns))
+    ∙ ap (λ ys. ys ++ cond (now x) (x ∷ []) []) (filter_same now (λ s. before s && not (goes_beyond order x s)) ns (counts-push order ns x)
+    ∙ sym (filter_both before (λ s. not (goes_beyond order x s)) ns))
     ∙ ap (λ b. filter (λ s. not (goes_beyond order x s)) (outermost order ns) ++ cond b (x ∷ []) []) own
 
 -- a sample of another series goes beyond none
@@ -230,7 +236,8 @@ le_from s x may = (and_parts (is_le (series_cmp s.series x.series)) (not (same_s
 le_self : (s : Series) → is_le (series_cmp s s) ≡ true
 le_self s = ap is_le (self_equal series_cmp series_total s)
 
-upto_new : (ns : List Sample) (x : Sample) → AllByRecursion (λ s. may_precede s x ≡ true) ns → AllByRecursion (λ (s : Sample). is_le (series_cmp s.series x.series) ≡ true) (ns ++ x ∷ [])
+upto_new : (ns : List Sample) (x : Sample) → AllByRecursion (λ s. may_precede s x ≡ true) ns
+    → AllByRecursion (λ (s : Sample). is_le (series_cmp s.series x.series) ≡ true) (ns ++ x ∷ [])
 upto_new ns x may =
     every_push (λ (s : Sample). is_le (series_cmp s.series x.series) ≡ true) ns x
     (every_same (λ s. may_precede s x ≡ true) (λ (s : Sample). is_le (series_cmp s.series x.series) ≡ true) ns (λ s e. le_from s x e) may) (le_self x.series)
@@ -245,7 +252,8 @@ series-push ns x known is =
     ∙ each_once-push same_series (map (λ (s : Sample). s.series) ns) x.series
     ∙ ap (λ b. series_of ns ++ cond b [] (x.series ∷ [])) (any_map ns ∙ is)
   where
-    any_map : (ms : List Sample) → list_any (λ y. same_series y x.series) (map (λ (s : Sample). s.series) ms) ≡ list_any (λ (s : Sample). same_series s.series x.series) ms
+    any_map : (ms : List Sample)
+        → list_any (λ y. same_series y x.series) (map (λ (s : Sample). s.series) ms) ≡ list_any (λ (s : Sample). same_series s.series x.series) ms
     any_map [] = refl
     any_map (m ∷ ms) = ap (λ b. same_series m.series x.series || b) (any_map ms)
 
@@ -278,12 +286,14 @@ begins order o ns x m n at may apart micros series =
     }
 
 -- what holds of all samples holds of the one that counts in the last series
-of_best : (order : PeriodName → PeriodName → Ordering) (P : Sample → Type 0) (ns kept : List Sample) (best : Sample) → outermost order ns ≡ kept ++ best ∷ [] → AllByRecursion P ns → P best
+of_best : (order : PeriodName → PeriodName → Ordering) (P : Sample → Type 0) (ns kept : List Sample) (best : Sample) → outermost order ns ≡ kept ++ best ∷ []
+    → AllByRecursion P ns → P best
 of_best order P ns kept best lasts all =
     at_last P kept best (subst (AllByRecursion P) lasts (every_filter P (λ s. not (list_any (λ other. goes_beyond order other s) ns)) ns all))
 
 -- some of the samples is such where the one that counts in the last series is
-some_as_best : (order : PeriodName → PeriodName → Ordering) (p : Sample → Bool) (ns kept : List Sample) (best : Sample) → outermost order ns ≡ kept ++ best ∷ [] → p best ≡ true → list_any p ns ≡ true
+some_as_best : (order : PeriodName → PeriodName → Ordering) (p : Sample → Bool) (ns kept : List Sample) (best : Sample) → outermost order ns ≡ kept ++ best ∷ []
+    → p best ≡ true → list_any p ns ≡ true
 some_as_best order p ns kept best lasts is =
     elim (cases_Bool (list_any p ns)) [
       | inl found ↦ found
@@ -301,9 +311,11 @@ best_counts order ns kept best lasts =
     none_any (λ s. goes_beyond order s best) ns
     (not_true (list_any (λ s. goes_beyond order s best) ns)
     (at_last (λ s. not (list_any (λ other. goes_beyond order other s) ns) ≡ true) kept best
-    (subst (AllByRecursion (λ s. not (list_any (λ other. goes_beyond order other s) ns) ≡ true)) lasts (every_kept (λ s. not (list_any (λ other. goes_beyond order other s) ns)) ns))))
+    (subst (AllByRecursion (λ s. not (list_any (λ other. goes_beyond order other s) ns) ≡ true)) lasts
+    (every_kept (λ s. not (list_any (λ other. goes_beyond order other s) ns)) ns))))
 
-filter_end : (p : Sample → Bool) (kept : List Sample) (best : Sample) (b : Bool) → AllByRecursion (λ s. p s ≡ true) kept → p best ≡ b → filter p (kept ++ best ∷ []) ≡ kept ++ cond b (best ∷ []) []
+filter_end : (p : Sample → Bool) (kept : List Sample) (best : Sample) (b : Bool) → AllByRecursion (λ s. p s ≡ true) kept → p best ≡ b
+    → filter p (kept ++ best ∷ []) ≡ kept ++ cond b (best ∷ []) []
 filter_end p kept best b all is =
     filter-append p kept (best ∷ []) ∙ ap (λ ys. ys ++ cond (p best) (best ∷ []) []) (filter_every p kept all) ∙ ap (λ c. kept ++ cond c (best ∷ []) []) is
 
@@ -320,7 +332,8 @@ gt_less Equal e = absurd (false≢true e)
 gt_less Greater e = refl
 
 -- t isn't beyond b, x is: t isn't beyond x
-not_beyond : (order : PeriodName → PeriodName → Ordering) → IsTotalOrder order → (t b x : PeriodName) → is_gt (order t b) ≡ false → is_gt (order x b) ≡ true → is_gt (order t x) ≡ false
+not_beyond : (order : PeriodName → PeriodName → Ordering) → IsTotalOrder order → (t b x : PeriodName) → is_gt (order t b) ≡ false → is_gt (order x b) ≡ true
+    → is_gt (order t x) ≡ false
 not_beyond order o t b x upto above =
     let less : order b x ≡ Less = o.antisymm b x ∙ gt_less (order x b) above in
     by_order (order t b) refl upto less
@@ -331,7 +344,8 @@ not_beyond order o t b x upto above =
     by_order Greater is e less = absurd (false≢true (sym e))
 
 -- a known series has no further one
-series-known : (order : PeriodName → PeriodName → Ordering) (ns kept : List Sample) (best x : Sample) → outermost order ns ≡ kept ++ best ∷ [] → same_series x.series best.series ≡ true
+series-known : (order : PeriodName → PeriodName → Ordering) (ns kept : List Sample) (best x : Sample) → outermost order ns ≡ kept ++ best ∷ []
+    → same_series x.series best.series ≡ true
     → series_of (ns ++ x ∷ []) ≡ series_of ns
 series-known order ns kept best x lasts same =
     series-push ns x true
@@ -339,13 +353,15 @@ series-known order ns kept best x lasts same =
     ∙ append-nil (series_of ns)
 
 upto_known : (order : PeriodName → PeriodName → Ordering) (ns : List Sample) (best x : Sample) → same_series x.series best.series ≡ true
-    → AllByRecursion (λ (s : Sample). is_le (series_cmp s.series best.series) ≡ true) ns → AllByRecursion (λ (s : Sample). is_le (series_cmp s.series best.series) ≡ true) (ns ++ x ∷ [])
+    → AllByRecursion (λ (s : Sample). is_le (series_cmp s.series best.series) ≡ true) ns
+    → AllByRecursion (λ (s : Sample). is_le (series_cmp s.series best.series) ≡ true) (ns ++ x ∷ [])
 upto_known order ns best x same upto =
     every_push (λ (s : Sample). is_le (series_cmp s.series best.series) ≡ true) ns x upto (ap is_le (series_equal x.series best.series same))
 
 -- a sample of the last series that goes beyond the one that counted
 goes_on : (order : PeriodName → PeriodName → Ordering) → IsPeriodOrder order → (ns : List Sample) (x best : Sample) (run : Run) (at : ℕ)
-    → AllByRecursion (λ s. may_precede s x ≡ true) ns → same_series x.series best.series ≡ true → is_gt (order x.period best.period) ≡ true → Held order ns run best
+    → AllByRecursion (λ s. may_precede s x ≡ true) ns → same_series x.series best.series ≡ true → is_gt (order x.period best.period) ≡ true
+    → Held order ns run best
     → Held order (ns ++ x ∷ []) (run_with ((run.micros -ℤ number_of best) +ℤ number_of x) run.series at) x
 goes_on order o ns x best run at may same above held =
     let beyond : goes_beyond order x best ≡ true = ap (λ b. b && is_gt (order x.period best.period)) same ∙ above in
@@ -355,7 +371,8 @@ goes_on order o ns x best run at may same above held =
     ∙ append-nil held.kept in
     let counted : list_any (λ other. goes_beyond order other x) ns ≡ false =
     any_none (λ other. goes_beyond order other x) ns
-    (every_same (λ s. goes_beyond order s best ≡ false) (λ s. goes_beyond order s x ≡ false) ns (λ s e. below s e) (best_counts order ns held.kept best held.lasts)) in
+    (every_same (λ s. goes_beyond order s best ≡ false) (λ s. goes_beyond order s x ≡ false) ns (λ s e. below s e)
+    (best_counts order ns held.kept best held.lasts)) in
     let lasts : outermost order (ns ++ x ∷ []) ≡ held.kept ++ x ∷ [] =
     outermost-push order o ns x
     ∙ ap (λ ys. ys ++ cond (not (list_any (λ other. goes_beyond order other x) ns)) (x ∷ []) []) left
@@ -390,7 +407,8 @@ not_gt Greater a b = absurd (false≢true (sym a))
 
 -- a sample of the last series that doesn't
 stays : (order : PeriodName → PeriodName → Ordering) → IsPeriodOrder order → (ns : List Sample) (x best : Sample) (run : Run)
-    → AllByRecursion (λ s. may_precede s x ≡ true) ns → same_series x.series best.series ≡ true → is_gt (order x.period best.period) ≡ false → Held order ns run best
+    → AllByRecursion (λ s. may_precede s x ≡ true) ns → same_series x.series best.series ≡ true → is_gt (order x.period best.period) ≡ false
+    → Held order ns run best
     → Held order (ns ++ x ∷ []) run best
 stays order o ns x best run may same below held =
     let beyond : goes_beyond order x best ≡ false = ap (λ b. b && is_gt (order x.period best.period)) same ∙ below in
@@ -425,14 +443,17 @@ stays order o ns x best run may same below held =
 
 -- ---- the step
 
-held_from_run : (order : PeriodName → PeriodName → Ordering) (n : Sample) (ns : List Sample) (run : Run) (best : Sample) → IsRun order (n ∷ ns) run best → Held order (n ∷ ns) run best
+held_from_run : (order : PeriodName → PeriodName → Ordering) (n : Sample) (ns : List Sample) (run : Run) (best : Sample) → IsRun order (n ∷ ns) run best
+    → Held order (n ∷ ns) run best
 held_from_run order n ns run best is = is
 
 not_zero : (k m : ℕ) → k ≡ suc m → nat_eq k 0 ≡ false
 not_zero k m e = ne_eqb k 0 (λ z. (let bad : suc m ≡ 0 = sym e ∙ z in absurd (omega arith)))
 
-apart_all : (ns : List Sample) (x best : Sample) → AllByRecursion (λ s. may_precede s x ≡ true) ns → may_precede best x ≡ true → same_series x.series best.series ≡ false
-    → AllByRecursion (λ (s : Sample). is_le (series_cmp s.series best.series) ≡ true) ns → AllByRecursion (λ (s : Sample). same_series s.series x.series ≡ false) ns
+apart_all : (ns : List Sample) (x best : Sample) → AllByRecursion (λ s. may_precede s x ≡ true) ns → may_precede best x ≡ true
+    → same_series x.series best.series ≡ false
+    → AllByRecursion (λ (s : Sample). is_le (series_cmp s.series best.series) ≡ true) ns
+    → AllByRecursion (λ (s : Sample). same_series s.series x.series ≡ false) ns
 apart_all ns x best may best_may other upto =
     let less : series_cmp best.series x.series ≡ Less =
     less_from (series_cmp best.series x.series) (le_from best x best_may) (sym (series_ties best.series x.series) ∙ same_turned best.series x.series ∙ other) in
@@ -449,19 +470,25 @@ next_by order run best x at number empty same above =
 abbrev Stands : (PeriodName → PeriodName → Ordering) → List Sample → Sample → (ℕ → Sample) → Run → Type 0
 Stands order ns x at_place run = IsRun order (ns ++ x ∷ []) run (at_place run.best)
 
-stands_from_held : (order : PeriodName → PeriodName → Ordering) (ns : List Sample) (x best : Sample) (at_place : ℕ → Sample) (run : Run) → at_place run.best ≡ best
+stands_from_held : (order : PeriodName → PeriodName → Ordering) (ns : List Sample) (x best : Sample) (at_place : ℕ → Sample) (run : Run)
+    → at_place run.best ≡ best
     → Held order (ns ++ x ∷ []) run best → Stands order ns x at_place run
 stands_from_held order ns x best at_place run at held =
     run_from_held order ns x run (at_place run.best) (subst (λ (b : Sample). Held order (ns ++ x ∷ []) run b) (sym at) held)
 
 first_step : (order : PeriodName → PeriodName → Ordering) → IsPeriodOrder order → (x best : Sample) (run : Run) (at : ℕ) (at_place : ℕ → Sample)
-    → at_place at ≡ x → IsRun order [] run best → Stands order [] x at_place (next_by order run best x at true (nat_eq run.series 0) (same_series x.series best.series) (is_gt (order x.period best.period)))
+    → at_place at ≡ x → IsRun order [] run best
+    → Stands order [] x at_place (next_by order run best x at true (nat_eq run.series 0) (same_series x.series best.series)
+    (is_gt (order x.period best.period)))
 first_step order o x best run at at_place at_x is =
     let empty : nat_eq run.series 0 ≡ true = eq-eqb run.series 0 is.1 in
-    subst (λ (b : Bool). Stands order [] x at_place (next_by order run best x at true b (same_series x.series best.series) (is_gt (order x.period best.period)))) (sym empty)
-    (stands_from_held order [] x x at_place (run_with (run.micros +ℤ number_of x) (run.series + 1) at) at_x (begins order o [] x run.micros run.series at tt tt is.0 is.1))
+    subst (λ (b : Bool). Stands order [] x at_place
+    (next_by order run best x at true b (same_series x.series best.series) (is_gt (order x.period best.period)))) (sym empty)
+    (stands_from_held order [] x x at_place (run_with (run.micros +ℤ number_of x) (run.series + 1) at) at_x
+    (begins order o [] x run.micros run.series at tt tt is.0 is.1))
 
-held_step : (order : PeriodName → PeriodName → Ordering) → IsPeriodOrder order → (ns : List Sample) (x best : Sample) (run : Run) (at : ℕ) (at_place : ℕ → Sample)
+held_step : (order : PeriodName → PeriodName → Ordering) → IsPeriodOrder order
+    → (ns : List Sample) (x best : Sample) (run : Run) (at : ℕ) (at_place : ℕ → Sample)
     → AllByRecursion (λ s. may_precede s x ≡ true) ns → at_place run.best ≡ best → at_place at ≡ x → Held order ns run best
     → (same above : Bool) → same_series x.series best.series ≡ same → is_gt (order x.period best.period) ≡ above
     → Stands order ns x at_place (next_by order run best x at true false same above)
@@ -470,36 +497,44 @@ held_step order o ns x best run at at_place may at_best at_x held false above is
     (begins order o ns x run.micros run.series at may
     (apart_all ns x best may (of_best order (λ s. may_precede s x ≡ true) ns held.kept best held.lasts may) is_same held.upto) held.micros held.series)
 held_step order o ns x best run at at_place may at_best at_x held true true is_same is_above =
-    stands_from_held order ns x x at_place (run_with ((run.micros -ℤ number_of best) +ℤ number_of x) run.series at) at_x (goes_on order o ns x best run at may is_same is_above held)
+    stands_from_held order ns x x at_place (run_with ((run.micros -ℤ number_of best) +ℤ number_of x) run.series at) at_x
+    (goes_on order o ns x best run at may is_same is_above held)
 held_step order o ns x best run at at_place may at_best at_x held true false is_same is_above =
     stands_from_held order ns x best at_place run at_best (stays order o ns x best run may is_same is_above held)
 
-later_step : (order : PeriodName → PeriodName → Ordering) → IsPeriodOrder order → (n : Sample) (ns : List Sample) (x best : Sample) (run : Run) (at : ℕ) (at_place : ℕ → Sample)
+later_step : (order : PeriodName → PeriodName → Ordering) → IsPeriodOrder order
+    → (n : Sample) (ns : List Sample) (x best : Sample) (run : Run) (at : ℕ) (at_place : ℕ → Sample)
     → AllByRecursion (λ s. may_precede s x ≡ true) (n ∷ ns) → at_place run.best ≡ best → at_place at ≡ x → Held order (n ∷ ns) run best
-    → Stands order (n ∷ ns) x at_place (next_by order run best x at true (nat_eq run.series 0) (same_series x.series best.series) (is_gt (order x.period best.period)))
+    → Stands order (n ∷ ns) x at_place (next_by order run best x at true (nat_eq run.series 0) (same_series x.series best.series)
+    (is_gt (order x.period best.period)))
 later_step order o n ns x best run at at_place may at_best at_x held =
     let some : nat_eq run.series 0 ≡ false = not_zero run.series _ held.series in
-    subst (λ (b : Bool). Stands order (n ∷ ns) x at_place (next_by order run best x at true b (same_series x.series best.series) (is_gt (order x.period best.period)))) (sym some)
+    subst (λ (b : Bool). Stands order (n ∷ ns) x at_place
+    (next_by order run best x at true b (same_series x.series best.series) (is_gt (order x.period best.period)))) (sym some)
     (held_step order o (n ∷ ns) x best run at at_place may at_best at_x held (same_series x.series best.series) (is_gt (order x.period best.period)) refl refl)
 
 step_by : (order : PeriodName → PeriodName → Ordering) → IsPeriodOrder order → (ns : List Sample) (x best : Sample) (run : Run) (at : ℕ) (at_place : ℕ → Sample)
     → AllByRecursion (λ s. may_precede s x ≡ true) ns → at_place run.best ≡ best → at_place at ≡ x → IsRun order ns run best
-    → Stands order ns x at_place (next_by order run best x at true (nat_eq run.series 0) (same_series x.series best.series) (is_gt (order x.period best.period)))
+    → Stands order ns x at_place (next_by order run best x at true (nat_eq run.series 0) (same_series x.series best.series)
+    (is_gt (order x.period best.period)))
 step_by order o [] x best run at at_place may at_best at_x is = first_step order o x best run at at_place at_x is
 step_by order o (n ∷ ns) x best run at at_place may at_best at_x is = later_step order o n ns x best run at at_place may at_best at_x is
 
 -- a sample with a number more; `at_place` gives the samples by their places
-pub run-step : (order : PeriodName → PeriodName → Ordering) → IsPeriodOrder order → (ns : List Sample) (x best : Sample) (run : Run) (at : ℕ) (at_place : ℕ → Sample)
+pub run-step : (order : PeriodName → PeriodName → Ordering) → IsPeriodOrder order
+    → (ns : List Sample) (x best : Sample) (run : Run) (at : ℕ) (at_place : ℕ → Sample)
     → AllByRecursion (λ s. may_precede s x ≡ true) ns → has_number x ≡ true → at_place run.best ≡ best → at_place at ≡ x → IsRun order ns run best
     → IsRun order (ns ++ x ∷ []) (next_run order run best x at) (at_place (next_run order run best x at).best)
 run-step order o ns x best run at at_place may numbered at_best at_x is =
-    subst (λ (b : Bool). Stands order ns x at_place (next_by order run best x at b (nat_eq run.series 0) (same_series x.series best.series) (is_gt (order x.period best.period)))) (sym numbered)
+    subst (λ (b : Bool). Stands order ns x at_place
+    (next_by order run best x at b (nat_eq run.series 0) (same_series x.series best.series) (is_gt (order x.period best.period)))) (sym numbered)
     (step_by order o ns x best run at at_place may at_best at_x is)
 
 -- ---- a loop's step
 
 -- each sample may stand before those after it
-may_all : (samples : List Sample) (i : ℕ) (x : Sample) → in_series_order samples ≡ true → i < length samples → x ≡ get_or samples i x → AllByRecursion (λ s. may_precede s x ≡ true) (take i samples)
+may_all : (samples : List Sample) (i : ℕ) (x : Sample) → in_series_order samples ≡ true → i < length samples → x ≡ get_or samples i x
+    → AllByRecursion (λ s. may_precede s x ≡ true) (take i samples)
 may_all [] i x ordered within at = absurd (omega arith)
 may_all (s ∷ ss) zero x ordered within at = tt
 may_all (s ∷ ss) (suc i) x ordered within at =
@@ -523,16 +558,20 @@ run-more order o samples i x best run new ordered within at best_within at_best 
     let has_best : at_place run.best ≡ best = get_or_default samples run.best d best best_within ∙ sym at_best in
     let has_x : at_place i ≡ x = get_or_default samples i d x within ∙ sym at in
     subst (λ (r : Run). IsRun order (numbered (take (i + 1) samples)) r (get_or samples r.best d)) (sym step)
-    (subst (λ (ns : List Sample). IsRun order ns (next_run order run best x i) (at_place (next_run order run best x i).best)) (sym (numbered-more samples i x within at))
+    (subst (λ (ns : List Sample). IsRun order ns (next_run order run best x i) (at_place (next_run order run best x i).best))
+    (sym (numbered-more samples i x within at))
     (elim (cases_Bool (has_number x)) [
       | inl numbered_is ↦
-          subst (λ (b : Bool). IsRun order (numbered (take i samples) ++ cond b (x ∷ []) []) (next_run order run best x i) (at_place (next_run order run best x i).best)) (sym numbered_is)
+          subst (λ (b : Bool). IsRun order (numbered (take i samples) ++ cond b (x ∷ []) []) (next_run order run best x i)
+          (at_place (next_run order run best x i).best)) (sym numbered_is)
           (run-step order o (numbered (take i samples)) x best run i at_place
           (every_filter (λ s. may_precede s x ≡ true) has_number (take i samples) (may_all samples i x ordered within at)) numbered_is has_best has_x
           (subst (λ (b : Sample). IsRun order (numbered (take i samples)) run b) has_best (is d)))
       | inr absent ↦
-          subst (λ (b : Bool). IsRun order (numbered (take i samples) ++ cond b (x ∷ []) []) (next_by order run best x i b (nat_eq run.series 0) (same_series x.series best.series) (is_gt (order x.period best.period)))
-          (at_place (next_by order run best x i b (nat_eq run.series 0) (same_series x.series best.series) (is_gt (order x.period best.period))).best)) (sym absent)
+          subst (λ (b : Bool). IsRun order (numbered (take i samples) ++ cond b (x ∷ []) [])
+          (next_by order run best x i b (nat_eq run.series 0) (same_series x.series best.series) (is_gt (order x.period best.period)))
+          (at_place (next_by order run best x i b (nat_eq run.series 0) (same_series x.series best.series) (is_gt (order x.period best.period))).best))
+          (sym absent)
           (subst (λ (ns : List Sample). IsRun order ns run (at_place run.best)) (sym (append-nil (numbered (take i samples)))) (is d))
     ]))
 
@@ -542,12 +581,14 @@ order_of-is First = backwards-order
 
 -- ---- at the end
 
-run_of_all : (order : PeriodName → PeriodName → Ordering) (samples : List Sample) (i : ℕ) (run : Run) (d : Sample) → length samples ≤ i → IsRunAt order samples i run
+run_of_all : (order : PeriodName → PeriodName → Ordering) (samples : List Sample) (i : ℕ) (run : Run) (d : Sample) → length samples ≤ i
+    → IsRunAt order samples i run
     → IsRun order (numbered samples) run (get_or samples run.best d)
 run_of_all order samples i run d past is =
     subst (λ (ss : List Sample). IsRun order (numbered ss) run (get_or samples run.best d)) (take_all i samples past) (is d)
 
-none_of : (order : PeriodName → PeriodName → Ordering) (ns : List Sample) (run : Run) (best : Sample) (m : ℤ) (n : ℕ) → IsRun order ns run best → run.series ≡ 0 → None ≡ found_if_any ns m n
+none_of : (order : PeriodName → PeriodName → Ordering) (ns : List Sample) (run : Run) (best : Sample) (m : ℤ) (n : ℕ) → IsRun order ns run best → run.series ≡ 0
+    → None ≡ found_if_any ns m n
 none_of order [] run best m n is zero_is = refl
 none_of order (s ∷ ss) run best m n is zero_is =
     let held : Held order (s ∷ ss) run best = is in
@@ -561,14 +602,17 @@ some_of order (s ∷ ss) run best is some =
     let held : Held order (s ∷ ss) run best = is in
     rw (held.micros, held.series) refl
 
-pub run-none : (order : PeriodName → PeriodName → Ordering) (samples : List Sample) (i : ℕ) (run : Run) → length samples ≤ i → IsRunAt order samples i run → run.series ≡ 0
+pub run-none : (order : PeriodName → PeriodName → Ordering) (samples : List Sample) (i : ℕ) (run : Run) → length samples ≤ i → IsRunAt order samples i run
+    → run.series ≡ 0
     → None ≡ found_if_any (numbered samples) (total number_of (outermost order (numbered samples))) (length (series_of (numbered samples)))
 run-none order [] i run past is zero_is = refl
 run-none order (s ∷ ss) i run past is zero_is =
     none_of order (numbered (s ∷ ss)) run (get_or (s ∷ ss) run.best s) _ _ (run_of_all order (s ∷ ss) i run s past is) zero_is
 
-pub run-some : (order : PeriodName → PeriodName → Ordering) (samples : List Sample) (i : ℕ) (run : Run) → length samples ≤ i → i ≤ length samples → IsRunAt order samples i run → run.series ≤ i → (run.series ≡ 0 → ⊥)
-    → Some (record { micros = run.micros; series = run.series }) ≡ found_if_any (numbered samples) (total number_of (outermost order (numbered samples))) (length (series_of (numbered samples)))
+pub run-some : (order : PeriodName → PeriodName → Ordering) (samples : List Sample) (i : ℕ) (run : Run) → length samples ≤ i → i ≤ length samples
+    → IsRunAt order samples i run → run.series ≤ i → (run.series ≡ 0 → ⊥)
+    → Some (record { micros = run.micros; series = run.series })
+    ≡ found_if_any (numbered samples) (total number_of (outermost order (numbered samples))) (length (series_of (numbered samples)))
 run-some order [] i run past within is few some = absurd (some (omega arith))
 run-some order (s ∷ ss) i run past within is few some =
     some_of order (numbered (s ∷ ss)) run (get_or (s ∷ ss) run.best s) (run_of_all order (s ∷ ss) i run s past is) some

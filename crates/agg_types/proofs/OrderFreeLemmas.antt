@@ -14,7 +14,8 @@ use Rattle.agg_types.specs.declared.sample.Series.{Series}
 use Rattle.agg_types.specs.Samples.{numbered, number_of, has_number, weighted, total, outermost, goes_beyond, backwards, lasts, firsts, series_of, same_series}
 use Rattle.agg_types.specs.Values.{mean, if_any, lesser, greater, left_of, value_by}
 use Rattle.agg_types.proofs.EndLemmas.{filter_same, same_turned}
-use Rattle.agg_types.proofs.ShuffleLemmas.{closed-permutation, closed-filter, closed-map, closed-total, closed-length, closed-once, closed-left, closed-any, length_counts, lesser-choice, greater-choice, IsChoice, Tells}
+use Rattle.agg_types.proofs.ShuffleLemmas.{closed-permutation, closed-filter, closed-map, closed-total, closed-length, closed-once, closed-left, closed-any}
+use Rattle.agg_types.proofs.ShuffleLemmas.{length_counts, lesser-choice, greater-choice, IsChoice, Tells}
 use Rattle.table_rows.specs.Cells.{how_many}
 use Rattle.table_rows.specs.Groups.{each_once}
 
@@ -42,12 +43,17 @@ series_tells = record { is = series_is; turns = same_turned }
 -- ---- of samples in another order
 
 numbers-length : (xs ys : List Sample) → IsPermutation xs ys → length (numbered xs) ≡ length (numbered ys)
-numbers-length xs ys moved = closed-permutation (λ us vs. length (numbered us) ≡ length (numbered vs)) (closed-filter has_number (λ us vs. length us ≡ length vs) closed-length) xs ys moved
+numbers-length xs ys moved =
+    closed-permutation (λ us vs. length (numbered us) ≡ length (numbered vs)) (closed-filter has_number (λ us vs. length us ≡ length vs) closed-length) xs ys
+    moved
 
 numbers-total : (f : Sample → ℤ) (xs ys : List Sample) → IsPermutation xs ys → total f (numbered xs) ≡ total f (numbered ys)
-numbers-total f xs ys moved = closed-permutation (λ us vs. total f (numbered us) ≡ total f (numbered vs)) (closed-filter has_number (λ us vs. total f us ≡ total f vs) (closed-total f)) xs ys moved
+numbers-total f xs ys moved =
+    closed-permutation (λ us vs. total f (numbered us) ≡ total f (numbered vs)) (closed-filter has_number (λ us vs. total f us ≡ total f vs) (closed-total f))
+    xs ys moved
 
-numbers-left : (choice : ℤ → ℤ → ℤ) → IsChoice choice → (xs ys : List Sample) → IsPermutation xs ys → left_of choice (map number_of (numbered xs)) ≡ left_of choice (map number_of (numbered ys))
+numbers-left : (choice : ℤ → ℤ → ℤ) → IsChoice choice → (xs ys : List Sample) → IsPermutation xs ys
+    → left_of choice (map number_of (numbered xs)) ≡ left_of choice (map number_of (numbered ys))
 numbers-left choice c xs ys moved =
     closed-permutation (λ us vs. left_of choice (map number_of (numbered us)) ≡ left_of choice (map number_of (numbered vs)))
     (closed-filter has_number (λ us vs. left_of choice (map number_of us) ≡ left_of choice (map number_of vs))
@@ -77,7 +83,8 @@ outermost-total order xs ys moved =
     closed-permutation (λ us vs. total number_of (filter counts (numbered us)) ≡ total number_of (filter counts (numbered vs)))
     (closed-filter has_number (λ us vs. total number_of (filter counts us) ≡ total number_of (filter counts vs))
     (closed-filter counts (λ us vs. total number_of us ≡ total number_of vs) (closed-total number_of))) xs ys moved
-    ∙ ap (total number_of) (filter_same counts (λ s. not (list_any (λ other. goes_beyond order other s) (numbered ys))) (numbered ys) (λ s. ap not (any_beyond order xs ys s moved)))
+    ∙ ap (total number_of) (filter_same counts (λ s. not (list_any (λ other. goes_beyond order other s) (numbered ys))) (numbered ys) (λ s.
+    ap not (any_beyond order xs ys s moved)))
 
 -- ---- the value
 
@@ -87,20 +94,25 @@ two_alike xs ys e v w is = any_alike xs ys e v ∙ ap (if_any ys) is
 -- the value of samples is that of the same samples in any order
 pub value_by-permutation : (k : AggType) (xs ys : List Sample) (days : ℕ) → IsPermutation xs ys → value_by k xs days ≡ value_by k ys days
 unfolding value_by
-value_by-permutation kind.Sum xs ys days moved = two_alike (numbered xs) (numbered ys) (numbers-length xs ys moved) _ _ (ap of_micros (numbers-total number_of xs ys moved))
+value_by-permutation kind.Sum xs ys days moved =
+    two_alike (numbered xs) (numbered ys) (numbers-length xs ys moved) _ _ (ap of_micros (numbers-total number_of xs ys moved))
 value_by-permutation kind.Average xs ys days moved =
     two_alike (numbered xs) (numbered ys) (numbers-length xs ys moved) _ _
     (ap (λ m. mean m (length (numbered xs))) (numbers-total number_of xs ys moved) ∙ ap (mean (total number_of (numbered ys))) (numbers-length xs ys moved))
 value_by-permutation kind.AverageSumOrgUnit xs ys days moved =
     two_alike (numbered xs) (numbered ys) (numbers-length xs ys moved) _ _ (ap (λ m. mean m days) (numbers-total weighted xs ys moved))
-value_by-permutation kind.Last xs ys days moved = two_alike (numbered xs) (numbered ys) (numbers-length xs ys moved) _ _ (ap of_micros (outermost-total period_cmp xs ys moved))
-value_by-permutation kind.First xs ys days moved = two_alike (numbered xs) (numbered ys) (numbers-length xs ys moved) _ _ (ap of_micros (outermost-total backwards xs ys moved))
+value_by-permutation kind.Last xs ys days moved =
+    two_alike (numbered xs) (numbered ys) (numbers-length xs ys moved) _ _ (ap of_micros (outermost-total period_cmp xs ys moved))
+value_by-permutation kind.First xs ys days moved =
+    two_alike (numbered xs) (numbered ys) (numbers-length xs ys moved) _ _ (ap of_micros (outermost-total backwards xs ys moved))
 value_by-permutation kind.LastAverageOrgUnit xs ys days moved =
     two_alike (numbered xs) (numbered ys) (numbers-length xs ys moved) _ _
-    (ap (λ m. mean m (length (series_of (numbered xs)))) (outermost-total period_cmp xs ys moved) ∙ ap (mean (total number_of (lasts (numbered ys)))) (numbers-series xs ys moved))
+    (ap (λ m. mean m (length (series_of (numbered xs)))) (outermost-total period_cmp xs ys moved)
+    ∙ ap (mean (total number_of (lasts (numbered ys)))) (numbers-series xs ys moved))
 value_by-permutation kind.FirstAverageOrgUnit xs ys days moved =
     two_alike (numbered xs) (numbered ys) (numbers-length xs ys moved) _ _
-    (ap (λ m. mean m (length (series_of (numbered xs)))) (outermost-total backwards xs ys moved) ∙ ap (mean (total number_of (firsts (numbered ys)))) (numbers-series xs ys moved))
+    (ap (λ m. mean m (length (series_of (numbered xs)))) (outermost-total backwards xs ys moved)
+    ∙ ap (mean (total number_of (firsts (numbered ys)))) (numbers-series xs ys moved))
 value_by-permutation kind.Count xs ys days moved =
     let same = closed-permutation (λ us vs. length us ≡ length vs) closed-length xs ys moved in
     two_alike xs ys same _ _ (ap (λ n. fraction_of (pos n) 1) same)

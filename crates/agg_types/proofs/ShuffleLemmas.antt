@@ -1,5 +1,6 @@
 -- The value of samples doesn't depend on the order in which they stand.
-use Rattle.std.proofs.Common.{◌≡◌, ◌∙◌, ℕ, zero, suc, ◌+◌, ◌<◌, Bool, true, false, not, cond, ◌&&◌, ◌||◌, List, [], ◌∷◌, length, map, get_or, set, ℤ, ◌+ℤ◌, ◌≤ℤ◌, ◌<ℤ◌, ◌⊎◌, Option, Some, None, inl, inr, refl, sym, ap, subst, arith}
+use Rattle.std.proofs.Common.{◌≡◌, ◌∙◌, ℕ, zero, suc, ◌+◌, ◌<◌, Bool, true, false, not, cond, ◌&&◌, ◌||◌, List, [], ◌∷◌, length, map, get_or, set, ℤ, ◌+ℤ◌}
+use Rattle.std.proofs.Common.{◌≤ℤ◌, ◌<ℤ◌, ◌⊎◌, Option, Some, None, inl, inr, refl, sym, ap, subst, arith}
 use Rattle.std.specs.Prelude.{IsPermutation, int_le, if◌then◌else◌}
 use Rattle.std.specs.List.{filter, list_any, swap}
 use Rattle.std.proofs.Math.Nat.{add_left_comm}
@@ -19,24 +20,27 @@ use Rattle.agg_types.specs.Samples.{total}
 
 pub record IsClosed {X : Type 0} (R : List X → List X → Type 0) : Type 0 where
   pub unmoved : (xs : List X) → R xs xs
-  pub behind : (x : X) (xs ys : List X) → R xs ys → R (x ∷ xs) (x ∷ ys)
+  pub beyond : (x : X) (xs ys : List X) → R xs ys → R (x ∷ xs) (x ∷ ys)
   pub turned : (x y : X) (xs : List X) → R (x ∷ y ∷ xs) (y ∷ x ∷ xs)
   pub further : (xs ys zs : List X) → R xs ys → R ys zs → R xs zs
 
-with_first : {X : Type 0} (R : List X → List X → Type 0) → IsClosed R → (x : X) (xs : List X) (k : ℕ) (d : X) → k < length xs → R (x ∷ xs) (get_or xs k d ∷ set xs k x)
+with_first : {X : Type 0} (R : List X → List X → Type 0) → IsClosed R → (x : X) (xs : List X) (k : ℕ) (d : X) → k < length xs
+    → R (x ∷ xs) (get_or xs k d ∷ set xs k x)
 with_first R r x [] k d within = absurd (omega arith)
 with_first R r x (z ∷ zs) zero d within = r.turned x z zs
 with_first R r x (z ∷ zs) (suc k) d within =
     r.further (x ∷ z ∷ zs) (z ∷ x ∷ zs) (get_or zs k d ∷ z ∷ set zs k x) (r.turned x z zs)
     (r.further (z ∷ x ∷ zs) (z ∷ get_or zs k d ∷ set zs k x) (get_or zs k d ∷ z ∷ set zs k x)
-    (r.behind z (x ∷ zs) (get_or zs k d ∷ set zs k x) (with_first R r x zs k d (omega arith))) (r.turned z (get_or zs k d) (set zs k x)))
+    (r.beyond z (x ∷ zs) (get_or zs k d ∷ set zs k x) (with_first R r x zs k d (omega arith))) (r.turned z (get_or zs k d) (set zs k x)))
 
-exchanged : {X : Type 0} (R : List X → List X → Type 0) → IsClosed R → (xs : List X) (i j : ℕ) (d : X) → i < length xs → j < length xs → R xs (set (set xs i (get_or xs j d)) j (get_or xs i d))
+exchanged : {X : Type 0} (R : List X → List X → Type 0) → IsClosed R → (xs : List X) (i j : ℕ) (d : X) → i < length xs → j < length xs
+    → R xs (set (set xs i (get_or xs j d)) j (get_or xs i d))
 exchanged R r [] i j d p q = absurd (omega arith)
 exchanged R r (x ∷ xs) zero zero d p q = r.unmoved (x ∷ xs)
 exchanged R r (x ∷ xs) zero (suc k) d p q = with_first R r x xs k d (omega arith)
 exchanged R r (x ∷ xs) (suc k) zero d p q = with_first R r x xs k d (omega arith)
-exchanged R r (x ∷ xs) (suc i) (suc j) d p q = r.behind x xs (set (set xs i (get_or xs j d)) j (get_or xs i d)) (exchanged R r xs i j d (omega arith) (omega arith))
+exchanged R r (x ∷ xs) (suc i) (suc j) d p q =
+    r.beyond x xs (set (set xs i (get_or xs j d)) j (get_or xs i d)) (exchanged R r xs i j d (omega arith) (omega arith))
 
 swapped : {X : Type 0} (R : List X → List X → Type 0) → IsClosed R → (xs : List X) (i j : ℕ) → i < length xs → j < length xs → R xs (swap xs i j)
 swapped R r [] i j p q = absurd (omega arith)
@@ -50,17 +54,19 @@ closed-permutation R r xs ys moved =
 pub closed-filter : {X : Type 0} (t : X → Bool) (R : List X → List X → Type 0) → IsClosed R → IsClosed (λ xs ys. R (filter t xs) (filter t ys))
 closed-filter {X = X} t R r = record {
   unmoved = λ xs. r.unmoved (filter t xs);
-  behind = λ x xs ys h. one (t x) x xs ys h;
+  beyond = λ x xs ys h. one (t x) x xs ys h;
   turned = λ x y xs. two (t x) (t y) x y xs;
   further = λ xs ys zs a b. r.further (filter t xs) (filter t ys) (filter t zs) a b;
 }
   where
-    one : (b : Bool) (x : X) (xs ys : List X) → R (filter t xs) (filter t ys) → R (cond b (x ∷ filter t xs) (filter t xs)) (cond b (x ∷ filter t ys) (filter t ys))
-    one true x xs ys h = r.behind x (filter t xs) (filter t ys) h
+    one : (b : Bool) (x : X) (xs ys : List X) → R (filter t xs) (filter t ys)
+        → R (cond b (x ∷ filter t xs) (filter t xs)) (cond b (x ∷ filter t ys) (filter t ys))
+    one true x xs ys h = r.beyond x (filter t xs) (filter t ys) h
     one false x xs ys h = h
 
     two : (a b : Bool) (x y : X) (xs : List X)
-        → R (cond a (x ∷ cond b (y ∷ filter t xs) (filter t xs)) (cond b (y ∷ filter t xs) (filter t xs))) (cond b (y ∷ cond a (x ∷ filter t xs) (filter t xs)) (cond a (x ∷ filter t xs) (filter t xs)))
+        → R (cond a (x ∷ cond b (y ∷ filter t xs) (filter t xs)) (cond b (y ∷ filter t xs) (filter t xs)))
+        (cond b (y ∷ cond a (x ∷ filter t xs) (filter t xs)) (cond a (x ∷ filter t xs) (filter t xs)))
     two true true x y xs = r.turned x y (filter t xs)
     two true false x y xs = r.unmoved (x ∷ filter t xs)
     two false true x y xs = r.unmoved (y ∷ filter t xs)
@@ -69,7 +75,7 @@ closed-filter {X = X} t R r = record {
 pub closed-map : {A B : Type 0} (f : A → B) (R : List B → List B → Type 0) → IsClosed R → IsClosed (λ xs ys. R (map f xs) (map f ys))
 closed-map f R r = record {
   unmoved = λ xs. r.unmoved (map f xs);
-  behind = λ x xs ys h. r.behind (f x) (map f xs) (map f ys) h;
+  beyond = λ x xs ys h. r.beyond (f x) (map f xs) (map f ys) h;
   turned = λ x y xs. r.turned (f x) (f y) (map f xs);
   further = λ xs ys zs a b. r.further (map f xs) (map f ys) (map f zs) a b;
 }
@@ -82,7 +88,7 @@ swap_sum a b c = sym (+ℤ_assoc a b c) ∙ ap (λ t. t +ℤ c) (+ℤ_comm a b) 
 pub closed-total : (f : Sample → ℤ) → IsClosed (λ xs ys. total f xs ≡ total f ys)
 closed-total f = record {
   unmoved = λ xs. refl;
-  behind = λ x xs ys h. ap (λ t. f x +ℤ t) h;
+  beyond = λ x xs ys h. ap (λ t. f x +ℤ t) h;
   turned = λ x y xs. swap_sum (f x) (f y) (total f xs);
   further = λ xs ys zs a b. a ∙ b;
 }
@@ -95,7 +101,7 @@ or_swap false b c = refl
 pub closed-any : {X : Type 0} (p : X → Bool) → IsClosed (λ xs ys. list_any p xs ≡ list_any p ys)
 closed-any p = record {
   unmoved = λ xs. refl;
-  behind = λ x xs ys h. ap (λ b. p x || b) h;
+  beyond = λ x xs ys h. ap (λ b. p x || b) h;
   turned = λ x y xs. or_swap (p x) (p y) (list_any p xs);
   further = λ xs ys zs a b. a ∙ b;
 }
@@ -103,7 +109,7 @@ closed-any p = record {
 pub closed-length : {X : Type 0} → IsClosed {X = X} (λ xs ys. length xs ≡ length ys)
 closed-length = record {
   unmoved = λ xs. refl;
-  behind = λ x xs ys h. ap suc h;
+  beyond = λ x xs ys h. ap suc h;
   turned = λ x y xs. refl;
   further = λ xs ys zs a b. a ∙ b;
 }
@@ -131,11 +137,13 @@ pub record Tells {X : Type 0} (same : X → X → Bool) : Type 0 where
   pub is : (x y : X) → same x y ≡ true → x ≡ y
   pub turns : (x y : X) → same x y ≡ same y x
 
-pub closed-once : {X : Type 0} (same : X → X → Bool) → Tells same → IsClosed (λ xs ys. (p : X → Bool) → how_many p (each_once same xs) ≡ how_many p (each_once same ys))
+pub closed-once : {X : Type 0} (same : X → X → Bool) → Tells same
+    → IsClosed (λ xs ys. (p : X → Bool) → how_many p (each_once same xs) ≡ how_many p (each_once same ys))
 closed-once {X = X} same tells = record {
   unmoved = λ xs p. refl;
-  behind = λ x xs ys h p.
-      ap (λ n. times (p x) + n) (filter_counts p (λ y. not (same x y)) (each_once same xs) ∙ h (λ y. not (same x y) && p y) ∙ sym (filter_counts p (λ y. not (same x y)) (each_once same ys)));
+  beyond = λ x xs ys h p.
+      ap (λ n. times (p x) + n) (filter_counts p (λ y. not (same x y)) (each_once same xs) ∙ h (λ y. not (same x y) && p y)
+      ∙ sym (filter_counts p (λ y. not (same x y)) (each_once same ys)));
   turned = λ x y xs p. two x y xs p (same x y) refl;
   further = λ xs ys zs a b p. a p ∙ b p;
 }
@@ -174,7 +182,8 @@ length_counts [] = refl
 length_counts (x ∷ xs) = ap (λ n. 1 + n) (length_counts xs) ∙ omega arith
 
 -- as many members that differ
-pub once-permutation : {X : Type 0} (same : X → X → Bool) → Tells same → (xs ys : List X) → IsPermutation xs ys → length (each_once same xs) ≡ length (each_once same ys)
+pub once-permutation : {X : Type 0} (same : X → X → Bool) → Tells same → (xs ys : List X) → IsPermutation xs ys
+    → length (each_once same xs) ≡ length (each_once same ys)
 once-permutation same tells xs ys moved =
     sym (length_counts (each_once same xs))
     ∙ closed-permutation (λ us vs. (p : _) → how_many p (each_once same us) ≡ how_many p (each_once same vs)) (closed-once same tells) xs ys moved (λ x. true)
@@ -203,7 +212,7 @@ left_of_first choice c x (y ∷ ys) = ap Some (left_from_first choice c x y ys)
 pub closed-left : (choice : ℤ → ℤ → ℤ) → IsChoice choice → IsClosed (λ xs ys. left_of choice xs ≡ left_of choice ys)
 closed-left choice c = record {
   unmoved = λ xs. refl;
-  behind = λ x xs ys h. left_of_first choice c x xs ∙ ap (first_with choice x) h ∙ sym (left_of_first choice c x ys);
+  beyond = λ x xs ys h. left_of_first choice c x xs ∙ ap (first_with choice x) h ∙ sym (left_of_first choice c x ys);
   turned = λ x y xs. ap (λ v. Some (left_from choice v xs)) (c.comm x y);
   further = λ xs ys zs a b. a ∙ b;
 }
@@ -250,12 +259,15 @@ lesser-choice = record {
   assoc = λ x y z.
       elim (below_or x y) [
         | inl le ↦ elim (below_or y z) [
-          | inl next ↦ ap (λ v. lesser v z) (lesser-first x y le) ∙ lesser-first x z (omega (arith, ints)) ∙ sym (lesser-first x y le) ∙ ap (lesser x) (sym (lesser-first y z next))
+          | inl next ↦ ap (λ v. lesser v z) (lesser-first x y le) ∙ lesser-first x z (omega (arith, ints)) ∙ sym (lesser-first x y le)
+              ∙ ap (lesser x) (sym (lesser-first y z next))
           | inr next ↦ ap (λ v. lesser v z) (lesser-first x y le) ∙ ap (lesser x) (sym (lesser-second y z next))
         ]
         | inr less ↦ elim (below_or y z) [
-          | inl next ↦ ap (λ v. lesser v z) (lesser-second x y less) ∙ lesser-first y z next ∙ sym (lesser-second x y less) ∙ ap (lesser x) (sym (lesser-first y z next))
-          | inr next ↦ ap (λ v. lesser v z) (lesser-second x y less) ∙ lesser-second y z next ∙ sym (lesser-second x z (omega (arith, ints))) ∙ ap (lesser x) (sym (lesser-second y z next))
+          | inl next ↦ ap (λ v. lesser v z) (lesser-second x y less) ∙ lesser-first y z next ∙ sym (lesser-second x y less)
+              ∙ ap (lesser x) (sym (lesser-first y z next))
+          | inr next ↦ ap (λ v. lesser v z) (lesser-second x y less) ∙ lesser-second y z next ∙ sym (lesser-second x z (omega (arith, ints)))
+              ∙ ap (lesser x) (sym (lesser-second y z next))
         ]
       ];
 }
@@ -273,12 +285,15 @@ greater-choice = record {
   assoc = λ x y z.
       elim (below_or x y) [
         | inl le ↦ elim (below_or y z) [
-          | inl next ↦ ap (λ v. greater v z) (greater-second x y le) ∙ greater-second y z next ∙ sym (greater-second x z (omega (arith, ints))) ∙ ap (greater x) (sym (greater-second y z next))
-          | inr next ↦ ap (λ v. greater v z) (greater-second x y le) ∙ greater-first y z next ∙ sym (greater-second x y le) ∙ ap (greater x) (sym (greater-first y z next))
+          | inl next ↦ ap (λ v. greater v z) (greater-second x y le) ∙ greater-second y z next ∙ sym (greater-second x z (omega (arith, ints)))
+              ∙ ap (greater x) (sym (greater-second y z next))
+          | inr next ↦ ap (λ v. greater v z) (greater-second x y le) ∙ greater-first y z next ∙ sym (greater-second x y le)
+              ∙ ap (greater x) (sym (greater-first y z next))
         ]
         | inr less ↦ elim (below_or y z) [
           | inl next ↦ ap (λ v. greater v z) (greater-first x y less) ∙ ap (greater x) (sym (greater-second y z next))
-          | inr next ↦ ap (λ v. greater v z) (greater-first x y less) ∙ greater-first x z (omega (arith, ints)) ∙ sym (greater-first x y less) ∙ ap (greater x) (sym (greater-first y z next))
+          | inr next ↦ ap (λ v. greater v z) (greater-first x y less) ∙ greater-first x z (omega (arith, ints)) ∙ sym (greater-first x y less)
+              ∙ ap (greater x) (sym (greater-first y z next))
         ]
       ];
 }

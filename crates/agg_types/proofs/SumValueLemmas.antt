@@ -1,5 +1,6 @@
 -- The value of samples from their sum, and what order samples have.
-use Rattle.std.proofs.Common.{◌≡◌, ◌∙◌, ℕ, suc, Bool, true, false, not, ◌&&◌, List, [], ◌∷◌, length, pos, Some, None, refl, sym, ap, arith, Ordering, Less, Equal, Greater}
+use Rattle.std.proofs.Common.{◌≡◌, ◌∙◌, ℕ, suc, Bool, true, false, not, ◌&&◌, List, [], ◌∷◌, length, pos, Some, None, refl, sym, ap, arith, Ordering, Less}
+use Rattle.std.proofs.Common.{Equal, Greater}
 use Rattle.std.specs.Prelude.{if◌then◌else◌}
 use Rattle.std.specs.Cmp.{IsTotalOrder}
 use Rattle.std.specs.List.{list_all, AllByRecursion}
@@ -25,7 +26,8 @@ unless-any [] value = refl
 unless-any (x ∷ xs) value =
     ap (λ b. if b then None else Some value) (ne_eqb (suc (length xs)) 0 (λ e. absurd (omega arith)))
 
-pub sum-of-Sum : (samples : List Sample) → value_of_sum kind.Sum (sum_of_samples samples) ≡ if_any (numbered samples) (of_micros (total number_of (numbered samples)))
+pub sum-of-Sum : (samples : List Sample)
+    → value_of_sum kind.Sum (sum_of_samples samples) ≡ if_any (numbered samples) (of_micros (total number_of (numbered samples)))
 sum-of-Sum samples =
     ap (λ n. unless_none n (of_micros (sum_of_samples samples).micros)) (sum-plain samples)
     ∙ ap (λ m. unless_none (length (numbered samples)) (of_micros m)) (sum-micros samples)

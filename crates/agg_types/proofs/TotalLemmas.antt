@@ -1,5 +1,6 @@
 -- Totals of samples that come one by one.
-use Rattle.std.proofs.Common.{◌≡◌, ◌∙◌, ℕ, suc, ◌+◌, ◌<◌, Bool, true, false, cond, ◌||◌, List, [], ◌∷◌, ◌++◌, length, map, take, get_or, ℤ, pos, unsigned_abs, ◌+ℤ◌, ◌*ℤ◌, Option, Some, None, is_some, refl, sym, ap, arith}
+use Rattle.std.proofs.Common.{◌≡◌, ◌∙◌, ℕ, suc, ◌+◌, ◌<◌, Bool, true, false, cond, ◌||◌, List, [], ◌∷◌, ◌++◌, length, map, take, get_or, ℤ, pos}
+use Rattle.std.proofs.Common.{unsigned_abs, ◌+ℤ◌, ◌*ℤ◌, Option, Some, None, is_some, refl, sym, ap, arith}
 use Rattle.std.specs.List.{list_any}
 use Rattle.std.proofs.Math.IntN.{+ℤ_assoc, +ℤ_idr, +ℤ_idl, zero-*ℤ}
 use Rattle.std.proofs.lemmas.List.{take_more, map-append, append-nil}
@@ -33,7 +34,8 @@ pub numbered-more : (samples : List Sample) (i : ℕ) (x : Sample) → i < lengt
 numbered-more samples i x within at =
     filter_more has_number samples i x within ∙ ap (λ y. numbered (take i samples) ++ cond (has_number y) (y ∷ []) []) (sym at)
 
-pub total-more : (f : Sample → ℤ) (samples : List Sample) (i : ℕ) (x : Sample) → (has_number x ≡ false → f x ≡ pos 0) → i < length samples → x ≡ get_or samples i x
+pub total-more : (f : Sample → ℤ) (samples : List Sample) (i : ℕ) (x : Sample) → (has_number x ≡ false → f x ≡ pos 0) → i < length samples
+    → x ≡ get_or samples i x
     → total f (numbered (take (i + 1) samples)) ≡ total f (numbered (take i samples)) +ℤ f x
 total-more f samples i x absent within at =
     ap (total f) (numbered-more samples i x within at) ∙ by_test (has_number x) absent
@@ -77,7 +79,8 @@ left-more choice samples i x old new within at before is =
     ∙ ap (left_of choice) (sym (map-append number_of (numbered (take i samples)) (cond (has_number x) (x ∷ []) [])))
     ∙ ap (λ xs. left_of choice (map number_of xs)) (sym (numbered-more samples i x within at))
   where
-    by_number : (micros : Option ℤ) → with_choice choice old micros ≡ left_of choice (map number_of (numbered (take i samples)) ++ cond (is_some micros) (number_in micros ∷ []) [])
+    by_number : (micros : Option ℤ)
+        → with_choice choice old micros ≡ left_of choice (map number_of (numbered (take i samples)) ++ cond (is_some micros) (number_in micros ∷ []) [])
     by_number None = before ∙ sym (ap (left_of choice) (append-nil (map number_of (numbered (take i samples)))))
     by_number (Some micros) = ap (λ o. with_choice choice o (Some micros)) before ∙ sym (left_of-push choice (map number_of (numbered (take i samples))) micros)
 
@@ -105,7 +108,8 @@ total_cond false x xs = refl
 pub sum-micros : (samples : List Sample) → (sum_of_samples samples).micros ≡ total number_of (numbered samples)
 sum-micros [] = refl
 sum-micros (x ∷ xs) =
-    ap (λ t. (sum_of_sample x).micros +ℤ t) (sum-micros xs) ∙ one_micros x.micros (total number_of (numbered xs)) ∙ sym (total_cond (has_number x) x (numbered xs))
+    ap (λ t. (sum_of_sample x).micros +ℤ t) (sum-micros xs) ∙ one_micros x.micros (total number_of (numbered xs))
+    ∙ sym (total_cond (has_number x) x (numbered xs))
 
 one_count : (micros : Option ℤ) (n : ℕ) → (sum_of_number micros).count + n ≡ suc n
 one_count None n = omega arith

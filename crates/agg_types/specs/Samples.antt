@@ -14,7 +14,8 @@ use Rattle.agg_types.specs.declared.sample.Series.{Series}
 -- series by element, option combination, attribute combination and unit
 abbrev pub series_cmp : Series → Series → Ordering
 series_cmp a b =
-    ordering_then (nat_cmp a.element b.element) (ordering_then (nat_cmp a.combo b.combo) (ordering_then (nat_cmp a.attribute b.attribute) (nat_cmp a.unit b.unit)))
+    ordering_then (nat_cmp a.element b.element) (ordering_then (nat_cmp a.combo b.combo)
+    (ordering_then (nat_cmp a.attribute b.attribute) (nat_cmp a.unit b.unit)))
 
 -- two series are one
 abbrev pub same_series : Series → Series → Bool

@@ -3,6 +3,7 @@ ghost use Rattle.std.specs.Prelude.{◌≡◌, ◌≤◌, ◌<◌, ◌+◌, ◌*
 ghost use Rattle.std.specs.Ordering.{is_gt};
 ghost use Rattle.agg_types.specs.Samples.{in_series_order, numbered, number_of, total, outermost, series_of, goes_beyond, same_series};
 ghost use Rattle.agg_types.specs.Ends.{order_of, next_run, found_if_any};
+ghost use Rattle.dh_base.specs.declared.limits.TheConstants.{MOST_RECORDS};
 
 use crate::sample::Sample;
 
@@ -92,9 +93,10 @@ fn with_sample(run: &Run, best: &Sample, sample: &Sample, at: usize, end: End) -
 /// The sum over the samples that count, one of each series, and the number of series, or `None`
 /// where no sample has a number.
 pub(crate) fn outermost(samples: &[Sample], end: End) -> Option<Found>
-    requires few { length samples.now ≤ 4_194_304 }
+    requires few { length samples.now ≤ MOST_RECORDS }
     requires ordered { IsTrue (in_series_order samples.now) }
-    ensures found { result ≡ found_if_any (numbered samples.now) (total number_of (outermost (order_of end) (numbered samples.now))) (length (series_of (numbered samples.now))) }
+    ensures found { result ≡ found_if_any (numbered samples.now) (total number_of (outermost (order_of end) (numbered samples.now)))
+        (length (series_of (numbered samples.now))) }
     ensures size { IfSome result (λ found. unsigned_abs found.micros < 2 ^ 127) }
     ensures some { IfSome result (λ found. 0 < found.series) }
 {

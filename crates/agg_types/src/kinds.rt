@@ -4,6 +4,7 @@ ghost use Rattle.dh_base.specs.Fractions.{fraction_of, of_micros};
 ghost use Rattle.agg_types.specs.Samples.{in_series_order, numbered, number_of, weighted, total, lasts, firsts, outermost, backwards, series_of};
 ghost use Rattle.agg_types.specs.Values.{value_by, value_of_sum, mean, if_any, least, greatest, unless_none};
 ghost use Rattle.table_rows.specs.Order.{period_cmp};
+ghost use Rattle.dh_base.specs.declared.limits.TheConstants.{MOST_RECORDS};
 
 use crate::ends::{End, outermost};
 use crate::sample::Sample;
@@ -67,14 +68,14 @@ pub fn value_of_sum(kind: AggType, sum: &Sum) -> Option<Frac>
 }
 
 fn total_value(samples: &[Sample]) -> Option<Frac>
-    requires { length samples.now ≤ 4_194_304 }
+    requires { length samples.now ≤ MOST_RECORDS }
     ensures { result ≡ if_any (numbered samples.now) (of_micros (total number_of (numbered samples.now))) }
 {
     value_of_sum(AggType::Sum, &sum_of(samples))
 }
 
 fn mean_value(samples: &[Sample]) -> Option<Frac>
-    requires { length samples.now ≤ 4_194_304 }
+    requires { length samples.now ≤ MOST_RECORDS }
     ensures { result ≡ if_any (numbered samples.now)
         (mean (total number_of (numbered samples.now)) (length (numbered samples.now))) }
 {
@@ -82,14 +83,14 @@ fn mean_value(samples: &[Sample]) -> Option<Frac>
 }
 
 fn count_value(samples: &[Sample]) -> Option<Frac>
-    requires { length samples.now ≤ 4_194_304 }
+    requires { length samples.now ≤ MOST_RECORDS }
     ensures { result ≡ if_any samples.now (fraction_of (pos (length samples.now)) 1) }
 {
     value_of_sum(AggType::Count, &sum_of(samples))
 }
 
 fn over_days(samples: &[Sample], days: u32) -> Option<Frac>
-    requires few { length samples.now ≤ 4_194_304 }
+    requires few { length samples.now ≤ MOST_RECORDS }
     requires days { 0 < days }
     ensures { result ≡ if_any (numbered samples.now) (mean (total weighted (numbered samples.now)) days) }
 {
@@ -101,7 +102,7 @@ fn over_days(samples: &[Sample], days: u32) -> Option<Frac>
 }
 
 fn last_sum(samples: &[Sample]) -> Option<Frac>
-    requires few { length samples.now ≤ 4_194_304 }
+    requires few { length samples.now ≤ MOST_RECORDS }
     requires ordered { IsTrue (in_series_order samples.now) }
     ensures { result ≡ if_any (numbered samples.now) (of_micros (total number_of (lasts (numbered samples.now)))) }
 {
@@ -110,7 +111,7 @@ fn last_sum(samples: &[Sample]) -> Option<Frac>
 }
 
 fn first_sum(samples: &[Sample]) -> Option<Frac>
-    requires few { length samples.now ≤ 4_194_304 }
+    requires few { length samples.now ≤ MOST_RECORDS }
     requires ordered { IsTrue (in_series_order samples.now) }
     ensures { result ≡ if_any (numbered samples.now) (of_micros (total number_of (firsts (numbered samples.now)))) }
 {
@@ -119,7 +120,7 @@ fn first_sum(samples: &[Sample]) -> Option<Frac>
 }
 
 fn last_mean(samples: &[Sample]) -> Option<Frac>
-    requires few { length samples.now ≤ 4_194_304 }
+    requires few { length samples.now ≤ MOST_RECORDS }
     requires ordered { IsTrue (in_series_order samples.now) }
     ensures { result ≡ if_any (numbered samples.now)
         (mean (total number_of (lasts (numbered samples.now))) (length (series_of (numbered samples.now)))) }
@@ -129,7 +130,7 @@ fn last_mean(samples: &[Sample]) -> Option<Frac>
 }
 
 fn first_mean(samples: &[Sample]) -> Option<Frac>
-    requires few { length samples.now ≤ 4_194_304 }
+    requires few { length samples.now ≤ MOST_RECORDS }
     requires ordered { IsTrue (in_series_order samples.now) }
     ensures { result ≡ if_any (numbered samples.now)
         (mean (total number_of (firsts (numbered samples.now))) (length (series_of (numbered samples.now)))) }
@@ -156,7 +157,7 @@ fn greatest_value(samples: &[Sample]) -> Option<Frac>
 /// asked for. There is none where no sample counts: one without a number counts for COUNT alone.
 #[tactic(auto, unfolding(crate::specs::Values::value_by))]
 pub fn aggregate(kind: AggType, samples: &[Sample], days: u32) -> Option<Frac>
-    requires few { length samples.now ≤ 4_194_304 }
+    requires few { length samples.now ≤ MOST_RECORDS }
     requires ordered { IsTrue (in_series_order samples.now) }
     requires days { 0 < days }
     ensures { result ≡ value_by kind samples.now days }

@@ -4,6 +4,7 @@ ghost use Rattle.std.specs.List.{list_any};
 ghost use Rattle.table_rows.specs.Sums.{joined};
 ghost use Rattle.agg_types.specs.Samples.{days_of, has_number, numbered, number_of, weighted, total};
 ghost use Rattle.agg_types.specs.Values.{sum_of_sample, sum_of_samples, least, greatest, lesser, greater, with_choice};
+ghost use Rattle.dh_base.specs.declared.limits.TheConstants.{MOST_RECORDS};
 
 use crate::sample::Sample;
 use dh_periods::Period;
@@ -18,11 +19,11 @@ pub(crate) fn any_number(samples: &[Sample]) -> bool
 
 /// The sum of the samples.
 pub(crate) fn sum_of(samples: &[Sample]) -> Sum
-    requires { length samples.now ≤ 4_194_304 }
+    requires { length samples.now ≤ MOST_RECORDS }
     ensures sum { result ≡ sum_of_samples samples.now }
     ensures size { unsigned_abs result.micros ≤ 2 ^ 63 * result.count }
     ensures plain { result.plain ≤ result.count }
-    ensures few { result.count ≤ 4_194_304 }
+    ensures few { result.count ≤ MOST_RECORDS }
 {
     let mut sum = Sum::none();
     for sample in samples {
@@ -34,7 +35,7 @@ pub(crate) fn sum_of(samples: &[Sample]) -> Sum
 fn with_sample(sum: &Sum, sample: &Sample) -> Sum
     requires size { unsigned_abs sum.now.micros ≤ 2 ^ 63 * sum.now.count }
     requires plain { sum.now.plain ≤ sum.now.count }
-    requires few { sum.now.count < 4_194_304 }
+    requires few { sum.now.count < MOST_RECORDS }
     ensures sum { result ≡ joined sum.now (sum_of_sample sample.now) }
     ensures size { unsigned_abs result.micros ≤ 2 ^ 63 * result.count }
     ensures plain { result.plain ≤ result.count }
@@ -45,7 +46,7 @@ fn with_sample(sum: &Sum, sample: &Sample) -> Sum
 
 /// The sum of the numbers times the days of their periods.
 pub(crate) fn weighted_sum(samples: &[Sample]) -> i128
-    requires { length samples.now ≤ 4_194_304 }
+    requires { length samples.now ≤ MOST_RECORDS }
     ensures sum { result ≡ total weighted (numbered samples.now) }
     ensures size { unsigned_abs result < 2 ^ 127 }
 {

@@ -6,7 +6,8 @@ ghost use Rattle.serde_json.specs.View.{view, members_view};
 ghost use Rattle.serde_json.specs.Data.{put as with_member};
 ghost use Rattle.dh_metadata.specs.Linked.{AreBelow};
 ghost use Rattle.answer_body.specs.Texts.{text_of_bytes, texts_of};
-ghost use Rattle.answer_body.specs.Names.{IsThere, AreUnits, dx_name, name_of, put_name, put_names, dx_named, period_named, unit_named, ids_of, dimensions_of, meta_of};
+ghost use Rattle.answer_body.specs.Names.{IsThere, AreUnits, dx_name, name_of, put_name, put_names, dx_named, period_named, unit_named, ids_of};
+ghost use Rattle.answer_body.specs.Names.{dimensions_of, meta_of};
 
 use crate::members::with_value;
 use crate::texts::{push_text, text_value};

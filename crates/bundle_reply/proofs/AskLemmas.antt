@@ -1,5 +1,6 @@
 -- A query that is read can be answered.
-use Rattle.std.proofs.Common.{◌≡◌, ◌∙◌, ℕ, zero, suc, ◌<◌, Bool, true, false, not, ◌&&◌, ◌||◌, cond, List, [], ◌∷◌, length, nat_lt, Option, None, Some, refl, ap, arith, slice_get}
+use Rattle.std.proofs.Common.{◌≡◌, ◌∙◌, ℕ, zero, suc, ◌<◌, Bool, true, false, not, ◌&&◌, ◌||◌, cond, List, [], ◌∷◌, length, nat_lt, Option, None, Some, refl}
+use Rattle.std.proofs.Common.{ap, arith, slice_get}
 use Rattle.std.specs.List.{AllByRecursion, list_all, list_any}
 use Rattle.std.specs.Option.{option_map_or}
 use Rattle.expr_lang.specs.declared.expr.Expr.{Expr}
@@ -74,12 +75,14 @@ dx-can : (r : Records) (user : ℕ) (d : Dx) → IsAsked r user d → named.is_u
 unfolding asked.can_answer_dx
 dx-can r user d is built = kind-can r d.kind d.number is.seen.in_range built
 
-built-first : (r : Records) (d : Dx) (ds : List Dx) → named.first_unbuilt r (d ∷ ds) ≡ None → (named.is_unbuilt r d.kind d.number ≡ false) × (named.first_unbuilt r ds ≡ None)
+built-first : (r : Records) (d : Dx) (ds : List Dx) → named.first_unbuilt r (d ∷ ds) ≡ None
+    → (named.is_unbuilt r d.kind d.number ≡ false) × (named.first_unbuilt r ds ≡ None)
 built-first r d ds none =
     elim (named.is_unbuilt r d.kind d.number) as (λ b. named.is_unbuilt r d.kind d.number ≡ b → cond b (Some d.text) (named.first_unbuilt r ds) ≡ None
     → (named.is_unbuilt r d.kind d.number ≡ false) × (named.first_unbuilt r ds ≡ None)) [ true ↦ λ is e. absurd (cc) | false ↦ λ is e. (is, e) ] refl none
 
-all-can : (r : Records) (user : ℕ) (ds : List Dx) → AllByRecursion (IsAsked r user) ds → named.first_unbuilt r ds ≡ None → list_all (asked.can_answer_dx r) ds ≡ true
+all-can : (r : Records) (user : ℕ) (ds : List Dx) → AllByRecursion (IsAsked r user) ds → named.first_unbuilt r ds ≡ None
+    → list_all (asked.can_answer_dx r) ds ≡ true
 all-can r user [] all none = refl
 all-can r user (d ∷ ds) all none =
     let two = built-first r d ds none in

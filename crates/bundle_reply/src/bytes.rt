@@ -1,16 +1,17 @@
 //! The reply over the bytes of a bundle.
 
-ghost use Rattle.std.specs.Prelude.{◌<◌, ℕ, List, length, IfOk};
+ghost use Rattle.std.specs.Prelude.{◌≡◌, ◌<◌, ℕ, List, length, IfOk};
 ghost use Rattle.json_read.specs.Bytes.{document_of};
 ghost use Rattle.json_read.specs.Views.{data_of};
 ghost use Rattle.meta_reader.specs.File.{most_bytes};
-ghost use Rattle.bundle_reply.specs.Bytes.{Asked, asked, IsOverDocument, IsOverBytes};
-ghost use Rattle.bundle_reply.specs.Steps.{AreForms, AreFormsIn};
+ghost use Rattle.bundle_reply.specs.Bytes.{Asked, asked, reply_to};
+ghost use Rattle.bundle_reply.specs.Steps.{AreForms, AreFormsIn, IsOverDocument};
 ghost use Rattle.bundle_reply.specs.Unseen.{IsUnseenReply};
 
 use crate::over::over_forms;
 use crate::reply::{Reply, meta_refused};
 use dh_base::items::Items;
+use dh_base::limits::MOST_INPUT_BYTES;
 use dh_base::memory::Memory;
 use json::{Scratch, Value};
 use json_read::fault::FormFault;
@@ -22,7 +23,7 @@ use std::alloc::Global;
 use value_forms::set::{SetValue, read_values};
 
 /// The most bytes of a bundle.
-pub const MOST_BYTES: usize = 67_108_864;
+pub const MOST_BYTES: usize = MOST_INPUT_BYTES;
 
 /// What a bundle says: its raw records, and its values or the first fault of their form.
 #[derive(Drop)]
@@ -71,7 +72,7 @@ fn over_document(
 /// The reply to every query over a bundle of more than the most bytes.
 #[tactic(auto, using(crate::proofs::ReplyLemmas::long_reply))]
 pub fn reply_to_long(alloc: Global) -> Result<Reply, Memory>
-    ensures { IfOk result (λ reply. (ask : Asked) (bytes : List ℕ) → most_bytes < length bytes → IsOverBytes ask bytes reply) }
+    ensures { IfOk result (λ reply. (ask : Asked) (bytes : List ℕ) → most_bytes < length bytes → reply ≡ reply_to ask bytes) }
 {
     meta_refused(
         alloc,
@@ -90,7 +91,7 @@ fn over_bytes(
     moment: i64,
     bytes: &[u8],
 ) -> Result<Reply, Memory>
-    ensures { IfOk result (IsOverBytes (asked user.now query.now moment) bytes.now) }
+    ensures { IfOk result (λ reply. reply ≡ reply_to (asked user.now query.now moment) bytes.now) }
 {
     if bytes.len() > MOST_BYTES {
         return reply_to_long(alloc);
@@ -107,7 +108,7 @@ pub fn reply_to_bytes(
     moment: i64,
     bytes: &[u8],
 ) -> Result<Reply, Memory>
-    ensures over { IfOk result (IsOverBytes (asked user.now query.now moment) bytes.now) }
+    ensures over { IfOk result (λ reply. reply ≡ reply_to (asked user.now query.now moment) bytes.now) }
     // nothing that the user doesn't see changes it
     ensures unseen { IfOk result (IsUnseenReply (asked user.now query.now moment) bytes.now) }
 {

@@ -2,12 +2,11 @@
 
 ghost use Rattle.std.specs.Prelude.{◌≡◌, ◌<◌, ℕ, List, None, nat_eq, length, IfOk, IfSome};
 ghost use Rattle.meta_parts.specs.declared.held.Records.{Records};
-ghost use Rattle.meta_reader.specs.Faults.{fault_of};
 ghost use Rattle.json_read.specs.Forms.{Formed};
 ghost use Rattle.json_read.specs.Given.{Gives};
 ghost use Rattle.dh_periods.specs.Moment.{day_of};
 ghost use Rattle.engine.specs.InMemory.{started, Loads};
-ghost use Rattle.engine.specs.Tables.{tables_of};
+ghost use Rattle.engine.specs.MetaAfter.{meta_after};
 ghost use Rattle.query_answer.specs.Answer.{answer_of};
 ghost use Rattle.query_answer.specs.Asked.{CanAnswer};
 ghost use Rattle.query_lang.specs.Query.{query_of};
@@ -16,8 +15,9 @@ ghost use Rattle.seen_rows.specs.Seen.{seen_of};
 ghost use Rattle.value_forms.specs.declared.set.SetValue.{SetValue as Given};
 ghost use Rattle.bundle_reply.specs.Load.{asked_for};
 ghost use Rattle.bundle_reply.specs.Reply.{answer_reply};
-ghost use Rattle.bundle_reply.specs.Answer.{reply_to_query, reply_by_status, reply_to_load, user_named, reply_by_user, reply_with_values};
-ghost use Rattle.bundle_reply.specs.Bytes.{asked, IsOverParts};
+ghost use Rattle.bundle_reply.specs.Answer.{seen_after, reply_to_query, reply_by_status, reply_to_load, user_named, reply_by_user, reply_with_values};
+ghost use Rattle.bundle_reply.specs.Bytes.{asked};
+ghost use Rattle.bundle_reply.specs.Steps.{IsOverParts};
 
 use crate::bytes::Forms;
 use crate::load::request_of;
@@ -74,16 +74,17 @@ fn over_log(
 ) -> Result<Reply, Memory>
     requires free { engine.old.state.full ≡ None }
     requires more { engine.old.state.ticket < engine.old.limits.updates }
-    requires user { user < length engine.old.meta.users }
-    requires query { CanAnswer engine.old.meta query.now }
-    ensures { IfOk result (λ reply. reply ≡ answer_reply (answer_of engine.old.meta query.now (seen_of engine.old.meta user (tables_of engine.old.meta engine.old.state.log)))) }
+    requires user { user < length (meta_after engine.old.meta engine.old.state.log).users }
+    requires query { CanAnswer (meta_after engine.old.meta engine.old.state.log) query.now }
+    ensures { IfOk result (λ reply. reply ≡ answer_reply
+        (answer_of (meta_after engine.old.meta engine.old.state.log) query.now (seen_after engine.old.meta user engine.old.state.log))) }
 {
     let tables = tables_of_all(alloc, engine)?;
-    over_tables(alloc, engine.meta(), user, &tables, query)
+    over_tables(alloc, engine.latest_meta(), user, &tables, query)
 }
 
 // The reply to a query's text over an engine's whole log.
-#[tactic(auto, using(crate::proofs::AskLemmas::can_answer), unfolding(crate::specs::Answer::reply_to_query))]
+#[tactic(auto, using(crate::proofs::AskLemmas::can_answer), unfolding(crate::specs::Answer::reply_to_query, engine::specs::MetaAfter::meta_after))]
 fn reply_to_query(
     alloc: Global,
     engine: &mut Engine<Unkept>,
@@ -94,12 +95,13 @@ fn reply_to_query(
     requires free { engine.old.state.full ≡ None }
     requires more { engine.old.state.ticket < engine.old.limits.updates }
     requires user { user < length engine.old.meta.users }
-    ensures { IfOk result (λ reply. reply ≡ reply_to_query engine.old.meta user engine.old.state.log (query_of engine.old.meta user (day_of moment) 100000 query.now)) }
+    ensures { IfOk result (λ reply. reply ≡ reply_to_query engine.old.meta user engine.old.state.log
+        (query_of (meta_after engine.old.meta engine.old.state.log) user (day_of moment) 100000 query.now)) }
 {
     match read_query(
         alloc,
         query,
-        engine.meta(),
+        engine.latest_meta(),
         user,
         day_of(moment),
         MOST_CELLS,
@@ -211,7 +213,8 @@ fn reply_to_values(
     values: Result<Items<SetValue>, FormFault>,
 ) -> Result<Reply, Memory>
     requires { engine.old ≡ started engine.old.meta }
-    ensures { IfOk result (λ reply. (formed : Formed (List Given)) → Gives formed values → reply ≡ reply_with_values engine.old.meta user.now query.now moment formed) }
+    ensures { IfOk result (λ reply. (formed : Formed (List Given)) → Gives formed values
+        → reply ≡ reply_with_values engine.old.meta user.now query.now moment formed) }
 {
     match values {
         Ok(values) => reply_to_user(alloc, engine, user, query, moment, values),
@@ -230,7 +233,8 @@ fn over_engine(
     values: Result<Items<SetValue>, FormFault>,
 ) -> Result<Reply, Memory>
     requires { engine ≡ started engine.meta }
-    ensures { IfOk result (λ reply. (formed : Formed (List Given)) → Gives formed values → reply ≡ reply_with_values engine.meta user.now query.now moment formed) }
+    ensures { IfOk result (λ reply. (formed : Formed (List Given)) → Gives formed values
+        → reply ≡ reply_with_values engine.meta user.now query.now moment formed) }
 {
     let mut engine = engine;
     let reply = reply_to_values(alloc, &mut engine, user, query, moment, values);
@@ -259,6 +263,7 @@ fn over_metadata(
 }
 
 /// The reply over what a bundle says: its first fault, or the reply over its metadata and values.
+#[tactic(auto, using(crate::proofs::ReplyLemmas::over_refused))]
 pub(crate) fn over_forms(
     alloc: Global,
     user: &[u8],
@@ -267,7 +272,7 @@ pub(crate) fn over_forms(
     forms: Forms,
 ) -> Result<Reply, Memory>
     ensures { IfOk result (λ reply. (formed : Formed (List Given)) → Gives formed forms.values
-        → IsOverParts (asked user.now query.now moment) forms.parts formed (fault_of forms.parts) reply) }
+        → IsOverParts (asked user.now query.now moment) forms.parts formed reply) }
 {
     match metadata(alloc, forms.parts) {
         Ok(meta) => over_metadata(alloc, meta, user, query, moment, forms.values),

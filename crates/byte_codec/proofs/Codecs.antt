@@ -1,5 +1,6 @@
 -- What is read was written so, and what was written is read again, whatever follows.
-use Rattle.std.proofs.Common.{◌≡◌, ℕ, zero, suc, ◌+◌, ◌^◌, ◌<◌, ◌≤◌, Bool, true, false, cond, ltb, List, [], ◌∷◌, ◌++◌, length, get_or, take, drop, Option, None, Some, refl, sym, ap, subst, ◌∙◌, append_assoc, arith, inl, inr}
+use Rattle.std.proofs.Common.{◌≡◌, ℕ, zero, suc, ◌+◌, ◌^◌, ◌<◌, ◌≤◌, Bool, true, false, cond, ltb, List, [], ◌∷◌, ◌++◌, length, get_or, take, drop, Option}
+use Rattle.std.proofs.Common.{None, Some, refl, sym, ap, subst, ◌∙◌, append_assoc, arith, inl, inr}
 use Rattle.std.specs.Prelude.{option_map, option_and_then}
 use Rattle.std.specs.List.{flat_map, AllByRecursion, All}
 use Rattle.std.specs.Prelude.{bytes_eq, nat_eq, IfSome, ◌&&◌}
@@ -18,7 +19,8 @@ use Rattle.std.proofs.lemmas.Bool.{cases_lt, ltb-false, le-ltb}
 use Rattle.std.proofs.lemmas.Int.{to_z-of_z, of_z-to_z}
 use Rattle.std.proofs.lemmas.List.{take_at, drop_at, take-append-drop, length-append, length-take, get_or-drop, get_or_append_left, get_or_past}
 use Rattle.std.proofs.lemmas.Nat.{be_bytes_2, be_bytes_4, be_bytes_8, from_be_bytes-to_be_bytes_2, from_be_bytes-to_be_bytes_4, from_be_bytes-to_be_bytes_8}
-use Rattle.byte_codec.specs.Reading.{Reads, ◌⊗◌, mapped, refined, bytes_at, number_at, signed_at, text_at, times_at, listed_at, id_at, optional_id_of, optional_id_at, id_text_at}
+use Rattle.byte_codec.specs.Reading.{Reads, ◌⊗◌, mapped, refined, bytes_at, number_at, signed_at, text_at, times_at, listed_at, id_at, optional_id_of}
+use Rattle.byte_codec.specs.Reading.{optional_id_at, id_text_at}
 use Rattle.byte_codec.specs.Writing.{number, signed, text, listed, no_id, optional_id, id_text, IsId, IsIdText}
 
 abbrev pub IsBytes : List ℕ → Type 0
@@ -171,7 +173,8 @@ wide64 = record {
 pub number_codec : (w : Width) (limit : ℕ) → IsWide w limit → IsCodec (number w) (number_at w) (λ n. n < limit)
 unfolding number_at
 number_codec w limit wide =
-    mapped_codec (from_be_bytes w) (to_be_bytes w) (λ n. n < limit) (bytes_codec (byte_len w)) (λ x fits len. (wide.back x len fits, wide.below x fits)) (λ n lt. (wide.again n lt, wide.len n))
+    mapped_codec (from_be_bytes w) (to_be_bytes w) (λ n. n < limit) (bytes_codec (byte_len w)) (λ x fits len. (wide.back x len fits, wide.below x fits))
+    (λ n lt. (wide.again n lt, wide.len n))
 
 pub text_codec : (w : Width) (limit : ℕ) → IsWide w limit → IsCodec (text w) (text_at w) (λ t. length t < limit)
 unfolding text_at
@@ -183,12 +186,17 @@ text_codec w limit wide = record {
       let back = (bytes_codec n.0).takes n.1 t rest front.0.rest_fits first.2 in
       let whole = Takes-then bytes (number w n.0) n.1 t rest front.0 back.0 in
       (subst (λ k. Takes bytes (number w k ++ t) rest) (sym back.1) whole, subst (λ k. k < limit) (sym back.1) front.1);
-  again = λ t rest lt. rw (append_assoc (number w (length t)) t rest, (number_codec w limit wide).again (length t) (t ++ rest) lt) ((bytes_codec (length t)).again t rest refl);
+  again =
+      λ t rest lt. rw (
+        append_assoc (number w (length t)) t rest,
+        (number_codec w limit wide).again (length t) (t ++ rest) lt,
+      ) ((bytes_codec (length t)).again t rest refl);
 }
 
 -- ---- lists
 
-pub times_takes : {A : Type 0} {s : A → List ℕ} {a : Reads A} {G : A → Type 0} → IsCodec s a G → (n : ℕ) (bytes : List ℕ) (xs : List A) (rest : List ℕ) → IsBytes bytes
+pub times_takes : {A : Type 0} {s : A → List ℕ} {a : Reads A} {G : A → Type 0} → IsCodec s a G → (n : ℕ) (bytes : List ℕ) (xs : List A) (rest : List ℕ)
+    → IsBytes bytes
     → times_at n a bytes ≡ Some (xs, rest) → Takes bytes (flat_map s xs) rest × (length xs ≡ n) × AllByRecursion G xs
 unfolding times_at
 times_takes {A} {s} {a} {G} c zero bytes xs rest fits e =
@@ -222,10 +230,15 @@ listed_codec {A} {s} {a} {G} w limit wide c = record {
       let n = first.0 in
       let front = (number_codec w limit wide).takes bytes n.0 n.1 fits first.1 in
       let back = times_takes c n.0 n.1 xs rest front.0.rest_fits first.2 in
-      let whole = Takes-then bytes (number w n.0) n.1 (flat_map s xs) rest front.0 back.0 in
-      (subst (λ k. Takes bytes (number w k ++ flat_map s xs) rest) (sym back.1) whole, (subst (λ k. k < limit) (sym back.1) front.1, All-from_recursion G xs back.2));
+      let whole = Takes-then bytes (number w n.0) n.1 (flat_map s xs) rest front.0 back.0 in (
+        subst (λ k. Takes bytes (number w k ++ flat_map s xs) rest) (sym back.1) whole,
+        (subst (λ k. k < limit) (sym back.1) front.1, All-from_recursion G xs back.2),
+      );
   again = λ xs rest good.
-      rw (append_assoc (number w (length xs)) (flat_map s xs) rest, (number_codec w limit wide).again (length xs) (flat_map s xs ++ rest) good.0) (times_again c xs rest (recursion_from_All G xs good.1));
+      rw (
+        append_assoc (number w (length xs)) (flat_map s xs) rest,
+        (number_codec w limit wide).again (length xs) (flat_map s xs ++ rest) good.0,
+      ) (times_again c xs rest (recursion_from_All G xs good.1));
 }
 
 -- ---- signed numbers and identifiers

@@ -1,5 +1,6 @@
 -- Reading records from the front of bytes, word for word as they are written.
-use Rattle.std.specs.Prelude.{ℕ, zero, suc, List, [], ◌∷◌, length, take, drop, nat_lt, bytes_eq, if◌then◌else◌, Option, None, Some, option_map, option_and_then, ℤ}
+use Rattle.std.specs.Prelude.{ℕ, zero, suc, List, [], ◌∷◌, length, take, drop, nat_lt, bytes_eq, if◌then◌else◌, Option, None, Some, option_map}
+use Rattle.std.specs.Prelude.{option_and_then, ℤ}
 use Rattle.std.specs.Int.{Width, w16, byte_len, from_be_bytes, cast_signed}
 use Rattle.dh_base.specs.Uid.{uid_of}
 use Rattle.byte_codec.specs.Writing.{no_id}

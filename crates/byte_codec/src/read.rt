@@ -18,8 +18,8 @@ pub fn read_bytes<'a>(rest: &mut &'a [u8], len: usize) -> Result<&'a [u8], ReadF
     if bytes.len() < len {
         return Err(ReadFault::Bad);
     }
-    let (piece, behind) = bytes.split_at(len);
-    *rest = behind;
+    let (piece, beyond) = bytes.split_at(len);
+    *rest = beyond;
     Ok(piece)
 }
 

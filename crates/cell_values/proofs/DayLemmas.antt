@@ -1,5 +1,6 @@
 -- The days of periods, counted from 1 January 1900.
-use Rattle.std.proofs.Common.{◌≡◌, ◌∙◌, ℕ, ◌+◌, ◌<◌, ◌≤◌, Bool, true, false, ◌&&◌, ◌||◌, List, [], ◌∷◌, ◌++◌, length, take, get_or, ℤ, pos, neg_ℤ, ◌+ℤ◌, ◌-ℤ◌, ◌≤ℤ◌, unsigned_abs, FitsSigned, to_z, of_z, to_z-of_z, inl, inr, refl, sym, ap, arith}
+use Rattle.std.proofs.Common.{◌≡◌, ◌∙◌, ℕ, ◌+◌, ◌<◌, ◌≤◌, Bool, true, false, ◌&&◌, ◌||◌, List, [], ◌∷◌, ◌++◌, length, take, get_or, ℤ, pos, neg_ℤ, ◌+ℤ◌}
+use Rattle.std.proofs.Common.{◌-ℤ◌, ◌≤ℤ◌, unsigned_abs, FitsSigned, to_z, of_z, to_z-of_z, inl, inr, refl, sym, ap, arith}
 use Rattle.std.specs.Prelude.{nat_le, nat_lt, int_le}
 use Rattle.std.specs.Int.{w32}
 use Rattle.std.proofs.lemmas.Bool.{cases_Bool, cases_lt, false≢true, le-leb, lt-leb, lt-ltb, le-ltb, and_right, and_from}
@@ -61,7 +62,8 @@ upto_place l n d is =
 
 pub day_range-is : (p : PeriodName) (f l : ℕ) → pos f ≡ first_day p +ℤ pos 25567 → pos l ≡ last_day p +ℤ pos 25567 → l ≤ 73686 → IsDayRange p (f, l + 1)
 day_range-is p f l first last most = record {
-  members = λ n. ap (λ b. b && nat_lt n (l + 1)) (from_place f n (first_day p) first) ∙ ap (λ b. int_le (first_day p) (unix_day n) && b) (upto_place l n (last_day p) last);
+  members = λ n. ap (λ b. b && nat_lt n (l + 1)) (from_place f n (first_day p) first)
+      ∙ ap (λ b. int_le (first_day p) (unix_day n) && b) (upto_place l n (last_day p) last);
   below = omega (arith, most);
 }
 
@@ -85,7 +87,8 @@ days-more periods i p ranges range within at before here = record {
 pub days-none : AreDayRanges [] []
 days-none = record { members = λ n. refl; below = λ n past. refl }
 
-pub days-counted : (periods : List PeriodName) (ranges joined : List (ℕ × ℕ)) → AreDayRanges periods ranges → HoldsTheSame joined ranges → AreApart joined → covered joined ≡ days_in periods
+pub days-counted : (periods : List PeriodName) (ranges joined : List (ℕ × ℕ)) → AreDayRanges periods ranges → HoldsTheSame joined ranges → AreApart joined
+    → covered joined ≡ days_in periods
 unfolding days_in
 days-counted periods ranges joined are same apart =
     covered-count joined 73687 apart (λ n past. same.members n ∙ are.below n past)

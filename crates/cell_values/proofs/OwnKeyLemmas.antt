@@ -1,5 +1,6 @@
 -- Rows of which each has its own place give samples of which each has its own key, and these are sorted without a repeat.
-use Rattle.std.proofs.Common.{◌≡◌, ◌∙◌, ℕ, ◌+◌, Bool, true, false, cond, ◌&&◌, List, [], ◌∷◌, map, suc, get_or, refl, sym, ap, subst, arith, Ordering, Less, Equal, Greater}
+use Rattle.std.proofs.Common.{◌≡◌, ◌∙◌, ℕ, ◌+◌, Bool, true, false, cond, ◌&&◌, List, [], ◌∷◌, map, suc, get_or, refl, sym, ap, subst, arith, Ordering, Less}
+use Rattle.std.proofs.Common.{Equal, Greater}
 use Rattle.std.specs.Prelude.{IsPermutation, nat_eq}
 use Rattle.std.specs.Cmp.{IsTotalOrder, eq_by_cmp_equiv}
 use Rattle.std.specs.List.{AllByRecursion, IsDistinct, filter}
@@ -89,9 +90,11 @@ flips : (a b : Sample) → eq_by_cmp sample_cmp a b ≡ eq_by_cmp sample_cmp b a
 flips a b = (eq_by_cmp_equiv sample_total).symm a b
 
 -- samples with keys of their own, sorted by these, are in series order
-pub own-ordered : (samples sorted : List Sample) → IsPermutation samples sorted → IsSorted sample_cmp sorted → HaveOwnKeys samples → in_series_order sorted ≡ true
+pub own-ordered : (samples sorted : List Sample) → IsPermutation samples sorted → IsSorted sample_cmp sorted → HaveOwnKeys samples
+    → in_series_order sorted ≡ true
 own-ordered samples sorted moved up own =
-    in_series_order-from_rises sorted (sorted-rises sample_cmp sample_total sorted up (IsDistinct-IsPermutation (eq_by_cmp sample_cmp) flips samples sorted moved own))
+    in_series_order-from_rises sorted (sorted-rises sample_cmp sample_total sorted up
+    (IsDistinct-IsPermutation (eq_by_cmp sample_cmp) flips samples sorted moved own))
 
 both_equal : (a b : Ordering) → is_eq (ordering_then a b) ≡ (is_eq a && is_eq b)
 both_equal Less b = refl
@@ -120,7 +123,8 @@ one_place a b =
 
 -- ---- the samples of a cell
 
-pub own-samples : (element : ℕ) (t : Group → Bool) (need : Need) (ranges : List (ℕ × ℕ)) (rows : List Row) → rises row_cmp rows ≡ true → AreApart ranges → have_own_places rows ≡ true
+pub own-samples : (element : ℕ) (t : Group → Bool) (need : Need) (ranges : List (ℕ × ℕ)) (rows : List Row) → rises row_cmp rows ≡ true → AreApart ranges
+    → have_own_places rows ≡ true
     → HaveOwnKeys (map sample_of (gathered (ranged_rows rows need ranges) (filter t (groups_of element rows))))
 own-samples element t need ranges rows up apart own =
     let asked = cell_rows element t (is_row_asked need ranges) rows in

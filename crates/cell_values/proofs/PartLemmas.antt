@@ -1,5 +1,6 @@
 -- Rows of a cell in parts: of each group the rows in each range.
-use Rattle.std.proofs.Common.{◌≡◌, ◌∙◌, ℕ, suc, ◌+◌, ◌<◌, ◌≤◌, Bool, true, false, not, cond, ◌&&◌, ◌||◌, List, [], ◌∷◌, ◌++◌, length, drop, get_or, Option, Some, None, ℤ, refl, sym, ap, subst, arith}
+use Rattle.std.proofs.Common.{◌≡◌, ◌∙◌, ℕ, suc, ◌+◌, ◌<◌, ◌≤◌, Bool, true, false, not, cond, ◌&&◌, ◌||◌, List, [], ◌∷◌, ◌++◌, length, drop, get_or, Option}
+use Rattle.std.proofs.Common.{Some, None, ℤ, refl, sym, ap, subst, arith}
 use Rattle.std.specs.Prelude.{All, IsPermutation}
 use Rattle.std.specs.List.{filter}
 use Rattle.std.proofs.lemmas.Bool.{false≢true}
@@ -29,23 +30,27 @@ ranges-once (x ∷ xs) n apart = by_first (is_in_range n x) refl (ranges-once xs
     zero_front : (m : ℕ) → m ≡ 0 + m
     zero_front m = omega arith
 
-    by_first : (b : Bool) → is_in_range n x ≡ b → times (is_within xs n) ≡ how_many (is_in_range n) xs → times (b || is_within xs n) ≡ times b + how_many (is_in_range n) xs
+    by_first : (b : Bool) → is_in_range n x ≡ b → times (is_within xs n) ≡ how_many (is_in_range n) xs
+        → times (b || is_within xs n) ≡ times b + how_many (is_in_range n) xs
     by_first true is rest = ap (λ m. 1 + m) (ap times (sym (first-alone x xs n apart is)) ∙ rest)
     by_first false is rest = rest ∙ zero_front (how_many (is_in_range n) xs)
 
-many_parts : (need : Need) (ranges : List (ℕ × ℕ)) (row : Row) → how_many (is_in_part row) (parts_of need ranges) ≡ how_many (λ x. meets need row.approved && is_in_range row.order x) ranges
+many_parts : (need : Need) (ranges : List (ℕ × ℕ)) (row : Row)
+    → how_many (is_in_part row) (parts_of need ranges) ≡ how_many (λ x. meets need row.approved && is_in_range row.order x) ranges
 many_parts need [] row = refl
 many_parts need (x ∷ xs) row = ap (λ n. times (meets need row.approved && is_in_range row.order x) + n) (many_parts need xs row)
 
 -- a row that is asked for lies in just one part, and no other row in any
-pub parts-once : (need : Need) (ranges : List (ℕ × ℕ)) (row : Row) → AreApart ranges → times (is_row_asked need ranges row) ≡ how_many (is_in_part row) (parts_of need ranges)
+pub parts-once : (need : Need) (ranges : List (ℕ × ℕ)) (row : Row) → AreApart ranges
+    → times (is_row_asked need ranges row) ≡ how_many (is_in_part row) (parts_of need ranges)
 parts-once need ranges row apart = by_need (meets need row.approved) ∙ sym (many_parts need ranges row)
   where
     by_need : (b : Bool) → times (b && is_within ranges row.order) ≡ how_many (λ x. b && is_in_range row.order x) ranges
     by_need true = ranges-once ranges row.order apart
     by_need false = sym (how_many-never (λ x. false && is_in_range row.order x) ranges (λ x. refl))
 
-pub all-once : (need : Need) (ranges : List (ℕ × ℕ)) (rows : List Row) → AreApart ranges → All (λ r. times (is_row_asked need ranges r) ≡ how_many (is_in_part r) (parts_of need ranges)) rows
+pub all-once : (need : Need) (ranges : List (ℕ × ℕ)) (rows : List Row) → AreApart ranges
+    → All (λ r. times (is_row_asked need ranges r) ≡ how_many (is_in_part r) (parts_of need ranges)) rows
 all-once need ranges rows apart k d within = parts-once need ranges (get_or rows k d) apart
 
 -- ---- counts
@@ -76,7 +81,8 @@ in_group_once : (need : Need) (ranges : List (ℕ × ℕ)) (rows : List Row) (g 
     → All (λ r. times (is_in_group g r && is_row_asked need ranges r) ≡ how_many (λ (p : Part). is_wanted g p.need p.from p.to r) (parts_of need ranges)) rows
 in_group_once need ranges rows g apart k d within = by_group (is_in_group g (get_or rows k d))
   where
-    by_group : (b : Bool) → times (b && is_row_asked need ranges (get_or rows k d)) ≡ how_many (λ (p : Part). b && is_in_part (get_or rows k d) p) (parts_of need ranges)
+    by_group : (b : Bool)
+        → times (b && is_row_asked need ranges (get_or rows k d)) ≡ how_many (λ (p : Part). b && is_in_part (get_or rows k d) p) (parts_of need ranges)
     by_group true = parts-once need ranges (get_or rows k d) apart
     by_group false = sym (how_many-never (λ (p : Part). false && is_in_part (get_or rows k d) p) (parts_of need ranges) (λ p. refl))
 
@@ -85,7 +91,8 @@ group-parts : (need : Need) (ranges : List (ℕ × ℕ)) (rows : List Row) (g : 
     → sum_over sum_of_row (filter (λ r. is_in_group g r && is_row_asked need ranges r) rows) ≡ group_sum rows need ranges g
 unfolding sum_of_rows
 group-parts need ranges rows g apart =
-    sum_over-parts sum_of_row (λ r. is_in_group g r && is_row_asked need ranges r) (λ (p : Part) r. is_wanted g p.need p.from p.to r) (parts_of need ranges) rows
+    sum_over-parts sum_of_row (λ r. is_in_group g r && is_row_asked need ranges r) (λ (p : Part) r. is_wanted g p.need p.from p.to r) (parts_of need ranges)
+    rows
     (in_group_once need ranges rows g apart)
 
 -- it counts no more than all rows
@@ -98,7 +105,8 @@ pub groups_sum-few : (element : ℕ) (t : Group → Bool) (need : Need) (ranges 
     → (sum_over (group_sum rows need ranges) (filter t (groups_of element rows))).count ≤ length rows
 unfolding sum_of_rows
 groups_sum-few element t need ranges rows apart =
-    subst (λ (s : Sum). s.count ≤ length rows) (cell-sum element t (is_row_asked need ranges) (λ g. parts_of need ranges) rows (all-once need ranges rows apart))
+    subst (λ (s : Sum). s.count ≤ length rows) (cell-sum element t (is_row_asked need ranges) (λ g. parts_of need ranges) rows
+    (all-once need ranges rows apart))
     (counts_filter _ rows)
 
 -- ---- a loop that joins sums
@@ -109,7 +117,8 @@ pub record SumSoFar {X : Type 0} (f : X → Sum) (xs : List X) (i : ℕ) (sum : 
 pub sums-start : {X : Type 0} (f : X → Sum) (xs : List X) → SumSoFar f xs 0 no_sum
 sums-start f xs = record { is = sym (none-joined (sum_over f xs)) }
 
-pub sums-more : {X : Type 0} (f : X → Sum) (xs : List X) (i : ℕ) (x : X) (sum more new : Sum) → i < length xs → x ≡ get_or xs i x → more ≡ f x → new ≡ joined sum more
+pub sums-more : {X : Type 0} (f : X → Sum) (xs : List X) (i : ℕ) (x : X) (sum more new : Sum) → i < length xs → x ≡ get_or xs i x → more ≡ f x
+    → new ≡ joined sum more
     → SumSoFar f xs i sum → SumSoFar f xs (i + 1) new
 sums-more f xs i x sum more new within at of is before = record {
   is = before.is ∙ ap (λ ys. joined sum (sum_over f ys)) (drop_more xs i x within)
@@ -145,7 +154,8 @@ filter_both p q (x ∷ xs) = by_test (p x) (filter_both p q xs)
     by_test false is = is
 
 -- a filter in two parts that have nothing in common
-pub two_parts : {X : Type 0} (p q r : X → Bool) (xs : List X) → ((x : X) → (p x && q x) ≡ q x) → ((x : X) → (p x && not (q x)) ≡ r x) → IsPermutation (filter p xs) (filter q xs ++ filter r xs)
+pub two_parts : {X : Type 0} (p q r : X → Bool) (xs : List X) → ((x : X) → (p x && q x) ≡ q x) → ((x : X) → (p x && not (q x)) ≡ r x)
+    → IsPermutation (filter p xs) (filter q xs ++ filter r xs)
 two_parts p q r xs inside rest =
     subst (λ zs. IsPermutation (filter p xs) (filter q xs ++ zs)) (filter_both p (λ x. not (q x)) xs ∙ filter-same (λ x. p x && not (q x)) r xs rest)
     (subst (λ ys. IsPermutation (filter p xs) (ys ++ filter (λ x. not (q x)) (filter p xs))) (filter_both p q xs ∙ filter-same (λ x. p x && q x) q xs inside)
@@ -171,16 +181,20 @@ and_no true = refl
 and_no false = refl
 
 -- the rows of a group that are asked for are those range by range
-pub group-ranged : (need : Need) (ranges : List (ℕ × ℕ)) (rows : List Row) (g : Group) → AreApart ranges → IsPermutation (group_rows (is_row_asked need ranges) rows g) (ranged_rows rows need ranges g)
+pub group-ranged : (need : Need) (ranges : List (ℕ × ℕ)) (rows : List Row) (g : Group) → AreApart ranges
+    → IsPermutation (group_rows (is_row_asked need ranges) rows g) (ranged_rows rows need ranges g)
 group-ranged need [] rows g apart =
-    subst (λ ys. IsPermutation ys []) (sym (filter-never (λ r. is_in_group g r && is_row_asked need [] r) rows (λ r. ap (λ b. is_in_group g r && b) (and_no (meets need r.approved)) ∙ and_no (is_in_group g r))))
+    subst (λ ys. IsPermutation ys []) (sym (filter-never (λ r. is_in_group g r && is_row_asked need [] r) rows (λ r.
+    ap (λ b. is_in_group g r && b) (and_no (meets need r.approved)) ∙ and_no (is_in_group g r))))
     (IsPermutation-refl [])
 group-ranged need (x ∷ xs) rows g apart =
-    IsPermutation-trans (group_rows (is_row_asked need (x ∷ xs)) rows g) (range_rows rows need g x ++ group_rows (is_row_asked need xs) rows g) (ranged_rows rows need (x ∷ xs) g)
+    IsPermutation-trans (group_rows (is_row_asked need (x ∷ xs)) rows g) (range_rows rows need g x ++ group_rows (is_row_asked need xs) rows g)
+    (ranged_rows rows need (x ∷ xs) g)
     (two_parts (λ r. is_in_group g r && is_row_asked need (x ∷ xs) r) (λ r. is_wanted g need x.0 x.1 r) (λ r. is_in_group g r && is_row_asked need xs r) rows
     (λ r. part_inside (is_in_group g r) (meets need r.approved) (is_in_range r.order x) (is_within xs r.order))
     (λ r. part_rest (is_in_group g r) (meets need r.approved) (is_in_range r.order x) (is_within xs r.order) (λ h. first-alone x xs r.order apart h)))
-    (IsPermutation-append_right (range_rows rows need g x) (group_rows (is_row_asked need xs) rows g) (ranged_rows rows need xs g) (group-ranged need xs rows g (apart-rest x xs apart)))
+    (IsPermutation-append_right (range_rows rows need g x) (group_rows (is_row_asked need xs) rows g) (ranged_rows rows need xs g)
+    (group-ranged need xs rows g (apart-rest x xs apart)))
 
 pub groups-ranged : (need : Need) (ranges : List (ℕ × ℕ)) (rows : List Row) (groups : List Group) → AreApart ranges
     → IsPermutation (gathered (group_rows (is_row_asked need ranges) rows) groups) (gathered (ranged_rows rows need ranges) groups)

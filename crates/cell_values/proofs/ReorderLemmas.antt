@@ -22,7 +22,7 @@ use Rattle.cell_values.specs.Items.{named_combo, element_value, item_value_of}
 closed-reordered : {X : Type 0} → IsClosed {X = X} (λ xs ys. IsPermutation xs ys)
 closed-reordered = record {
   unmoved = λ xs. IsPermutation-refl xs;
-  behind = λ x xs ys moved. IsPermutation-cons x xs ys moved;
+  beyond = λ x xs ys moved. IsPermutation-cons x xs ys moved;
   turned = λ x y xs. record { moves = (0, 1) ∷ []; below = (omega arith, omega arith, tt); is = refl };
   further = λ xs ys zs a b. IsPermutation-trans xs ys zs a b;
 }
@@ -46,7 +46,8 @@ aggregate_of-permutation r samples others cell moved =
     (λ element. value_by-permutation element.aggregation_type (samples_of r samples cell) (samples_of r others cell) (days_in cell.periods)
     (filter-permutation (lies_in r cell) samples others moved))
 
-element_value-permutation : (r : Records) (samples others : List Sample) (element : List ℕ) (combo attribute : Option (List ℕ)) (periods : List PeriodName) (units : List ℕ) (alone : Bool)
+element_value-permutation : (r : Records) (samples others : List Sample) (element : List ℕ) (combo attribute : Option (List ℕ)) (periods : List PeriodName)
+    (units : List ℕ) (alone : Bool)
     → IsPermutation samples others
     → element_value r samples element combo attribute periods units alone ≡ element_value r others element combo attribute periods units alone
 element_value-permutation r samples others element combo attribute periods units alone moved =

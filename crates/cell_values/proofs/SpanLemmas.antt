@@ -1,5 +1,6 @@
 -- How many numbers ranges hold.
-use Rattle.std.proofs.Common.{◌≡◌, ◌∙◌, ℕ, zero, suc, ◌+◌, ◌-◌, ◌<◌, ◌≤◌, min, Bool, true, false, cond, ◌&&◌, ◌||◌, List, [], ◌∷◌, length, drop, get_or, inl, inr, refl, sym, ap, subst, arith}
+use Rattle.std.proofs.Common.{◌≡◌, ◌∙◌, ℕ, zero, suc, ◌+◌, ◌-◌, ◌<◌, ◌≤◌, min, Bool, true, false, cond, ◌&&◌, ◌||◌, List, [], ◌∷◌, length, drop, get_or, inl}
+use Rattle.std.proofs.Common.{inr, refl, sym, ap, subst, arith}
 use Rattle.std.specs.Prelude.{nat_le, nat_lt}
 use Rattle.std.proofs.lemmas.Bool.{cases_Bool, cases_lt, false≢true, and_from, and_parts, le-leb, lt-ltb, leb-true, ltb-true}
 use Rattle.std.proofs.lemmas.Bool.Decides.{nat_tests}
@@ -41,19 +42,22 @@ count-range a b (suc n) =
     one_more : (a b n : ℕ) → (min b n - a) + cond (nat_le a n && nat_lt n b) 1 0 ≡ min b (suc n) - a
     one_more a b n = grind (arith, nat_tests)
 
-pub covered-count : (ranges : List (ℕ × ℕ)) (end : ℕ) → AreApart ranges → ((n : ℕ) → end ≤ n → is_within ranges n ≡ false) → covered ranges ≡ count_below (is_within ranges) end
+pub covered-count : (ranges : List (ℕ × ℕ)) (end : ℕ) → AreApart ranges → ((n : ℕ) → end ≤ n → is_within ranges n ≡ false)
+    → covered ranges ≡ count_below (is_within ranges) end
 covered-count [] end apart below = sym (count_below-none (is_within []) end (λ k h. refl))
 covered-count (x ∷ xs) end apart below =
     let full : x.0 < x.1 = apart.filled 0 (omega arith) in
     let upto : x.1 ≤ end =
     elim (cases_lt end x.1) [
       | inl past ↦
-          let inside : is_in_range (x.1 - 1) x ≡ true = and_from (nat_le x.0 (x.1 - 1)) (nat_lt (x.1 - 1) x.1) (le-leb x.0 (x.1 - 1) (omega arith)) (lt-ltb (x.1 - 1) x.1 (omega arith)) in
+          let inside : is_in_range (x.1 - 1) x ≡ true =
+          and_from (nat_le x.0 (x.1 - 1)) (nat_lt (x.1 - 1) x.1) (le-leb x.0 (x.1 - 1) (omega arith)) (lt-ltb (x.1 - 1) x.1 (omega arith)) in
           let there : is_within (x ∷ xs) (x.1 - 1) ≡ true = ap (λ b. b || is_within xs (x.1 - 1)) inside in
           absurd (false≢true (sym (below (x.1 - 1) (omega arith)) ∙ there))
       | inr fits ↦ fits
     ] in
-    let rest : covered xs ≡ count_below (is_within xs) end = covered-count xs end (apart-rest x xs apart) (λ n past. off_both (is_in_range n x) (is_within xs n) (below n past)) in
+    let rest : covered xs ≡ count_below (is_within xs) end =
+    covered-count xs end (apart-rest x xs apart) (λ n past. off_both (is_in_range n x) (is_within xs n) (below n past)) in
     let here : x.1 - x.0 ≡ count_below (λ k. is_in_range k x) end = sym (count-range x.0 x.1 end ∙ shortest upto) in
     ap (λ c. c + covered xs) here ∙ ap (λ c. count_below (λ k. is_in_range k x) end + c) rest
     ∙ sym (count_below-or (λ k. is_in_range k x) (is_within xs) end (λ k h inside. first-alone x xs k apart inside))

@@ -12,7 +12,8 @@ pub record WeightSoFar {X : Type 0} (f : X → ℤ) (xs : List X) (i : ℕ) (sum
 pub weights-start : {X : Type 0} (f : X → ℤ) (xs : List X) → WeightSoFar f xs 0 (pos 0)
 weights-start f xs = record { is = sym (+ℤ_idl (total f xs)) }
 
-pub weights-more : {X : Type 0} (f : X → ℤ) (xs : List X) (i : ℕ) (x : X) (sum more new : ℤ) → i < length xs → x ≡ get_or xs i x → more ≡ f x → new ≡ sum +ℤ more
+pub weights-more : {X : Type 0} (f : X → ℤ) (xs : List X) (i : ℕ) (x : X) (sum more new : ℤ) → i < length xs → x ≡ get_or xs i x → more ≡ f x
+    → new ≡ sum +ℤ more
     → WeightSoFar f xs i sum → WeightSoFar f xs (i + 1) new
 weights-more f xs i x sum more new within at of is before = record {
   is = before.is ∙ ap (λ ys. sum +ℤ total f ys) (drop_more xs i x within)
@@ -30,7 +31,8 @@ times_small m c d small short =
     let one : m * d ≤ m * 4294967296 = mul-le-mul_left m short in
     omega (arith, one, small)
 
-pub weight-small : (micros : ℤ) (count days : ℕ) → unsigned_abs micros ≤ 9223372036854775808 * count → days ≤ 4294967296 → unsigned_abs (micros *ℤ pos days) ≤ 39614081257132168796771975168 * count
+pub weight-small : (micros : ℤ) (count days : ℕ) → unsigned_abs micros ≤ 9223372036854775808 * count → days ≤ 4294967296
+    → unsigned_abs (micros *ℤ pos days) ≤ 39614081257132168796771975168 * count
 weight-small micros count days small short =
     let size = abs_times micros days in
     let fits = times_small (unsigned_abs micros) count days small short in

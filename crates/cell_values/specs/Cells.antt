@@ -12,6 +12,7 @@ use Rattle.dh_metadata.specs.Approval.{unit_rows}
 use Rattle.agg_types.specs.declared.sample.Sample.{Sample}
 use Rattle.agg_types.specs.Values.{value_by}
 use Rattle.seen_rows.specs.Places.{is_at_some}
+use Rattle.dh_base.specs.declared.limits.TheConstants.{COUNTED_DAYS}
 
 -- what is asked: an element, its option combination and attribute option combination where they are named, periods and
 -- units. `alone`: a unit has only itself under it
@@ -56,7 +57,7 @@ is_day_of periods n = list_any (λ period. is_day_in (unix_day n) period) period
 -- how many different days the periods have. None begins before 1 January 1900 or ends after 30 September 2101, 73,686 days
 -- later
 unfoldable pub days_in : List PeriodName → ℕ
-days_in periods = count_below (is_day_of periods) 73687
+days_in periods = count_below (is_day_of periods) COUNTED_DAYS
 
 -- the value of a cell over some samples, by the aggregation type of its element
 unfoldable pub aggregate_of : Records → List Sample → Cell → Option Fraction

@@ -2,6 +2,7 @@
 ghost use Rattle.std.specs.Prelude.{◌≡◌, ◌≤◌, ◌<◌, length, IfOk};
 ghost use Rattle.agg_types.specs.Values.{value_by};
 ghost use Rattle.cell_values.specs.Parts.{key_of, HaveOwnKeys};
+ghost use Rattle.dh_base.specs.declared.limits.TheConstants.{MOST_RECORDS};
 
 use agg_types::{Sample, Series, aggregate};
 use dh_base::frac::Frac;
@@ -32,7 +33,7 @@ pub(crate) fn aggregated(
     samples: Vec<Sample>,
     days: u32,
 ) -> Result<Option<Frac>, Memory>
-    requires few { length samples.items ≤ 4_194_304 }
+    requires few { length samples.items ≤ MOST_RECORDS }
     requires days { 0 < days }
     requires own_keys { HaveOwnKeys samples.items }
     ensures { IfOk result (λ value. value ≡ value_by kind samples.items days) }

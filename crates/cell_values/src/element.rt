@@ -9,6 +9,7 @@ ghost use Rattle.seen_rows.specs.Held.{IsSeer};
 ghost use Rattle.seen_rows.specs.Seen.{seen};
 ghost use Rattle.cell_values.specs.Cells.{cell_of, aggregate_of};
 ghost use Rattle.cell_values.specs.Parts.{group_sum, ranged_rows, is_sum_type, value_in, HaveOwnKeys};
+ghost use Rattle.dh_base.specs.declared.limits.TheConstants.{MOST_RECORDS};
 
 use crate::aggregated::aggregated;
 use crate::gathered::gathered;
@@ -46,10 +47,10 @@ fn value_in<S: RowStore>(
     ranges: &[(u32, u32)],
     days: u32,
 ) -> Result<Option<Frac>, Memory>
-    requires few { length (S.rows store.now) ≤ 4_194_304 }
+    requires few { length (S.rows store.now) ≤ MOST_RECORDS }
     requires apart { AreApart ranges.now }
-    requires all { (sum_over (group_sum (S.rows store.now) need ranges.now) groups.now).count ≤ 4_194_304 }
-    requires found { length (gathered (ranged_rows (S.rows store.now) need ranges.now) groups.now) ≤ 4_194_304 }
+    requires all { (sum_over (group_sum (S.rows store.now) need ranges.now) groups.now).count ≤ MOST_RECORDS }
+    requires found { length (gathered (ranged_rows (S.rows store.now) need ranges.now) groups.now) ≤ MOST_RECORDS }
     requires own_keys { HaveOwnKeys (map sample_of (gathered (ranged_rows (S.rows store.now) need ranges.now) groups.now)) }
     requires days { 0 < days }
     ensures { IfOk result (λ value. value ≡ value_in (S.rows store.now) kind groups.now need ranges.now days) }
@@ -81,7 +82,8 @@ pub fn element_value<S: RowStore>(
     requires element { element < length meta.now.data_elements }
     requires periods { 0 < length periods.now }
     requires units { AreBelow (length meta.now.organisation_units) units.now }
-    ensures { IfOk result (λ value. value ≡ aggregate_of meta.now (seen meta.now seer.now.user (S.rows store.now)) (cell_of element combo attribute periods.now units.now alone)) }
+    ensures { IfOk result (λ value. value ≡ aggregate_of meta.now (seen meta.now seer.now.user (S.rows store.now))
+        (cell_of element combo attribute periods.now units.now alone)) }
 {
     let ranges = seen_ranges(alloc, meta, seer, units, alone)?;
     let groups = asked_groups(alloc, meta, store, seer, element, combo, attribute, periods)?;

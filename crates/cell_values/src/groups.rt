@@ -89,7 +89,8 @@ pub(crate) fn asked_groups<S: RowStore>(
     periods: &[Period],
 ) -> Result<Vec<Group>, Memory>
     requires { IsSeer meta.now seer.now }
-    ensures groups { IfOk result (λ groups. groups.items ≡ filter (is_group_asked meta.now seer.now.user combo attribute periods.now) (groups_of element (S.rows store.now))) }
+    ensures groups { IfOk result (λ groups. groups.items
+        ≡ filter (is_group_asked meta.now seer.now.user combo attribute periods.now) (groups_of element (S.rows store.now))) }
     ensures store { IsTrue (is_store (S.rows store.now) (S.events store.now) (S.regs store.now) (S.built store.now)) }
 {
     let groups = store.groups(alloc, element)?;

@@ -54,7 +54,8 @@ fn element_item<S: RowStore>(
     requires seer { IsSeer meta.now seer.now }
     requires periods { 0 < length periods.now }
     requires units { AreBelow (length meta.now.organisation_units) units.now }
-    ensures { IfOk result (λ value. value ≡ element_value meta.now (seen meta.now seer.now.user (S.rows store.now)) element.now combo.now attribute.now periods.now units.now alone) }
+    ensures { IfOk result (λ value. value ≡ element_value meta.now (seen meta.now seer.now.user (S.rows store.now)) element.now combo.now attribute.now
+        periods.now units.now alone) }
 {
     let Some(element) = meta.find(Kind::DataElement, *element) else {
         return Ok(None);
@@ -153,7 +154,8 @@ pub fn item_value<S: RowStore>(
     requires seer { IsSeer meta.now seer.now }
     requires periods { 0 < length periods.now }
     requires units { AreBelow (length meta.now.organisation_units) units.now }
-    ensures { IfOk result (λ value. value ≡ item_value_of meta.now (seen_of meta.now seer.now.user (contents_of (S.rows store.now) (S.events store.now) (S.regs store.now))) item.now periods.now units.now alone) }
+    ensures { IfOk result (λ value. value ≡ item_value_of meta.now
+        (seen_of meta.now seer.now.user (contents_of (S.rows store.now) (S.events store.now) (S.regs store.now))) item.now periods.now units.now alone) }
 {
     match item {
         Item::Element {

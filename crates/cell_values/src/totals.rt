@@ -5,6 +5,7 @@ ghost use Rattle.table_rows.specs.Sums.{sum_over, IsSized};
 ghost use Rattle.agg_types.specs.Samples.{days_of, total};
 ghost use Rattle.agg_types.specs.Values.{mean};
 ghost use Rattle.cell_values.specs.Parts.{range_sum, group_sum, group_weight, value_of_totals};
+ghost use Rattle.dh_base.specs.declared.limits.TheConstants.{MOST_RECORDS};
 
 use agg_types::value_of_sum;
 use dh_base::frac::Frac;
@@ -28,7 +29,7 @@ fn range_sum<S: RowStore>(store: &S, group: &Group, need: Need, range: (u32, u32
 
 /// The sum over a group's rows that meet the need and lie in the ranges of orders.
 fn group_sum<S: RowStore>(store: &S, group: &Group, need: Need, ranges: &[(u32, u32)]) -> Sum
-    requires few { length (S.rows store.now) ≤ 4_194_304 }
+    requires few { length (S.rows store.now) ≤ MOST_RECORDS }
     requires apart { AreApart ranges.now }
     ensures sum { result ≡ group_sum (S.rows store.now) need ranges.now group.now }
     ensures size { IsSized result }
@@ -79,9 +80,9 @@ pub(crate) fn totals_of<S: RowStore>(
     need: Need,
     ranges: &[(u32, u32)],
 ) -> Totals
-    requires few { length (S.rows store.now) ≤ 4_194_304 }
+    requires few { length (S.rows store.now) ≤ MOST_RECORDS }
     requires apart { AreApart ranges.now }
-    requires all { (sum_over (group_sum (S.rows store.now) need ranges.now) groups.now).count ≤ 4_194_304 }
+    requires all { (sum_over (group_sum (S.rows store.now) need ranges.now) groups.now).count ≤ MOST_RECORDS }
     ensures sum { result.sum ≡ sum_over (group_sum (S.rows store.now) need ranges.now) groups.now }
     ensures weighted { result.weighted ≡ total (group_weight (S.rows store.now) need ranges.now) groups.now }
     ensures size { IsSized result.sum }

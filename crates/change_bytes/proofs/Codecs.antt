@@ -1,5 +1,6 @@
 -- Each field that is read was written so, and what was written is read again.
-use Rattle.std.proofs.Common.{◌≡◌, ◌∙◌, ℕ, ◌^◌, ◌<◌, Bool, true, false, cond, List, ◌++◌, length, Option, Some, None, refl, sym, ap, subst, arith, ℤ, pos, w8, w16, w32, w64, FitsSigned, append_assoc}
+use Rattle.std.proofs.Common.{◌≡◌, ◌∙◌, ℕ, ◌^◌, ◌<◌, Bool, true, false, cond, List, ◌++◌, length, Option, Some, None, refl, sym, ap, subst, arith, ℤ, pos}
+use Rattle.std.proofs.Common.{w8, w16, w32, w64, FitsSigned, append_assoc}
 use Rattle.std.specs.Prelude.{nat_lt, ◌==◌, bytes_eq, int_le, neg_ℤ, option_and_then, option_map, IfSome}
 use Rattle.std.specs.Ordering.{int_eq}
 use Rattle.std.specs.List.{flat_map, All}
@@ -11,21 +12,31 @@ use Rattle.std.proofs.Math.Facts.{sfits_lit}
 use Rattle.jiff_core.proofs.SignedLemmas.{signed_arith}
 use borrow.Author.Differences.{le-true}
 use Rattle.dh_periods.specs.declared.kind.PeriodType.{PeriodType}
-use Rattle.dh_periods.specs.declared.kind.PeriodType.TheVariants.{Daily, Weekly, Monthly, BiMonthly, Quarterly, SixMonthly, SixMonthlyApril, Yearly, FinancialApril, FinancialJuly, FinancialOct}
+use Rattle.dh_periods.specs.declared.kind.PeriodType.TheVariants.{Daily, Weekly, Monthly, BiMonthly, Quarterly, SixMonthly, SixMonthlyApril, Yearly}
+use Rattle.dh_periods.specs.declared.kind.PeriodType.TheVariants.{FinancialApril, FinancialJuly, FinancialOct}
 use Rattle.dh_periods.specs.declared.name.PeriodName.{PeriodName}
 use Rattle.dh_periods.specs.Texts.{period_text, period_of}
 use Rattle.dh_periods.proofs.TextLemmas.{period_of-is, period_of-printed}
 use Rattle.dh_changes.specs.declared.change.Write.{Write}
-use Rattle.dh_changes.specs.declared.change.Write.TheVariants.{ValueSet, ValueCleared, EventWritten, EventDeleted, EnrollmentWritten, EnrollmentDeleted, EntityWritten, EntityDeleted, Approve, Unapprove, Accept, Unaccept, Complete, Uncomplete}
+use Rattle.dh_changes.specs.declared.change.Write.TheVariants.{ValueSet, ValueCleared, EventWritten, EventDeleted, EnrollmentWritten, EnrollmentDeleted}
+use Rattle.dh_changes.specs.declared.change.Write.TheVariants.{EntityWritten, EntityDeleted, Approve, Unapprove, Accept, Unaccept, Complete, Uncomplete}
 use Rattle.dh_changes.specs.declared.change.Change.{Change}
 use Rattle.byte_codec.specs.Reading.{Reads, ◌⊗◌, mapped, number_at, text_at, times_at}
 use Rattle.byte_codec.specs.Writing.{number, signed, text, listed, optional_id, IsId}
-use Rattle.byte_codec.proofs.Codecs.{IsBytes, Takes, Takes-then, IsCodec, and_then-some, map-some, both_codec, refined_codec, mapped_codec, wide8, wide16, wide32, wide64, number_codec, signed_codec, text_codec, times_takes, times_again, listed_codec, id_codec, optional_id_codec, id_text_codec}
-use Rattle.change_bytes.specs.Fields.{period_bytes, is_day, no_day, day_number, day_bytes, value_key_bytes, approval_key_bytes, reg_key_bytes, state_bytes, event_bytes, enrollment_bytes, entity_bytes}
+use Rattle.byte_codec.proofs.Codecs.{IsBytes, Takes, Takes-then, IsCodec, and_then-some, map-some, both_codec, refined_codec, mapped_codec, wide8, wide16}
+use Rattle.byte_codec.proofs.Codecs.{wide32, wide64, number_codec, signed_codec, text_codec, times_takes, times_again, listed_codec, id_codec}
+use Rattle.byte_codec.proofs.Codecs.{optional_id_codec, id_text_codec}
+use Rattle.change_bytes.specs.Fields.{period_bytes, no_day, day_number, day_bytes, value_key_bytes, approval_key_bytes, reg_key_bytes, state_bytes}
+use Rattle.change_bytes.specs.Fields.{event_bytes, enrollment_bytes, entity_bytes}
 use Rattle.change_bytes.specs.Bytes.{write_bytes, body_bytes}
-use Rattle.change_bytes.specs.Forms.{IsDay, IsPeriod, IsValueKey, IsApprovalKey, IsRegKey, IsState, IsEvent, IsEnrollment, IsEntity, IsWrite, TextFits, event_statuses, enrollment_statuses}
-use Rattle.change_bytes.specs.Reading.{canonical_of, period_at, day_of, day_at, given_day_at, status_at, two_ids_at, three_ids_at, value_key_at, approval_key_at, reg_key_at, days_at, state_at, event_ids_at, event_at, enrollment_at, entity_at, value_set_at, complete_at, value_write_at, tracker_write_at, deletion_at, is_deletion, approval_at, registration_at, fields_at, write_at, writes_at, same_number_at, head_at, change_at}
+use Rattle.change_bytes.specs.Forms.{IsDay, IsPeriod, IsValueKey, IsApprovalKey, IsRegKey, IsState, IsEvent, IsEnrollment, IsEntity, IsWrite, TextFits}
+use Rattle.change_bytes.specs.Forms.{event_statuses, enrollment_statuses}
+use Rattle.change_bytes.specs.Reading.{canonical_of, period_at, day_of, day_at, given_day_at, status_at, two_ids_at, three_ids_at, value_key_at}
+use Rattle.change_bytes.specs.Reading.{approval_key_at, reg_key_at, days_at, state_at, event_ids_at, event_at, enrollment_at, entity_at, value_set_at}
+use Rattle.change_bytes.specs.Reading.{complete_at, value_write_at, tracker_write_at, deletion_at, is_deletion, approval_at, registration_at, fields_at}
+use Rattle.change_bytes.specs.Reading.{write_at, writes_at, same_number_at, head_at, change_at}
 use Rattle.change_bytes.proofs.TextLengths.{length_as, text-length}
+use Rattle.dh_base.specs.Limits.{is_day}
 
 some-if : {A : Type 0} (b : Bool) (x z : A) → cond b (Some x) None ≡ Some z → (b ≡ true) × (x ≡ z)
 some-if true x z e = (refl, cc)
@@ -86,7 +97,8 @@ day-apart z h =
 
 day-meant : (z : ℤ) (o : Option ℤ) → day_of z ≡ Some o → (day_number o ≡ z) × IfSome o IsDay
 day-meant z o e =
-    elim (int_eq z no_day) as (λ b. int_eq z no_day ≡ b → cond b (Some None) (cond (is_day z) (Some (Some z)) None) ≡ Some o → (day_number o ≡ z) × IfSome o IsDay) [
+    elim (int_eq z no_day) as (λ b. int_eq z no_day ≡ b → cond b (Some None) (cond (is_day z) (Some (Some z)) None) ≡ Some o
+    → (day_number o ≡ z) × IfSome o IsDay) [
       | true ↦ λ none found.
           let same : None ≡ o = cc in
           subst (λ (p : Option ℤ). (day_number p ≡ z) × IfSome p IsDay) same (sym ((Decides-int_eq z no_day).0 none), tt)
@@ -130,13 +142,15 @@ three_ids_codec = both_codec id_codec two_ids_codec
 value_key_codec : IsCodec value_key_bytes value_key_at IsValueKey
 unfolding value_key_at
 value_key_codec =
-    mapped_codec (λ p. record { element = p.0; period = p.1.0; unit = p.1.1.0; combo = p.1.1.1.0; attribute = p.1.1.1.1 }) (λ k. (k.element, (k.period, (k.unit, (k.combo, k.attribute))))) IsValueKey
+    mapped_codec (λ p. record { element = p.0; period = p.1.0; unit = p.1.1.0; combo = p.1.1.1.0; attribute = p.1.1.1.1 }) (λ k.
+    (k.element, (k.period, (k.unit, (k.combo, k.attribute))))) IsValueKey
     (both_codec id_codec (both_codec period_codec three_ids_codec)) (λ p fits g. (refl, g)) (λ k g. (refl, g))
 
 approval_key_codec : IsCodec approval_key_bytes approval_key_at IsApprovalKey
 unfolding approval_key_at
 approval_key_codec =
-    mapped_codec (λ p. record { workflow = p.0; period = p.1.0; unit = p.1.1.0; attribute = p.1.1.1 }) (λ k. (k.workflow, (k.period, (k.unit, k.attribute)))) IsApprovalKey
+    mapped_codec (λ p. record { workflow = p.0; period = p.1.0; unit = p.1.1.0; attribute = p.1.1.1 }) (λ k. (k.workflow, (k.period, (k.unit, k.attribute))))
+    IsApprovalKey
     (both_codec id_codec (both_codec period_codec two_ids_codec)) (λ p fits g. (refl, g)) (λ k g. (refl, g))
 
 reg_key_codec : IsCodec reg_key_bytes reg_key_at IsRegKey
@@ -153,7 +167,8 @@ state_codec : (n : ℕ) → n < 2 ^ 8 → IsCodec (λ p. state_bytes p.0 p.1.0 p
 unfolding state_at
 state_codec n small = both_codec id_codec (both_codec (status_codec n small) days_codec)
 
-event_ids_codec : IsCodec (λ p. p.0 ++ (optional_id p.1.0 ++ (p.1.1.0 ++ p.1.1.1))) event_ids_at (λ p. IsId p.0 × (IfSome p.1.0 IsId × (IsId p.1.1.0 × IsId p.1.1.1)))
+event_ids_codec : IsCodec (λ p. p.0 ++ (optional_id p.1.0 ++ (p.1.1.0 ++ p.1.1.1))) event_ids_at (λ p. IsId p.0
+    × (IfSome p.1.0 IsId × (IsId p.1.1.0 × IsId p.1.1.1)))
 unfolding event_ids_at
 event_ids_codec = both_codec id_codec (both_codec optional_id_codec two_ids_codec)
 
@@ -161,9 +176,21 @@ event_codec : IsCodec event_bytes event_at IsEvent
 unfolding event_at
 event_codec =
     mapped_codec
-    (λ p. record { id = p.0.0; enrollment = p.0.1.0; program = p.0.1.1.0; stage = p.0.1.1.1; unit = p.1.0.0; status = p.1.0.1.0; occurred = p.1.0.1.1.0; scheduled = p.1.0.1.1.1; values = p.1.1 })
+    (λ p. record {
+      id = p.0.0;
+      enrollment = p.0.1.0;
+      program = p.0.1.1.0;
+      stage = p.0.1.1.1;
+      unit = p.1.0.0;
+      status = p.1.0.1.0;
+      occurred =
+          p.1.0.1.1.0;
+      scheduled = p.1.0.1.1.1;
+      values = p.1.1;
+    })
     (λ e. ((e.id, (e.enrollment, (e.program, e.stage))), ((e.unit, (e.status, (e.occurred, e.scheduled))), e.values)))
-    IsEvent (both_codec event_ids_codec (both_codec (state_codec event_statuses (omega arith)) (listed_codec w16 (2 ^ 16) wide16 id_text_codec))) (λ p fits g. (refl, g)) (λ e g. (refl, g))
+    IsEvent (both_codec event_ids_codec (both_codec (state_codec event_statuses (omega arith)) (listed_codec w16 (2 ^ 16) wide16 id_text_codec))) (λ p fits g.
+    (refl, g)) (λ e g. (refl, g))
 
 enrollment_codec : IsCodec enrollment_bytes enrollment_at IsEnrollment
 unfolding enrollment_at
@@ -189,7 +216,8 @@ record FieldsTake (kind : ℕ) (bytes : List ℕ) (w : Write) (rest : List ℕ) 
   good : IsWrite w
 
 -- a kind whose fields are those of a record
-branch : {A : Type 0} {s : A → List ℕ} {a : Reads A} {G : A → Type 0} (make : A → Write) (kind : ℕ) → IsCodec s a G → ((x : A) → write_bytes (make x) ≡ number w8 kind ++ s x) → ((x : A) → G x → IsWrite (make x))
+branch : {A : Type 0} {s : A → List ℕ} {a : Reads A} {G : A → Type 0} (make : A → Write) (kind : ℕ) → IsCodec s a G
+    → ((x : A) → write_bytes (make x) ≡ number w8 kind ++ s x) → ((x : A) → G x → IsWrite (make x))
     → (bytes : List ℕ) (w : Write) (rest : List ℕ) → IsBytes bytes → mapped make a bytes ≡ Some (w, rest) → FieldsTake kind bytes w rest
 branch {A} {s} {a} {G} make kind c whole good bytes w rest fits e =
     let first = map-some (λ (x : A × List ℕ). (make x.0, x.1)) (a bytes) (w, rest) e in
@@ -199,7 +227,8 @@ branch {A} {s} {a} {G} make kind c whole good bytes w rest fits e =
     subst P first.2 (record { fields = s x.0; whole = whole x.0; takes = taken.0; good = good x.0 taken.1 })
 
 -- the kind is this one, or another
-arm : (kind j : ℕ) (x y : Option (Write × List ℕ)) (bytes : List ℕ) (w : Write) (rest : List ℕ) → (x ≡ Some (w, rest) → FieldsTake j bytes w rest) → (y ≡ Some (w, rest) → FieldsTake kind bytes w rest)
+arm : (kind j : ℕ) (x y : Option (Write × List ℕ)) (bytes : List ℕ) (w : Write) (rest : List ℕ) → (x ≡ Some (w, rest) → FieldsTake j bytes w rest)
+    → (y ≡ Some (w, rest) → FieldsTake kind bytes w rest)
     → cond (kind == j) x y ≡ Some (w, rest) → FieldsTake kind bytes w rest
 arm kind j x y bytes w rest here there e =
     elim (kind == j) as (λ b. (kind == j) ≡ b → cond b x y ≡ Some (w, rest) → FieldsTake kind bytes w rest) [
@@ -220,27 +249,31 @@ value_set_codec = both_codec value_key_codec (text_codec w16 (2 ^ 16) wide16)
 complete_codec : IsCodec (λ p. reg_key_bytes p.0 ++ signed w32 p.1) (reg_key_at ⊗ given_day_at) (λ p. IsRegKey p.0 × IsDay p.1)
 complete_codec = both_codec reg_key_codec given_day_codec
 
-value_write-takes : (kind : ℕ) (bytes : List ℕ) (w : Write) (rest : List ℕ) → IsBytes bytes → value_write_at kind bytes ≡ Some (w, rest) → FieldsTake kind bytes w rest
+value_write-takes : (kind : ℕ) (bytes : List ℕ) (w : Write) (rest : List ℕ) → IsBytes bytes → value_write_at kind bytes ≡ Some (w, rest)
+    → FieldsTake kind bytes w rest
 unfolding value_write_at value_set_at
 value_write-takes kind bytes w rest fits =
     arm kind 1 _ _ bytes w rest (branch (λ p. ValueSet p.0 p.1) 1 value_set_codec (λ p. refl) (λ p g. g) bytes w rest fits)
     (arm kind 2 _ _ bytes w rest (branch (λ k. ValueCleared k) 2 value_key_codec (λ k. refl) (λ k g. g) bytes w rest fits) (none-found w rest))
 
-tracker_write-takes : (kind : ℕ) (bytes : List ℕ) (w : Write) (rest : List ℕ) → IsBytes bytes → tracker_write_at kind bytes ≡ Some (w, rest) → FieldsTake kind bytes w rest
+tracker_write-takes : (kind : ℕ) (bytes : List ℕ) (w : Write) (rest : List ℕ) → IsBytes bytes → tracker_write_at kind bytes ≡ Some (w, rest)
+    → FieldsTake kind bytes w rest
 unfolding tracker_write_at
 tracker_write-takes kind bytes w rest fits =
     arm kind 3 _ _ bytes w rest (branch (λ e. EventWritten e) 3 event_codec (λ e. refl) (λ e g. g) bytes w rest fits)
     (arm kind 5 _ _ bytes w rest (branch (λ e. EnrollmentWritten e) 5 enrollment_codec (λ e. refl) (λ e g. g) bytes w rest fits)
     (arm kind 7 _ _ bytes w rest (branch (λ e. EntityWritten e) 7 entity_codec (λ e. refl) (λ e g. g) bytes w rest fits) (none-found w rest)))
 
-deletion-takes : (kind : ℕ) (bytes : List ℕ) (w : Write) (rest : List ℕ) → IsBytes bytes → deletion_at kind bytes ≡ Some (w, rest) → FieldsTake kind bytes w rest
+deletion-takes : (kind : ℕ) (bytes : List ℕ) (w : Write) (rest : List ℕ) → IsBytes bytes → deletion_at kind bytes ≡ Some (w, rest)
+    → FieldsTake kind bytes w rest
 unfolding deletion_at
 deletion-takes kind bytes w rest fits =
     arm kind 4 _ _ bytes w rest (branch (λ id. EventDeleted id) 4 id_codec (λ id. refl) (λ id g. g) bytes w rest fits)
     (arm kind 6 _ _ bytes w rest (branch (λ id. EnrollmentDeleted id) 6 id_codec (λ id. refl) (λ id g. g) bytes w rest fits)
     (arm kind 8 _ _ bytes w rest (branch (λ id. EntityDeleted id) 8 id_codec (λ id. refl) (λ id g. g) bytes w rest fits) (none-found w rest)))
 
-approval-takes : (kind : ℕ) (bytes : List ℕ) (w : Write) (rest : List ℕ) → IsBytes bytes → approval_at kind bytes ≡ Some (w, rest) → FieldsTake kind bytes w rest
+approval-takes : (kind : ℕ) (bytes : List ℕ) (w : Write) (rest : List ℕ) → IsBytes bytes → approval_at kind bytes ≡ Some (w, rest)
+    → FieldsTake kind bytes w rest
 unfolding approval_at
 approval-takes kind bytes w rest fits =
     arm kind 9 _ _ bytes w rest (branch (λ k. Approve k) 9 approval_key_codec (λ k. refl) (λ k g. g) bytes w rest fits)
@@ -248,7 +281,8 @@ approval-takes kind bytes w rest fits =
     (arm kind 11 _ _ bytes w rest (branch (λ k. Accept k) 11 approval_key_codec (λ k. refl) (λ k g. g) bytes w rest fits)
     (arm kind 12 _ _ bytes w rest (branch (λ k. Unaccept k) 12 approval_key_codec (λ k. refl) (λ k g. g) bytes w rest fits) (none-found w rest))))
 
-registration-takes : (kind : ℕ) (bytes : List ℕ) (w : Write) (rest : List ℕ) → IsBytes bytes → registration_at kind bytes ≡ Some (w, rest) → FieldsTake kind bytes w rest
+registration-takes : (kind : ℕ) (bytes : List ℕ) (w : Write) (rest : List ℕ) → IsBytes bytes → registration_at kind bytes ≡ Some (w, rest)
+    → FieldsTake kind bytes w rest
 unfolding registration_at complete_at
 registration-takes kind bytes w rest fits =
     arm kind 13 _ _ bytes w rest (branch (λ p. Complete p.0 p.1) 13 complete_codec (λ p. refl) (λ p g. g) bytes w rest fits)
@@ -272,7 +306,8 @@ write-takes bytes w rest fits e =
     (subst (λ t. Takes bytes t rest) (sym back.whole) (Takes-then bytes (number w8 k.0) k.1 back.fields rest front.0 back.takes), back.good)
 
 -- the fields after a kind are read again
-kind-again : {A : Type 0} {s : A → List ℕ} {a : Reads A} {G : A → Type 0} (make : A → Write) (kind : ℕ) → kind < 2 ^ 8 → IsCodec s a G → ((bytes : List ℕ) → fields_at kind bytes ≡ mapped make a bytes)
+kind-again : {A : Type 0} {s : A → List ℕ} {a : Reads A} {G : A → Type 0} (make : A → Write) (kind : ℕ) → kind < 2 ^ 8 → IsCodec s a G
+    → ((bytes : List ℕ) → fields_at kind bytes ≡ mapped make a bytes)
     → (x : A) (rest : List ℕ) → G x → write_at ((number w8 kind ++ s x) ++ rest) ≡ Some (make x, rest)
 unfolding write_at
 kind-again {A} {s} {a} {G} make kind small c same x rest good =
@@ -330,7 +365,8 @@ writes_codec = record {
       );
   again = λ ws rest g.
       ap writes_at (append_assoc (number w32 (length ws)) (flat_map write_bytes ws) rest)
-      ∙ ap (option_and_then (λ (n : ℕ × List ℕ). cond (n.0 == 0) None (times_at n.0 write_at n.1))) ((number_codec w32 (2 ^ 32) wide32).again (length ws) (flat_map write_bytes ws ++ rest) g.1.0)
+      ∙ ap (option_and_then (λ (n : ℕ × List ℕ). cond (n.0 == 0) None (times_at n.0 write_at n.1)))
+      ((number_codec w32 (2 ^ 32) wide32).again (length ws) (flat_map write_bytes ws ++ rest) g.1.0)
       ∙ ap (λ b. cond b None (times_at (length ws) write_at (flat_map write_bytes ws ++ rest))) (zero-not (length ws) g.0)
       ∙ times_again write_codec ws rest (recursion_from_All IsWrite ws g.1.1);
 }
@@ -342,7 +378,9 @@ same_number_codec n =
     (λ m y fits g e. let p = some-if (m == n) m y e in (sym p.1, (sym p.1 ∙ eqb-true m n p.0, subst (λ z. z < 2 ^ 64) p.1 g)))
     (λ m g. (ap (λ b. cond b (Some m) None) (eq-eqb m n g.0), g.1))
 
-head_codec : (n : ℕ) → IsCodec (λ p. number w64 p.0 ++ (optional_id p.1.0 ++ signed w64 p.1.1)) (head_at n) (λ p. ((p.0 ≡ n) × (p.0 < 2 ^ 64)) × (IfSome p.1.0 IsId × FitsSigned w64 p.1.1))
+head_codec : (n : ℕ)
+    → IsCodec (λ p. number w64 p.0 ++ (optional_id p.1.0 ++ signed w64 p.1.1)) (head_at n) (λ p. ((p.0 ≡ n) × (p.0 < 2 ^ 64))
+    × (IfSome p.1.0 IsId × FitsSigned w64 p.1.1))
 unfolding head_at
 head_codec n = both_codec (same_number_codec n) (both_codec optional_id_codec (signed_codec w64 wide64))
 
@@ -353,6 +391,7 @@ IsRead n c = (n < 2 ^ 64) × ((IfSome c.user IsId × FitsSigned w64 c.moment) ×
 pub change_codec : (n : ℕ) → IsCodec (body_bytes n) (change_at n) (IsRead n)
 unfolding change_at body_bytes
 change_codec n =
-    mapped_codec (λ p. record { user = p.0.1.0; moment = p.0.1.1; writes = p.1 }) (λ c. ((n, (c.user, c.moment)), c.writes)) (IsRead n) (both_codec (head_codec n) writes_codec)
+    mapped_codec (λ p. record { user = p.0.1.0; moment = p.0.1.1; writes = p.1 }) (λ c. ((n, (c.user, c.moment)), c.writes)) (IsRead n)
+    (both_codec (head_codec n) writes_codec)
     (λ p fits g. (ap (λ m. ((m, p.0.1), p.1)) (sym g.0.0.0), (subst (λ m. m < 2 ^ 64) g.0.0.0 g.0.0.1, (g.0.1, g.1))))
     (λ c g. (refl, (((refl, g.0), g.1.0), g.1.1)))

@@ -1,5 +1,6 @@
 -- What stands after the length of a change.
-use Rattle.std.proofs.Common.{◌≡◌, ◌∙◌, ℕ, ◌+◌, ◌-◌, ◌^◌, ◌<◌, ◌≤◌, Bool, true, false, cond, List, [], ◌++◌, length, take, drop, Option, Some, None, Result, Ok, Err, refl, sym, ap, subst, arith, w32, inl, inr}
+use Rattle.std.proofs.Common.{◌≡◌, ◌∙◌, ℕ, ◌+◌, ◌-◌, ◌^◌, ◌<◌, ◌≤◌, Bool, true, false, cond, List, [], ◌++◌, length, take, drop, Option, Some, None, Result}
+use Rattle.std.proofs.Common.{Ok, Err, refl, sym, ap, subst, arith, w32, inl, inr}
 use Rattle.std.specs.Prelude.{nat_lt, ◌==◌, ◌||◌, option_and_then, option_map, IfOk}
 use Rattle.std.specs.Int.{from_be_bytes}
 use Rattle.std.proofs.lemmas.Bool.{eqb-true, cases_lt, lt-ltb, le-ltb, ltb-false}
@@ -42,7 +43,8 @@ of-found n body c fits e =
 of-written : (n : ℕ) (c : Change) → IsRead n c → change_of n (body_bytes n c) ≡ Some c
 unfolding change_of
 of-written n c good =
-    ap (option_and_then (λ (x : Change × List ℕ). cond (length x.1 == 0) (Some x.0) None)) (ap (change_at n) (sym (append-nil (body_bytes n c))) ∙ (change_codec n).again c [] good)
+    ap (option_and_then (λ (x : Change × List ℕ). cond (length x.1 == 0) (Some x.0) None)) (ap (change_at n) (sym (append-nil (body_bytes n c)))
+    ∙ (change_codec n).again c [] good)
 
 -- ---- the length
 
@@ -64,7 +66,8 @@ text-framed : (bytes : List ℕ) → text_at w32 bytes ≡ cond (nat_lt (length 
 unfolding text_at number_at bytes_at
 text-framed bytes =
     elim (nat_lt (length bytes) 4) as (λ b.
-    option_and_then (λ (n : ℕ × List ℕ). bytes_at n.0 n.1) (option_map (λ (x : List ℕ × List ℕ). (from_be_bytes w32 x.0, x.1)) (cond b None (Some (take 4 bytes, drop 4 bytes)))) ≡ cond b None (framed bytes)) [
+    option_and_then (λ (n : ℕ × List ℕ). bytes_at n.0 n.1)
+    (option_map (λ (x : List ℕ × List ℕ). (from_be_bytes w32 x.0, x.1)) (cond b None (Some (take 4 bytes, drop 4 bytes)))) ≡ cond b None (framed bytes)) [
       | true ↦ refl
       | false ↦ refl
     ]
@@ -82,14 +85,16 @@ said-short bytes le = ap (λ l. nat_lt l (said bytes)) (length-drop 4 bytes) ∙
 
 framed-none : (bytes : List ℕ) → text_at w32 bytes ≡ None → is_short bytes ≡ true
 framed-none bytes e =
-    elim (nat_lt (length bytes) 4) as (λ b. nat_lt (length bytes) 4 ≡ b → cond b None (framed bytes) ≡ None → (b || nat_lt (length bytes) (4 + said bytes)) ≡ true) [
+    elim (nat_lt (length bytes) 4) as (λ b. nat_lt (length bytes) 4 ≡ b → cond b None (framed bytes) ≡ None
+    → (b || nat_lt (length bytes) (4 + said bytes)) ≡ true) [
       | true ↦ λ few none. refl
       | false ↦ λ four none. sym (said-short bytes (ltb-false (length bytes) 4 four)) ∙ none-tells (nat_lt (length (drop 4 bytes)) (said bytes)) _ none
     ] refl (sym (text-framed bytes) ∙ e)
 
 framed-some : (bytes : List ℕ) (x : List ℕ × List ℕ) → text_at w32 bytes ≡ Some x → is_short bytes ≡ false
 framed-some bytes x e =
-    elim (nat_lt (length bytes) 4) as (λ b. nat_lt (length bytes) 4 ≡ b → cond b None (framed bytes) ≡ Some x → (b || nat_lt (length bytes) (4 + said bytes)) ≡ false) [
+    elim (nat_lt (length bytes) 4) as (λ b. nat_lt (length bytes) 4 ≡ b → cond b None (framed bytes) ≡ Some x
+    → (b || nat_lt (length bytes) (4 + said bytes)) ≡ false) [
       | true ↦ λ few some. absurd (cc)
       | false ↦ λ four some. sym (said-short bytes (ltb-false (length bytes) 4 four)) ∙ some-tells (nat_lt (length (drop 4 bytes)) (said bytes)) _ x some
     ] refl (sym (text-framed bytes) ∙ e)
@@ -102,7 +107,8 @@ is-change n c g small = record { number = g.0; user = g.1.0.0; moment = g.1.0.1;
 is-read : (n : ℕ) (c : Change) → IsChange n c → IsRead n c
 is-read n c g = (g.number, ((g.user, g.moment), (g.some, (g.count, g.writes))))
 
-framed-again : (n : ℕ) (bytes : List ℕ) (c : Change) (rest : List ℕ) → IsChange n c → bytes ≡ change_bytes n c ++ rest → text_at w32 bytes ≡ Some (body_bytes n c, rest)
+framed-again : (n : ℕ) (bytes : List ℕ) (c : Change) (rest : List ℕ) → IsChange n c → bytes ≡ change_bytes n c ++ rest
+    → text_at w32 bytes ≡ Some (body_bytes n c, rest)
 unfolding change_bytes
 framed-again n bytes c rest good e = ap (text_at w32) e ∙ (text_codec w32 (2 ^ 32) wide32).again (body_bytes n c) rest good.size
 
@@ -110,10 +116,12 @@ change-length : (n : ℕ) (c : Change) → 4 + length (body_bytes n c) ≡ lengt
 unfolding change_bytes
 change-length n c = omega (arith, length-append (number w32 (length (body_bytes n c))) (body_bytes n c))
 
-pub decoded-again : (n : ℕ) (bytes : List ℕ) (c : Change) (rest : List ℕ) → IsChange n c → bytes ≡ change_bytes n c ++ rest → decoded_of n bytes ≡ Whole c (length (change_bytes n c))
+pub decoded-again : (n : ℕ) (bytes : List ℕ) (c : Change) (rest : List ℕ) → IsChange n c → bytes ≡ change_bytes n c ++ rest
+    → decoded_of n bytes ≡ Whole c (length (change_bytes n c))
 unfolding decoded_of
 decoded-again n bytes c rest good e =
-    ap (framed_as n) (framed-again n bytes c rest good e) ∙ ap (read_as (body_bytes n c)) (of-written n c (is-read n c good)) ∙ ap (λ used. Whole c used) (change-length n c)
+    ap (framed_as n) (framed-again n bytes c rest good e) ∙ ap (read_as (body_bytes n c)) (of-written n c (is-read n c good))
+    ∙ ap (λ used. Whole c used) (change-length n c)
 
 pub decoded-short : (n : ℕ) (bytes : List ℕ) → is_short bytes ≡ true → decoded_of n bytes ≡ Short
 unfolding decoded_of
@@ -123,7 +131,8 @@ decoded-short n bytes short =
       | Some x ↦ λ e. (let long = framed-some bytes x e in absurd (cc))
     ] refl
 
-whole-decodes : (n : ℕ) (bytes body rest : List ℕ) (c : Change) → IsBytes bytes → text_at w32 bytes ≡ Some (body, rest) → change_of n body ≡ Some c → Decodes n bytes (Ok (Whole c (4 + length body)))
+whole-decodes : (n : ℕ) (bytes body rest : List ℕ) (c : Change) → IsBytes bytes → text_at w32 bytes ≡ Some (body, rest) → change_of n body ≡ Some c
+    → Decodes n bytes (Ok (Whole c (4 + length body)))
 unfolding change_bytes
 whole-decodes n bytes body rest c fits framed found =
     let taken = (text_codec w32 (2 ^ 32) wide32).takes bytes body rest fits framed in
@@ -159,7 +168,8 @@ pub decodes : (n : ℕ) (bytes : List ℕ) (r : Result Decoded Memory) → IsByt
 decodes n bytes (Ok d) fits e = subst (λ x. Decodes n bytes (Ok x)) (sym e) (decoded-is n bytes fits)
 decodes n bytes (Err m) fits e = tt
 
-pub answers : (n : ℕ) (bytes : List ℕ) (r : Result Decoded Memory) (d : Decoded) → IfOk r (λ x. x ≡ decoded_of n bytes) → decoded_of n bytes ≡ d → IfOk r (λ x. x ≡ d)
+pub answers : (n : ℕ) (bytes : List ℕ) (r : Result Decoded Memory) (d : Decoded) → IfOk r (λ x. x ≡ decoded_of n bytes) → decoded_of n bytes ≡ d
+    → IfOk r (λ x. x ≡ d)
 answers n bytes (Ok x) d e same = e ∙ same
 answers n bytes (Err m) d e same = tt
 
@@ -181,5 +191,6 @@ cut-short n c k good lt =
       | inr four ↦
           let front : take 4 (take k whole) ≡ number w32 (length body) = take-take 4 k whole four ∙ take_at (number w32 (length body)) body 4 refl in
           let told : said (take k whole) ≡ length body = ap (from_be_bytes w32) front ∙ wide32.again (length body) good.size in
-          or-right (nat_lt (length (take k whole)) 4) (nat_lt (length (take k whole)) (4 + said (take k whole))) (lt-ltb (length (take k whole)) (4 + said (take k whole)) (omega arith))
+          or-right (nat_lt (length (take k whole)) 4) (nat_lt (length (take k whole)) (4 + said (take k whole)))
+          (lt-ltb (length (take k whole)) (4 + said (take k whole)) (omega arith))
     ]

@@ -1,11 +1,13 @@
 -- How long the text of a period is, and when a text is a period's own.
-use Rattle.std.proofs.Common.{◌≡◌, ◌∙◌, ℕ, ◌+◌, ◌-◌, ◌*◌, ◌/◌, ◌<◌, ◌≤◌, true, false, cond, List, ◌++◌, length, Some, None, refl, sym, ap, subst, arith, ℤ, pos, ◌+ℤ◌, ◌≤ℤ◌, ◌<ℤ◌, w32, of_z, to_z, to_z-of_z, FitsSigned, inl, inr}
+use Rattle.std.proofs.Common.{◌≡◌, ◌∙◌, ℕ, ◌+◌, ◌-◌, ◌*◌, ◌/◌, ◌<◌, ◌≤◌, true, false, cond, List, ◌++◌, length, Some, None, refl, sym, ap, subst, arith, ℤ}
+use Rattle.std.proofs.Common.{pos, ◌+ℤ◌, ◌≤ℤ◌, ◌<ℤ◌, w32, of_z, to_z, to_z-of_z, FitsSigned, inl, inr}
 use Rattle.std.specs.Prelude.{int_lt, nat_lt, nat_eq, bytes_eq, ◌-ℤ◌, option_and_then, codes, if◌then◌else◌}
 use Rattle.std.proofs.lemmas.Bool.{eq-eqb, eqb-true, cases_lt, le-ltb, lt-ltb}
 use Rattle.std.proofs.lemmas.Slice.Eq.{bytes_eq-Decides}
 use Rattle.jiff_core.proofs.SignedLemmas.{signed_arith}
 use Rattle.dh_periods.specs.declared.kind.PeriodType.{PeriodType}
-use Rattle.dh_periods.specs.declared.kind.PeriodType.TheVariants.{Daily, Weekly, Monthly, BiMonthly, Quarterly, SixMonthly, SixMonthlyApril, Yearly, FinancialApril, FinancialJuly, FinancialOct}
+use Rattle.dh_periods.specs.declared.kind.PeriodType.TheVariants.{Daily, Weekly, Monthly, BiMonthly, Quarterly, SixMonthly, SixMonthlyApril, Yearly}
+use Rattle.dh_periods.specs.declared.kind.PeriodType.TheVariants.{FinancialApril, FinancialJuly, FinancialOct}
 use Rattle.dh_periods.specs.declared.name.PeriodName.{PeriodName}
 use Rattle.dh_periods.specs.Calendar.{days_before_month, first_week, weeks_in_year, unix_day}
 use Rattle.dh_periods.specs.Types.{shape_of}
@@ -35,7 +37,8 @@ length_as FinancialOct n = 7
 
 ending-length : (kind : PeriodType) (y n d : ℕ) → length (four_digits y ++ ending_as kind n d) ≡ length_as kind n
 ending-length Daily y n d = refl
-ending-length Weekly y n d = elim (nat_lt n 10) as (λ b. length (four_digits y ++ (codes "W" ++ cond b (one_digit n) (two_digits n))) ≡ cond b 6 7) [ true ↦ refl | false ↦ refl ]
+ending-length Weekly y n d =
+    elim (nat_lt n 10) as (λ b. length (four_digits y ++ (codes "W" ++ cond b (one_digit n) (two_digits n))) ≡ cond b 6 7) [ true ↦ refl | false ↦ refl ]
 ending-length Monthly y n d = refl
 ending-length BiMonthly y n d = refl
 ending-length Quarterly y n d = refl
@@ -171,7 +174,8 @@ spans p q f g hp hq weekly ef eg found =
     let bp = day-bounds p hp in
     let bq = day-bounds q hq in
     let fits : FitsSigned w32 (t -ℤ first_day q) = omega (arith, signed_arith) in
-    let same : held (held f +ℤ pos 3) -ℤ held g ≡ t -ℤ first_day q = ap (λ z. z -ℤ held g) (thursday-is p f hp ef) ∙ ap (λ z. t -ℤ z) (held-first q g hq eg ∙ eg) in
+    let same : held (held f +ℤ pos 3) -ℤ held g ≡ t -ℤ first_day q = ap (λ z. z -ℤ held g) (thursday-is p f hp ef)
+    ∙ ap (λ z. t -ℤ z) (held-first q g hq eg ∙ eg) in
     record {
       fits = subst (FitsSigned w32) (sym same) fits;
       answer = ap (λ z. int_lt z (pos 63)) (ap held same ∙ to_z-of_z fits) ∙ answer.1;
@@ -189,7 +193,8 @@ padded-same : (p : PeriodName) → p.kind ≡ Weekly → length (padded_text p) 
 unfolding padded_text period_text
 padded-same p weekly same =
     let own : period_text p ≡ four_digits p.year ++ (codes "W" ++ short_digits p.number) = ap (λ k. four_digits p.year ++ ending_as k p.number p.day) weekly in
-    elim (nat_lt p.number 10) as (λ b. period_text p ≡ four_digits p.year ++ (codes "W" ++ cond b (one_digit p.number) (two_digits p.number)) → padded_text p ≡ period_text p) [
+    elim (nat_lt p.number 10) as (λ b. period_text p ≡ four_digits p.year ++ (codes "W" ++ cond b (one_digit p.number) (two_digits p.number))
+    → padded_text p ≡ period_text p) [
       | true ↦ λ short.
           let six : length (period_text p) ≡ 6 = ap length short in
           absurd (let seven : 7 ≡ length (period_text p) = same in omega arith)
@@ -215,7 +220,8 @@ same-length text p is =
     ] refl
 
 -- a text that says a period is the period's own where it is as long
-pub canonical-some : (text : List ℕ) (p : PeriodName) → Some p ≡ period_of text → (if nat_eq (length text) (length (period_text p)) then Some p else None) ≡ canonical_of text
+pub canonical-some : (text : List ℕ) (p : PeriodName) → Some p ≡ period_of text
+    → (if nat_eq (length text) (length (period_text p)) then Some p else None) ≡ canonical_of text
 unfolding canonical_of
 canonical-some text p said =
     let is = period_of-is text p (sym said) in
@@ -230,7 +236,8 @@ canonical-then text p said same = sym (ap (λ b. cond b (Some p) None) (eq-eqb _
 
 pub canonical-else : (text : List ℕ) (p : PeriodName) → Some p ≡ period_of text → (length text ≡ length (period_text p) → ⊥) → None ≡ canonical_of text
 canonical-else text p said apart =
-    elim (nat_eq (length text) (length (period_text p))) as (λ b. nat_eq (length text) (length (period_text p)) ≡ b → cond b (Some p) None ≡ canonical_of text → None ≡ canonical_of text) [
+    elim (nat_eq (length text) (length (period_text p))) as (λ b. nat_eq (length text) (length (period_text p)) ≡ b → cond b (Some p) None ≡ canonical_of text
+    → None ≡ canonical_of text) [
       | true ↦ λ same e. absurd (apart (eqb-true _ _ same))
       | false ↦ λ other e. e
     ] refl (canonical-some text p said)

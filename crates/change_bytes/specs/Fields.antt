@@ -1,5 +1,5 @@
 -- How the fields of a write are written.
-use Rattle.std.specs.Prelude.{ℕ, List, ◌++◌, ◌-◌, ◌^◌, Bool, ◌&&◌, Option, None, Some, ℤ, pos, neg_ℤ, negsuc, int_le}
+use Rattle.std.specs.Prelude.{ℕ, List, ◌++◌, ◌-◌, ◌^◌, Option, None, Some, ℤ, negsuc}
 use Rattle.std.specs.Int.{w8, w16, w32}
 use Rattle.dh_periods.specs.declared.name.PeriodName.{PeriodName}
 use Rattle.dh_periods.specs.Texts.{period_text}
@@ -14,10 +14,6 @@ use Rattle.byte_codec.specs.Writing.{number, signed, text, listed, optional_id, 
 -- the text of a period after its length of one byte
 unfoldable pub period_bytes : PeriodName → List ℕ
 period_bytes p = text w8 (period_text p)
-
--- the days from 1 January 1900 to 31 December 2100, counted from 1 January 1970
-abbrev pub is_day : ℤ → Bool
-is_day day = int_le (neg_ℤ (pos 25567)) day && int_le day (pos 47846)
 
 -- what stands in the place of a day where there is none: the least number of four bytes
 abbrev pub no_day : ℤ

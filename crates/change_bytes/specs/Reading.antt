@@ -11,11 +11,13 @@ use Rattle.dh_changes.specs.declared.tracker.Event.{Event}
 use Rattle.dh_changes.specs.declared.tracker.Enrollment.{Enrollment}
 use Rattle.dh_changes.specs.declared.tracker.Entity.{Entity}
 use Rattle.dh_changes.specs.declared.change.Write.{Write}
-use Rattle.dh_changes.specs.declared.change.Write.TheVariants.{ValueSet, ValueCleared, EventWritten, EventDeleted, EnrollmentWritten, EnrollmentDeleted, EntityWritten, EntityDeleted, Approve, Unapprove, Accept, Unaccept, Complete, Uncomplete}
+use Rattle.dh_changes.specs.declared.change.Write.TheVariants.{ValueSet, ValueCleared, EventWritten, EventDeleted, EnrollmentWritten, EnrollmentDeleted}
+use Rattle.dh_changes.specs.declared.change.Write.TheVariants.{EntityWritten, EntityDeleted, Approve, Unapprove, Accept, Unaccept, Complete, Uncomplete}
 use Rattle.dh_changes.specs.declared.change.Change.{Change}
 use Rattle.byte_codec.specs.Reading.{Reads, ◌⊗◌, mapped, refined, number_at, signed_at, text_at, times_at, listed_at, id_at, optional_id_at, id_text_at}
-use Rattle.change_bytes.specs.Fields.{is_day, no_day}
+use Rattle.change_bytes.specs.Fields.{no_day}
 use Rattle.change_bytes.specs.Forms.{event_statuses, enrollment_statuses}
+use Rattle.dh_base.specs.Limits.{is_day}
 
 -- the period whose own text this is
 unfoldable pub canonical_of : List ℕ → Option PeriodName
@@ -46,7 +48,8 @@ unfoldable pub three_ids_at : Reads (List ℕ × (List ℕ × List ℕ))
 three_ids_at = id_at ⊗ two_ids_at
 
 unfoldable pub value_key_at : Reads ValueKey
-value_key_at = mapped (λ p. record { element = p.0; period = p.1.0; unit = p.1.1.0; combo = p.1.1.1.0; attribute = p.1.1.1.1 }) (id_at ⊗ (period_at ⊗ three_ids_at))
+value_key_at =
+    mapped (λ p. record { element = p.0; period = p.1.0; unit = p.1.1.0; combo = p.1.1.1.0; attribute = p.1.1.1.1 }) (id_at ⊗ (period_at ⊗ three_ids_at))
 
 unfoldable pub approval_key_at : Reads ApprovalKey
 approval_key_at = mapped (λ p. record { workflow = p.0; period = p.1.0; unit = p.1.1.0; attribute = p.1.1.1 }) (id_at ⊗ (period_at ⊗ two_ids_at))
@@ -65,7 +68,18 @@ event_ids_at = id_at ⊗ (optional_id_at ⊗ two_ids_at)
 
 unfoldable pub event_at : Reads Event
 event_at =
-    mapped (λ p. record { id = p.0.0; enrollment = p.0.1.0; program = p.0.1.1.0; stage = p.0.1.1.1; unit = p.1.0.0; status = p.1.0.1.0; occurred = p.1.0.1.1.0; scheduled = p.1.0.1.1.1; values = p.1.1 })
+    mapped (λ p. record {
+      id = p.0.0;
+      enrollment = p.0.1.0;
+      program = p.0.1.1.0;
+      stage = p.0.1.1.1;
+      unit = p.1.0.0;
+      status = p.1.0.1.0;
+      occurred =
+          p.1.0.1.1.0;
+      scheduled = p.1.0.1.1.1;
+      values = p.1.1;
+    })
     (event_ids_at ⊗ (state_at event_statuses ⊗ listed_at w16 id_text_at))
 
 unfoldable pub enrollment_at : Reads Enrollment

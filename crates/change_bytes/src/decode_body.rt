@@ -1,7 +1,8 @@
 ghost use Rattle.std.specs.Prelude.{◌≡◌, ◌||◌, ◌==◌};
 ghost use Rattle.byte_codec.specs.Reading.{times_at};
 ghost use Rattle.byte_codec.specs.Given.{Gives};
-ghost use Rattle.change_bytes.specs.Reading.{value_set_at, complete_at, is_deletion, value_write_at, tracker_write_at, deletion_at, approval_at, registration_at, fields_at, write_at, writes_at, same_number_at, head_at, change_at};
+ghost use Rattle.change_bytes.specs.Reading.{value_set_at, complete_at, is_deletion, value_write_at, tracker_write_at, deletion_at, approval_at};
+ghost use Rattle.change_bytes.specs.Reading.{registration_at, fields_at, write_at, writes_at, same_number_at, head_at, change_at};
 
 use crate::decode_fields::{
     read_approval_key, read_enrollment, read_entity, read_event, read_given_day, read_reg_key,

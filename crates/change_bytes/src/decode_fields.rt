@@ -1,8 +1,9 @@
 ghost use Rattle.std.specs.Prelude.{◌≡◌, bytes_eq, nat_lt, Some, None};
 ghost use Rattle.dh_periods.specs.Texts.{period_text, period_of};
 ghost use Rattle.byte_codec.specs.Given.{Gives};
-ghost use Rattle.change_bytes.specs.Fields.{is_day};
-ghost use Rattle.change_bytes.specs.Reading.{canonical_of, day_of, period_at, day_at, given_day_at, status_at, two_ids_at, three_ids_at, value_key_at, approval_key_at, reg_key_at, days_at, state_at, event_ids_at, event_at, enrollment_at, entity_at};
+ghost use Rattle.dh_base.specs.Limits.{is_day};
+ghost use Rattle.change_bytes.specs.Reading.{canonical_of, day_of, period_at, day_at, given_day_at, status_at, two_ids_at, three_ids_at, value_key_at};
+ghost use Rattle.change_bytes.specs.Reading.{approval_key_at, reg_key_at, days_at, state_at, event_ids_at, event_at, enrollment_at, entity_at};
 ghost use Rattle.change_bytes.specs.Forms.{event_statuses, enrollment_statuses};
 
 use crate::periods::period_len;
@@ -10,6 +11,7 @@ use byte_codec::fault::ReadFault;
 use byte_codec::read::{
     read_i32, read_id, read_id_texts, read_optional_id, read_short_text, read_u8,
 };
+use dh_base::limits::is_day;
 use dh_base::uid::Uid;
 use dh_changes::keys::{ApprovalKey, RegKey, ValueKey};
 use dh_changes::tracker::{Enrollment, Entity, Event};
@@ -37,18 +39,6 @@ pub(crate) fn read_period(rest: &mut &[u8]) -> Result<Period, ReadFault>
         Some(period) => Ok(period),
         None => Err(ReadFault::Bad),
     }
-}
-
-/// 1 January 1900.
-const FIRST_DAY: i32 = -25_567;
-
-/// 31 December 2100.
-const LAST_DAY: i32 = 47_846;
-
-fn is_day(day: i32) -> bool
-    ensures { result ≡ is_day day }
-{
-    FIRST_DAY <= day && day <= LAST_DAY
 }
 
 fn day_of(number: i32) -> Option<Option<i32>>

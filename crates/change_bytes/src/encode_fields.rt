@@ -2,8 +2,10 @@ ghost use Rattle.std.specs.Prelude.{◌≡◌, ◌++◌, ◌<◌, ◌^◌, lengt
 ghost use Rattle.std.specs.Int.{w8, w16, w32};
 ghost use Rattle.dh_periods.specs.Days.{is_listed};
 ghost use Rattle.byte_codec.specs.Writing.{IsId, optional_id, listed, id_text};
-ghost use Rattle.change_bytes.specs.Fields.{period_bytes, day_bytes, value_key_bytes, approval_key_bytes, reg_key_bytes, state_bytes, event_bytes, enrollment_bytes, entity_bytes};
-ghost use Rattle.change_bytes.specs.Forms.{IsPeriod, IsDay, IsValueKey, IsApprovalKey, IsRegKey, StateFits, IsState, PairsFit, ArePairs, IsEvent, IsEnrollment, IsEntity, event_statuses, enrollment_statuses};
+ghost use Rattle.change_bytes.specs.Fields.{period_bytes, day_bytes, value_key_bytes, approval_key_bytes, reg_key_bytes, state_bytes, event_bytes};
+ghost use Rattle.change_bytes.specs.Fields.{enrollment_bytes, entity_bytes};
+ghost use Rattle.change_bytes.specs.Forms.{IsPeriod, IsDay, IsValueKey, IsApprovalKey, IsRegKey, StateFits, IsState, PairsFit, ArePairs, IsEvent};
+ghost use Rattle.change_bytes.specs.Forms.{IsEnrollment, IsEntity, event_statuses, enrollment_statuses};
 
 use crate::periods::period_len;
 use byte_codec::write::{

@@ -6,7 +6,8 @@ ghost use Rattle.dh_changes.specs.declared.change.Write.TheVariants.{ValueSet, C
 ghost use Rattle.byte_codec.specs.Writing.{number, text, listed, IsId};
 ghost use Rattle.change_bytes.specs.Fields.{value_key_bytes, approval_key_bytes, reg_key_bytes, event_bytes, enrollment_bytes, entity_bytes};
 ghost use Rattle.change_bytes.specs.Bytes.{write_bytes, head_bytes, body_bytes, change_bytes};
-ghost use Rattle.change_bytes.specs.Forms.{WriteFits, ChangeFits, IsWrite, IsChange, IsDay, IsValueKey, IsApprovalKey, IsRegKey, IsEvent, IsEnrollment, IsEntity, StateFits, PairsFit, event_statuses, enrollment_statuses};
+ghost use Rattle.change_bytes.specs.Forms.{WriteFits, ChangeFits, IsWrite, IsChange, IsDay, IsValueKey, IsApprovalKey, IsRegKey, IsEvent, IsEnrollment};
+ghost use Rattle.change_bytes.specs.Forms.{IsEntity, StateFits, PairsFit, event_statuses, enrollment_statuses};
 
 use crate::encode_fields::{
     put_approval_key, put_enrollment, put_entity, put_event, put_reg_key, put_value_key,

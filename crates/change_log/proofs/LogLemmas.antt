@@ -25,7 +25,8 @@ writes-more changes c =
 pub writes-length : (changes : List Change) (c : Change) → length (writes_of (changes ++ c ∷ [])) ≡ length (writes_of changes) + length c.writes
 writes-length changes c = ap length (writes-more changes c) ∙ length-append (writes_of changes) c.writes
 
-pub bytes-length : (changes : List Change) (c : Change) → length (log_bytes (changes ++ c ∷ [])) ≡ length (log_bytes changes) + length (change_bytes (length changes + 1) c)
+pub bytes-length : (changes : List Change) (c : Change)
+    → length (log_bytes (changes ++ c ∷ [])) ≡ length (log_bytes changes) + length (change_bytes (length changes + 1) c)
 bytes-length changes c = ap length (log-more changes c) ∙ length-append (log_bytes changes) (change_bytes (length changes + 1) c)
 
 -- the limit that so much more passes is that of the longer log
@@ -34,14 +35,16 @@ pub passed-more : (limits : Limits) (changes : List Change) (c : Change) (w b : 
 unfolding passed
 passed-more limits changes c w b h k =
     ap (λ n. over limits n (b + length (change_bytes (length changes + 1) c))) (ap (λ n. n + length c.writes) h ∙ sym (writes-length changes c))
-    ∙ ap (λ n. over limits (length (writes_of (changes ++ c ∷ []))) n) (ap (λ n. n + length (change_bytes (length changes + 1) c)) k ∙ sym (bytes-length changes c))
+    ∙ ap (λ n. over limits (length (writes_of (changes ++ c ∷ []))) n) (ap (λ n. n + length (change_bytes (length changes + 1) c)) k
+    ∙ sym (bytes-length changes c))
 
 kept-more : (kept : Option (List ℕ)) (changes : List Change) (c : Change) → IfSome kept (λ b. b ≡ log_bytes changes)
     → IfSome (option_map (λ b. b ++ change_bytes (length changes + 1) c) kept) (λ b. b ≡ log_bytes (changes ++ c ∷ []))
 kept-more None changes c h = h
 kept-more (Some bytes) changes c h = ap (λ t. t ++ change_bytes (length changes + 1) c) h ∙ sym (log-more changes c)
 
-whole-more : (log : LogSeen) (c : Change) (faults : ℕ) → IsWhole log → passed log.limits (log.changes ++ c ∷ []) ≡ None → All WriteFits c.writes → 0 < length c.writes
+whole-more : (log : LogSeen) (c : Change) (faults : ℕ) → IsWhole log → passed log.limits (log.changes ++ c ∷ []) ≡ None → All WriteFits c.writes
+    → 0 < length c.writes
     → IsWhole (with_change log c faults)
 unfolding with_change
 whole-more log c faults h within fits some = record {
@@ -54,7 +57,8 @@ whole-more log c faults h within fits some = record {
 }
 
 -- whatever comes of bringing a change, the log stays whole
-pub whole_after : (old new : LogSeen) (c : Change) (result : Result ℕ AppendFault) → IsWhole old → All WriteFits c.writes → 0 < length c.writes → Appends old c result new
+pub whole_after : (old new : LogSeen) (c : Change) (result : Result ℕ AppendFault) → IsWhole old → All WriteFits c.writes → 0 < length c.writes
+    → Appends old c result new
     → IsWhole new
 whole_after old new c (Ok n) h fits some step = subst IsWhole (sym step.1.1.1) (whole-more old c new.faults h step.0 fits some)
 whole_after old new c (Err (LogFull limit)) h fits some step = subst IsWhole (sym step.1) h
@@ -109,7 +113,8 @@ unfolding change_bytes
 change-length n c = sym (length-append (to_be_bytes w32 (length (body_bytes n c))) (body_bytes n c))
 
 -- the log with the change as it shows itself
-pub grown-is : (changes changes' : List Change) (c : Change) (acknowledged acknowledged' faults faults' : ℕ) (kept kept' : Option (List ℕ)) (limits : Limits) (bytes : List ℕ)
+pub grown-is : (changes changes' : List Change) (c : Change) (acknowledged acknowledged' faults faults' : ℕ) (kept kept' : Option (List ℕ)) (limits : Limits)
+    (bytes : List ℕ)
     → changes' ≡ changes ++ c ∷ [] → acknowledged ≡ length (log_bytes changes) → bytes ≡ change_bytes (length changes + 1) c
     → acknowledged' ≡ acknowledged + length bytes → kept' ≡ option_map (λ b. b ++ bytes) kept
     → ◌≡◌ {A = LogSeen} (record { changes = changes'; acknowledged = acknowledged'; kept = kept'; faults = faults'; limits = limits })

@@ -11,6 +11,7 @@ use Rattle.change_bytes.specs.Log.{log_bytes}
 use Rattle.change_log.specs.declared.limits.Limits.{Limits}
 use Rattle.change_log.specs.declared.limits.AppendFault.{AppendFault}
 use Rattle.change_log.specs.declared.limits.AppendFault.TheVariants.{LogFull, StoreFault, Memory}
+use Rattle.dh_base.specs.declared.limits.TheConstants.{MOST_RECORDS, MOST_LOG_BYTES, MOST_UPDATES}
 
 -- the writes of changes, in their order
 abbrev pub writes_of : List Change → List Write
@@ -28,9 +29,9 @@ passed limits changes = over limits (length (writes_of changes)) (length (log_by
 
 -- each limit is at most the largest that a server may have
 pub record AreLimits (limits : Limits) : Type 0 where
-  pub writes : limits.writes ≤ 4194304
-  pub bytes : limits.bytes ≤ 536870912
-  pub updates : limits.updates ≤ 1000000000000
+  pub writes : limits.writes ≤ MOST_RECORDS
+  pub bytes : limits.bytes ≤ MOST_LOG_BYTES
+  pub updates : limits.updates ≤ MOST_UPDATES
 
 -- the changes of the log; of its keeper, how many bytes are acknowledged, those that are kept, where they are told, and
 -- how many calls have failed; and the limits

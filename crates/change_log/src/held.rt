@@ -6,6 +6,7 @@ ghost use Rattle.change_bytes.specs.Bytes.{change_bytes};
 ghost use Rattle.change_bytes.specs.Forms.{WriteFits};
 ghost use Rattle.change_log.specs.Log.{over, passed, Appends, AreLimits};
 ghost use Rattle.change_log.specs.Held.{changes_of, seen, IsHeld, IsKept, HasRoom, Keeps};
+ghost use Rattle.dh_base.specs.declared.limits.TheConstants.{MOST_LOG_BYTES};
 
 use crate::limits::{AppendFault, Limits};
 use change_bytes::{encode, encoded_len, log_grows};
@@ -107,10 +108,11 @@ fn share(alloc: Global, change: Change) -> Result<Arc<Change>, Memory>
 
 // Has the keeper keep these bytes after those that it has.
 fn keep<K: Keeper>(alloc: Global, keeper: &mut K, at: u64, bytes: &[u8]) -> Result<(), AppendFault>
-    requires behind { at ≡ K.acknowledged keeper.old }
+    requires beyond { at ≡ K.acknowledged keeper.old }
     requires some { 0 < length bytes.now }
-    requires room { at + length bytes.now ≤ 536870912 }
-    ensures { Keeps (K.acknowledged keeper.old) (K.acknowledged keeper.new) (K.kept keeper.old) (K.kept keeper.new) (K.keeper_faults keeper.old) (K.keeper_faults keeper.new) bytes.now result }
+    requires room { at + length bytes.now ≤ MOST_LOG_BYTES }
+    ensures { Keeps (K.acknowledged keeper.old) (K.acknowledged keeper.new) (K.kept keeper.old) (K.kept keeper.new) (K.keeper_faults keeper.old)
+        (K.keeper_faults keeper.new) bytes.now result }
 {
     match keeper.append(alloc, at, bytes) {
         Ok(()) => Ok(()),

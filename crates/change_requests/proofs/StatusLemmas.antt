@@ -17,16 +17,21 @@ of-clean : (clean : Bool) → is_report_status (cond clean 200 409) ≡ true
 of-clean true = refl
 of-clean false = refl
 
-of-import : (verdict : Verdict) (found : Judged) (meant : Result Judged Refusal) → meant ≡ Ok (import_report verdict) → meant ≡ Ok found → is_report_status found.status ≡ true
+of-import : (verdict : Verdict) (found : Judged) (meant : Result Judged Refusal) → meant ≡ Ok (import_report verdict) → meant ≡ Ok found
+    → is_report_status found.status ≡ true
 of-import verdict found meant made is =
     let e : found ≡ import_report verdict = cc in
     ap (λ (j : Judged). is_report_status j.status) e ∙ of-clean (is_clean verdict)
 
-by-kind : (facts : Facts) (meta : Records) (who : Who) (moment : ℤ) (request : ChangeRequest) (found : Judged) → judged_by facts meta who moment request ≡ Ok found
+by-kind : (facts : Facts) (meta : Records) (who : Who) (moment : ℤ) (request : ChangeRequest) (found : Judged)
+    → judged_by facts meta who moment request ≡ Ok found
     → is_report_status found.status ≡ true
-by-kind facts meta who moment (Values set) found is = of-import (verdict_of facts meta who moment set) found (judged_by facts meta who moment (Values set)) refl is
-by-kind facts meta who moment (Completion list) found is = of-import (completions_verdict_of facts meta who moment list) found (judged_by facts meta who moment (Completion list)) refl is
+by-kind facts meta who moment (Values set) found is =
+    of-import (verdict_of facts meta who moment set) found (judged_by facts meta who moment (Values set)) refl is
+by-kind facts meta who moment (Completion list) found is =
+    of-import (completions_verdict_of facts meta who moment list) found (judged_by facts meta who moment (Completion list)) refl is
 
-pub report-status : (meta : Records) (writes : List Write) (asked : Asked) (found : Judged) → judged meta writes asked ≡ Ok found → is_report_status found.status ≡ true
+pub report-status : (meta : Records) (writes : List Write) (asked : Asked) (found : Judged) → judged meta writes asked ≡ Ok found
+    → is_report_status found.status ≡ true
 unfolding judged
 report-status meta writes asked found is = by-kind (facts_in writes) meta asked.who asked.moment asked.request found is

@@ -7,5 +7,6 @@ ghost use Rattle.change_requests.specs.declared.request.Judged.{Judged};
 
 /// The status of a report is 200 or 409, whatever the kind of request.
 pub fn report_statuses()
-    ensures { (meta : Records) → (writes : List Write) → (asked : Asked) → (found : Judged) → judged meta writes asked ≡ Ok found → is_report_status found.status ≡ true }
+    ensures { (meta : Records) → (writes : List Write) → (asked : Asked) → (found : Judged) → judged meta writes asked ≡ Ok found
+        → is_report_status found.status ≡ true }
 {}

@@ -1,5 +1,6 @@
 -- Digits and the numbers that they write.
-use Rattle.std.proofs.Common.{◌≡◌, ◌∙◌, ℕ, zero, suc, ◌+◌, ◌*◌, ◌/◌, ◌%◌, ◌-◌, ◌<◌, ◌≤◌, ◌^◌, Bool, true, false, List, [], ◌∷◌, length, take, drop, get_or, add-one, refl, sym, ap, subst, arith}
+use Rattle.std.proofs.Common.{◌≡◌, ◌∙◌, ℕ, zero, suc, ◌+◌, ◌*◌, ◌/◌, ◌%◌, ◌-◌, ◌<◌, ◌≤◌, ◌^◌, Bool, true, false, List, [], ◌∷◌, length, take, drop, get_or}
+use Rattle.std.proofs.Common.{add-one, refl, sym, ap, subst, arith}
 use Rattle.std.specs.Prelude.{Option, Some, None, option_map, position, if◌then◌else◌, neg_ℤ, pos}
 use Rattle.std.proofs.Common.{length-drop, length-take, nat_lt, nat_eq}
 use Rattle.std.proofs.lemmas.Bool.{ltb-true, ltb-false}
@@ -60,7 +61,8 @@ weighed v n bound short =
 pub value_step : (xs : List ℕ) (i v : ℕ) → list_all is_ascii_digit xs ≡ true → i < length xs → v ≡ digits_value 10 (take i xs)
     → v * 10 + (get_or xs i 0 - 48) ≡ digits_value 10 (take (i + 1) xs)
 value_step xs i v all within e =
-    ap (λ n. n * 10 + (get_or xs i 0 - 48)) e ∙ ap (λ d. digits_value 10 (take i xs) * 10 + d) (sym (digit_at xs i all within).value) ∙ sym (digits_value_more 10 xs i within)
+    ap (λ n. n * 10 + (get_or xs i 0 - 48)) e ∙ ap (λ d. digits_value 10 (take i xs) * 10 + d) (sym (digit_at xs i all within).value)
+    ∙ sym (digits_value_more 10 xs i within)
 
 -- ---- long texts
 
@@ -83,12 +85,14 @@ size_of-long text long = split (position is_point text)
         no_rest (Some n) = refl
         no_rest None = refl
 
-        by_front : (place : ℕ) (t : Bool) → nat_lt 12 (length (take place text)) ≡ t → both (digits_of 12 (take place text)) (decimals_of (drop (place + 1) text)) ≡ None
+        by_front : (place : ℕ) (t : Bool) → nat_lt 12 (length (take place text)) ≡ t
+            → both (digits_of 12 (take place text)) (decimals_of (drop (place + 1) text)) ≡ None
         by_front place true e = no_front _ _ (digits_of-long 12 (take place text) (ltb-true _ _ e))
         by_front place false e =
             let short : length (take place text) ≤ 12 = ltb-false _ _ e in
             let rest : 6 < length (drop (place + 1) text) = omega (arith, length-drop (place + 1) text, length-take place text, short) in
-            ap (λ o. both (digits_of 12 (take place text)) (option_map (λ n. n * 10 ^ (6 - length (drop (place + 1) text))) o)) (digits_of-long 6 (drop (place + 1) text) rest) ∙ no_rest (digits_of 12 (take place text))
+            ap (λ o. both (digits_of 12 (take place text)) (option_map (λ n. n * 10 ^ (6 - length (drop (place + 1) text))) o))
+            (digits_of-long 6 (drop (place + 1) text) rest) ∙ no_rest (digits_of 12 (take place text))
 
 pub decimal_of-long : (text : List ℕ) → 20 < length text → decimal_of text ≡ None
 unfolding decimal_of
@@ -138,7 +142,8 @@ some_places zero n below some = let e : 10 ^ 0 ≡ 1 = refl in absurd (omega ari
 some_places (suc p) n below some = omega arith
 
 -- one more digit of a quotient
-pub divided_more : (digits left digit after den rest i : ℕ) → digits * den + left ≡ rest * 10 ^ i → digit * den + after ≡ left * 10 → (digits * 10 + digit) * den + after ≡ rest * 10 ^ (i + 1)
+pub divided_more : (digits left digit after den rest i : ℕ) → digits * den + left ≡ rest * 10 ^ i → digit * den + after ≡ left * 10
+    → (digits * 10 + digit) * den + after ≡ rest * 10 ^ (i + 1)
 divided_more digits left digit after den rest i p q =
     let e : rest * 10 ^ (i + 1) ≡ rest * 10 ^ i * 10 = ap (λ k. rest * k) (power_more i) ∙ sym (mul_assoc rest (10 ^ i) 10) in
     omega (arith, p, q, e)

@@ -9,8 +9,10 @@ use Rattle.std.specs.Cmp.{int_cmp_is, int_ranks}
 use Rattle.std.proofs.lemmas.Int.{ints}
 use borrow.Author.Differences.{up, down, same_in, sum_is_lem, product_is}
 use Rattle.std.proofs.lemmas.Nat.Gcd.{dvd_antisymm}
-use Rattle.std.proofs.Math.Nat.{mul-div_cancel', div-mul_cancel, mul-le-mul_left, mul-pos, one-dvd, one-le-pow, dvd-mul_left, div-le_self, zero-mul, mul_assoc, mul_comm, eq_of_mul-eq-mul_right}
-use Rattle.dh_base.specs.Fractions.{gcd, Fraction, ratio, fraction_of, IsReduced, HasValue, IsFitting, whole_part, flipped, over_common, sum_of, order_of, product_of, power_of, can_compare, can_add, some_if, cmp_of, add_of, fitting, fits, fits_size}
+use Rattle.std.proofs.Math.Nat.{mul-div_cancel', div-mul_cancel, mul-le-mul_left, mul-pos, one-dvd, one-le-pow, dvd-mul_left, div-le_self, zero-mul}
+use Rattle.std.proofs.Math.Nat.{mul_assoc, mul_comm, eq_of_mul-eq-mul_right}
+use Rattle.dh_base.specs.Fractions.{gcd, Fraction, ratio, fraction_of, IsReduced, HasValue, IsFitting, whole_part, flipped, over_common, sum_of, order_of}
+use Rattle.dh_base.specs.Fractions.{product_of, power_of, can_compare, can_add, some_if, cmp_of, add_of, fitting, fits, fits_size}
 use Rattle.dh_base.specs.declared.plain.NumFault.TheVariants.{Wide}
 use Rattle.std.proofs.lemmas.Bool.{ltb-true}
 use Rattle.dh_base.proofs.GcdLemmas.{gcd-IsGcd, gcd_comm, gcd-positive, divides_other, coprime-quotients, coprime-mul, coprime-divisors, coprime-pow}
@@ -102,7 +104,8 @@ pub fraction_of-same : (z y : ℤ) (d e : ℕ) → 0 < d → 0 < e → z *ℤ po
 fraction_of-same z y d e some other same =
     let r = fraction_of z d in
     let own : HasValue r z d = fraction_of-HasValue z d some in
-    fraction_of-unique r y e other (fraction_of-IsReduced z d some) (cancel_times (r.num *ℤ pos e) (y *ℤ pos r.den) d some (crossed r.num z y r.den d e own same))
+    fraction_of-unique r y e other (fraction_of-IsReduced z d some)
+    (cancel_times (r.num *ℤ pos e) (y *ℤ pos r.den) d some (crossed r.num z y r.den d e own same))
   where
     crossed : (m z y : ℤ) (b d e : ℕ) → m *ℤ pos d ≡ z *ℤ pos b → z *ℤ pos e ≡ y *ℤ pos d → (m *ℤ pos e) *ℤ pos d ≡ (y *ℤ pos b) *ℤ pos d
     crossed m z y b d e p q =
@@ -247,7 +250,18 @@ abs_mul (negsuc a) (negsuc b) = refl
 
 mul_times : (x y : ℤ) (j k : ℕ) → (x *ℤ pos j) *ℤ (y *ℤ pos k) ≡ (x *ℤ y) *ℤ pos (j * k)
 mul_times x y j k = same_in _ _ (
-    rw ((product_is (x *ℤ pos j) (y *ℤ pos k)).0, (product_is (x *ℤ pos j) (y *ℤ pos k)).1, (product_is (x *ℤ y) (pos (j * k))).0, (product_is (x *ℤ y) (pos (j * k))).1, (product_is x (pos j)).0, (product_is x (pos j)).1, (product_is y (pos k)).0, (product_is y (pos k)).1, (product_is x y).0, (product_is x y).1) (omega arith))
+    rw (
+      (product_is (x *ℤ pos j) (y *ℤ pos k)).0,
+      (product_is (x *ℤ pos j) (y *ℤ pos k)).1,
+      (product_is (x *ℤ y) (pos (j * k))).0,
+      (product_is (x *ℤ y) (pos (j * k))).1,
+      (product_is x (pos j)).0,
+      (product_is x (pos j)).1,
+      (product_is y (pos k)).0,
+      (product_is y (pos k)).1,
+      (product_is x y).0,
+      (product_is x y).1,
+    ) (omega arith))
 
 -- the product, each numerator divided first by what it shares with the other denominator
 pub product-crossed : (x y : Fraction) → IsReduced x → IsReduced y → (g h : ℕ) → g ≡ gcd (unsigned_abs x.num) y.den → h ≡ gcd (unsigned_abs y.num) x.den
@@ -263,7 +277,9 @@ product-crossed x y left right g h across back =
     fraction_of-unique (ratio n m) (x.num *ℤ y.num) (x.den * y.den) (positive_product x.den y.den left.positive right.positive)
     (record {
       positive = positive_product (x.den / h) (y.den / g) (positive_quotient h x.den q.right left.positive) (positive_quotient g y.den p.right right.positive);
-      coprime = ap (λ k. gcd k m) (abs_mul (int_div x.num (pos g)) (int_div y.num (pos h)) ∙ ap (λ k. k * unsigned_abs (int_div y.num (pos h))) (abs_div x.num g) ∙ ap (λ k. unsigned_abs x.num / g * k) (abs_div y.num h))
+      coprime =
+          ap (λ k. gcd k m) (abs_mul (int_div x.num (pos g)) (int_div y.num (pos h)) ∙ ap (λ k. k * unsigned_abs (int_div y.num (pos h))) (abs_div x.num g)
+          ∙ ap (λ k. unsigned_abs x.num / g * k) (abs_div y.num h))
           ∙ crossed_coprime (unsigned_abs x.num) x.den (unsigned_abs y.num) y.den g h left.coprime right.coprime p q across back left.positive right.positive;
     })
     (ap (λ k. n *ℤ pos k) (dens x.den y.den g h (x.den / h) (y.den / g) q.right p.right)
@@ -275,7 +291,8 @@ product-crossed x y left right g h across back =
     dens : (b d g h u v : ℕ) → h * u ≡ b → g * v ≡ d → b * d ≡ g * h * (u * v)
     dens b d g h u v p q = ap (λ k. k * d) (sym p) ∙ ap (λ k. h * u * k) (sym q) ∙ omega arith
 
-    crossed_coprime : (a b c d g h : ℕ) → gcd a b ≡ 1 → gcd c d ≡ 1 → Shares a d g → Shares c b h → g ≡ gcd a d → h ≡ gcd c b → 0 < b → 0 < d → gcd (a / g * (c / h)) (b / h * (d / g)) ≡ 1
+    crossed_coprime : (a b c d g h : ℕ) → gcd a b ≡ 1 → gcd c d ≡ 1 → Shares a d g → Shares c b h → g ≡ gcd a d → h ≡ gcd c b → 0 < b → 0 < d
+        → gcd (a / g * (c / h)) (b / h * (d / g)) ≡ 1
     crossed_coprime a b c d g h left right p q across back pb pd =
         let ag : a / g ∣ a = divisor g (a / g) a p.left in
         let ch : c / h ∣ c = divisor h (c / h) c q.left in
@@ -284,8 +301,10 @@ product-crossed x y left right g h across back =
         let ad : gcd (a / g) (d / g) ≡ 1 = rw across (coprime-quotients a d pd) in
         let cb : gcd (c / h) (b / h) ≡ 1 = rw back (coprime-quotients c b pb) in
         coprime-mul (a / g) (c / h) (b / h * (d / g))
-        (gcd_comm (a / g) (b / h * (d / g)) ∙ coprime-mul (b / h) (d / g) (a / g) (gcd_comm (b / h) (a / g) ∙ coprime-divisors a b (a / g) (b / h) left ag bh) (gcd_comm (d / g) (a / g) ∙ ad))
-        (gcd_comm (c / h) (b / h * (d / g)) ∙ coprime-mul (b / h) (d / g) (c / h) (gcd_comm (b / h) (c / h) ∙ cb) (gcd_comm (d / g) (c / h) ∙ coprime-divisors c d (c / h) (d / g) right ch dg))
+        (gcd_comm (a / g) (b / h * (d / g))
+        ∙ coprime-mul (b / h) (d / g) (a / g) (gcd_comm (b / h) (a / g) ∙ coprime-divisors a b (a / g) (b / h) left ag bh) (gcd_comm (d / g) (a / g) ∙ ad))
+        (gcd_comm (c / h) (b / h * (d / g))
+        ∙ coprime-mul (b / h) (d / g) (c / h) (gcd_comm (b / h) (c / h) ∙ cb) (gcd_comm (d / g) (c / h) ∙ coprime-divisors c d (c / h) (d / g) right ch dg))
 
 pub product_of-IsReduced : (x y : Fraction) → 0 < x.den → 0 < y.den → IsReduced (product_of x y)
 unfolding product_of
@@ -322,20 +341,23 @@ none_from true v e = absurd (cc)
 none_from false v e = refl
 
 pub cmp_answer : (x y : Fraction) → 0 < y.den → (g : ℕ) → g ≡ gcd x.den y.den → (own others : ℤ) (r : Ordering)
-    → ◌≡◌ {A = Option (ℤ × ℤ)} (Some (own, others)) (some_if (can_compare x y) (over_common x.num y.den g, over_common y.num x.den g)) → r ≡ int_cmp own others → Ok r ≡ cmp_of x y
+    → ◌≡◌ {A = Option (ℤ × ℤ)} (Some (own, others)) (some_if (can_compare x y) (over_common x.num y.den g, over_common y.num x.den g)) → r ≡ int_cmp own others
+    → Ok r ≡ cmp_of x y
 cmp_answer x y py g same own others r e is =
     let parts = some_from {A = ℤ × ℤ} (can_compare x y) (own, others) (over_common x.num y.den g, over_common y.num x.den g) e in
     let value : r ≡ order_of x y = is ∙ ap (λ (q : ℤ × ℤ). int_cmp q.0 q.1) parts.1 ∙ order-common x y py g same in
     rw parts.0 (ap (λ o. Ok o) value)
 
 sum_by_parts : (x y : Fraction) → 0 < x.den → 0 < y.den → (g : ℕ) → g ≡ gcd x.den y.den → (n : ℤ) (d : ℕ) (r : Fraction)
-    → ◌≡◌ {A = Option (ℤ × ℕ)} (Some (n, d)) (some_if (can_add x y) (over_common x.num y.den g +ℤ over_common y.num x.den g, x.den / g * y.den)) → r ≡ fraction_of n d → (can_add x y ≡ true) × (r ≡ sum_of x y)
+    → ◌≡◌ {A = Option (ℤ × ℕ)} (Some (n, d)) (some_if (can_add x y) (over_common x.num y.den g +ℤ over_common y.num x.den g, x.den / g * y.den))
+    → r ≡ fraction_of n d → (can_add x y ≡ true) × (r ≡ sum_of x y)
 sum_by_parts x y px py g same n d r e is =
     let parts = some_from {A = ℤ × ℕ} (can_add x y) (n, d) (over_common x.num y.den g +ℤ over_common y.num x.den g, x.den / g * y.den) e in
     (parts.0, is ∙ ap (λ (q : ℤ × ℕ). fraction_of q.0 q.1) parts.1 ∙ sum-common x y px py g same)
 
 pub add_answer : (x y : Fraction) → 0 < x.den → 0 < y.den → (g : ℕ) → g ≡ gcd x.den y.den → (n : ℤ) (d : ℕ) (r : Fraction)
-    → ◌≡◌ {A = Option (ℤ × ℕ)} (Some (n, d)) (some_if (can_add x y) (over_common x.num y.den g +ℤ over_common y.num x.den g, x.den / g * y.den)) → r ≡ fraction_of n d → Ok r ≡ add_of x y
+    → ◌≡◌ {A = Option (ℤ × ℕ)} (Some (n, d)) (some_if (can_add x y) (over_common x.num y.den g +ℤ over_common y.num x.den g, x.den / g * y.den))
+    → r ≡ fraction_of n d → Ok r ≡ add_of x y
 add_answer x y px py g same n d r e is =
     let parts = sum_by_parts x y px py g same n d r e is in
     rw parts.0 (ap (λ f. Ok f) parts.1)
@@ -346,13 +368,15 @@ unfolding sum_of
 sum_of-HasValue x y px py = fraction_of-HasValue (x.num *ℤ pos y.den +ℤ y.num *ℤ pos x.den) (x.den * y.den) (positive_product x.den y.den px py)
 
 pub add_value : (x y : Fraction) → 0 < x.den → 0 < y.den → (g : ℕ) → g ≡ gcd x.den y.den → (n : ℤ) (d : ℕ) (r : Fraction)
-    → ◌≡◌ {A = Option (ℤ × ℕ)} (Some (n, d)) (some_if (can_add x y) (over_common x.num y.den g +ℤ over_common y.num x.den g, x.den / g * y.den)) → r ≡ fraction_of n d
+    → ◌≡◌ {A = Option (ℤ × ℕ)} (Some (n, d)) (some_if (can_add x y) (over_common x.num y.den g +ℤ over_common y.num x.den g, x.den / g * y.den))
+    → r ≡ fraction_of n d
     → HasValue r (x.num *ℤ pos y.den +ℤ y.num *ℤ pos x.den) (x.den * y.den)
 add_value x y px py g same n d r e is =
     let parts = sum_by_parts x y px py g same n d r e is in
     subst (λ f. HasValue f (x.num *ℤ pos y.den +ℤ y.num *ℤ pos x.den) (x.den * y.den)) (sym parts.1) (sum_of-HasValue x y px py)
 
-fits_from : (f : Fraction) (n : ℤ) (m : ℕ) → ratio n m ≡ f → IsReduced f → fits n ≡ true → fits_size m ≡ true → IsFitting (ratio n m) × (Ok (ratio n m) ≡ fitting f)
+fits_from : (f : Fraction) (n : ℤ) (m : ℕ) → ratio n m ≡ f → IsReduced f → fits n ≡ true → fits_size m ≡ true
+    → IsFitting (ratio n m) × (Ok (ratio n m) ≡ fitting f)
 fits_from f n m e reduced p q =
     let own : IsReduced (ratio n m) = subst IsReduced (sym e) reduced in
     (record { reduced = own; num_fits = ltb-true _ _ p; den_fits = ltb-true _ _ q }, subst (λ h. Ok (ratio n m) ≡ fitting h) e (rw (p, q) refl))
@@ -368,7 +392,8 @@ wide_from_den f n m e p = subst (λ h. Err Wide ≡ fitting h) e (by_num (fits n
     by_num false q = rw q refl
 
 -- a fraction by its two numbers, where both fit
-pub parts_answer : (f : Fraction) (a : ℤ) (b : ℕ) → ratio a b ≡ f → IsReduced f → (n : ℤ) (m : ℕ) → Some n ≡ some_if (fits a) a → Some m ≡ some_if (fits_size b) b
+pub parts_answer : (f : Fraction) (a : ℤ) (b : ℕ) → ratio a b ≡ f → IsReduced f → (n : ℤ) (m : ℕ) → Some n ≡ some_if (fits a) a
+    → Some m ≡ some_if (fits_size b) b
     → IsFitting (ratio n m) × (Ok (ratio n m) ≡ fitting f)
 parts_answer f a b e reduced n m left right =
     let p = some_from (fits a) n a left in

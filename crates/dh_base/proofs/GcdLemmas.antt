@@ -2,8 +2,10 @@
 use Rattle.std.proofs.Common.{◌≡◌, ◌≢◌, ◌∙◌, ℕ, zero, suc, ◌+◌, ◌*◌, ◌/◌, ◌%◌, ◌<◌, ◌≤◌, ◌^◌, Bool, true, false, ◌&&◌, refl, sym, ap, subst, arith}
 use Rattle.std.specs.Prelude.{if◌then◌else◌}
 use Rattle.std.specs.Int.{IsGcd, ◌∣◌}
-use Rattle.std.proofs.lemmas.Nat.Gcd.{dvd_refl, dvd-zero, dvd_trans, dvd_antisymm, le_of_dvd, dvd_of_mod-eq-zero, mod-eq-zero_of_dvd, IsGcd-from_zero, IsGcd-swap, IsGcd-from_mod, same_from_IsGcd, le_from_IsGcd}
-use Rattle.std.proofs.Math.Nat.{eq-zero_of_zero-dvd, mul-add-mod_self_left, mul-le-mul_left, dvd-mul_left, one-dvd, mod-eq_of_lt, mul-div_cancel', mul_comm, pow-zero, pow-suc}
+use Rattle.std.proofs.lemmas.Nat.Gcd.{dvd_refl, dvd-zero, dvd_trans, dvd_antisymm, le_of_dvd, dvd_of_mod-eq-zero, mod-eq-zero_of_dvd, IsGcd-from_zero}
+use Rattle.std.proofs.lemmas.Nat.Gcd.{IsGcd-swap, IsGcd-from_mod, same_from_IsGcd, le_from_IsGcd}
+use Rattle.std.proofs.Math.Nat.{eq-zero_of_zero-dvd, mul-add-mod_self_left, mul-le-mul_left, dvd-mul_left, one-dvd, mod-eq_of_lt, mul-div_cancel', mul_comm}
+use Rattle.std.proofs.Math.Nat.{pow-zero, pow-suc}
 use Rattle.std.proofs.lemmas.Bool.{eqb-true, eq-eqb, and_parts}
 use Rattle.dh_base.specs.Fractions.{gcd, greatest_divisor, divides}
 
@@ -44,13 +46,15 @@ both_divide a b d h =
 divide_both : (a b d : ℕ) → d ∣ a → d ∣ b → (divides d a && divides d b) ≡ true
 divide_both a b d h k = rw (eq-eqb (a % d) 0 (mod-eq-zero_of_dvd d h), eq-eqb (b % d) 0 (mod-eq-zero_of_dvd d k)) refl
 
-greatest_step : (a b m g : ℕ) → IsGcd a b g → 0 < g → g ≤ suc m → (rest : g ≤ m → greatest_divisor a b m ≡ g) → (t : Bool) → (divides (suc m) a && divides (suc m) b) ≡ t → (if t then suc m else greatest_divisor a b m) ≡ g
+greatest_step : (a b m g : ℕ) → IsGcd a b g → 0 < g → g ≤ suc m → (rest : g ≤ m → greatest_divisor a b m ≡ g) → (t : Bool)
+    → (divides (suc m) a && divides (suc m) b) ≡ t → (if t then suc m else greatest_divisor a b m) ≡ g
 greatest_step a b m g is some most rest true e =
     let both = both_divide a b (suc m) e in
     let least : suc m ≤ g = le_from_IsGcd a b g (suc m) is some both.0 both.1 in
     omega (arith, least)
 greatest_step a b m g is some most rest false e =
-    let other : suc m ≢ g = λ same. let clash : true ≡ false = sym (divide_both a b (suc m) (subst (λ d. d ∣ a) (sym same) is.0) (subst (λ d. d ∣ b) (sym same) is.1)) ∙ e in cc in
+    let other : suc m ≢ g = λ same. let clash : true ≡ false =
+    sym (divide_both a b (suc m) (subst (λ d. d ∣ a) (sym same) is.0) (subst (λ d. d ∣ b) (sym same) is.1)) ∙ e in cc in
     rest (omega (arith, other))
 
 greatest-is : (a b most g : ℕ) → IsGcd a b g → 0 < g → g ≤ most → greatest_divisor a b most ≡ g

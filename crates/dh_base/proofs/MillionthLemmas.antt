@@ -4,7 +4,8 @@ use Rattle.std.specs.Prelude.{ℤ, pos, ◌+ℤ◌, ◌*ℤ◌, unsigned_abs, So
 use Rattle.std.specs.Ordering.{int_cmp}
 use Rattle.dh_base.specs.Fractions.{fraction_of, sum_of, order_of, of_micros}
 use Rattle.dh_base.specs.Decimals.{printed, decimal_of, sign_of, text_of}
-use Rattle.dh_base.proofs.FractionLemmas.{fraction_of-IsReduced, fraction_of-HasValue, fraction_of-same, times_times, times_swap, plus_times, positive_product, order-times}
+use Rattle.dh_base.proofs.FractionLemmas.{fraction_of-IsReduced, fraction_of-HasValue, fraction_of-same, times_times, times_swap, plus_times}
+use Rattle.dh_base.proofs.FractionLemmas.{positive_product, order-times}
 use Rattle.dh_base.proofs.ReadBackLemmas.{read_back, printed-micros}
 
 -- a numerator of a reduced fraction times the other's denominator, times the common one, is the given numerator times both

@@ -1,5 +1,6 @@
 -- What is printed with six decimals is read back.
-use Rattle.std.proofs.Common.{◌≡◌, ◌∙◌, ℕ, zero, suc, ◌+◌, ◌*◌, ◌/◌, ◌%◌, ◌-◌, ◌<◌, ◌≤◌, ◌^◌, refl, sym, ap, subst, arith, List, [], ◌∷◌, ◌++◌, length, drop, length-append, decimal, Bool, true, false, nat_lt, nat_eq, ◌&&◌}
+use Rattle.std.proofs.Common.{◌≡◌, ◌∙◌, ℕ, zero, suc, ◌+◌, ◌*◌, ◌/◌, ◌%◌, ◌-◌, ◌<◌, ◌≤◌, ◌^◌, refl, sym, ap, subst, arith, List, [], ◌∷◌, ◌++◌, length, drop}
+use Rattle.std.proofs.Common.{length-append, decimal, Bool, true, false, nat_lt, nat_eq, ◌&&◌}
 use Rattle.std.specs.Prelude.{nat_le}
 use Rattle.std.proofs.lemmas.Bool.{lt-ltb, le-leb}
 use Rattle.std.specs.Prelude.{unsigned_abs, ℤ, pos, negsuc, neg_ℤ, ◌*ℤ◌, int_lt, Some, None, option_map, position, if◌then◌else◌}
@@ -13,7 +14,8 @@ use Rattle.std.proofs.Math.Seq.{take-append_seam, drop-append-add}
 use Rattle.std.proofs.lemmas.Bool.Decides.{nat_tests}
 use Rattle.std.proofs.Math.Nat.{pow-suc, mul-div_cancel', sub-zero}
 use Rattle.dh_base.specs.Fractions.{fraction_of, gcd}
-use Rattle.dh_base.specs.Decimals.{rounded, printed, text_of, sign_of, decimals, with_point, decimal_of, size_of, digits_of, decimals_of, split_at, both, is_point, has_minus}
+use Rattle.dh_base.specs.Decimals.{rounded, printed, text_of, sign_of, decimals, with_point, decimal_of, size_of, digits_of, decimals_of, split_at, both}
+use Rattle.dh_base.specs.Decimals.{is_point, has_minus}
 use Rattle.dh_base.proofs.GcdLemmas.{gcd-IsGcd}
 use Rattle.dh_base.proofs.FractionLemmas.{abs_times, fraction_of-HasValue, fraction_of-IsReduced}
 use Rattle.dh_base.proofs.DecimalLemmas.{power_positive, rest_below, decimals_none, digit_below, pointed, decimals_more}
@@ -136,9 +138,11 @@ size_of-parts ds es n m w rest =
 
 size_of-split : (w r : ℕ) → w < 10 ^ 12 → r < 10 ^ 6 → size_of (decimal w ++ with_point (decimals 6 r)) ≡ Some (w * 1000000 + r)
 size_of-split w zero small below =
-    ap (λ t. size_of (decimal w ++ with_point t)) (decimals_none 6) ∙ ap size_of (append-nil (decimal w)) ∙ size_of-whole (decimal w) w (whole_digits w small) ∙ ap (λ n. Some n) (omega arith)
+    ap (λ t. size_of (decimal w ++ with_point t)) (decimals_none 6) ∙ ap size_of (append-nil (decimal w)) ∙ size_of-whole (decimal w) w (whole_digits w small)
+    ∙ ap (λ n. Some n) (omega arith)
 size_of-split w (suc r) small below =
-    ap (λ t. size_of (decimal w ++ t)) (pointed 6 (suc r) below (omega arith)) ∙ size_of-parts (decimal w) (decimals 6 (suc r)) w (suc r) (whole_digits w small) (reads_decimals r below)
+    ap (λ t. size_of (decimal w ++ t)) (pointed 6 (suc r) below (omega arith))
+    ∙ size_of-parts (decimal w) (decimals 6 (suc r)) w (suc r) (whole_digits w small) (reads_decimals r below)
 
 whole_below : (n : ℕ) → n < 10 ^ 18 → n / 1000000 < 10 ^ 12
 whole_below n small = omega (arith, small)
@@ -200,7 +204,8 @@ reads_signed (pos n) small =
     let none : nat_lt n 0 ≡ false = grind (arith, nat_tests) in
     rw (none, no_minus n small) (ap (option_map pos) (size_of-text n small))
 reads_signed (negsuc n) small =
-    rw (lt-ltb 0 (suc n) (omega arith), lt-ltb 0 (suc (length (text_of (suc n) 6))) (omega arith)) (ap (option_map (λ k. neg_ℤ (pos k))) (size_of-text (suc n) small))
+    rw (lt-ltb 0 (suc n) (omega arith), lt-ltb 0 (suc (length (text_of (suc n) 6))) (omega arith))
+    (ap (option_map (λ k. neg_ℤ (pos k))) (size_of-text (suc n) small))
 
 -- what is printed of a whole number of millionths is read as that number
 pub read_back : (micros : ℤ) → unsigned_abs micros < 10 ^ 18 → decimal_of (printed (fraction_of micros 1000000) 6) ≡ Some micros

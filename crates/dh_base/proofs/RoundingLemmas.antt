@@ -31,24 +31,35 @@ high size den p q left e below more =
     ap (λ n. n / (2 * den)) same ∙ div-mul-add (q + 1) (2 * den) (2 * left - den) (omega (arith, whole, below))
 
 -- what is left is less than a half
-pub rounded_down : (size den p digits left : ℕ) → IsDivided size den p digits left → left < den - left → (size / den ≡ rounded size den p / 10 ^ p) × (digits ≡ rounded size den p % 10 ^ p)
+pub rounded_down : (size den p digits left : ℕ) → IsDivided size den p digits left → left < den - left
+    → (size / den ≡ rounded size den p / 10 ^ p) × (digits ≡ rounded size den p % 10 ^ p)
 rounded_down size den p digits left h less =
-    let e : rounded size den p ≡ size / den * 10 ^ p + digits = low size den p (size / den * 10 ^ p + digits) left (all_digits size den p digits left h) h.below less in
-    (sym (ap (λ n. n / 10 ^ p) e ∙ div-mul-add (size / den) (10 ^ p) digits h.small), sym (ap (λ n. n % 10 ^ p) e ∙ mod-mul-add (size / den) (10 ^ p) digits h.small))
+    let e : rounded size den p ≡ size / den * 10 ^ p + digits =
+    low size den p (size / den * 10 ^ p + digits) left (all_digits size den p digits left h) h.below less in (
+      sym (ap (λ n. n / 10 ^ p) e ∙ div-mul-add (size / den) (10 ^ p) digits h.small),
+      sym (ap (λ n. n % 10 ^ p) e ∙ mod-mul-add (size / den) (10 ^ p) digits h.small),
+    )
 
 -- it is a half or more, and the decimals go up
-pub rounded_up : (size den p digits left : ℕ) → IsDivided size den p digits left → den - left ≤ left → digits + 1 < 10 ^ p → (size / den ≡ rounded size den p / 10 ^ p) × (digits + 1 ≡ rounded size den p % 10 ^ p)
+pub rounded_up : (size den p digits left : ℕ) → IsDivided size den p digits left → den - left ≤ left → digits + 1 < 10 ^ p
+    → (size / den ≡ rounded size den p / 10 ^ p) × (digits + 1 ≡ rounded size den p % 10 ^ p)
 rounded_up size den p digits left h more small =
-    let e : rounded size den p ≡ size / den * 10 ^ p + (digits + 1) = high size den p (size / den * 10 ^ p + digits) left (all_digits size den p digits left h) h.below more ∙ omega arith in
-    (sym (ap (λ n. n / 10 ^ p) e ∙ div-mul-add (size / den) (10 ^ p) (digits + 1) small), sym (ap (λ n. n % 10 ^ p) e ∙ mod-mul-add (size / den) (10 ^ p) (digits + 1) small))
+    let e : rounded size den p ≡ size / den * 10 ^ p + (digits + 1) =
+    high size den p (size / den * 10 ^ p + digits) left (all_digits size den p digits left h) h.below more ∙ omega arith in (
+      sym (ap (λ n. n / 10 ^ p) e ∙ div-mul-add (size / den) (10 ^ p) (digits + 1) small),
+      sym (ap (λ n. n % 10 ^ p) e ∙ mod-mul-add (size / den) (10 ^ p) (digits + 1) small),
+    )
 
 -- and they were all nines
-pub rounded_over : (size den p digits left : ℕ) → IsDivided size den p digits left → den - left ≤ left → 10 ^ p ≤ digits + 1 → (size / den + 1 ≡ rounded size den p / 10 ^ p) × (0 ≡ rounded size den p % 10 ^ p)
+pub rounded_over : (size den p digits left : ℕ) → IsDivided size den p digits left → den - left ≤ left → 10 ^ p ≤ digits + 1
+    → (size / den + 1 ≡ rounded size den p / 10 ^ p) × (0 ≡ rounded size den p % 10 ^ p)
 rounded_over size den p digits left h more full =
     let nines : digits + 1 ≡ 10 ^ p = omega (arith, full, h.small) in
     let e : rounded size den p ≡ (size / den + 1) * 10 ^ p + 0 =
-    high size den p (size / den * 10 ^ p + digits) left (all_digits size den p digits left h) h.below more ∙ carried (size / den) digits (10 ^ p) nines in
-    (sym (ap (λ n. n / 10 ^ p) e ∙ div-mul-add (size / den + 1) (10 ^ p) 0 (power_positive p)), sym (ap (λ n. n % 10 ^ p) e ∙ mod-mul-add (size / den + 1) (10 ^ p) 0 (power_positive p)))
+    high size den p (size / den * 10 ^ p + digits) left (all_digits size den p digits left h) h.below more ∙ carried (size / den) digits (10 ^ p) nines in (
+      sym (ap (λ n. n / 10 ^ p) e ∙ div-mul-add (size / den + 1) (10 ^ p) 0 (power_positive p)),
+      sym (ap (λ n. n % 10 ^ p) e ∙ mod-mul-add (size / den + 1) (10 ^ p) 0 (power_positive p)),
+    )
   where
     carried : (w d k : ℕ) → d + 1 ≡ k → w * k + d + 1 ≡ (w + 1) * k + 0
     carried w d k e = omega (arith, e)
@@ -72,7 +83,8 @@ same_sign : (num : ℤ) (n k : ℕ) → 0 < k → sign_of num (n / k + n % k) �
 same_sign num n k some = ap (λ t. if int_lt num (pos 0) && t then 45 ∷ [] else []) (same_test n k some)
 
 -- the text from its parts
-pub printed_by_parts : (f : Fraction) (p whole rest : ℕ) → whole ≡ rounded (unsigned_abs f.num) f.den p / 10 ^ p → rest ≡ rounded (unsigned_abs f.num) f.den p % 10 ^ p
+pub printed_by_parts : (f : Fraction) (p whole rest : ℕ) → whole ≡ rounded (unsigned_abs f.num) f.den p / 10 ^ p
+    → rest ≡ rounded (unsigned_abs f.num) f.den p % 10 ^ p
     → sign_of f.num (whole + rest) ++ decimal whole ++ with_point (decimals p rest) ≡ printed f p
 unfolding printed text_of
 printed_by_parts f p whole rest e g =

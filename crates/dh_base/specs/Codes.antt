@@ -2,7 +2,9 @@
 -- data value set, a T code one object of a tracker bundle.
 use Rattle.std.specs.Prelude.{ℕ, List, codes}
 use Rattle.dh_base.specs.declared.codes.Code.{Code}
-use Rattle.dh_base.specs.declared.codes.Code.TheVariants.{F1, F2, F3, F4, F5, F6, F7, F8, F9, F10, F11, F12, F13, F14, F15, F16, F17, F18, F19, F20, F21, F22, F23, F30, F31, F32, F40, F41, F42, F43, F44, F45, C1, C2, C3, C4, C5, C6, C7, C8, C9, C10, C11, C12, C13, C14, C15, T1, T2, T3, T4, T5, T6, T7, T8, T9, T10, T11, T12, T13, T14}
+use Rattle.dh_base.specs.declared.codes.Code.TheVariants.{F1, F2, F3, F4, F5, F6, F7, F8, F9, F10, F11, F12, F13, F14, F15, F16, F17, F18, F19, F20, F21}
+use Rattle.dh_base.specs.declared.codes.Code.TheVariants.{F22, F23, F30, F31, F32, F40, F41, F42, F43, F44, F45, C1, C2, C3, C4, C5, C6, C7, C8, C9, C10}
+use Rattle.dh_base.specs.declared.codes.Code.TheVariants.{C11, C12, C13, C14, C15, T1, T2, T3, T4, T5, T6, T7, T8, T9, T10, T11, T12, T13, T14}
 
 -- a row of the table: the number that is written, the name with which the message begins, and the HTTP status
 pub record Entry : Type 0 where

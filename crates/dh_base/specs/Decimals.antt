@@ -1,6 +1,7 @@
 -- The text of numbers. A value is a whole number of millionths; its text is an optional minus, 1 to 12 digits, and optionally a point with 1
 -- to 6 digits.
-use Rattle.std.specs.Prelude.{ℕ, zero, suc, ◌+◌, ◌-◌, ◌*◌, ◌/◌, ◌%◌, ◌^◌, Bool, ◌&&◌, if◌then◌else◌, nat_eq, nat_lt, nat_le, ℤ, pos, neg_ℤ, unsigned_abs, int_lt, List, [], ◌∷◌, ◌++◌, length, take, drop, slice_index, Option, Some, None, option_map, position}
+use Rattle.std.specs.Prelude.{ℕ, zero, suc, ◌+◌, ◌-◌, ◌*◌, ◌/◌, ◌%◌, ◌^◌, Bool, ◌&&◌, if◌then◌else◌, nat_eq, nat_lt, nat_le, ℤ, pos, neg_ℤ, unsigned_abs}
+use Rattle.std.specs.Prelude.{int_lt, List, [], ◌∷◌, ◌++◌, length, take, drop, slice_index, Option, Some, None, option_map, position}
 use Rattle.std.specs.List.{list_all}
 use Rattle.std.specs.Char.{is_ascii_digit}
 use Rattle.std.specs.Str.Parse.{digits_value}

@@ -3,3 +3,4 @@ pub mod Decimals
 pub mod Fractions
 pub mod Memory
 pub mod Uid
+pub mod Limits

@@ -30,7 +30,22 @@ impl Model for Frac {
 }
 
 impl Frac {
-    ghost use Rattle.dh_base.specs.Fractions.{Fraction, IsReduced, IsFitting, HasValue, negated, reciprocal, whole_part, add_of, sub_of, mul_of, div_of, rem_of, pow_of, cmp_of};
+    ghost use Rattle.dh_base.specs.Fractions.{
+      Fraction,
+      IsReduced,
+      IsFitting,
+      HasValue,
+      negated,
+      reciprocal,
+      whole_part,
+      add_of,
+      sub_of,
+      mul_of,
+      div_of,
+      rem_of,
+      pow_of,
+      cmp_of,
+    };
 
     /// The fraction `num / den` in lowest terms.
     pub fn of(num: i128, den: i128) -> Frac

@@ -6,6 +6,7 @@ pub mod codes;
 pub mod decimal;
 pub mod frac;
 pub mod items;
+pub mod limits;
 pub mod memory;
 pub mod plain;
 pub mod print;

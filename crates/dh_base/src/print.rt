@@ -15,7 +15,8 @@ use std::alloc::Global;
 pub fn print_rounded(alloc: Global, value: Frac, decimals: u8) -> Result<Vec<u8>, Memory>
     requires { decimals ≤ 6 }
     ensures text { IfOk result (λ text. text.items ≡ printed value decimals) }
-    ensures read_back { IfOk result (λ text. (micros : ℤ) → unsigned_abs micros < 10 ^ 18 → value ≡ fraction_of micros 1000000 → decimals ≡ 6 → decimal_of text.items ≡ Some micros) }
+    ensures read_back { IfOk result (λ text. (micros : ℤ) → unsigned_abs micros < 10 ^ 18 → value ≡ fraction_of micros 1000000 → decimals ≡ 6
+        → decimal_of text.items ≡ Some micros) }
 {
     let num = value.num();
     let number = round(num.unsigned_abs(), value.den().unsigned_abs(), decimals);
@@ -166,10 +167,10 @@ fn push_digits(text: &mut Vec<u8>, rest: u64, places: u8) -> Result<(), Memory>
     ensures { OnOk result (text.new.items ≡ text.old.items ++ decimals places rest) }
 {
     let mut left = rest;
-    let mut behind = places;
+    let mut beyond = places;
     while left != 0 {
-        behind -= 1;
-        let weight = power_of_ten(behind);
+        beyond -= 1;
+        let weight = power_of_ten(beyond);
         text.push(b'0' + (left / weight) as u8)?;
         left %= weight;
     }

@@ -44,7 +44,8 @@ impl Combos {
         ensures held { IfOk result (λ held. held ≡ shown_option_combos option_combos.now) }
         ensures none { OnOk result (first_bad (shown_combos combos.now) (shown_option_combos option_combos.now) ≡ None) }
         // `Bad` comes exactly where there is a first bad one, and names it
-        ensures fault { IfErr result (λ e. (e ≡ fault.Memory) ⊎ (option_map fault.Bad (first_bad (shown_combos combos.now) (shown_option_combos option_combos.now)) ≡ Some e)) }
+        ensures fault { IfErr result (λ e. (e ≡ fault.Memory)
+            ⊎ (option_map fault.Bad (first_bad (shown_combos combos.now) (shown_option_combos option_combos.now)) ≡ Some e)) }
     {
         let option_combos = copied(alloc, option_combos)?;
         if let Some(place) = first_bad(combos, &option_combos) {

@@ -35,12 +35,14 @@ value_keys-same a b e =
     let unit = ids-same a.unit b.unit r.0 in
     let combo = ids-same a.combo b.combo s.0 in
     let attribute = ids-same a.attribute b.attribute s.1 in
-    let made : a ≡ record { element = b.element; period = b.period; unit = b.unit; combo = b.combo; attribute = b.attribute } = rw (← element, ← period, ← unit, ← combo, ← attribute) refl in
+    let made : a ≡ record { element = b.element; period = b.period; unit = b.unit; combo = b.combo; attribute = b.attribute } =
+    rw (← element, ← period, ← unit, ← combo, ← attribute) refl in
     made
 
 value_keys-self : (a : ValueKey) → same_value_key a a ≡ true
 value_keys-self a =
-    and_from _ _ (ids-self a.element) (and_from _ _ (periods-self a.period) (and_from _ _ (ids-self a.unit) (and_from _ _ (ids-self a.combo) (ids-self a.attribute))))
+    and_from _ _ (ids-self a.element) (and_from _ _ (periods-self a.period)
+    (and_from _ _ (ids-self a.unit) (and_from _ _ (ids-self a.combo) (ids-self a.attribute))))
 
 pub same_value_key-Decides : (a b : ValueKey) → Decides (same_value_key a b) (a ≡ b)
 same_value_key-Decides a b = (value_keys-same a b, λ e. subst (λ c. same_value_key a c ≡ true) e (value_keys-self a))
@@ -54,7 +56,8 @@ approval_keys-same a b e =
     let period = periods-same a.period b.period q.0 in
     let unit = ids-same a.unit b.unit r.0 in
     let attribute = ids-same a.attribute b.attribute r.1 in
-    let made : a ≡ record { workflow = b.workflow; period = b.period; unit = b.unit; attribute = b.attribute } = rw (← workflow, ← period, ← unit, ← attribute) refl in
+    let made : a ≡ record { workflow = b.workflow; period = b.period; unit = b.unit; attribute = b.attribute } =
+    rw (← workflow, ← period, ← unit, ← attribute) refl in
     made
 
 approval_keys-self : (a : ApprovalKey) → same_approval_key a a ≡ true

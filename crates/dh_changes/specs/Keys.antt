@@ -8,7 +8,8 @@ use Rattle.dh_changes.specs.declared.keys.RegKey.{RegKey}
 
 abbrev pub same_value_key : ValueKey → ValueKey → Bool
 same_value_key a b =
-    pointwise nat_eq a.element b.element && (same_period a.period b.period && (pointwise nat_eq a.unit b.unit && (pointwise nat_eq a.combo b.combo && pointwise nat_eq a.attribute b.attribute)))
+    pointwise nat_eq a.element b.element && (same_period a.period b.period
+    && (pointwise nat_eq a.unit b.unit && (pointwise nat_eq a.combo b.combo && pointwise nat_eq a.attribute b.attribute)))
 
 abbrev pub same_approval_key : ApprovalKey → ApprovalKey → Bool
 same_approval_key a b =

@@ -1,10 +1,12 @@
 -- Places put at the end of lists.
-use Rattle.std.proofs.Common.{◌≡◌, ◌∙◌, ◌+◌, ◌<◌, ◌≤◌, ◌++◌, ◌∷◌, [], ◌||◌, ℕ, zero, suc, Bool, true, false, List, cond, length, get_or, set, refl, sym, ap, subst, eqb, ltb, take, arith}
+use Rattle.std.proofs.Common.{◌≡◌, ◌∙◌, ◌+◌, ◌<◌, ◌≤◌, ◌++◌, ◌∷◌, [], ◌||◌, ℕ, zero, suc, Bool, true, false, List, cond, length, get_or, set, refl, sym, ap}
+use Rattle.std.proofs.Common.{subst, eqb, ltb, take, arith}
 use Rattle.std.specs.List.{filter}
 use Rattle.std.specs.Option.{option_map_or}
 use Rattle.std.specs.List.Sorted.{IsStrictlyIncreasing}
 use Rattle.std.proofs.lemmas.Bool.{eqb-true, eqb-false, eq-eqb, ne_eqb, ltb-true, ltb-false, true≢false}
-use Rattle.std.proofs.lemmas.List.{get_or_default, get_or-take, take_more, length-set, length-take, get_or-set_same, get_or-set_other, append-nil, length-append, set_past, get_or_past}
+use Rattle.std.proofs.lemmas.List.{get_or_default, get_or-take, take_more, length-set, length-take, get_or-set_same, get_or-set_other, append-nil}
+use Rattle.std.proofs.lemmas.List.{length-append, set_past, get_or_past}
 use Rattle.std.proofs.lemmas.List.Kept.{AllPairs-from_increasing}
 use Rattle.std.proofs.lemmas.List.Elements.{filter-append, filter_passes}
 use Rattle.std.proofs.lemmas.List.Folds.{list_any_none, list_any_more}
@@ -25,7 +27,8 @@ fresh ms i up within =
 has_more : (ms : List ℕ) (i n : ℕ) → i < length ms → has (take (i + 1) ms) n ≡ (has (take i ms) n || eqb (get_or ms i 0) n)
 has_more ms i n within = list_any_more (λ own. eqb own n) ms i 0 within
 
-put_case : (place : ℕ) (before : Bool) (mid old : List ℕ) → before ≡ false → mid ≡ old ++ cond before (place ∷ []) [] → mid ++ place ∷ [] ≡ old ++ cond (before || true) (place ∷ []) []
+put_case : (place : ℕ) (before : Bool) (mid old : List ℕ) → before ≡ false → mid ≡ old ++ cond before (place ∷ []) []
+    → mid ++ place ∷ [] ≡ old ++ cond (before || true) (place ∷ []) []
 put_case place true mid old none is = absurd (cc)
 put_case place false mid old none is = ap (λ l. l ++ place ∷ []) (is ∙ append-nil old)
 
@@ -129,7 +132,8 @@ hold_more lists order i place count mid new within is so_far put = record {
 }
 
 -- empty lists hold as many as no order has
-pub hold_begun : (lists : List (List ℕ)) (order : List ℕ) (count : ℕ) (all : List (List ℕ)) → AreHolders [] [] count all → AreHolders lists (take 0 order) count all
+pub hold_begun : (lists : List (List ℕ)) (order : List ℕ) (count : ℕ) (all : List (List ℕ)) → AreHolders [] [] count all
+    → AreHolders lists (take 0 order) count all
 hold_begun lists order count all empty = record { same_length = empty.same_length; each = empty.each }
 
 -- a place whose list has a number is one of the lists'
@@ -138,9 +142,11 @@ in_lists lists n x there =
     elim (ltb x (length lists)) as (λ b. ltb x (length lists) ≡ b → x < length lists) [
       | true ↦ λ less. ltb-true x (length lists) less
       | false ↦ λ more.
-          let none : has_at lists n x ≡ false = ap (λ o. option_map_or (λ numbers. has numbers n) o false) (slice_get_past lists x (ltb-false x (length lists) more)) in
+          let none : has_at lists n x ≡ false =
+          ap (λ o. option_map_or (λ numbers. has numbers n) o false) (slice_get_past lists x (ltb-false x (length lists) more)) in
           absurd (true≢false (sym there ∙ none))
     ] refl
 
 pub holders_below : (lists : List (List ℕ)) (order : List ℕ) (n : ℕ) → AreBelow (length lists) (holders lists order n)
-holders_below lists order n = record { each = λ k d within. in_lists lists n (get_or (holders lists order n) k d) (filter_passes (has_at lists n) order k d within) }
+holders_below lists order n =
+    record { each = λ k d within. in_lists lists n (get_or (holders lists order n) k d) (filter_passes (has_at lists n) order k d within) }

@@ -5,7 +5,10 @@ use Rattle.std.proofs.lemmas.List.{length-map}
 use Rattle.meta_ids.specs.Places.{same_id}
 use Rattle.meta_parts.specs.declared.held.Records.{Records}
 use Rattle.meta_parts.specs.declared.kind.Kind.{Kind}
-use Rattle.meta_parts.specs.declared.kind.Kind.TheVariants.{OrganisationUnit, OrganisationUnitGroup, CategoryOption, Category, CategoryCombo, CategoryOptionCombo, DataElement, ApprovalLevel, Workflow, DataSet, Constant, IndicatorType, Indicator, ValidationRule, TrackedEntityType, TrackedEntityAttribute, Program, ProgramStage, ProgramIndicator, UserRole, User, UserGroup}
+use Rattle.meta_parts.specs.declared.kind.Kind.TheVariants.{OrganisationUnit, OrganisationUnitGroup, CategoryOption, Category, CategoryCombo}
+use Rattle.meta_parts.specs.declared.kind.Kind.TheVariants.{CategoryOptionCombo, DataElement, ApprovalLevel, Workflow, DataSet, Constant, IndicatorType}
+use Rattle.meta_parts.specs.declared.kind.Kind.TheVariants.{Indicator, ValidationRule, TrackedEntityType, TrackedEntityAttribute, Program, ProgramStage}
+use Rattle.meta_parts.specs.declared.kind.Kind.TheVariants.{ProgramIndicator, UserRole, User, UserGroup}
 use Rattle.dh_metadata.specs.Linked.{IsBelow}
 use Rattle.dh_metadata.specs.Objects.{ids_of, count_of, find_of}
 

@@ -1,5 +1,6 @@
 -- References of an object that is lent.
-use Rattle.std.proofs.Common.{◌≡◌, ◌<◌, ◌++◌, ◌∷◌, [], ℕ, Bool, true, false, List, Option, None, Some, cond, length, get_or, refl, subst, IfSome, suc, slice_get}
+use Rattle.std.proofs.Common.{◌≡◌, ◌<◌, ◌++◌, ◌∷◌, [], ℕ, Bool, true, false, List, Option, None, Some, cond, length, get_or, refl, subst, IfSome, suc}
+use Rattle.std.proofs.Common.{slice_get}
 use Rattle.std.proofs.lemmas.Option.{slice_get_read}
 use Rattle.std.specs.Option.{option_to_list}
 use Rattle.meta_parts.specs.declared.held.Records.{Records}
@@ -8,7 +9,8 @@ use Rattle.dh_metadata.specs.Linked.{Each, IsBelow}
 use Rattle.meta_rules.specs.Workflows.{has_element, workflows_by}
 
 -- what holds of each object of a list holds of the one at a place
-pub linked_at : {A : Type 0} (Holds : A → Type 0) (objects : List A) (n : ℕ) (x : A) → Each Holds objects → n < length objects → x ≡ get_or objects n x → Holds x
+pub linked_at : {A : Type 0} (Holds : A → Type 0) (objects : List A) (n : ℕ) (x : A) → Each Holds objects → n < length objects → x ≡ get_or objects n x
+    → Holds x
 linked_at Holds objects n x each within is = each n x (slice_get_read objects (length objects) n x refl within is)
 
 -- the same where the objects are held and shown

@@ -1,5 +1,6 @@
 -- Lists of numbers in ascending order.
-use Rattle.std.proofs.Common.{◌≡◌, ◌∙◌, ◌<◌, ◌≤◌, ◌∷◌, [], ◌||◌, ℕ, Bool, true, false, List, Result, Ok, Err, cond, length, get_or, refl, sym, ap, subst, is_ok, eqb, ltb, arith}
+use Rattle.std.proofs.Common.{◌≡◌, ◌∙◌, ◌<◌, ◌≤◌, ◌∷◌, [], ◌||◌, ℕ, Bool, true, false, List, Result, Ok, Err, cond, length, get_or, refl, sym, ap, subst}
+use Rattle.std.proofs.Common.{is_ok, eqb, ltb, arith}
 use Rattle.std.specs.List.{dedup, dedup_from, filter}
 use Rattle.std.specs.Option.{option_map_or}
 use Rattle.std.specs.List.Sorted.{IsStrictlyIncreasing, IsBinarySearchResult, IsPermutation, IsSorted}
@@ -95,7 +96,8 @@ filter-same p q same (x ∷ xs) =
 pub same_holders : (lists all : List (List ℕ)) → AreSortedCopies lists all → (order : List ℕ) (n : ℕ) → holders all order n ≡ holders lists order n
 same_holders lists all copies order n = filter-same (has_at all n) (has_at lists n) (same_at lists all copies n) order
 
-pub raw_holders : (lists all : List (List ℕ)) → AreSortedCopies lists all → (order : List ℕ) (count : ℕ) (held : List (List ℕ)) → AreHolders all order count held → AreHolders lists order count held
+pub raw_holders : (lists all : List (List ℕ)) → AreSortedCopies lists all → (order : List ℕ) (count : ℕ) (held : List (List ℕ))
+    → AreHolders all order count held → AreHolders lists order count held
 raw_holders lists all copies order count held h = record {
   same_length = h.same_length;
   each = λ n below. h.each n below ∙ same_holders lists all copies order n;
@@ -107,7 +109,8 @@ ascends lists all copies = record {
 }
 
 -- whether a list has a number, by its copy
-pub held_has : (lists all : List (List ℕ)) → AreSortedCopies lists all → (place n : ℕ) → place < length lists → has (get_or all place []) n ≡ has_at lists n place
+pub held_has : (lists all : List (List ℕ)) → AreSortedCopies lists all → (place n : ℕ) → place < length lists
+    → has (get_or all place []) n ≡ has_at lists n place
 held_has lists all copies place n within =
     (copies.each place within).same n
     ∙ sym (ap (λ o. option_map_or (λ numbers. has numbers n) o false) (slice_get-get_or lists place [] within))

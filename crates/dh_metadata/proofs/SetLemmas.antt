@@ -8,7 +8,8 @@ use Rattle.std.proofs.lemmas.List.{take_more, length-map, map-append, length-app
 use Rattle.dh_metadata.specs.Members.{has, has_at, IsSortedCopy, AreSortedCopies}
 use Rattle.dh_metadata.proofs.MemberLemmas.{held_has}
 
-has_at_map : {A : Type 0} (field : A → List ℕ) (sets : List A) (n place : ℕ) → has_at (map field sets) n place ≡ option_map_or (λ set. has (field set) n) (slice_get sets place) false
+has_at_map : {A : Type 0} (field : A → List ℕ) (sets : List A) (n place : ℕ)
+    → has_at (map field sets) n place ≡ option_map_or (λ set. has (field set) n) (slice_get sets place) false
 has_at_map field [] n place = refl
 has_at_map field (set ∷ sets) n zero = refl
 has_at_map field (set ∷ sets) n (suc place) = has_at_map field sets n place
@@ -22,7 +23,8 @@ searched_list field sets all list place copies within is =
 
 -- what the search tells
 pub searched_has : {A : Type 0} (field : A → List ℕ) (sets : List A) (all : List (List ℕ)) (list : List ℕ) (place n : ℕ)
-    → AreSortedCopies (map field sets) all → place < length sets → list ≡ get_or all place [] → has list n ≡ option_map_or (λ set. has (field set) n) (slice_get sets place) false
+    → AreSortedCopies (map field sets) all → place < length sets → list ≡ get_or all place []
+    → has list n ≡ option_map_or (λ set. has (field set) n) (slice_get sets place) false
 searched_has field sets all list place n copies within is =
     let inside : place < length (map field sets) = subst (λ m. place < m) (sym (length-map sets field)) within in
     ap (λ l. has l n) is ∙ held_has (map field sets) all copies place n inside ∙ has_at_map field sets n place
@@ -41,7 +43,8 @@ slice_get_end [] x = refl
 slice_get_end (y ∷ xs) x = slice_get_end xs x
 
 -- one copy more
-copies_push : (lists all : List (List ℕ)) (numbers copy : List ℕ) → AreSortedCopies lists all → IsSortedCopy numbers copy → AreSortedCopies (lists ++ numbers ∷ []) (all ++ copy ∷ [])
+copies_push : (lists all : List (List ℕ)) (numbers copy : List ℕ) → AreSortedCopies lists all → IsSortedCopy numbers copy
+    → AreSortedCopies (lists ++ numbers ∷ []) (all ++ copy ∷ [])
 copies_push lists all numbers copy copies one = record {
   same_length = omega (arith, copies.same_length, length-append lists (numbers ∷ []), length-append all (copy ∷ []));
   each = λ k within.
@@ -54,12 +57,14 @@ copies_push lists all numbers copy copies one = record {
         | false ↦ λ more.
             let last : k ≡ length lists = omega (arith, ltb-false k (length lists) more, length-append lists (numbers ∷ [])) in
             let held : k ≡ length all = last ∙ sym copies.same_length in
-            subst (λ l. IsSortedCopy l (get_or (all ++ copy ∷ []) k [])) (sym (ap (λ j. get_or (lists ++ numbers ∷ []) j []) last ∙ get_or_end lists numbers []))
+            subst (λ l. IsSortedCopy l (get_or (all ++ copy ∷ []) k []))
+            (sym (ap (λ j. get_or (lists ++ numbers ∷ []) j []) last ∙ get_or_end lists numbers []))
             (subst (λ l. IsSortedCopy numbers l) (sym (ap (λ j. get_or (all ++ copy ∷ []) j []) held ∙ get_or_end all copy [])) one)
       ] refl;
 }
 
-pub copies_more : {A : Type 0} (field : A → List ℕ) (sets : List A) (i : ℕ) (x : A) (all : List (List ℕ)) (copy : List ℕ) → i < length sets → x ≡ get_or sets i x
+pub copies_more : {A : Type 0} (field : A → List ℕ) (sets : List A) (i : ℕ) (x : A) (all : List (List ℕ)) (copy : List ℕ) → i < length sets
+    → x ≡ get_or sets i x
     → AreSortedCopies (map field (take i sets)) all → IsSortedCopy (field x) copy → AreSortedCopies (map field (take (i + 1) sets)) (all ++ copy ∷ [])
 copies_more field sets i x all copy within is copies one =
     let next : map field (take (i + 1) sets) ≡ map field (take i sets) ++ field x ∷ [] =

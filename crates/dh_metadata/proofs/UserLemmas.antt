@@ -1,5 +1,6 @@
 -- Users by token, and the places in a list of holders.
-use Rattle.std.proofs.Common.{◌≡◌, ◌∙◌, ◌+◌, ◌<◌, ◌++◌, ◌∷◌, [], ℕ, Bool, true, false, List, Option, None, Some, cond, length, get_or, map, refl, sym, ap, subst, take, arith, find, IfSome, option_map, is_some, Vec, zero, suc, ltb}
+use Rattle.std.proofs.Common.{◌≡◌, ◌∙◌, ◌+◌, ◌<◌, ◌++◌, ◌∷◌, [], ℕ, Bool, true, false, List, Option, None, Some, cond, length, get_or, map, refl, sym, ap}
+use Rattle.std.proofs.Common.{subst, take, arith, find, IfSome, option_map, is_some, Vec, zero, suc, ltb}
 use Rattle.std.specs.List.{slice_get}
 use Rattle.std.specs.Option.{option_or, option_copied}
 use denote.Ref.{Bor}
@@ -61,13 +62,15 @@ user_append (x ∷ xs) ys token =
 pub user_below : (end : ℕ) (tokens : List (List ℕ × ℕ)) (token : List ℕ) → AreBelow end (map (λ entry. entry.1) tokens) → IsBelow end (user_in tokens token)
 user_below end [] token below = tt
 user_below end (entry ∷ tokens) token below =
-    elim (same_id token entry.0) as (λ b. IfSome (option_map (λ (e : List ℕ × ℕ). e.1) (cond b (Some entry) (find (λ e. same_id token e.0) tokens))) (λ n. n < end)) [
+    elim (same_id token entry.0) as (λ b. IfSome (option_map (λ (e : List ℕ × ℕ). e.1) (cond b (Some entry) (find (λ e. same_id token e.0) tokens))) (λ n.
+    n < end)) [
       | true ↦ below.each 0 0 (omega arith)
       | false ↦ user_below end tokens token (below_tail end entry.1 (map (λ e. e.1) tokens) below)
     ]
 
 -- facts of one user more
-pub facts_more : (r : Records) (count : ℕ) (facts : List UserFacts) (fact : UserFacts) → AreFactsUpto r count facts → fact ≡ facts_of r count → AreFactsUpto r (count + 1) (facts ++ fact ∷ [])
+pub facts_more : (r : Records) (count : ℕ) (facts : List UserFacts) (fact : UserFacts) → AreFactsUpto r count facts → fact ≡ facts_of r count
+    → AreFactsUpto r (count + 1) (facts ++ fact ∷ [])
 facts_more r count facts fact so_far is = record {
   same_length = omega (arith, so_far.same_length, length-append facts (fact ∷ []));
   each = λ user below.
@@ -87,7 +90,8 @@ apart : (bs cs ks : List ℕ) → same_id bs cs ≡ false → same_id bs ks ≡ 
 apart bs cs ks n y = nat_list_eq_equiv.symm cs ks ∙ sym (nat_list_eq_equiv.congr bs ks cs y) ∙ n
 
 module _ {K : Type 0} (eq : K → K → Bool) (test : K → Bool) where
-  other_entries : {X : Type 0} (old new : List (K × X)) → KeepsOthers eq test old new → (other : K → Bool) → IsKeyTest eq other → AreApart test other → lookup other new ≡ lookup other old
+  other_entries : {X : Type 0} (old new : List (K × X)) → KeepsOthers eq test old new → (other : K → Bool) → IsKeyTest eq other → AreApart test other
+      → lookup other new ≡ lookup other old
   unfolding KeepsOthers
   other_entries old new h = h
 
@@ -100,7 +104,8 @@ token_put old new key user h absent other =
     ≡ option_or (hash.get_by (λ (k : Vec ℕ Global). same_id other k.items) old) (cond b (Some user) None)) [
       | true ↦ λ same.
           let equal : other ≡ key.items = (bytes_decides other key.items).0 same in
-          subst (λ q. hash.get_by (λ (k : Vec ℕ Global). same_id q k.items) new ≡ option_or (hash.get_by (λ (k : Vec ℕ Global). same_id q k.items) old) (Some user)) (sym equal)
+          subst (λ q. hash.get_by (λ (k : Vec ℕ Global). same_id q k.items) new
+          ≡ option_or (hash.get_by (λ (k : Vec ℕ Global). same_id q k.items) old) (Some user)) (sym equal)
           (h.1 ∙ sym (ap (λ o. option_or o (Some user)) absent))
       | false ↦ λ differ.
           let back : same_id key.items other ≡ false = nat_list_eq_equiv.symm key.items other ∙ differ in
@@ -109,7 +114,8 @@ token_put old new key user h absent other =
     ] refl
 
 -- a token that is there
-pub token_kept : {S : Type 0} (users : HashMap (Vec ℕ Global) ℕ S) (token : List ℕ) (user : ℕ) → is_some (hash.get_by (λ (k : Vec ℕ Global). same_id token k.items) users) ≡ true → TakesToken token user users users
+pub token_kept : {S : Type 0} (users : HashMap (Vec ℕ Global) ℕ S) (token : List ℕ) (user : ℕ)
+    → is_some (hash.get_by (λ (k : Vec ℕ Global). same_id token k.items) users) ≡ true → TakesToken token user users users
 token_kept users token user there other =
     elim (same_id other token) as (λ b. same_id other token ≡ b → hash.get_by (λ (k : Vec ℕ Global). same_id other k.items) users
     ≡ option_or (hash.get_by (λ (k : Vec ℕ Global). same_id other k.items) users) (cond b (Some user) None)) [
@@ -121,7 +127,8 @@ token_kept users token user there other =
     ] refl
 
 -- the tokens so far and one more
-pub tokens_more : {S : Type 0} (tokens : List (List ℕ × ℕ)) (i : ℕ) (x : List ℕ × ℕ) (old new : HashMap (Vec ℕ Global) ℕ S) → i < length tokens → x ≡ get_or tokens i x
+pub tokens_more : {S : Type 0} (tokens : List (List ℕ × ℕ)) (i : ℕ) (x : List ℕ × ℕ) (old new : HashMap (Vec ℕ Global) ℕ S) → i < length tokens
+    → x ≡ get_or tokens i x
     → AreTokens (take i tokens) old → TakesToken x.0 x.1 old new → AreTokens (take (i + 1) tokens) new
 tokens_more tokens i x old new within is so_far takes token =
     takes token ∙ ap (λ o. option_or o (cond (same_id token x.0) (Some x.1) None)) (so_far token)

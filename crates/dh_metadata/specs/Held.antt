@@ -20,6 +20,7 @@ pub record IsHeld (meta : Inside) : Type 0 where
   pub few_levels : Each (λ levels. length levels ≤ 8) meta.levels.items
   pub set_elements : AreSortedCopies (element_lists meta.records.data_sets) meta.set_elements.items
   pub set_units : AreSortedCopies (unit_lists meta.records.data_sets) meta.set_units.items
-  pub sets_with : AreHolders (element_lists meta.records.data_sets) (by_id (set_ids meta.records.data_sets)) (length meta.records.data_elements) meta.sets_with.items
+  pub sets_with : AreHolders (element_lists meta.records.data_sets) (by_id (set_ids meta.records.data_sets)) (length meta.records.data_elements)
+      meta.sets_with.items
   pub facts : AreFacts meta.records meta.facts.items
   pub tokens : AreTokens meta.records.api_tokens meta.tokens

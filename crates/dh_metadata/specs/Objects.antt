@@ -5,7 +5,10 @@ use Rattle.meta_ids.specs.Ids.{ids_at}
 use Rattle.dh_sharing.specs.declared.rule.Sharing.{Sharing}
 use Rattle.meta_parts.specs.declared.held.Records.{Records}
 use Rattle.meta_parts.specs.declared.kind.Kind.{Kind}
-use Rattle.meta_parts.specs.declared.kind.Kind.TheVariants.{OrganisationUnit, OrganisationUnitGroup, CategoryOption, Category, CategoryCombo, CategoryOptionCombo, DataElement, ApprovalLevel, Workflow, DataSet, Constant, IndicatorType, Indicator, ValidationRule, TrackedEntityType, TrackedEntityAttribute, Program, ProgramStage, ProgramIndicator, UserRole, User, UserGroup}
+use Rattle.meta_parts.specs.declared.kind.Kind.TheVariants.{OrganisationUnit, OrganisationUnitGroup, CategoryOption, Category, CategoryCombo}
+use Rattle.meta_parts.specs.declared.kind.Kind.TheVariants.{CategoryOptionCombo, DataElement, ApprovalLevel, Workflow, DataSet, Constant, IndicatorType}
+use Rattle.meta_parts.specs.declared.kind.Kind.TheVariants.{Indicator, ValidationRule, TrackedEntityType, TrackedEntityAttribute, Program, ProgramStage}
+use Rattle.meta_parts.specs.declared.kind.Kind.TheVariants.{ProgramIndicator, UserRole, User, UserGroup}
 
 -- the identifiers of a kind's objects, by number
 abbrev pub ids_of : Records → Kind → List (List ℕ)

@@ -1,7 +1,10 @@
 ghost use Rattle.std.specs.Prelude.{◌≡◌, ◌<◌, ◌≤◌, ◌^◌, Some, None, [], length, map, true, slice_get, slice_index_or, IfOk, IfSome};
 ghost use Rattle.dh_metadata.specs.Approval.{unit_rows, option_combo_rows, levels_at, need_of};
 ghost use Rattle.dh_metadata.specs.Known.{AreFew, AreMade, HaveRules};
-ghost use Rattle.dh_metadata.specs.Linked.{Each, AreBelow, IsBelow, IsLinked, IsLinkedUnit, IsLinkedUnitGroup, IsLinkedOption, IsLinkedCategory, IsLinkedCombo, IsLinkedOptionCombo, IsLinkedElement, IsLinkedWorkflow, IsLinkedDataSet, IsLinkedIndicator, IsLinkedRule, IsLinkedEntityType, IsLinkedProgram, IsLinkedStage, IsLinkedProgramIndicator, IsLinkedUser, IsLinkedUserGroup};
+ghost use Rattle.dh_metadata.specs.Linked.{Each, AreBelow, IsBelow, IsLinked, IsLinkedUnit, IsLinkedUnitGroup, IsLinkedOption, IsLinkedCategory};
+ghost use Rattle.dh_metadata.specs.Linked.{IsLinkedCombo, IsLinkedOptionCombo, IsLinkedElement, IsLinkedWorkflow, IsLinkedDataSet, IsLinkedIndicator};
+ghost use Rattle.dh_metadata.specs.Linked.{IsLinkedRule, IsLinkedEntityType, IsLinkedProgram, IsLinkedStage, IsLinkedProgramIndicator, IsLinkedUser};
+ghost use Rattle.dh_metadata.specs.Linked.{IsLinkedUserGroup};
 ghost use Rattle.dh_metadata.specs.Objects.{count_of, find_of, is_shared, sharing_of, HaveIds};
 ghost use Rattle.dh_metadata.specs.Sets.{has_element, is_assigned, sets_with};
 ghost use Rattle.dh_metadata.specs.Users.{facts_of, has_authority, may_of, user_of, view_units_of};
@@ -51,7 +54,7 @@ pub struct Metadata {
 
 impl Model for Metadata {
     ghost use Rattle.meta_parts.specs.declared.held.Records.{Records};
-    ghost use Rattle.expr_lang.specs.contracts.tree.Tree as expression;
+    ghost use Rattle.expr_lang.specs.contracts.expr.Expr as expression;
     ghost use Rattle.std.specs.Coded.{codes};
 
     ghost Value = { Records };

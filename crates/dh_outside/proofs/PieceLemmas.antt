@@ -12,7 +12,7 @@ Gains-none left talk held read = record {
   taken = [];
   consumed = Consumes-nil left;
   hears = hears_nothing talk;
-  behind = sym (append-nil held);
+  beyond = sym (append-nil held);
   counted = omega arith;
 }
 
@@ -23,6 +23,6 @@ Gains-kept left left' talk talk' held read kept hears = record {
   taken = [];
   consumed = Consumes-kept left left left' [] (Consumes-nil left) kept;
   hears = hears;
-  behind = sym (append-nil held);
+  beyond = sym (append-nil held);
   counted = omega arith;
 }

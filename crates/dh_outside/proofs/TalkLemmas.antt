@@ -31,11 +31,13 @@ hears_on (Some a) (Some b) (Some c) first second one two = (
   two.0 ∙ ap (λ xs. xs ++ heard_all b.written second) one.0 ∙ ap (λ w. (a.heard ++ heard_all a.written first) ++ heard_all w second) one.1
       ∙ append_assoc a.heard (heard_all a.written first) (heard_all a.written second) ∙ ap (λ xs. a.heard ++ xs) (sym (heard_on a.written first second)),
   two.1 ∙ one.1,
-  one.2 ∙ ap (λ xs. joined first ++ xs) two.2 ∙ sym (append_assoc (joined first) (joined second) c.left) ∙ ap (λ xs. xs ++ c.left) (sym (joined_on first second)),
+  one.2 ∙ ap (λ xs. joined first ++ xs) two.2 ∙ sym (append_assoc (joined first) (joined second) c.left)
+      ∙ ap (λ xs. xs ++ c.left) (sym (joined_on first second)),
 )
 
 -- one read
-pub hears_one : (old new : Talk) (piece : List ℕ) → new.heard ≡ old.heard ++ heard_one old.written piece → new.written ≡ old.written → old.left ≡ piece ++ new.left
+pub hears_one : (old new : Talk) (piece : List ℕ) → new.heard ≡ old.heard ++ heard_one old.written piece → new.written ≡ old.written
+    → old.left ≡ piece ++ new.left
     → Hears (Some old) (Some new) (piece ∷ [])
 hears_one old new piece heard written left =
     (heard ∙ ap (λ xs. old.heard ++ xs) (sym (append-nil (heard_one old.written piece))), written, left ∙ ap (λ xs. xs ++ new.left) (sym (append-nil piece)))
@@ -55,7 +57,8 @@ says_on (Some a) (Some b) (Some c) first second one two =
 
 -- ---- what holds before each piece
 
-pub before_rebase : (P Q : List ℕ → Type 0) (x b : List ℕ) (pieces : List (List ℕ)) → ((more : List ℕ) → P (x ++ more) → Q (b ++ more)) → BeforeEach P x pieces → BeforeEach Q b pieces
+pub before_rebase : (P Q : List ℕ → Type 0) (x b : List ℕ) (pieces : List (List ℕ)) → ((more : List ℕ) → P (x ++ more) → Q (b ++ more)) → BeforeEach P x pieces
+    → BeforeEach Q b pieces
 before_rebase P Q x b [] to waits = tt
 before_rebase P Q x b (piece ∷ pieces) to waits = (
   subst Q (append-nil b) (to [] (subst P (sym (append-nil x)) waits.0)),
@@ -63,7 +66,8 @@ before_rebase P Q x b (piece ∷ pieces) to waits = (
       (λ more is. subst Q (sym (append_assoc b piece more)) (to (piece ++ more) (subst P (append_assoc x piece more) is))) waits.1,
 )
 
-pub before_on : (P : List ℕ → Type 0) (held : List ℕ) (first second : List (List ℕ)) → BeforeEach P held first → BeforeEach P (held ++ joined first) second → BeforeEach P held (first ++ second)
+pub before_on : (P : List ℕ → Type 0) (held : List ℕ) (first second : List (List ℕ)) → BeforeEach P held first → BeforeEach P (held ++ joined first) second
+    → BeforeEach P held (first ++ second)
 before_on P held [] second one two = subst (λ xs. BeforeEach P xs second) (append-nil held) two
 before_on P held (piece ∷ first) second one two =
     (one.0, before_on P (held ++ piece) first second one.1 (subst (λ xs. BeforeEach P xs second) (sym (append_assoc held piece (joined first))) two))
@@ -73,7 +77,8 @@ before_on P held (piece ∷ first) second one two =
 pub paced_none : (talk : Option Talk) (P : List ℕ → Type 0) (held : List ℕ) → Paced talk talk P held []
 paced_none talk P held = record { pieces = []; cut = refl; hears = hears_none talk; waits = tt }
 
-pub paced_on : (a b c : Option Talk) (P : List ℕ → Type 0) (held taken more : List ℕ) → Paced a b P held taken → Paced b c P (held ++ taken) more → Paced a c P held (taken ++ more)
+pub paced_on : (a b c : Option Talk) (P : List ℕ → Type 0) (held taken more : List ℕ) → Paced a b P held taken → Paced b c P (held ++ taken) more
+    → Paced a c P held (taken ++ more)
 paced_on a b c P held taken more one two = record {
   pieces = one.pieces ++ two.pieces;
   cut = joined_on one.pieces two.pieces ∙ ap (λ xs. xs ++ joined two.pieces) one.cut ∙ ap (λ xs. taken ++ xs) two.cut;
@@ -86,7 +91,8 @@ pub paced_one : (a b : Option Talk) (P : List ℕ → Type 0) (held taken : List
 paced_one a b P held taken is hears = record { pieces = taken ∷ []; cut = append-nil taken; hears = hears; waits = (is, tt) }
 
 -- the same of other bytes held
-pub paced_rebase : (a b : Option Talk) (P Q : List ℕ → Type 0) (x held taken : List ℕ) → ((more : List ℕ) → P (x ++ more) → Q (held ++ more)) → Paced a b P x taken → Paced a b Q held taken
+pub paced_rebase : (a b : Option Talk) (P Q : List ℕ → Type 0) (x held taken : List ℕ) → ((more : List ℕ) → P (x ++ more) → Q (held ++ more))
+    → Paced a b P x taken → Paced a b Q held taken
 paced_rebase a b P Q x held taken to paced = record {
   pieces = paced.pieces;
   cut = paced.cut;

@@ -8,7 +8,7 @@ pub record Gains (left left' : Option (List ℕ)) (talk talk' : Option Talk) (he
   pub taken : List ℕ
   pub consumed : Consumes left left' taken
   pub hears : Hears talk talk' (taken ∷ [])
-  pub behind : held' ≡ held ++ taken
+  pub beyond : held' ≡ held ++ taken
   pub counted : read' ≡ read + length taken
 
 -- the source gives no more: it has ended, or as many bytes were read as are taken of one

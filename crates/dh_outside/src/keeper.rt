@@ -5,6 +5,7 @@ ghost use Rattle.dh_outside.specs.Faults.{Rose, one_more};
 ghost use Rattle.dh_outside.specs.Keeper.{KeeperSeen, is_keep_failed};
 ghost use Rattle.dh_outside.specs.Memory.{is_listed};
 ghost use Rattle.dh_outside.specs.declared.keeper.KeepFault.TheVariants.{Failed, TooLong, Memory};
+ghost use Rattle.dh_base.specs.declared.limits.TheConstants.{MOST_LOG_BYTES};
 
 use crate::memory::is_listed;
 use std::alloc::{AllocError, Global};
@@ -45,9 +46,9 @@ pub trait Keeper: Drop {
 
     /// Keeps these bytes after those that it holds. `at` is the number of bytes acknowledged.
     fn append(&mut self, alloc: Global, at: u64, bytes: &[u8]) -> Result<(), KeepFault>
-        requires behind { at ≡ acknowledged self.old }
+        requires beyond { at ≡ acknowledged self.old }
         requires some { 0 < length bytes.now }
-        requires room { at + length bytes.now ≤ 536870912 }
+        requires room { at + length bytes.now ≤ MOST_LOG_BYTES }
         ensures acknowledged { OnOk result (acknowledged self.new ≡ acknowledged self.old + length bytes.now) }
         ensures kept { OnOk result (kept self.new ≡ append_known (kept self.old) bytes.now) }
         ensures unacknowledged { OnErr result (acknowledged self.new ≡ acknowledged self.old) }

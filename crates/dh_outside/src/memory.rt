@@ -1,5 +1,6 @@
 // A source, a sink and a clock in memory: they tell their bytes, and fail at the calls that are listed.
-ghost use Rattle.std.specs.Prelude.{◌≡◌, ◌≤◌, ◌<◌, ◌-◌, ℕ, ℤ, List, [], ◌∷◌, None, Some, ⊤, length, drop, take, min, IfOk, OnErr, Contains, nat_eq, vec_len, vec_capacity};
+ghost use Rattle.std.specs.Prelude.{◌≡◌, ◌≤◌, ◌<◌, ◌-◌, ℕ, ℤ, List, [], ◌∷◌, None, Some, ⊤, length, drop, take, min, IfOk, OnErr, Contains, nat_eq, vec_len};
+ghost use Rattle.std.specs.Prelude.{vec_capacity};
 ghost use Rattle.std.specs.Result.{is_err};
 ghost use Rattle.std.specs.List.{list_any};
 ghost use Rattle.std.specs.Io.{ReadsAtMost, WritesAtMost};

@@ -4,7 +4,8 @@ use Rattle.std.specs.Prelude.{◌==◌}
 use Rattle.std.proofs.lemmas.Bool.{and_parts, leb-true, eqb-true}
 use Rattle.jiff_core.proofs.SignedLemmas.{signed_arith}
 use Rattle.dh_periods.specs.declared.kind.PeriodType.{PeriodType}
-use Rattle.dh_periods.specs.declared.kind.PeriodType.TheVariants.{Daily, Weekly, Monthly, BiMonthly, Quarterly, SixMonthly, SixMonthlyApril, Yearly, FinancialApril, FinancialJuly, FinancialOct}
+use Rattle.dh_periods.specs.declared.kind.PeriodType.TheVariants.{Daily, Weekly, Monthly, BiMonthly, Quarterly, SixMonthly, SixMonthlyApril, Yearly}
+use Rattle.dh_periods.specs.declared.kind.PeriodType.TheVariants.{FinancialApril, FinancialJuly, FinancialOct}
 use Rattle.dh_periods.specs.declared.kind.Shape.{Shape}
 use Rattle.dh_periods.specs.declared.kind.Shape.TheVariants.{Day, Week, Months}
 use Rattle.dh_periods.specs.declared.name.PeriodName.{PeriodName}
@@ -49,11 +50,17 @@ by_count P one two three six twelve c (inr (inr (inr (inr e)))) = subst P (sym e
 
 -- a period of months begins in or after its year and ends by September of the next
 InYear : ℕ → Type 0
-InYear c = (year opening n : ℕ) → 1 ≤ n → n ≤ 12 / c → opening ≤ 9 → (12 * year ≤ 12 * year + opening + c * (n - 1)) × (12 * year + opening + c * (n - 1) < 12 * year + opening + c * (n - 1) + c) × (12 * year + opening + c * (n - 1) + c ≤ 12 * year + 21) × (n ≤ 12)
+InYear c = (year opening n : ℕ) → 1 ≤ n → n ≤ 12 / c → opening ≤ 9
+    → (12 * year ≤ 12 * year + opening + c * (n - 1)) × (12 * year + opening + c * (n - 1) < 12 * year + opening + c * (n - 1) + c)
+    × (12 * year + opening + c * (n - 1) + c ≤ 12 * year + 21) × (n ≤ 12)
 
 months-in_year : (c : ℕ) → IsCount c → InYear c
 unfolding InYear
-months-in_year = by_count InYear (λ year o n low high opens. (omega arith, omega arith, omega arith, omega arith)) (λ year o n low high opens. (omega arith, omega arith, omega arith, omega arith)) (λ year o n low high opens. (omega arith, omega arith, omega arith, omega arith)) (λ year o n low high opens. (omega arith, omega arith, omega arith, omega arith)) (λ year o n low high opens. (omega arith, omega arith, omega arith, omega arith))
+months-in_year =
+    by_count InYear (λ year o n low high opens. (omega arith, omega arith, omega arith, omega arith)) (λ year o n low high opens.
+    (omega arith, omega arith, omega arith, omega arith)) (λ year o n low high opens. (omega arith, omega arith, omega arith, omega arith))
+    (λ year o n low high opens. (omega arith, omega arith, omega arith, omega arith)) (λ year o n low high opens.
+    (omega arith, omega arith, omega arith, omega arith))
 
 pub date-parts : (p : PeriodName) → is_in_year_as Day p ≡ true → (1 ≤ p.number) × (p.number ≤ 12) × (1 ≤ p.day) × (p.day ≤ month_length p.year p.number)
 date-parts p h =
@@ -62,7 +69,8 @@ date-parts p h =
     let c = and_parts (nat_le 1 p.day) (nat_le p.day (month_length p.year p.number)) b.1 in
     (leb-true 1 p.number a.0, leb-true p.number 12 b.0, leb-true 1 p.day c.0, leb-true p.day (month_length p.year p.number) c.1)
 
-pub number-parts : (top : ℕ) (p : PeriodName) → (nat_le 1 p.number && (nat_le p.number top && p.day == 1)) ≡ true → (1 ≤ p.number) × (p.number ≤ top) × (p.day ≡ 1)
+pub number-parts : (top : ℕ) (p : PeriodName) → (nat_le 1 p.number && (nat_le p.number top && p.day == 1)) ≡ true
+    → (1 ≤ p.number) × (p.number ≤ top) × (p.day ≡ 1)
 number-parts top p h =
     let a = and_parts (nat_le 1 p.number) (nat_le p.number top && p.day == 1) h in
     let b = and_parts (nat_le p.number top) (p.day == 1) a.1 in
@@ -95,7 +103,8 @@ place_as-bounds (Months count opening) p c low high h =
     let later = days_before_month-later (start + count) 2421 (omega arith) in
     (omega arith, omega arith, omega arith)
 
-pub place-bounds : (p : PeriodName) → is_listed p ≡ true → (first_place p < end_place p) × (end_place p ≤ days_before_month 2421) × (p.number ≤ 53) × (p.year ≤ 2100)
+pub place-bounds : (p : PeriodName) → is_listed p ≡ true
+    → (first_place p < end_place p) × (end_place p ≤ days_before_month 2421) × (p.number ≤ 53) × (p.year ≤ 2100)
 unfolding first_place end_place
 place-bounds p h =
     let parts = listed-parts p h in

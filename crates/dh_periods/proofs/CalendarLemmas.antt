@@ -25,7 +25,8 @@ days_before_month-add k (suc j) =
     rw e (omega (arith, more, next, bounds), omega (arith, more, next, bounds))
 
 -- a later month begins later, each at least 28 days and at most 31
-pub days_before_month-later : (k l : ℕ) → k ≤ l → (days_before_month k + 28 * (l - k) ≤ days_before_month l) × (days_before_month l ≤ days_before_month k + 31 * (l - k))
+pub days_before_month-later : (k l : ℕ) → k ≤ l
+    → (days_before_month k + 28 * (l - k) ≤ days_before_month l) × (days_before_month l ≤ days_before_month k + 31 * (l - k))
 days_before_month-later k l h =
     let e : k + (l - k) ≡ l = omega arith in
     rw e at (days_before_month-add k (l - k))

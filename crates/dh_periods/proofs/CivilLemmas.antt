@@ -18,17 +18,21 @@ list_of_six [] h = absurd (omega arith)
 list_of_six (a ∷ []) h = absurd (omega arith)
 list_of_six (a ∷ b ∷ r) h = ap (λ s. a ∷ b ∷ s) (list_of_four r (omega arith))
 
-list_of_eight : (r : List ℕ) → length r ≡ 8 → r ≡ slice_index r 0 ∷ slice_index r 1 ∷ slice_index r 2 ∷ slice_index r 3 ∷ slice_index r 4 ∷ slice_index r 5 ∷ slice_index r 6 ∷ slice_index r 7 ∷ []
+list_of_eight : (r : List ℕ) → length r ≡ 8
+    → r ≡ slice_index r 0 ∷ slice_index r 1 ∷ slice_index r 2 ∷ slice_index r 3 ∷ slice_index r 4 ∷ slice_index r 5 ∷ slice_index r 6 ∷ slice_index r 7 ∷ []
 list_of_eight [] h = absurd (omega arith)
 list_of_eight (a ∷ []) h = absurd (omega arith)
 list_of_eight (a ∷ b ∷ r) h = ap (λ s. a ∷ b ∷ s) (list_of_six r (omega arith))
 
-list_of_ten : (r : List ℕ) → length r ≡ 10 → r ≡ slice_index r 0 ∷ slice_index r 1 ∷ slice_index r 2 ∷ slice_index r 3 ∷ slice_index r 4 ∷ slice_index r 5 ∷ slice_index r 6 ∷ slice_index r 7 ∷ slice_index r 8 ∷ slice_index r 9 ∷ []
+list_of_ten : (r : List ℕ) → length r ≡ 10
+    → r ≡ slice_index r 0 ∷ slice_index r 1 ∷ slice_index r 2 ∷ slice_index r 3 ∷ slice_index r 4 ∷ slice_index r 5 ∷ slice_index r 6 ∷ slice_index r 7 ∷
+    slice_index r 8 ∷ slice_index r 9 ∷ []
 list_of_ten [] h = absurd (omega arith)
 list_of_ten (a ∷ []) h = absurd (omega arith)
 list_of_ten (a ∷ b ∷ r) h = ap (λ s. a ∷ b ∷ s) (list_of_eight r (omega arith))
 
-dated-some : (y : ℕ) (o l : Option ℕ) (p : PeriodName) → dated y o l ≡ Some p → (m : ℕ) × (d : ℕ) × (o ≡ Some m) × (l ≡ Some d) × (record { kind = Daily; year = y; number = m; day = d } ≡ p)
+dated-some : (y : ℕ) (o l : Option ℕ) (p : PeriodName) → dated y o l ≡ Some p
+    → (m : ℕ) × (d : ℕ) × (o ≡ Some m) × (l ≡ Some d) × (record { kind = Daily; year = y; number = m; day = d } ≡ p)
 dated-some y (Some m) (Some d) p e = (m, d, refl, refl, cc)
 dated-some y (Some m) None p e = absurd (cc)
 dated-some y None l p e = absurd (cc)
@@ -48,14 +52,18 @@ read_date-is text p e =
     let s : ℕ → ℕ = λ k. slice_index text k in
     let o = number_of_two (s 5) (s 6) in
     let l = number_of_two (s 8) (s 9) in
-    let taken : ((length text == 10 && (s 4 == 45 && s 7 == 45)) ≡ true) × (option_and_then (λ y. dated y o l) (number_of_four (s 0) (s 1) (s 2) (s 3)) ≡ Some p) =
+    let taken : ((length text == 10 && (s 4 == 45 && s 7 == 45)) ≡ true)
+    × (option_and_then (λ y. dated y o l) (number_of_four (s 0) (s 1) (s 2) (s 3)) ≡ Some p) =
     elim (choice (length text == 10 && (s 4 == 45 && s 7 == 45)) _ _ _ e) [ inl t ↦ t | inr none ↦ absurd (cc none.1) ] in
     let shape = and_parts (length text == 10) (s 4 == 45 && s 7 == 45) taken.0 in
     let hyphens = and_parts (s 4 == 45) (s 7 == 45) shape.1 in
     let year = and_then-some (λ (y : ℕ). dated y o l) (number_of_four (s 0) (s 1) (s 2) (s 3)) p taken.1 in
     let rest = dated-some year.0 o l p year.2 in
-    let written = list_of_ten text (eqb-true (length text) 10 shape.0) ∙ ten-digits (s 0) (s 1) (s 2) (s 3) (s 4) (s 5) (s 6) (s 7) (s 8) (s 9) year.0 rest.0 rest.1 (eqb-true (s 4) 45 hyphens.0) (eqb-true (s 7) 45 hyphens.1) year.1 rest.2 rest.3 in
-    let P : PeriodName → Type 0 = λ q. (q.kind ≡ Daily) × (text ≡ four_digits q.year ++ (codes "-" ++ (two_digits q.number ++ (codes "-" ++ two_digits q.day)))) in
+    let written = list_of_ten text (eqb-true (length text) 10 shape.0)
+    ∙ ten-digits (s 0) (s 1) (s 2) (s 3) (s 4) (s 5) (s 6) (s 7) (s 8) (s 9) year.0 rest.0 rest.1 (eqb-true (s 4) 45 hyphens.0)
+    (eqb-true (s 7) 45 hyphens.1) year.1 rest.2 rest.3 in
+    let P : PeriodName → Type 0 =
+    λ q. (q.kind ≡ Daily) × (text ≡ four_digits q.year ++ (codes "-" ++ (two_digits q.number ++ (codes "-" ++ two_digits q.day)))) in
     subst P rest.4 (refl, written)
 
 day-is : (p : PeriodName) → p.kind ≡ Daily → record { kind = Daily; year = p.year; number = p.number; day = p.day } ≡ p

@@ -1,5 +1,6 @@
 -- The period that is found for two days is the one that has them.
-use Rattle.std.proofs.Common.{◌≡◌, ℕ, ◌<◌, ◌≤◌, ◌⊎◌, inl, inr, Bool, true, ◌&&◌, if◌then◌else◌, Option, Some, None, refl, sym, ap, subst, ◌∙◌, arith, ℤ, pos, negsuc, neg_ℤ, ◌+ℤ◌, ◌≤ℤ◌, ◌<ℤ◌}
+use Rattle.std.proofs.Common.{◌≡◌, ℕ, ◌<◌, ◌≤◌, ◌⊎◌, inl, inr, Bool, true, ◌&&◌, if◌then◌else◌, Option, Some, None, refl, sym, ap, subst, ◌∙◌, arith, ℤ, pos}
+use Rattle.std.proofs.Common.{negsuc, neg_ℤ, ◌+ℤ◌, ◌≤ℤ◌, ◌<ℤ◌}
 use Rattle.std.specs.Prelude.{unsigned_abs, int_le, IfSome, IfNone, IsTrue}
 use Rattle.std.proofs.lemmas.Bool.{cases_Bool, and_parts}
 use Rattle.jiff_core.proofs.SignedLemmas.{signed_arith}
@@ -40,7 +41,8 @@ pub candidate-kind : (kind : PeriodType) (day : ℤ) → (candidate kind day).ki
 unfolding candidate
 candidate-kind kind day = nth_period-kind kind (place_with kind (unsigned_abs (day +ℤ pos 25567)))
 
-pub containing_of-has : (kind : PeriodType) (first last : ℤ) (p : PeriodName) → is_listed p ≡ true → p.kind ≡ kind → Has p first last → containing_of kind first last ≡ Some p
+pub containing_of-has : (kind : PeriodType) (first last : ℤ) (p : PeriodName) → is_listed p ≡ true → p.kind ≡ kind → Has p first last
+    → containing_of kind first last ≡ Some p
 unfolding containing_of has_days
 containing_of-has kind first last p h same has =
     let P : PeriodType → Type 0 = λ k. candidate k first ≡ p in
@@ -50,7 +52,8 @@ containing_of-has kind first last p h same has =
     let three = int_le-at last (last_day p) has.2 in
     rw is (rw (h, one, two, three) refl)
 
-pub containing_of-is : (kind : PeriodType) (first last : ℤ) (p : PeriodName) → containing_of kind first last ≡ Some p → (is_listed p ≡ true) × (p.kind ≡ kind) × Has p first last
+pub containing_of-is : (kind : PeriodType) (first last : ℤ) (p : PeriodName) → containing_of kind first last ≡ Some p
+    → (is_listed p ≡ true) × (p.kind ≡ kind) × Has p first last
 unfolding containing_of has_days
 containing_of-is kind first last p e =
     let q = candidate kind first in
@@ -61,11 +64,13 @@ containing_of-is kind first last p e =
     let P : PeriodName → Type 0 = λ r. (is_listed r ≡ true) × (r.kind ≡ kind) × Has r first last in
     subst P taken.1 (a.0, candidate-kind kind first, (int_le-yes (first_day q) first b.0, int_le-yes first last c.0, int_le-yes last (last_day q) c.1))
 
-pub containing-found : (kind : PeriodType) (first last : ℤ) (r : Option PeriodName) → r ≡ containing_of kind first last → IfSome r (λ p. (p.kind ≡ kind) × Has p first last)
+pub containing-found : (kind : PeriodType) (first last : ℤ) (r : Option PeriodName) → r ≡ containing_of kind first last
+    → IfSome r (λ p. (p.kind ≡ kind) × Has p first last)
 containing-found kind first last None e = tt
 containing-found kind first last (Some p) e = let is = containing_of-is kind first last p (sym e) in (is.1, is.2)
 
-pub containing-none : (kind : PeriodType) (first last : ℤ) (r : Option PeriodName) → r ≡ containing_of kind first last → IfNone r ((p : PeriodName) → IsTrue (is_listed p) → p.kind ≡ kind → ¬ Has p first last)
+pub containing-none : (kind : PeriodType) (first last : ℤ) (r : Option PeriodName) → r ≡ containing_of kind first last
+    → IfNone r ((p : PeriodName) → IsTrue (is_listed p) → p.kind ≡ kind → ¬ Has p first last)
 containing-none kind first last None e = λ p h same has. let found = containing_of-has kind first last p h same has in cc
 containing-none kind first last (Some p) e = tt
 
@@ -82,7 +87,8 @@ containing_of-outside kind first last out =
     ]
 
 -- the candidate is taken where it is listed and has the days
-pub containing_of-listed : (kind : PeriodType) (first last : ℤ) (p : PeriodName) (taken : Bool) → Some p ≡ listed (candidate kind first) → taken ≡ has_days p first last → (if taken then Some p else None) ≡ containing_of kind first last
+pub containing_of-listed : (kind : PeriodType) (first last : ℤ) (p : PeriodName) (taken : Bool) → Some p ≡ listed (candidate kind first)
+    → taken ≡ has_days p first last → (if taken then Some p else None) ≡ containing_of kind first last
 unfolding containing_of
 containing_of-listed kind first last p taken e t =
     let there = some_when (is_listed (candidate kind first)) (candidate kind first) p (sym e) in
@@ -97,12 +103,14 @@ containing_of-unlisted kind first last e =
     ]
 
 -- the candidate by the place of the day
-pub candidate-at : (kind : PeriodType) (first : ℤ) (n : ℕ) (r : PeriodName) → pos n ≡ first +ℤ pos 25567 → r ≡ nth_period kind (place_with kind n) → r ≡ candidate kind first
+pub candidate-at : (kind : PeriodType) (first : ℤ) (n : ℕ) (r : PeriodName) → pos n ≡ first +ℤ pos 25567 → r ≡ nth_period kind (place_with kind n)
+    → r ≡ candidate kind first
 unfolding candidate
 candidate-at kind first n r place e =
     let same : n ≡ unsigned_abs (first +ℤ pos 25567) = ap unsigned_abs place in
     rw (← same) e
 
-pub has_days-is : (p : PeriodName) (first last : ℤ) (t : Bool) → t ≡ (int_le (first_day p) first && (int_le first last && int_le last (last_day p))) → t ≡ has_days p first last
+pub has_days-is : (p : PeriodName) (first last : ℤ) (t : Bool) → t ≡ (int_le (first_day p) first && (int_le first last && int_le last (last_day p)))
+    → t ≡ has_days p first last
 unfolding has_days
 has_days-is p first last t e = e

@@ -33,7 +33,8 @@ pub int_le-yes : (a b : ℤ) → int_le a b ≡ true → a ≤ℤ b
 int_le-yes a b e = let h = le-true a b e in omega (arith, signed_arith)
 
 -- with the first days in order, the last days decide
-pub is_inside-by_last : (p q : PeriodName) → is_listed p ≡ true → is_listed q ≡ true → first_day q ≤ℤ first_day p → int_le (last_day p) (last_day q) ≡ is_inside p q
+pub is_inside-by_last : (p q : PeriodName) → is_listed p ≡ true → is_listed q ≡ true → first_day q ≤ℤ first_day p
+    → int_le (last_day p) (last_day q) ≡ is_inside p q
 unfolding is_inside
 is_inside-by_last p q hp hq order =
     let b = day-bounds p hp in
@@ -53,18 +54,23 @@ pub is_inside-not : (p q : PeriodName) → int_le (first_day q) (first_day p) �
 unfolding is_inside
 is_inside-not p q e = rw e refl
 
-pub held-inside : (a b : Inside) (p q : PeriodName) → IsHeld a → IsHeld b → a.name ≡ p → b.name ≡ q → int_le (to_z w32 (of_z w32 b.first)) (to_z w32 (of_z w32 a.first)) ≡ true → int_le (to_z w32 (of_z w32 a.last)) (to_z w32 (of_z w32 b.last)) ≡ is_inside p q
+pub held-inside : (a b : Inside) (p q : PeriodName) → IsHeld a → IsHeld b → a.name ≡ p → b.name ≡ q
+    → int_le (to_z w32 (of_z w32 b.first)) (to_z w32 (of_z w32 a.first)) ≡ true
+    → int_le (to_z w32 (of_z w32 a.last)) (to_z w32 (of_z w32 b.last)) ≡ is_inside p q
 held-inside a b p q ha hb ep eq e =
     let test : int_le (first_day b.name) (first_day a.name) ≡ true = rw (inside-first a ha, inside-first b hb) at e in
     rw (inside-last a ha, inside-last b hb, ← ep, ← eq) (is_inside-by_last a.name b.name ha.0 hb.0 (int_le-yes _ _ test))
 
-pub held-outside : (a b : Inside) (p q : PeriodName) → IsHeld a → IsHeld b → a.name ≡ p → b.name ≡ q → int_le (to_z w32 (of_z w32 b.first)) (to_z w32 (of_z w32 a.first)) ≡ false → int_le (to_z w32 (of_z w32 b.first)) (to_z w32 (of_z w32 a.first)) ≡ is_inside p q
+pub held-outside : (a b : Inside) (p q : PeriodName) → IsHeld a → IsHeld b → a.name ≡ p → b.name ≡ q
+    → int_le (to_z w32 (of_z w32 b.first)) (to_z w32 (of_z w32 a.first)) ≡ false
+    → int_le (to_z w32 (of_z w32 b.first)) (to_z w32 (of_z w32 a.first)) ≡ is_inside p q
 held-outside a b p q ha hb ep eq e =
     let test : int_le (first_day b.name) (first_day a.name) ≡ false = rw (inside-first a ha, inside-first b hb) at e in
     rw (inside-first a ha, inside-first b hb, ← ep, ← eq) (is_inside-not a.name b.name test)
 
 -- a first day fits the machine's numbers
-pub first-in : (first : ℤ) (p : PeriodName) → is_listed p ≡ true → first ≡ first_day p → (neg_ℤ (pos 25567) ≤ℤ to_z w32 (of_z w32 first)) × (to_z w32 (of_z w32 first) ≤ℤ pos 48119) × (to_z w32 (of_z w32 first) ≡ first)
+pub first-in : (first : ℤ) (p : PeriodName) → is_listed p ≡ true → first ≡ first_day p
+    → (neg_ℤ (pos 25567) ≤ℤ to_z w32 (of_z w32 first)) × (to_z w32 (of_z w32 first) ≤ℤ pos 48119) × (to_z w32 (of_z w32 first) ≡ first)
 first-in first p h e =
     let b = day-bounds p h in
     let fits : FitsSigned w32 (first_day p) = omega (arith, signed_arith) in

@@ -55,7 +55,8 @@ date-month date y e =
     let same : IsInRange 1 (days_in_month (pos y) date.month) date.day = subst P e days in
     same.1
 
-date-parts-as : (date : Date) (n y : ℕ) → epoch_day date ≡ unix_day n → date.year ≡ pos y → 1900 ≤ y → (month_with n ≡ month_place y date.month) × (day_place y date.month date.day ≡ n)
+date-parts-as : (date : Date) (n y : ℕ) → epoch_day date ≡ unix_day n → date.year ≡ pos y → 1900 ≤ y
+    → (month_with n ≡ month_place y date.month) × (day_place y date.month date.day ≡ n)
 date-parts-as date n y e year low =
     let month_in = date.month_in in
     let day_in = date.day_in in
@@ -69,7 +70,8 @@ date-parts-as date n y e year low =
     (month_with-is k n (omega arith) (omega arith), place)
 
 -- the parts of a day's date
-pub date-parts : (date : Date) (n : ℕ) → epoch_day date ≡ unix_day n → (date.year ≡ pos (year_with n)) × (date.month ≡ month_with n % 12 + 1) × (date.day ≡ n - days_before_month (month_with n) + 1)
+pub date-parts : (date : Date) (n : ℕ) → epoch_day date ≡ unix_day n
+    → (date.year ≡ pos (year_with n)) × (date.month ≡ month_with n % 12 + 1) × (date.day ≡ n - days_before_month (month_with n) + 1)
 date-parts date n e =
     let year = natural date.year (date-year date n e) in
     let y : ℕ = year.0 in
@@ -125,10 +127,12 @@ week-of y i low from to =
     let b = month_with-before (month_place (y + 1) 1) (7 * i + 3) (omega arith) in
     omega arith
 
-week-parts-as : (w : ISOWeekDate) (i y : ℕ) → iso_epoch_day w ≡ unix_day (7 * i) → w.year ≡ pos y → 1900 ≤ y → (w.year ≡ pos (year_with (7 * i + 3))) × (w.week ≡ i - first_week (year_with (7 * i + 3)) + 1)
+week-parts-as : (w : ISOWeekDate) (i y : ℕ) → iso_epoch_day w ≡ unix_day (7 * i) → w.year ≡ pos y → 1900 ≤ y
+    → (w.year ≡ pos (year_with (7 * i + 3))) × (w.week ≡ i - first_week (year_with (7 * i + 3)) + 1)
 week-parts-as w i y e year low =
     let P : ℤ → Type 0 = λ z. (IsYear z × IsInRange 1 (iso_weeks z) w.week) × (days_from_iso z w.week w.weekday ≡ unix_day (7 * i)) in
-    let at : (IsYear (pos y) × IsInRange 1 (iso_weeks (pos y)) w.week) × (days_from_iso (pos y) w.week w.weekday ≡ unix_day (7 * i)) = subst P year ((w.year_in, w.week_in), e) in
+    let at : (IsYear (pos y) × IsInRange 1 (iso_weeks (pos y)) w.week) × (days_from_iso (pos y) w.week w.weekday ≡ unix_day (7 * i)) =
+    subst P year ((w.year_in, w.week_in), e) in
     let top : y ≤ 9999 = omega (arith, signed_arith, at.0.0.1) in
     let weeks = weeks_in_year-is y low top in
     let day = monday_zero-bound w.weekday in
@@ -139,7 +143,8 @@ week-parts-as w i y e year low =
     rw same (year, omega arith)
 
 -- the year and the number of a week
-pub week-parts : (w : ISOWeekDate) (i : ℕ) → iso_epoch_day w ≡ unix_day (7 * i) → (w.year ≡ pos (year_with (7 * i + 3))) × (w.week ≡ i - first_week (year_with (7 * i + 3)) + 1)
+pub week-parts : (w : ISOWeekDate) (i : ℕ) → iso_epoch_day w ≡ unix_day (7 * i)
+    → (w.year ≡ pos (year_with (7 * i + 3))) × (w.week ≡ i - first_week (year_with (7 * i + 3)) + 1)
 week-parts w i e =
     let year = natural w.year (week-year w (7 * i) e) in
     week-parts-as w i year.0 e year.1 year.2

@@ -9,7 +9,8 @@ use Rattle.jiff_core.specs.Date.{epoch_day}
 use Rattle.jiff_core.specs.IsoWeek.{days_from_iso, weeks_in_year as iso_weeks}
 use Rattle.jiff_core.proofs.IsoWeekLemmas.{weeks_in_year-next}
 use Rattle.jiff_core.specs.Calendar.{day_count, days_from_civil, iso_year_start}
-use Rattle.jiff_core.proofs.CalendarLemmas.{day_count-next_month, day_count-next_year, day_count-last_of_year, day_count-day, days_from_civil-day_count, weekday_number-parts}
+use Rattle.jiff_core.proofs.CalendarLemmas.{day_count-next_month, day_count-next_year, day_count-last_of_year, day_count-day, days_from_civil-day_count}
+use Rattle.jiff_core.proofs.CalendarLemmas.{weekday_number-parts}
 use Rattle.jiff_core.proofs.MarchLemmas.{day_count-early, day_count-late}
 use Rattle.jiff_core.proofs.SignedLemmas.{signed_arith}
 use Rattle.dh_periods.specs.Calendar.{month_length, days_before_month, month_place, day_place, unix_day, first_week, weeks_in_year}
@@ -23,18 +24,25 @@ day_count-december : (y : ℤ) → day_count y 12 1 + 30 ≡ day_count y 12 31
 day_count-december y = omega (arith, day_count-day y 12 1 31 (omega arith) (omega arith))
 
 -- the first day of the next month, in the same year or the next
-day_count-step : (y m y₂ m₂ : ℕ) → 1 ≤ m → ((y₂ ≡ y) × (m₂ ≡ m + 1)) ⊎ ((m ≡ 12) × (y₂ ≡ y + 1) × (m₂ ≡ 1)) → day_count (pos y₂) m₂ 1 ≡ day_count (pos y) m 1 + month_length y m
+day_count-step : (y m y₂ m₂ : ℕ) → 1 ≤ m → ((y₂ ≡ y) × (m₂ ≡ m + 1)) ⊎ ((m ≡ 12) × (y₂ ≡ y + 1) × (m₂ ≡ 1))
+    → day_count (pos y₂) m₂ 1 ≡ day_count (pos y) m 1 + month_length y m
 day_count-step y m y₂ m₂ h (inl same) = rw (same.0, same.1) (day_count-next_month (pos y) m h)
 day_count-step y m y₂ m₂ h (inr next) =
     let plus : pos (y + 1) ≡ pos y +ℤ pos 1 = refl in
-    rw (next.0, next.1, next.2) (omega (arith, day_count-next_year (pos y) (pos (y + 1)) (omega (arith, signed_arith)) plus, day_count-last_of_year (pos y), day_count-december (pos y)))
+    rw (next.0, next.1, next.2) (omega (
+      arith,
+      day_count-next_year (pos y) (pos (y + 1)) (omega (arith, signed_arith)) plus,
+      day_count-last_of_year (pos y),
+      day_count-december (pos y),
+    ))
 
 pub day_count-month : (k : ℕ) → day_count (pos (1900 + k / 12)) (k % 12 + 1) 1 ≡ days_before_month k + 4_346_386
 day_count-month zero = rw days_before_month-zero day_count-first
 day_count-month (suc k) =
     let before = day_count-month k in
     let next = days_before_month-next k in
-    let along : ((1900 + suc k / 12 ≡ 1900 + k / 12) × (suc k % 12 + 1 ≡ k % 12 + 1 + 1)) ⊎ ((k % 12 + 1 ≡ 12) × (1900 + suc k / 12 ≡ 1900 + k / 12 + 1) × (suc k % 12 + 1 ≡ 1)) =
+    let along : ((1900 + suc k / 12 ≡ 1900 + k / 12) × (suc k % 12 + 1 ≡ k % 12 + 1 + 1))
+    ⊎ ((k % 12 + 1 ≡ 12) × (1900 + suc k / 12 ≡ 1900 + k / 12 + 1) × (suc k % 12 + 1 ≡ 1)) =
     elim (cases_lt (k % 12) 11) [
       | inl less ↦ inl (omega arith, omega arith)
       | inr last ↦ inr (omega arith, omega arith, omega arith)

@@ -35,7 +35,8 @@ same_period-self a =
     let last = (Decides-int_eq (last_day a) (last_day a)).1 refl in
     let first = (Decides-int_eq (first_day a) (first_day a)).1 refl in
     let kind = true_same the_type a.kind a.kind refl in
-    and_from _ _ last (and_from _ _ first (and_from _ _ kind (and_from _ _ (eq-eqb a.year a.year refl) (and_from _ _ (eq-eqb a.number a.number refl) (eq-eqb a.day a.day refl)))))
+    and_from _ _ last (and_from _ _ first (and_from _ _ kind
+    (and_from _ _ (eq-eqb a.year a.year refl) (and_from _ _ (eq-eqb a.number a.number refl) (eq-eqb a.day a.day refl)))))
 
 same_name-true : (a b : PeriodName) → same_name a b ≡ true → a ≡ b
 same_name-true a b e =

@@ -10,7 +10,8 @@ use Rattle.std.proofs.lemmas.Map.Lookups.{exact_signed, exact_unsigned}
 use denote.Enum.Compared.{by}
 use Rattle.dh_periods.specs.contracts.kind.PeriodType.{enum, as_values}
 use Rattle.dh_periods.specs.declared.kind.PeriodType.{PeriodType}
-use Rattle.dh_periods.specs.declared.kind.PeriodType.TheVariants.{Daily, Weekly, Monthly, BiMonthly, Quarterly, SixMonthly, SixMonthlyApril, Yearly, FinancialApril, FinancialJuly, FinancialOct}
+use Rattle.dh_periods.specs.declared.kind.PeriodType.TheVariants.{Daily, Weekly, Monthly, BiMonthly, Quarterly, SixMonthly, SixMonthlyApril, Yearly}
+use Rattle.dh_periods.specs.declared.kind.PeriodType.TheVariants.{FinancialApril, FinancialJuly, FinancialOct}
 use Rattle.dh_periods.specs.declared.name.PeriodName.{PeriodName}
 use Rattle.dh_periods.specs.Days.{is_listed, first_day, last_day}
 use Rattle.dh_periods.specs.Places.{candidate}
@@ -198,7 +199,8 @@ same_first a b la lb k f =
     let across : candidate a.kind (first_day a) ≡ candidate b.kind (first_day b) = ap (λ t. candidate t (first_day a)) k ∙ ap (candidate b.kind) f in
     sym one ∙ across ∙ two
 
-combine : (x y k n : Ordering) → (x ≡ Equal → y ≡ Equal → k ≡ Equal → n ≡ Equal) → ordering_then x (ordering_then y (ordering_then k n)) ≡ ordering_then x (ordering_then y k)
+combine : (x y k n : Ordering) → (x ≡ Equal → y ≡ Equal → k ≡ Equal → n ≡ Equal)
+    → ordering_then x (ordering_then y (ordering_then k n)) ≡ ordering_then x (ordering_then y k)
 combine Less y k n h = refl
 combine Greater y k n h = refl
 combine Equal Less k n h = refl
@@ -219,10 +221,13 @@ pub derived_order-is : (a b : PeriodName) → is_listed a ≡ true → is_listed
 unfolding period_order
 derived_order-is a b la lb =
     let types = derived_types-is a.kind b.kind in
-    let rest : int_cmp (last_day a) (last_day b) ≡ Equal → int_cmp (first_day a) (first_day b) ≡ Equal → nat_cmp (type_place a.kind) (type_place b.kind) ≡ Equal → derived_rest a b ≡ Equal =
-    λ x y z. ap (derived_rest a) (sym (same_first a b la lb (type_place-same a.kind b.kind z) (exact_signed (first_day a) (first_day b) y))) ∙ derived_rest-self a in
+    let rest : int_cmp (last_day a) (last_day b) ≡ Equal → int_cmp (first_day a) (first_day b) ≡ Equal → nat_cmp (type_place a.kind) (type_place b.kind) ≡ Equal
+    → derived_rest a b ≡ Equal =
+    λ x y z. ap (derived_rest a) (sym (same_first a b la lb (type_place-same a.kind b.kind z) (exact_signed (first_day a) (first_day b) y)))
+    ∙ derived_rest-self a in
     ap (λ o. ordering_then (int_cmp (last_day a) (last_day b)) (ordering_then (int_cmp (first_day a) (first_day b)) (ordering_then o (derived_rest a b)))) types
-    ∙ combine (int_cmp (last_day a) (last_day b)) (int_cmp (first_day a) (first_day b)) (nat_cmp (type_place a.kind) (type_place b.kind)) (derived_rest a b) rest
+    ∙ combine (int_cmp (last_day a) (last_day b)) (int_cmp (first_day a) (first_day b)) (nat_cmp (type_place a.kind) (type_place b.kind)) (derived_rest a b)
+    rest
 
 -- two periods that stand at one place are one
 pub period_order-same : (a b : PeriodName) → is_listed a ≡ true → is_listed b ≡ true → period_order a b ≡ Equal → a ≡ b

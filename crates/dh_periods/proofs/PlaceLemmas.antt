@@ -1,5 +1,6 @@
 -- A period is found again by its place, and by each of its days.
-use Rattle.std.proofs.Common.{◌≡◌, ◌∙◌, ℕ, ◌+◌, ◌-◌, ◌*◌, ◌/◌, ◌%◌, ◌<◌, ◌≤◌, true, refl, sym, ap, arith, ◌^◌, ℤ, pos, ◌+ℤ◌, to_z, of_z, to_z-of_z, FitsSigned, w16}
+use Rattle.std.proofs.Common.{◌≡◌, ◌∙◌, ℕ, ◌+◌, ◌-◌, ◌*◌, ◌/◌, ◌%◌, ◌<◌, ◌≤◌, true, refl, sym, ap, arith, ◌^◌, ℤ, pos, ◌+ℤ◌, to_z, of_z, to_z-of_z}
+use Rattle.std.proofs.Common.{FitsSigned, w16}
 use Rattle.std.specs.Prelude.{unsigned_abs}
 use Rattle.jiff_core.proofs.SignedLemmas.{signed_arith}
 use Rattle.dh_periods.specs.declared.kind.PeriodType.{PeriodType}
@@ -10,13 +11,15 @@ use Rattle.dh_periods.specs.Calendar.{month_length, days_before_month, month_pla
 use Rattle.dh_periods.specs.Types.{shape_of}
 use Rattle.dh_periods.specs.Days.{is_in_year_as, is_listed, first_place_as, end_place_as, first_place, end_place, first_day, last_day, start_month}
 use Rattle.dh_periods.specs.Places.{ordinal_as, ordinal_of, nth_as, nth_period, place_as, place_with, year_of}
-use Rattle.dh_periods.proofs.CalendarLemmas.{days_before_month-next, days_before_month-later, month_with-is, month_with-from, month_with-before, month_with-bounds, days_before_month-zero}
+use Rattle.dh_periods.proofs.CalendarLemmas.{days_before_month-next, days_before_month-later, month_with-is, month_with-from, month_with-before}
+use Rattle.dh_periods.proofs.CalendarLemmas.{month_with-bounds, days_before_month-zero}
 use Rattle.dh_periods.proofs.JiffLemmas.{weeks_in_year_bounds}
 use Rattle.dh_periods.proofs.InverseLemmas.{week-of}
 use Rattle.dh_periods.proofs.ListedLemmas.{listed-parts}
 use Rattle.dh_periods.proofs.BoundLemmas.{IsCount, HasCount, shape_of-count, by_count, date-parts, number-parts}
 
-name-is : (kind : PeriodType) (y n d : ℕ) (p : PeriodName) → kind ≡ p.kind → y ≡ p.year → n ≡ p.number → d ≡ p.day → record { kind = kind; year = y; number = n; day = d } ≡ p
+name-is : (kind : PeriodType) (y n d : ℕ) (p : PeriodName) → kind ≡ p.kind → y ≡ p.year → n ≡ p.number → d ≡ p.day
+    → record { kind = kind; year = y; number = n; day = d } ≡ p
 name-is kind y n d p a b c e = rw (a, b, c, e) refl
 
 -- the month with a date
@@ -95,7 +98,9 @@ placed-as (Months count opening) p c low high h =
     let here = months-at count c.0 year opening p.number start parts.0 parts.1 c.2 (omega arith) (omega arith) in
     record {
       again = name-is p.kind _ _ _ p refl (rw here.1 (omega arith)) here.2 (sym parts.2);
-      days = λ n from to. (months-at count c.0 year opening p.number (month_with n) parts.0 parts.1 c.2 (month_with-from start n from) (month_with-before (start + count) n to)).0;
+      days =
+          λ n from to. (months-at count c.0 year opening p.number (month_with n) parts.0 parts.1 c.2 (month_with-from start n from)
+          (month_with-before (start + count) n to)).0;
     }
 
 -- the year of the first day, but for weeks
@@ -131,7 +136,8 @@ unfolding nth_period
 nth_period-kind kind i = nth_as-kind (shape_of kind) kind i
 
 -- what one shape says is what the whole definition says
-pub candidate-as : (s : Shape) (kind : PeriodType) (n : ℕ) (r : PeriodName) → s ≡ shape_of kind → r ≡ nth_as s kind (place_as s n) → r ≡ nth_period kind (place_with kind n)
+pub candidate-as : (s : Shape) (kind : PeriodType) (n : ℕ) (r : PeriodName) → s ≡ shape_of kind → r ≡ nth_as s kind (place_as s n)
+    → r ≡ nth_period kind (place_with kind n)
 unfolding nth_period place_with
 candidate-as s kind n r same e = rw (← same) e
 
@@ -146,7 +152,9 @@ IsSmall Week i = i ≤ 12_000
 IsSmall (Months count opening) i = i ≤ 3_000
 
 few-months : (c : ℕ) → IsCount c → (i : ℕ) → 1900 + i / (12 / c) ≤ 2100 → i ≤ 3000
-few-months = by_count (λ (c : ℕ). (i : ℕ) → 1900 + i / (12 / c) ≤ 2100 → i ≤ 3000) (λ i h. omega arith) (λ i h. omega arith) (λ i h. omega arith) (λ i h. omega arith) (λ i h. omega arith)
+few-months =
+    by_count (λ (c : ℕ). (i : ℕ) → 1900 + i / (12 / c) ≤ 2100
+    → i ≤ 3000) (λ i h. omega arith) (λ i h. omega arith) (λ i h. omega arith) (λ i h. omega arith) (λ i h. omega arith)
 
 year-small : (n : ℕ) → year_with n ≤ 2100 → n ≤ 80000
 year-small n h =
@@ -175,7 +183,8 @@ pub first_place-week : (p : PeriodName) → Week ≡ shape_of p.kind → first_p
 unfolding first_place ordinal_of
 first_place-week p same = rw (← same) refl
 
-pub ordinal_of-months : (p : PeriodName) (count opening : ℕ) → Months count opening ≡ shape_of p.kind → ordinal_of p ≡ 12 / count * (p.year - 1900) + (p.number - 1)
+pub ordinal_of-months : (p : PeriodName) (count opening : ℕ) → Months count opening ≡ shape_of p.kind
+    → ordinal_of p ≡ 12 / count * (p.year - 1900) + (p.number - 1)
 unfolding ordinal_of
 ordinal_of-months p count opening same = rw (← same) refl
 
@@ -239,7 +248,8 @@ months-before = by_count MonthsBefore
     (λ year o n low. (omega arith, omega arith))
     (λ year o n low. (omega arith, omega arith))
 
-starts-as : (s : Shape) (p : PeriodName) → HasCount s → is_in_year_as s p ≡ true → (first_place_as s p ≡ start_as s (ordinal_as s p)) × (end_place_as s p ≡ start_as s (ordinal_as s p + 1))
+starts-as : (s : Shape) (p : PeriodName) → HasCount s → is_in_year_as s p ≡ true
+    → (first_place_as s p ≡ start_as s (ordinal_as s p)) × (end_place_as s p ≡ start_as s (ordinal_as s p + 1))
 unfolding start_as MonthsBefore
 starts-as Day p c h = (refl, refl)
 starts-as Week p c h = (refl, omega arith)
@@ -249,7 +259,8 @@ starts-as (Months count opening) p c h =
     (ap days_before_month months.0, ap days_before_month months.1)
 
 -- the period with the next place begins on the day after this one
-pub ordinal_of-next : (p q : PeriodName) → is_listed p ≡ true → is_listed q ≡ true → q.kind ≡ p.kind → ordinal_of q ≡ ordinal_of p + 1 → first_day q ≡ last_day p +ℤ pos 1
+pub ordinal_of-next : (p q : PeriodName) → is_listed p ≡ true → is_listed q ≡ true → q.kind ≡ p.kind → ordinal_of q ≡ ordinal_of p + 1
+    → first_day q ≡ last_day p +ℤ pos 1
 unfolding first_place end_place first_day last_day ordinal_of
 ordinal_of-next p q hp hq same next =
     let lp = listed-parts p hp in

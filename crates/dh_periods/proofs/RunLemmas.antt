@@ -1,9 +1,11 @@
 -- Which places have a period, and the runs of periods that relative periods stand for.
-use Rattle.std.proofs.Common.{◌≡◌, ℕ, suc, ◌+◌, ◌-◌, ◌*◌, ◌/◌, ◌%◌, ◌<◌, ◌≤◌, true, List, [], ◌∷◌, ◌++◌, refl, sym, ap, subst, ◌∙◌, arith, Some, None, ℤ, pos, ◌+ℤ◌}
+use Rattle.std.proofs.Common.{◌≡◌, ℕ, suc, ◌+◌, ◌-◌, ◌*◌, ◌/◌, ◌%◌, ◌<◌, ◌≤◌, true, List, [], ◌∷◌, ◌++◌, refl, sym, ap, subst, ◌∙◌, arith, Some, None, ℤ}
+use Rattle.std.proofs.Common.{pos, ◌+ℤ◌}
 use Rattle.std.specs.Prelude.{unsigned_abs}
 use Rattle.std.proofs.lemmas.Bool.{and_from, le-leb, eq-eqb}
 use Rattle.dh_periods.specs.declared.kind.PeriodType.{PeriodType}
-use Rattle.dh_periods.specs.declared.kind.PeriodType.TheVariants.{Daily, Weekly, Monthly, BiMonthly, Quarterly, SixMonthly, SixMonthlyApril, Yearly, FinancialApril, FinancialJuly, FinancialOct}
+use Rattle.dh_periods.specs.declared.kind.PeriodType.TheVariants.{Daily, Weekly, Monthly, BiMonthly, Quarterly, SixMonthly, SixMonthlyApril, Yearly}
+use Rattle.dh_periods.specs.declared.kind.PeriodType.TheVariants.{FinancialApril, FinancialJuly, FinancialOct}
 use Rattle.dh_periods.specs.declared.kind.Shape.{Shape}
 use Rattle.dh_periods.specs.declared.kind.Shape.TheVariants.{Day, Week, Months}
 use Rattle.dh_periods.specs.declared.name.PeriodName.{PeriodName}
@@ -22,7 +24,8 @@ pub run_of-none : (kind : PeriodType) (start : ℕ) → run_of kind start (start
 unfolding run_of
 run_of-none kind start = let none : start - start ≡ 0 = omega arith in rw none refl
 
-pub run_of-more : (kind : PeriodType) (start place : ℕ) → start ≤ place → run_of kind start (place + 1 - start) ≡ run_of kind start (place - start) ++ nth_period kind place ∷ []
+pub run_of-more : (kind : PeriodType) (start place : ℕ) → start ≤ place
+    → run_of kind start (place + 1 - start) ≡ run_of kind start (place - start) ++ nth_period kind place ∷ []
 unfolding run_of
 run_of-more kind start place h =
     let more : place + 1 - start ≡ suc (place - start) = omega arith in
@@ -42,7 +45,9 @@ in-year Day kind i h =
     let b = month_with-bounds i in
     let next = days_before_month-next k in
     let d = i - days_before_month k + 1 in
-    and_from _ _ (le-leb 1 (k % 12 + 1) (omega arith)) (and_from _ _ (le-leb (k % 12 + 1) 12 (omega arith)) (and_from _ _ (le-leb 1 d (omega arith)) (le-leb d (month_length (1900 + k / 12) (k % 12 + 1)) (omega arith))))
+    and_from _ _ (le-leb 1 (k % 12 + 1) (omega arith))
+    (and_from _ _ (le-leb (k % 12 + 1) 12 (omega arith))
+    (and_from _ _ (le-leb 1 d (omega arith)) (le-leb d (month_length (1900 + k / 12) (k % 12 + 1)) (omega arith))))
 in-year Week kind i h =
     let y = year_with (7 * i + 3) in
     let b = month_with-bounds (7 * i + 3) in
@@ -126,7 +131,8 @@ reaches FinancialJuly n day back i near from to = absurd near
 reaches FinancialOct n day back i near from to = absurd near
 
 -- the same of the periods of the day's year
-reaches-year : (kind : PeriodType) (count n i : ℕ) → IsDay n → IsYearRun kind count → count * (year_with n - 1900) ≤ i → i < count * (year_with n - 1900) + count → is_listed (nth_period kind i) ≡ true
+reaches-year : (kind : PeriodType) (count n i : ℕ) → IsDay n → IsYearRun kind count → count * (year_with n - 1900) ≤ i
+    → i < count * (year_with n - 1900) + count → is_listed (nth_period kind i) ≡ true
 unfolding HasPeriod
 reaches-year Monthly count n i day has from to =
     let m = month-range n day in
@@ -163,7 +169,8 @@ far-enough FinancialApril n back day near = absurd near
 far-enough FinancialJuly n back day near = absurd near
 far-enough FinancialOct n back day near = absurd near
 
-pub before-listed : (kind : PeriodType) (n back count p : ℕ) → 3652 ≤ n → n ≤ 73_048 → IsReach kind back → count ≤ back + 1 → p ≡ place_with kind n → (i : ℕ) → p - back ≤ i → i < p - back + count → is_listed (nth_period kind i) ≡ true
+pub before-listed : (kind : PeriodType) (n back count p : ℕ) → 3652 ≤ n → n ≤ 73_048 → IsReach kind back → count ≤ back + 1 → p ≡ place_with kind n → (i : ℕ)
+    → p - back ≤ i → i < p - back + count → is_listed (nth_period kind i) ≡ true
 unfolding Reaches
 before-listed kind n back count p low high near few same i from to =
     let day : IsDay n = record { from = low; to = high } in
@@ -176,13 +183,15 @@ back-in kind n back p low high near same =
     let far = far-enough kind n back day near in
     omega arith
 
-pub year-listed : (kind : PeriodType) (count n y : ℕ) → 3652 ≤ n → n ≤ 73_048 → IsYearRun kind count → y ≡ year_with n - 1900 → (i : ℕ) → count * y ≤ i → i < count * y + count → is_listed (nth_period kind i) ≡ true
+pub year-listed : (kind : PeriodType) (count n y : ℕ) → 3652 ≤ n → n ≤ 73_048 → IsYearRun kind count → y ≡ year_with n - 1900 → (i : ℕ) → count * y ≤ i
+    → i < count * y + count → is_listed (nth_period kind i) ≡ true
 year-listed kind count n y low high has same i from to =
     let day : IsDay n = record { from = low; to = high } in
     reaches-year kind count n i day has (rw (← same) from) (rw (← same) to)
 
 -- a name's periods, and no name
-pub relative_of-some : (name : List ℕ) (day : ℤ) (n : ℕ) (r : Stretch) (xs : List PeriodName) → pos n ≡ day +ℤ pos 25567 → Some r ≡ relative_named name → xs ≡ periods_on n r → Some xs ≡ relative_of name day
+pub relative_of-some : (name : List ℕ) (day : ℤ) (n : ℕ) (r : Stretch) (xs : List PeriodName) → pos n ≡ day +ℤ pos 25567 → Some r ≡ relative_named name
+    → xs ≡ periods_on n r → Some xs ≡ relative_of name day
 unfolding relative_of
 relative_of-some name day n r xs place named is =
     let same : n ≡ unsigned_abs (day +ℤ pos 25567) = ap unsigned_abs place in

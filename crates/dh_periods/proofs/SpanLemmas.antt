@@ -1,5 +1,6 @@
 -- What the library's answers say of the days of a period.
-use Rattle.std.proofs.Common.{◌≡◌, ℕ, ◌+◌, ◌<◌, ◌≤◌, ◌⊎◌, inl, inr, Bool, true, false, ◌&&◌, nat_le, if◌then◌else◌, Option, Some, None, refl, arith, ℤ, pos, ◌+ℤ◌, ◌-ℤ◌}
+use Rattle.std.proofs.Common.{◌≡◌, ℕ, ◌+◌, ◌<◌, ◌≤◌, ◌⊎◌, inl, inr, Bool, true, false, ◌&&◌, nat_le, if◌then◌else◌, Option, Some, None, refl, arith, ℤ, pos}
+use Rattle.std.proofs.Common.{◌+ℤ◌, ◌-ℤ◌}
 use Rattle.std.proofs.lemmas.Bool.{and_parts, and_from, le-leb, lt-leb, leb-true, and_right, eq-eqb, eqb-true, false_from_ne_true}
 use Rattle.std.specs.Prelude.{◌==◌}
 use Rattle.jiff_core.specs.declared.civil.weekday.Weekday.TheVariants.{Monday}
@@ -18,7 +19,8 @@ use Rattle.dh_periods.proofs.CalendarLemmas.{days_before_month-zero, days_before
 use Rattle.dh_periods.proofs.JiffLemmas.{weeks_in_year-is, weeks_in_year_bounds, days_from_iso-is}
 
 -- what one shape says is what the whole definition says
-pub span_of-as : (s : Shape) (p : PeriodName) (r : Option Span) → s ≡ shape_of p.kind → 1900 ≤ p.year → p.year ≤ 2100 → r ≡ (if is_in_year_as s p then Some (span_as s p) else None) → r ≡ (if is_listed p then Some (span_of p) else None)
+pub span_of-as : (s : Shape) (p : PeriodName) (r : Option Span) → s ≡ shape_of p.kind → 1900 ≤ p.year → p.year ≤ 2100
+    → r ≡ (if is_in_year_as s p then Some (span_as s p) else None) → r ≡ (if is_listed p then Some (span_of p) else None)
 unfolding is_listed first_place end_place first_day last_day
 span_of-as s p r same low high e =
     let a : nat_le 1900 p.year ≡ true = le-leb _ _ low in
@@ -56,7 +58,11 @@ week_unlisted p low high none =
     let first = week-bounds p.year (omega arith) in
     let next = week-bounds (p.year + 1) (omega arith) in
     let day = days_from_iso-is p.year p.number Monday low in
-    none ((omega (arith, signed_arith), omega (arith, signed_arith)), (omega (arith, signed_arith), rw weeks (omega (arith, signed_arith))), rw day (omega (arith, signed_arith), omega (arith, signed_arith))))
+    none (
+      (omega (arith, signed_arith), omega (arith, signed_arith)),
+      (omega (arith, signed_arith), rw weeks (omega (arith, signed_arith))),
+      rw day (omega (arith, signed_arith), omega (arith, signed_arith)),
+    ))
 
 pub date_listed : (p : PeriodName) → 1900 ≤ p.year → p.year ≤ 2100 → IsDate (pos p.year) (pos p.number) (pos p.day) → is_in_year_as Day p ≡ true
 date_listed p low high h =
@@ -66,7 +72,8 @@ date_listed p low high h =
     let e : p.day ≤ month_length p.year p.number = omega (arith, signed_arith) in
     and_from _ _ (le-leb _ _ a) (and_from _ _ (le-leb _ _ b) (and_from _ _ (le-leb _ _ d) (le-leb _ _ e)))
 
-pub some_span : (b : Bool) (first last : ℤ) (s : Span) → b ≡ true → first ≡ s.first → last ≡ s.last → Some (record { first = first; last = last }) ≡ (if b then Some s else None)
+pub some_span : (b : Bool) (first last : ℤ) (s : Span) → b ≡ true → first ≡ s.first → last ≡ s.last
+    → Some (record { first = first; last = last }) ≡ (if b then Some s else None)
 some_span b first last s holds e f = rw (holds, e, f) refl
 
 -- the day before the next is the day

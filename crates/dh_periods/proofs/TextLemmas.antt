@@ -1,10 +1,12 @@
 -- What is read is written so, and what is written is read.
-use Rattle.std.proofs.Common.{◌≡◌, ℕ, ◌+◌, ◌-◌, ◌*◌, ◌/◌, ◌%◌, ◌<◌, ◌≤◌, ◌⊎◌, inl, inr, Bool, true, false, ◌&&◌, nat_le, nat_lt, nat_eq, if◌then◌else◌, Option, Some, None, List, [], ◌∷◌, ◌++◌, length, take, drop, slice_index, refl, sym, ap, subst, ◌∙◌, arith}
+use Rattle.std.proofs.Common.{◌≡◌, ℕ, ◌+◌, ◌-◌, ◌*◌, ◌/◌, ◌%◌, ◌<◌, ◌≤◌, ◌⊎◌, inl, inr, Bool, true, false, ◌&&◌, nat_le, nat_lt, nat_eq, if◌then◌else◌}
+use Rattle.std.proofs.Common.{Option, Some, None, List, [], ◌∷◌, ◌++◌, length, take, drop, slice_index, refl, sym, ap, subst, ◌∙◌, arith}
 use Rattle.std.specs.Prelude.{codes, bytes_eq, option_map, option_and_then, ◌==◌, IfSome, IfNone, IsTrue}
 use Rattle.std.proofs.lemmas.Bool.{cases_lt, cond_both, and_parts, and_from, le-leb, leb-true, lt-ltb, le-ltb, eqb-true, ne_eqb}
 use Rattle.std.proofs.lemmas.Slice.Eq.{bytes_eq-Decides}
 use Rattle.dh_periods.specs.declared.kind.PeriodType.{PeriodType}
-use Rattle.dh_periods.specs.declared.kind.PeriodType.TheVariants.{Daily, Weekly, Monthly, BiMonthly, Quarterly, SixMonthly, SixMonthlyApril, Yearly, FinancialApril, FinancialJuly, FinancialOct}
+use Rattle.dh_periods.specs.declared.kind.PeriodType.TheVariants.{Daily, Weekly, Monthly, BiMonthly, Quarterly, SixMonthly, SixMonthlyApril, Yearly}
+use Rattle.dh_periods.specs.declared.kind.PeriodType.TheVariants.{FinancialApril, FinancialJuly, FinancialOct}
 use Rattle.dh_periods.specs.declared.name.PeriodName.{PeriodName}
 use Rattle.dh_periods.specs.Calendar.{month_length, weeks_in_year}
 use Rattle.dh_periods.proofs.CalendarLemmas.{month_length_bounds}
@@ -13,7 +15,8 @@ use Rattle.dh_periods.specs.Types.{shape_of}
 use Rattle.dh_periods.specs.Days.{is_in_year_as, listed, is_listed}
 use Rattle.dh_periods.specs.declared.kind.Shape.TheVariants.{Week}
 use Rattle.dh_periods.proofs.ListedLemmas.{listed-parts}
-use Rattle.dh_periods.specs.Texts.{one_digit, two_digits, four_digits, short_digits, ending_as, period_text, padded_text, IsTextOf, is_digit, number_of_one, number_of_two, number_of_four, whole, numbered, dated, read_two, read_three, read_ending, read_name, period_of}
+use Rattle.dh_periods.specs.Texts.{one_digit, two_digits, four_digits, short_digits, ending_as, period_text, padded_text, IsTextOf, is_digit, number_of_one}
+use Rattle.dh_periods.specs.Texts.{number_of_two, number_of_four, whole, numbered, dated, read_two, read_three, read_ending, read_name, period_of}
 
 -- which branch a choice took
 pub choice : {A : Type 0} (b : Bool) (x y z : A) → (if b then x else y) ≡ z → ((b ≡ true) × (x ≡ z)) ⊎ ((b ≡ false) × (y ≡ z))
@@ -79,7 +82,12 @@ two-written n h =
 pub four-written : (n : ℕ) → n < 10000 → number_of_four (48 + n / 1000) (48 + n / 100 % 10) (48 + n / 10 % 10) (48 + n % 10) ≡ Some n
 four-written n h =
     let value : 1000 * (48 + n / 1000 - 48) + 100 * (48 + n / 100 % 10 - 48) + 10 * (48 + n / 10 % 10 - 48) + (48 + n % 10 - 48) ≡ n = omega arith in
-    rw (digit-is (48 + n / 1000) (omega arith) (omega arith), digit-is (48 + n / 100 % 10) (omega arith) (omega arith), digit-is (48 + n / 10 % 10) (omega arith) (omega arith), digit-is (48 + n % 10) (omega arith) (omega arith)) (ap Some value)
+    rw (
+      digit-is (48 + n / 1000) (omega arith) (omega arith),
+      digit-is (48 + n / 100 % 10) (omega arith) (omega arith),
+      digit-is (48 + n / 10 % 10) (omega arith) (omega arith),
+      digit-is (48 + n % 10) (omega arith) (omega arith),
+    ) (ap Some value)
 
 -- a list of so many is its items
 list_of_none : (r : List ℕ) → length r ≡ 0 → r ≡ []
@@ -132,21 +140,24 @@ whole-read kind y r p written e =
     let P : PeriodName → Type 0 = λ q. IsReadAs y r q in
     subst P same (refl, inl written)
 
-numbered-read : (kind : PeriodType) (y : ℕ) (r : List ℕ) (o : Option ℕ) (p : PeriodName) → ((n : ℕ) → o ≡ Some n → r ≡ ending_as kind n 1) → numbered kind y o ≡ Some p → IsReadAs y r p
+numbered-read : (kind : PeriodType) (y : ℕ) (r : List ℕ) (o : Option ℕ) (p : PeriodName) → ((n : ℕ) → o ≡ Some n → r ≡ ending_as kind n 1)
+    → numbered kind y o ≡ Some p → IsReadAs y r p
 unfolding IsEnding
 numbered-read kind y r o p written e =
     let made = map-some (λ (n : ℕ). let q : PeriodName = record { kind = kind; year = y; number = n; day = 1 } in q) o p e in
     let P : PeriodName → Type 0 = λ q. IsReadAs y r q in
     subst P made.2 (refl, inl (written made.0 made.1))
 
-padded-read : (y : ℕ) (r : List ℕ) (o : Option ℕ) (p : PeriodName) → ((n : ℕ) → o ≡ Some n → r ≡ codes "W" ++ two_digits n) → numbered Weekly y o ≡ Some p → IsReadAs y r p
+padded-read : (y : ℕ) (r : List ℕ) (o : Option ℕ) (p : PeriodName) → ((n : ℕ) → o ≡ Some n → r ≡ codes "W" ++ two_digits n) → numbered Weekly y o ≡ Some p
+    → IsReadAs y r p
 unfolding IsEnding
 padded-read y r o p written e =
     let made = map-some (λ (n : ℕ). let q : PeriodName = record { kind = Weekly; year = y; number = n; day = 1 } in q) o p e in
     let P : PeriodName → Type 0 = λ q. IsReadAs y r q in
     subst P made.2 (refl, inr (refl, written made.0 made.1))
 
-dated-read : (y : ℕ) (r : List ℕ) (o l : Option ℕ) (p : PeriodName) → ((m d : ℕ) → o ≡ Some m → l ≡ Some d → r ≡ ending_as Daily m d) → dated y o l ≡ Some p → IsReadAs y r p
+dated-read : (y : ℕ) (r : List ℕ) (o l : Option ℕ) (p : PeriodName) → ((m d : ℕ) → o ≡ Some m → l ≡ Some d → r ≡ ending_as Daily m d) → dated y o l ≡ Some p
+    → IsReadAs y r p
 unfolding IsEnding
 dated-read y r (Some m) (Some d) p written e =
     let same : record { kind = Daily; year = y; number = m; day = d } ≡ p = cc in
@@ -179,24 +190,30 @@ read_three-is y a b c p e =
       | inl week ↦ padded-read y _ (number_of_two b c) p (λ n o. rw (eqb-true a 87 week.0, (two-read b c n o).1, (two-read b c n o).2) refl) week.1
       | inr more ↦
           elim (choice (c == 66) _ _ _ more.1) [
-            | inl pair ↦ numbered-read BiMonthly y _ (number_of_two a b) p (λ n o. rw (eqb-true c 66 pair.0, (two-read a b n o).1, (two-read a b n o).2) refl) pair.1
+            | inl pair ↦ numbered-read BiMonthly y _ (number_of_two a b) p (λ n o. rw (eqb-true c 66 pair.0, (two-read a b n o).1, (two-read a b n o).2) refl)
+                pair.1
             | inr none ↦ absurd (cc none.1)
           ]
     ]
 
 read_four-is : (y a b c d : ℕ) (p : PeriodName) → dated y (number_of_two a b) (number_of_two c d) ≡ Some p → IsReadAs y (a ∷ b ∷ c ∷ d ∷ []) p
 read_four-is y a b c d p e =
-    dated-read y _ (number_of_two a b) (number_of_two c d) p (λ m n o l. rw ((two-read a b m o).1, (two-read a b m o).2, (two-read c d n l).1, (two-read c d n l).2) refl) e
+    dated-read y _ (number_of_two a b) (number_of_two c d) p (λ m n o l.
+    rw ((two-read a b m o).1, (two-read a b m o).2, (two-read c d n l).1, (two-read c d n l).2) refl) e
 
 same_text : (r t : List ℕ) → bytes_eq r t ≡ true → r ≡ t
 same_text r t e = (bytes_eq-Decides r t).0 e
 
-read_seven-is : (y : ℕ) (r : List ℕ) (p : PeriodName) → length r ≡ 7 → bytes_eq (take 6 r) (codes "AprilS") ≡ true → numbered SixMonthlyApril y (number_of_one (slice_index r 6)) ≡ Some p → IsReadAs y r p
+read_seven-is : (y : ℕ) (r : List ℕ) (p : PeriodName) → length r ≡ 7 → bytes_eq (take 6 r) (codes "AprilS") ≡ true
+    → numbered SixMonthlyApril y (number_of_one (slice_index r 6)) ≡ Some p → IsReadAs y r p
 read_seven-is y r p long e made =
     let front : take 6 r ≡ codes "AprilS" = same_text _ _ e in
-    numbered-read SixMonthlyApril y r (number_of_one (slice_index r 6)) p (λ n o. list_of_seven r long ∙ rw (front, (one-read (slice_index r 6) n o).1) refl) made
+    numbered-read SixMonthlyApril y r (number_of_one (slice_index r 6)) p (λ n o. list_of_seven r long
+    ∙ rw (front, (one-read (slice_index r 6) n o).1) refl) made
 
-read_long-is : (y : ℕ) (r : List ℕ) (p : PeriodName) → (if length r == 7 && bytes_eq (take 6 r) (codes "AprilS") then numbered SixMonthlyApril y (number_of_one (slice_index r 6)) else None) ≡ Some p → IsReadAs y r p
+read_long-is : (y : ℕ) (r : List ℕ) (p : PeriodName)
+    → (if length r == 7 && bytes_eq (take 6 r) (codes "AprilS") then numbered SixMonthlyApril y (number_of_one (slice_index r 6)) else None) ≡ Some p
+    → IsReadAs y r p
 read_long-is y r p e =
     elim (choice (length r == 7 && bytes_eq (take 6 r) (codes "AprilS")) _ _ _ e) [
       | inl seven ↦ let both = and_parts _ _ seven.0 in read_seven-is y r p (eqb-true _ _ both.0) both.1 seven.1
@@ -245,7 +262,9 @@ four-front a b c d y r e =
 pub read_name-is : (text : List ℕ) (p : PeriodName) → read_name text ≡ Some p → IsTextOf text p
 unfolding read_name period_text padded_text IsEnding
 read_name-is text p e =
-    let taken : ((nat_le 4 (length text) && nat_le (length text) 11) ≡ true) × (option_and_then (λ y. read_ending y (drop 4 text)) (number_of_four (slice_index text 0) (slice_index text 1) (slice_index text 2) (slice_index text 3)) ≡ Some p) =
+    let taken : ((nat_le 4 (length text) && nat_le (length text) 11) ≡ true)
+    × (option_and_then (λ y. read_ending y (drop 4 text))
+    (number_of_four (slice_index text 0) (slice_index text 1) (slice_index text 2) (slice_index text 3)) ≡ Some p) =
     elim (choice (nat_le 4 (length text) && nat_le (length text) 11) _ _ _ e) [ inl t ↦ t | inr none ↦ absurd (cc none.1) ] in
     let long = leb-true _ _ (and_parts _ _ taken.0).0 in
     let a = slice_index text 0 in
@@ -273,7 +292,11 @@ no_letter n letter h k = ne_eqb _ _ (λ (e : 48 + n ≡ letter). omega arith)
 
 month-reads : (y n : ℕ) → n < 100 → read_two y (48 + n / 10) (48 + n % 10) ≡ numbered Monthly y (Some n)
 month-reads y n h =
-    rw (no_letter (n / 10) 87 (omega arith) (omega arith), no_letter (n / 10) 81 (omega arith) (omega arith), no_letter (n / 10) 83 (omega arith) (omega arith)) (ap (numbered Monthly y) (two-written n h))
+    rw (
+      no_letter (n / 10) 87 (omega arith) (omega arith),
+      no_letter (n / 10) 81 (omega arith) (omega arith),
+      no_letter (n / 10) 83 (omega arith) (omega arith),
+    ) (ap (numbered Monthly y) (two-written n h))
 
 months-reads : (y n : ℕ) → n < 100 → read_ending y (two_digits n ++ codes "B") ≡ numbered BiMonthly y (Some n)
 unfolding read_ending
@@ -298,7 +321,8 @@ unfolding read_ending
 padded-reads y n h = ap (numbered Weekly y) (two-written n h)
 
 -- what a type writes after the year is read as that type
-reads : (kind : PeriodType) (y n d : ℕ) → is_in_year_as (shape_of kind) (record { kind = kind; year = y; number = n; day = d }) ≡ true → 1900 ≤ y → y ≤ 2100 → read_ending y (ending_as kind n d) ≡ Some (record { kind = kind; year = y; number = n; day = d })
+reads : (kind : PeriodType) (y n d : ℕ) → is_in_year_as (shape_of kind) (record { kind = kind; year = y; number = n; day = d }) ≡ true → 1900 ≤ y → y ≤ 2100
+    → read_ending y (ending_as kind n d) ≡ Some (record { kind = kind; year = y; number = n; day = d })
 unfolding read_ending
 reads Daily y n d h low high =
     let a = and_parts (nat_le 1 n) (nat_le n 12 && (nat_le 1 d && nat_le d (month_length y n))) h in
@@ -330,7 +354,8 @@ name-reads y r top short =
 
 ending-short : (kind : PeriodType) (n d : ℕ) → length (ending_as kind n d) ≤ 7
 ending-short Daily n d = omega arith
-ending-short Weekly n d = cond_both (nat_lt n 10) (one_digit n) (two_digits n) (λ (s : List ℕ). length (codes "W" ++ s) ≤ 7) (λ e. omega arith) (λ e. omega arith)
+ending-short Weekly n d =
+    cond_both (nat_lt n 10) (one_digit n) (two_digits n) (λ (s : List ℕ). length (codes "W" ++ s) ≤ 7) (λ e. omega arith) (λ e. omega arith)
 ending-short Monthly n d = omega arith
 ending-short BiMonthly n d = omega arith
 ending-short Quarterly n d = omega arith
@@ -349,7 +374,8 @@ pub read_name-text : (p : PeriodName) → is_listed p ≡ true → read_name (pe
 unfolding period_text
 read_name-text p h =
     let parts = listed-parts p h in
-    name-reads p.year (ending_as p.kind p.number p.day) parts.1 (ending-short p.kind p.number p.day) ∙ reads p.kind p.year p.number p.day parts.2 parts.0 parts.1
+    name-reads p.year (ending_as p.kind p.number p.day) parts.1 (ending-short p.kind p.number p.day)
+    ∙ reads p.kind p.year p.number p.day parts.2 parts.0 parts.1
 
 pub read_name-padded : (p : PeriodName) → is_listed p ≡ true → p.kind ≡ Weekly → read_name (padded_text p) ≡ Some p
 unfolding padded_text

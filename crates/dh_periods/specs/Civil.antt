@@ -17,7 +17,8 @@ IsDateText text p = IsTrue (is_listed p) × (p.kind ≡ Daily) × (text ≡ date
 unfoldable pub read_date : List ℕ → Option PeriodName
 read_date text =
     if length text == 10 && (slice_index text 4 == 45 && slice_index text 7 == 45)
-    then option_and_then (λ y. dated y (number_of_two (slice_index text 5) (slice_index text 6)) (number_of_two (slice_index text 8) (slice_index text 9))) (number_of_four (slice_index text 0) (slice_index text 1) (slice_index text 2) (slice_index text 3))
+    then option_and_then (λ y. dated y (number_of_two (slice_index text 5) (slice_index text 6)) (number_of_two (slice_index text 8) (slice_index text 9)))
+    (number_of_four (slice_index text 0) (slice_index text 1) (slice_index text 2) (slice_index text 3))
     else None
 
 -- the day of a text

@@ -1,7 +1,9 @@
 -- Relative periods: what a name stands for on a day.
-use Rattle.std.specs.Prelude.{ℕ, zero, suc, ◌+◌, ◌-◌, ◌*◌, ◌≤◌, ◌≡◌, if◌then◌else◌, Option, Some, None, option_map, List, [], ◌∷◌, ◌++◌, bytes_eq, codes, ℤ, pos, ◌+ℤ◌, unsigned_abs}
+use Rattle.std.specs.Prelude.{ℕ, zero, suc, ◌+◌, ◌-◌, ◌*◌, ◌≤◌, ◌≡◌, if◌then◌else◌, Option, Some, None, option_map, List, [], ◌∷◌, ◌++◌, bytes_eq, codes, ℤ}
+use Rattle.std.specs.Prelude.{pos, ◌+ℤ◌, unsigned_abs}
 use Rattle.dh_periods.specs.declared.kind.PeriodType.{PeriodType}
-use Rattle.dh_periods.specs.declared.kind.PeriodType.TheVariants.{Daily, Weekly, Monthly, BiMonthly, Quarterly, SixMonthly, SixMonthlyApril, Yearly, FinancialApril, FinancialJuly, FinancialOct}
+use Rattle.dh_periods.specs.declared.kind.PeriodType.TheVariants.{Daily, Weekly, Monthly, BiMonthly, Quarterly, SixMonthly, SixMonthlyApril, Yearly}
+use Rattle.dh_periods.specs.declared.kind.PeriodType.TheVariants.{FinancialApril, FinancialJuly, FinancialOct}
 use Rattle.dh_periods.specs.declared.name.PeriodName.{PeriodName}
 use Rattle.dh_periods.specs.declared.windows.Stretch.{Stretch}
 use Rattle.dh_periods.specs.declared.windows.Stretch.TheVariants.{Before, OfYear}

@@ -1,5 +1,6 @@
 //! Periods and their days.
-ghost use Rattle.std.specs.Prelude.{◌≡◌, IsTrue, IfSome, IfNone, IfOk, Some, None, if◌then◌else◌, pos, neg_ℤ, ◌-ℤ◌, ◌+ℤ◌, ◌≤ℤ◌, int_le, ◌&&◌, ◌≤◌, ◌+◌, ◌-◌, ◌*◌, ◌/◌};
+ghost use Rattle.std.specs.Prelude.{◌≡◌, IsTrue, IfSome, IfNone, IfOk, Some, None, if◌then◌else◌, pos, neg_ℤ, ◌-ℤ◌, ◌+ℤ◌, ◌≤ℤ◌, int_le, ◌&&◌, ◌≤◌, ◌+◌, ◌-◌};
+ghost use Rattle.std.specs.Prelude.{◌*◌, ◌/◌};
 ghost use Rattle.dh_periods.specs.declared.name.PeriodName.{PeriodName};
 ghost use Rattle.dh_periods.specs.Places.{year_of, ordinal_of, nth_period, containing_of, Has};
 ghost use Rattle.dh_periods.specs.Texts.{period_of, period_text, IsTextOf};

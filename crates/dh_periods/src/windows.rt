@@ -2,7 +2,8 @@
 ghost use Rattle.std.specs.Prelude.{◌≡◌, ◌≤◌, ◌<◌, ◌+◌, ◌-◌, ◌*◌, ℕ, pos, neg_ℤ, ◌≤ℤ◌, IsTrue, IfSome, IfOk, option_map};
 ghost use Rattle.dh_periods.specs.Days.{is_listed};
 ghost use Rattle.dh_periods.specs.Places.{nth_period, place_with};
-ghost use Rattle.dh_periods.specs.Relative.{before_of, single_named, several_named, relative_named, IsReach, IsYearRun, HasReach, run_of, periods_on, relative_of};
+ghost use Rattle.dh_periods.specs.Relative.{before_of, single_named, several_named, relative_named, IsReach, IsYearRun, HasReach, run_of, periods_on};
+ghost use Rattle.dh_periods.specs.Relative.{relative_of};
 ghost use Rattle.dh_periods.specs.Calendar.{year_with};
 
 use crate::days::FIRST_YEAR;

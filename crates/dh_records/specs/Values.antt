@@ -1,7 +1,8 @@
 -- Which texts are values of a type, and which numbers they are.
 --
 -- Numbers are counted in millionths.
-use Rattle.std.specs.Prelude.{ℕ, ◌&&◌, ◌||◌, Bool, true, false, cond, ℤ, pos, int_lt, int_le, List, length, Option, Some, None, is_some, option_and_then, nat_le, bytes_eq}
+use Rattle.std.specs.Prelude.{ℕ, ◌&&◌, ◌||◌, Bool, true, false, cond, ℤ, pos, int_lt, int_le, List, length, Option, Some, None, is_some, option_and_then}
+use Rattle.std.specs.Prelude.{nat_le, bytes_eq}
 use Rattle.std.specs.List.{list_any}
 use lib.Chars.{codes}
 use Rattle.dh_base.specs.Decimals.{decimal_of, is_point}

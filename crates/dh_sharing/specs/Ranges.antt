@@ -30,4 +30,4 @@ pub record ByFirst (ranges : List (ℕ × ℕ)) : Type 0 where
 pub record IsCount (ranges : List (ℕ × ℕ)) (n begun : ℕ) : Type 0 where
   pub most : begun ≤ length ranges
   pub before : (i : ℕ) → i < begun → (slice_index_or ranges i (0, 0)).0 ≤ n
-  pub behind : (i : ℕ) → begun ≤ i → i < length ranges → n < (slice_index_or ranges i (0, 0)).0
+  pub beyond : (i : ℕ) → begun ≤ i → i < length ranges → n < (slice_index_or ranges i (0, 0)).0

@@ -70,13 +70,18 @@ told-over : (shows : ℤ → Type 0) (file left left' written written' : Option 
     → IfSome file (λ b. IfSome left (λ all. (h : SessionEnd) × SessionOverAll shows b all written written' h × (result ≡ status_over h)))
 told-over shows None left left' written written' bytes how result told other is over = tt
 told-over shows (Some file) None left' written written' bytes how result told other is over = tt
-told-over shows (Some file) (Some all) left' written written' bytes how result told other is over =
-    (how, subst (λ b. SessionOverAll shows b all written written' how) told (over_told shows bytes (Some all) left' written written' how all refl other over), is)
+told-over shows (Some file) (Some all) left' written written' bytes how result told other is over = (
+  how,
+  subst (λ b. SessionOverAll shows b all written written' how) told (over_told shows bytes (Some all) left' written written' how all refl other over),
+  is,
+)
 
 -- a session that is done over a file and an input that are told
-pub session_answers : (shows : ℤ → Type 0) (name : List ℕ) (shown : Shown) (result : Status) → SessionRuns shows name shown result → SessionAnswers shows name shown result
+pub session_answers : (shows : ℤ → Type 0) (name : List ℕ) (shown : Shown) (result : Status) → SessionRuns shows name shown result
+    → SessionAnswers shows name shown result
 session_answers shows name shown (status.Done outcome) came =
-    told-over shows (shown.files.file name) shown.input.before shown.input.after shown.output.before shown.output.after came.bytes came.how (status.Done outcome)
+    told-over shows (shown.files.file name) shown.input.before shown.input.after shown.output.before shown.output.after came.bytes came.how
+    (status.Done outcome)
     came.told (λ is. no_fault (came.status_is ∙ ap status_over is)) came.status_is came.over
   where
     no_fault : status.Done outcome ≡ status.ReadFault → ⊥

@@ -1,6 +1,7 @@
 ghost use Rattle.std.specs.Prelude.{◌≡◌, ◌<◌, ◌≤◌, ◌++◌, ℕ, ℤ, List, length, IfOk, OnOk};
 ghost use Rattle.meta_reader.specs.File.{most_bytes};
-ghost use Rattle.dhis_main.specs.Outcome.{line, usage_reply, usage_lines, command_lines, flag_lines, help_reply, version_reply, outcome_of, told_as, IsQueryReply, IsReport};
+ghost use Rattle.dhis_main.specs.Outcome.{line, usage_reply, usage_lines, command_lines, flag_lines, help_reply, version_reply, outcome_of, told_as};
+ghost use Rattle.dhis_main.specs.Outcome.{IsQueryReply, IsReport};
 ghost use Rattle.dhis_main.specs.Run.{RepliesToInput};
 ghost use Rattle.dhis_main.specs.declared.reply.Fault.TheVariants.{Memory as OutOfMemory};
 
@@ -8,6 +9,7 @@ use crate::status::Outcome;
 use bundle_reply::bytes::{reply_to_bytes, reply_to_long};
 use bundle_reply::reply::{Ending, Reply as BundleReply};
 use dh_base::items::Items;
+use dh_base::limits::MOST_INPUT_BYTES;
 use dh_base::memory::Memory;
 use dh_outside::{Clock, FileFault, Source, read_all};
 use sample_report::generated;
@@ -54,7 +56,7 @@ impl<T: Drop> From<AllocFailed<T>> for Fault {
 }
 
 // The most bytes that a bundle may have.
-const MOST_BYTES: u64 = 67_108_864;
+const MOST_BYTES: u64 = MOST_INPUT_BYTES as u64;
 
 // A text with a line feed after it.
 fn line(alloc: Global, text: &str) -> Result<Items<u8>, Memory>
@@ -199,7 +201,8 @@ fn reply_to_query(
 
 // The reply to every query over a bundle that is too long.
 fn reply_to_too_long(alloc: Global) -> Result<Reply, Memory>
-    ensures { IfOk result (λ reply. (user query : List ℕ) (moment : ℤ) (bytes : List ℕ) → most_bytes < length bytes → IsQueryReply user query moment bytes reply) }
+    ensures { IfOk result (λ reply. (user query : List ℕ) (moment : ℤ) (bytes : List ℕ) → most_bytes < length bytes
+        → IsQueryReply user query moment bytes reply) }
 {
     let made = reply_to_long(alloc)?;
     Ok(told_as(made))

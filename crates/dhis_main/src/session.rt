@@ -3,13 +3,14 @@ ghost use Rattle.dhis_main.specs.Shown.{shown, side, folder};
 ghost use Rattle.dhis_main.specs.Session.{status_of, status_over, SessionRuns};
 
 use crate::status::{Outcome, Status};
+use dh_base::limits::MOST_INPUT_BYTES;
 use dh_outside::{Clock, FileFault, FileSet, Sink, Source};
 use offline_session::{SessionEnd, refuse_long, session_over};
 use request_session::Ended;
 use std::alloc::Global;
 
 // The most bytes that a metadata file may have.
-const MOST_BYTES: u64 = 67_108_864;
+const MOST_BYTES: u64 = MOST_INPUT_BYTES as u64;
 
 fn status_of(ended: Ended) -> Status
     ensures { result ≡ status_of ended }

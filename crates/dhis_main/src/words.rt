@@ -2,7 +2,8 @@ ghost use Rattle.std.specs.Prelude.{◌≡◌, ◌≤◌, ◌<◌, ◌^◌, ◌+
 ghost use Rattle.std.specs.List.{list_all};
 ghost use Rattle.std.specs.Char.{is_ascii_digit};
 ghost use Rattle.std.specs.Str.Parse.{digits_value};
-ghost use Rattle.dhis_main.specs.Words.{fits_query, query_words, session_words, generate_words, counted, one_too_many, command_behind, command_of, begins_with_zero, is_plain_number, count_of, count_within, IsFit};
+ghost use Rattle.dhis_main.specs.Words.{fits_query, query_words, session_words, generate_words, counted, one_too_many, command_behind, command_of};
+ghost use Rattle.dhis_main.specs.Words.{begins_with_zero, is_plain_number, count_of, count_within, IsFit};
 
 /// A command of the command line.
 #[derive(Clone, Copy, Drop)]
@@ -160,11 +161,11 @@ pub fn read_words(words: &[&str]) -> Command
 {
     match words {
         [] => Command::Bad(1),
-        [first, rest @ ..] => behind(first, rest),
+        [first, rest @ ..] => beyond(first, rest),
     }
 }
 
-fn behind(first: &str, rest: &[&str]) -> Command
+fn beyond(first: &str, rest: &[&str]) -> Command
     ensures command { result ≡ command_behind first.now (map (λ word. word.now) rest.now) }
     ensures fits { IsFit result (length rest.now + 1) }
 {

@@ -21,10 +21,12 @@ of-days (write.ValueSet key value) h = refl
 of-days (write.ValueCleared key) h = refl
 of-days (write.Complete key day) h = h
 of-days (write.Uncomplete key) h = refl
-of-days (write.EventWritten event) h = and_from (is_day_if_any event.occurred) (is_day_if_any event.scheduled) (day-if-any event.occurred h.0.1.0) (day-if-any event.scheduled h.0.1.1)
+of-days (write.EventWritten event) h =
+    and_from (is_day_if_any event.occurred) (is_day_if_any event.scheduled) (day-if-any event.occurred h.0.1.0) (day-if-any event.scheduled h.0.1.1)
 of-days (write.EventDeleted id) h = refl
 of-days (write.EnrollmentWritten enrollment) h =
-    and_from (is_day_if_any enrollment.enrolled) (is_day_if_any enrollment.occurred) (day-if-any enrollment.enrolled h.1.0) (day-if-any enrollment.occurred h.1.1)
+    and_from (is_day_if_any enrollment.enrolled) (is_day_if_any enrollment.occurred) (day-if-any enrollment.enrolled h.1.0)
+    (day-if-any enrollment.occurred h.1.1)
 of-days (write.EnrollmentDeleted id) h = refl
 of-days (write.EntityWritten entity) h = refl
 of-days (write.EntityDeleted id) h = refl

@@ -17,20 +17,25 @@ use Rattle.engine.proofs.Orders.{reply-in-order}
 abbrev IsLegalFrom : Records → Limits → State → List Act → Type 0
 IsLegalFrom meta limits old acts = (n : ℕ) → (act : Act) → slice_get acts n ≡ Some act → IsReply meta limits (after_from meta old (take n acts)) act
 
-first-of : (meta : Records) (limits : Limits) (old : State) (act : Act) (acts : List Act) → IsLegalFrom meta limits old (act ∷ acts) → IsReply meta limits old act
+first-of : (meta : Records) (limits : Limits) (old : State) (act : Act) (acts : List Act) → IsLegalFrom meta limits old (act ∷ acts)
+    → IsReply meta limits old act
 first-of meta limits old act acts legal = legal zero act refl
 
-rest-of : (meta : Records) (limits : Limits) (old : State) (act : Act) (acts : List Act) → IsLegalFrom meta limits old (act ∷ acts) → IsLegalFrom meta limits (next meta old act) acts
+rest-of : (meta : Records) (limits : Limits) (old : State) (act : Act) (acts : List Act) → IsLegalFrom meta limits old (act ∷ acts)
+    → IsLegalFrom meta limits (next meta old act) acts
 rest-of meta limits old act acts legal = λ n a is. legal (suc n) a is
 
-in-order-from : (meta : Records) (limits : Limits) (old : State) (acts : List Act) → IsLegalFrom meta limits old acts → IsInOrder limits old → IsInOrder limits (after_from meta old acts)
+in-order-from : (meta : Records) (limits : Limits) (old : State) (acts : List Act) → IsLegalFrom meta limits old acts → IsInOrder limits old
+    → IsInOrder limits (after_from meta old acts)
 in-order-from meta limits old [] legal h = h
 in-order-from meta limits old (act ∷ acts) legal h =
-    in-order-from meta limits (next meta old act) acts (rest-of meta limits old act acts legal) (reply-in-order meta limits old act (first-of meta limits old act acts legal) h)
+    in-order-from meta limits (next meta old act) acts (rest-of meta limits old act acts legal)
+    (reply-in-order meta limits old act (first-of meta limits old act acts legal) h)
 
 pub in-order : (meta : Records) (limits : Limits) (acts : List Act) → IsLegal meta limits acts → IsInOrder limits (after meta acts)
 in-order meta limits acts legal =
-    in-order-from meta limits start acts legal (record { published = omega arith; base_cut = omega arith; full = tt; latest = tt; apart = tt; tickets = omega arith })
+    in-order-from meta limits start acts legal (record
+    { published = omega arith; base_cut = omega arith; full = tt; latest = tt; apart = tt; tickets = omega arith })
 
 -- ---- what is published
 
@@ -58,7 +63,8 @@ next-rises meta limits old (swapped ticket (Err memory)) r = omega arith
 next-rises meta limits old (dropped ticket) r = omega arith
 next-rises meta limits old (looked asked reply) r = omega arith
 
-rises-from-first : (meta : Records) (limits : Limits) (old : State) (acts : List Act) (n : ℕ) → IsLegalFrom meta limits old acts → old.published ≤ (after_from meta old (take n acts)).published
+rises-from-first : (meta : Records) (limits : Limits) (old : State) (acts : List Act) (n : ℕ) → IsLegalFrom meta limits old acts
+    → old.published ≤ (after_from meta old (take n acts)).published
 rises-from-first meta limits old [] zero legal = omega arith
 rises-from-first meta limits old [] (suc n) legal = omega arith
 rises-from-first meta limits old (act ∷ acts) zero legal = omega arith
@@ -105,10 +111,12 @@ has-not None latest update is apart = refl
 has-not (Some one) latest update is apart =
     differ-test one.ticket update.ticket (subst (λ l. IfSome l (λ (other : Staged). one.ticket ≢ other.ticket)) is apart)
 
-pub kind-is : (limits : Limits) (state : State) (kind : CutKind) (update : Staged) → IsInOrder limits state → staged_of state kind ≡ Some update → kind_of state update.ticket ≡ kind
+pub kind-is : (limits : Limits) (state : State) (kind : CutKind) (update : Staged) → IsInOrder limits state → staged_of state kind ≡ Some update
+    → kind_of state update.ticket ≡ kind
 kind-is limits state Full update h is = ap (λ b. cond b Full Latest) (has-own update state.full is)
 kind-is limits state Latest update h is = ap (λ b. cond b Full Latest) (has-not state.full state.latest update is h.apart)
 
-pub number-is : (limits : Limits) (state : State) (kind : CutKind) (update : Staged) → IsInOrder limits state → staged_of state kind ≡ Some update → number_of state update.ticket ≡ update.number
+pub number-is : (limits : Limits) (state : State) (kind : CutKind) (update : Staged) → IsInOrder limits state → staged_of state kind ≡ Some update
+    → number_of state update.ticket ≡ update.number
 number-is limits state kind update h is =
     ap (λ k. number_in (staged_of state k)) (kind-is limits state kind update h is) ∙ ap number_in is

@@ -1,3 +1,4 @@
+pub mod AfterLemmas
 pub mod Steps
 pub mod Days
 pub mod Orders

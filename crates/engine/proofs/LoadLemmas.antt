@@ -33,7 +33,8 @@ outcome-refused : (meta : Records) (limits : Limits) (log : List Change) (asked 
 outcome-refused meta limits log asked (Ok found) refused h = absurd h
 outcome-refused meta limits log asked (Err other) refused h = let e = h in cc
 
-pub loads_report : (old new : Seen) (asked : Asked) (report : Report) → Step old.meta old.limits old.state (changed asked (Ok report)) new.state → Brought old (Ok report) new
+pub loads_report : (old new : Seen) (asked : Asked) (report : Report) → Step old.meta old.limits old.state (changed asked (Ok report)) new.state
+    → Brought old (Ok report) new
     → new.faults ≡ 0 → Loads old asked (Ok (Ok report)) new
 unfolding outcome_of
 loads_report old new asked report step brought none = (
@@ -41,7 +42,8 @@ loads_report old new asked report step brought none = (
   (step.1, (ap (λ (s : Seen). s.meta) brought.0, (ap (λ (s : Seen). s.limits) brought.0, none))),
 )
 
-pub loads_refusal : (old new : Seen) (asked : Asked) (fault : ChangeFault) (refusal : Refusal) → Step old.meta old.limits old.state (changed asked (Err fault)) new.state
+pub loads_refusal : (old new : Seen) (asked : Asked) (fault : ChangeFault) (refusal : Refusal)
+    → Step old.meta old.limits old.state (changed asked (Err fault)) new.state
     → Brought old (Err fault) new → IsRefusalBy fault refusal → Loads old asked (Ok (Err refusal)) new
 unfolding outcome_of
 loads_refusal old new asked (change.Refused refused) refusal step brought is =

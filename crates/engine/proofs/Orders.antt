@@ -18,7 +18,8 @@ use Rattle.engine.specs.declared.machine.Report.{Report}
 use Rattle.engine.specs.declared.machine.ChangeFault.{ChangeFault}
 use Rattle.engine.specs.declared.machine.CutFault.{CutFault}
 use Rattle.engine.specs.declared.machine.CutFault.TheVariants as cut
-use Rattle.engine.specs.Machine.{State, judged_in, change_of, has_writes, log_by, by_kind, staged_of, with_staged, is_begun, kind_of, number_in, number_of, published_by, IsCutReply, after_cut, after_swap, after_drop, Act, IsReply, next}
+use Rattle.engine.specs.Machine.{State, judged_in, change_of, has_writes, log_by, by_kind, staged_of, with_staged, is_begun, kind_of, number_in, number_of}
+use Rattle.engine.specs.Machine.{published_by, IsCutReply, after_cut, after_swap, after_drop, Act, IsReply, next}
 use Rattle.engine.specs.Machine.Act.{changed, begun, swapped, dropped, looked}
 use Rattle.engine.specs.Histories.{IsUpdate, IsInOrder}
 use Rattle.engine.specs.Seen.{refused_by, Cuts, Swaps}
@@ -33,11 +34,13 @@ grows-by : (meta : Records) (log : List Change) (asked : Asked) (found : Result 
 grows-by meta log asked (Ok found) = let c = change_of meta asked found in grows (has_writes c) log c
 grows-by meta log asked (Err refused) = omega arith
 
-still : (staged : Option Staged) (old new : State) → length old.log ≤ length new.log → old.ticket ≤ new.ticket → IfSome staged (IsUpdate old) → IfSome staged (IsUpdate new)
+still : (staged : Option Staged) (old new : State) → length old.log ≤ length new.log → old.ticket ≤ new.ticket → IfSome staged (IsUpdate old)
+    → IfSome staged (IsUpdate new)
 still None old new l t h = h
 still (Some update) old new l t h = record { there = let r = h.there in omega arith; given = let r = h.given in omega arith }
 
-pub longer_in_order : (limits : Limits) (old : State) (log : List Change) → length old.log ≤ length log → IsInOrder limits old → IsInOrder limits (record old { log = log })
+pub longer_in_order : (limits : Limits) (old : State) (log : List Change) → length old.log ≤ length log → IsInOrder limits old
+    → IsInOrder limits (record old { log = log })
 longer_in_order limits old log l h = record {
   published = let p = h.published in omega arith;
   base_cut = h.base_cut;
@@ -92,7 +95,8 @@ after-cut-in-order : (limits : Limits) (old : State) (kind : CutKind) (reply : R
 after-cut-in-order limits old kind (Ok update) r h = cut-in-order limits old kind update r.1.1 r.1.0 h
 after-cut-in-order limits old kind (Err fault) r h = h
 
-pub cuts_in_order : (limits : Limits) (old new : State) (kind : CutKind) (reply : Result Staged CutFault) → Cuts limits old kind reply new → IsInOrder limits old → IsInOrder limits new
+pub cuts_in_order : (limits : Limits) (old new : State) (kind : CutKind) (reply : Result Staged CutFault) → Cuts limits old kind reply new
+    → IsInOrder limits old → IsInOrder limits new
 cuts_in_order limits old new kind (Ok update) step h = subst (IsInOrder limits) (sym step.1) (after-cut-in-order limits old kind (Ok update) step.0 h)
 cuts_in_order limits old new kind (Err (cut.Busy ticket)) step h = subst (IsInOrder limits) (sym step.1) h
 cuts_in_order limits old new kind (Err (cut.UpdatesSpent limit)) step h = subst (IsInOrder limits) (sym step.1) h
@@ -130,7 +134,8 @@ number-there : (staged : Option Staged) (state : State) → IfSome staged (IsUpd
 number-there None state h = omega arith
 number-there (Some update) state h = h.there
 
-staged-there : (state : State) (kind : CutKind) → IfSome state.full (IsUpdate state) → IfSome state.latest (IsUpdate state) → number_in (staged_of state kind) ≤ length state.log
+staged-there : (state : State) (kind : CutKind) → IfSome state.full (IsUpdate state) → IfSome state.latest (IsUpdate state)
+    → number_in (staged_of state kind) ≤ length state.log
 staged-there state Full f l = number-there state.full state f
 staged-there state Latest f l = number-there state.latest state l
 
@@ -138,13 +143,15 @@ max-least : (a b c : ℕ) → a ≤ c → b ≤ c → max a b ≤ c
 max-least a b c = grind (arith, nat_tests)
 
 pub swap_is_there : (limits : Limits) (state : State) (ticket : ℕ) → IsInOrder limits state → max state.published (number_of state ticket) ≤ length state.log
-swap_is_there limits state ticket h = max-least state.published (number_of state ticket) (length state.log) h.published (staged-there state (kind_of state ticket) h.full h.latest)
+swap_is_there limits state ticket h =
+    max-least state.published (number_of state ticket) (length state.log) h.published (staged-there state (kind_of state ticket) h.full h.latest)
 
 base-below : (kind : CutKind) (number base published : ℕ) → base ≤ published → by_kind kind number base ≤ max published number
 base-below Full number base published h = le-max_right published number
 base-below Latest number base published h = let m = le-max_left published number in omega arith
 
-published-in-order : (limits : Limits) (old : State) (kind : CutKind) (number published : ℕ) → published ≡ max old.published number → published ≤ length old.log → IsInOrder limits old
+published-in-order : (limits : Limits) (old : State) (kind : CutKind) (number published : ℕ) → published ≡ max old.published number → published ≤ length old.log
+    → IsInOrder limits old
     → IsInOrder limits (record old { published = published; base_cut = by_kind kind number old.base_cut })
 published-in-order limits old kind number published is there h = record {
   published = there;
@@ -162,7 +169,8 @@ after-swap-in-order limits old ticket published is h =
     ended-in-order limits (record old { published = published; base_cut = by_kind kind number old.base_cut }) kind
     (published-in-order limits old kind number published is (let t = swap_is_there limits old ticket h in omega (arith, is)) h)
 
-pub swaps_in_order : (limits : Limits) (old new : State) (ticket : ℕ) (reply : Result ℕ Memory) → Swaps old ticket reply new → IsInOrder limits old → IsInOrder limits new
+pub swaps_in_order : (limits : Limits) (old new : State) (ticket : ℕ) (reply : Result ℕ Memory) → Swaps old ticket reply new → IsInOrder limits old
+    → IsInOrder limits new
 swaps_in_order limits old new ticket (Ok published) step h = subst (IsInOrder limits) (sym step.1) (after-swap-in-order limits old ticket published step.0.1 h)
 swaps_in_order limits old new ticket (Err memory) step h = subst (IsInOrder limits) (sym step) h
 
@@ -172,7 +180,8 @@ swap_rises old new ticket (Err memory) step = tt
 
 -- ---- each reply
 
-pub reply-in-order : (meta : Records) (limits : Limits) (old : State) (act : Act) → IsReply meta limits old act → IsInOrder limits old → IsInOrder limits (next meta old act)
+pub reply-in-order : (meta : Records) (limits : Limits) (old : State) (act : Act) → IsReply meta limits old act → IsInOrder limits old
+    → IsInOrder limits (next meta old act)
 reply-in-order meta limits old (changed asked reply) r h = change-in-order meta limits old asked reply h
 reply-in-order meta limits old (begun kind reply) r h = after-cut-in-order limits old kind reply r h
 reply-in-order meta limits old (swapped ticket (Ok published)) r h = after-swap-in-order limits old ticket published r.1 h
@@ -185,7 +194,8 @@ reply-in-order meta limits old (looked asked reply) r h = h
 busy : (update : Staged) (fault : CutFault) → Some (cut.Busy update.ticket) ≡ Some fault → fault ≡ cut.Busy update.ticket
 busy update fault is = cc
 
-spent : (ticket limit : ℕ) (b : Bool) (fault : CutFault) → cond b (Some (cut.UpdatesSpent limit)) None ≡ Some fault → (b ≡ true) × (fault ≡ cut.UpdatesSpent limit)
+spent : (ticket limit : ℕ) (b : Bool) (fault : CutFault) → cond b (Some (cut.UpdatesSpent limit)) None ≡ Some fault
+    → (b ≡ true) × (fault ≡ cut.UpdatesSpent limit)
 spent ticket limit true fault is = (refl, cc)
 spent ticket limit false fault is = absurd (cc)
 
@@ -198,7 +208,8 @@ refused-by limits state kind None fault is refused =
     let same : state.ticket ≡ limits.updates = let e = two.0 in grind (arith, nat_tests) in
     subst (λ f. Cuts limits state kind (Err f) state) (sym two.1) ((is, (same, refl)), refl)
 
-pub refused_cuts : (limits : Limits) (state : State) (kind : CutKind) (fault : CutFault) → refused_by (staged_of state kind) state.ticket limits.updates ≡ Some fault
+pub refused_cuts : (limits : Limits) (state : State) (kind : CutKind) (fault : CutFault)
+    → refused_by (staged_of state kind) state.ticket limits.updates ≡ Some fault
     → Cuts limits state kind (Err fault) state
 refused_cuts limits state kind fault refused = refused-by limits state kind (staged_of state kind) fault refl refused
 
@@ -220,7 +231,8 @@ begun_cuts limits old new kind ticket number none t n is =
 
 -- ---- a swap, from what its parts do
 
-pub swaps_of : (old new : State) (ticket published number : ℕ) (kind : CutKind) → IsTrue (is_begun old ticket) → kind ≡ kind_of old ticket → number ≡ number_in (staged_of old kind)
+pub swaps_of : (old new : State) (ticket published number : ℕ) (kind : CutKind) → IsTrue (is_begun old ticket) → kind ≡ kind_of old ticket
+    → number ≡ number_in (staged_of old kind)
     → published ≡ max old.published number → new ≡ with_staged (published_by old kind number published) kind None → Swaps old ticket (Ok published) new
 swaps_of old new ticket published number kind owns k n p is =
     let number-is : number ≡ number_of old ticket = n ∙ ap (λ x. number_in (staged_of old x)) k in (

@@ -50,7 +50,11 @@ append-puts old new c found number some h =
         ap (λ b. if b then passed old.limits (old.changes ++ c ∷ []) else None) e ∙ h.0,
         ap (report-with found) n,
       ),
-      (ap (λ (l : LogSeen). l.changes) h.1.1.1 ∙ g, (ap (λ (l : LogSeen). l.limits) h.1.1.1, (h.1.1.0, ap (λ (l : LogSeen). is_some l.kept) h.1.1.1 ∙ still-known old.kept _))),
+      (
+        ap (λ (l : LogSeen). l.changes) h.1.1.1
+            ∙ g,
+        (ap (λ (l : LogSeen). l.limits) h.1.1.1, (h.1.1.0, ap (λ (l : LogSeen). is_some l.kept) h.1.1.1 ∙ still-known old.kept _)),
+      ),
     )
 
 -- what is judged over what the log records is what the request comes to over the log
@@ -59,7 +63,8 @@ pub judged-is : (meta : Records) (log : List Change) (asked : Asked) (facts : Fa
 unfolding judged
 judged-is meta log asked facts f = ap (λ x. judged_by x meta asked.who asked.moment asked.request) f
 
-puts-brings : (meta : Records) (old new : LogSeen) (asked : Asked) (found : Judged) (result : Result Report ChangeFault) → Puts old (change_of meta asked found) found result new
+puts-brings : (meta : Records) (old new : LogSeen) (asked : Asked) (found : Judged) (result : Result Report ChangeFault)
+    → Puts old (change_of meta asked found) found result new
     → BringsIf (change_lacks result) meta old asked (Ok found) result new
 puts-brings meta old new asked found (Ok report) h = h
 puts-brings meta old new asked found (Err (change.Refused refused)) h = absurd h
@@ -67,17 +72,20 @@ puts-brings meta old new asked found (Err (change.LogFull limit)) h = h
 puts-brings meta old new asked found (Err change.StoreFault) h = h
 puts-brings meta old new asked found (Err change.Memory) h = h
 
-pub brings-put : (meta : Records) (old new : LogSeen) (asked : Asked) (user : Option (List ℕ)) (facts : Facts) (found : Judged) (result : Result Report ChangeFault)
+pub brings-put : (meta : Records) (old new : LogSeen) (asked : Asked) (user : Option (List ℕ)) (facts : Facts) (found : Judged)
+    (result : Result Report ChangeFault)
     → user ≡ maker_of meta asked.who → facts ≡ facts_in (writes_of old.changes) → judged_by facts meta asked.who asked.moment asked.request ≡ Ok found
     → Puts old (record { user = user; moment = asked.moment; writes = found.writes }) found result new → Brings meta old asked result new
 brings-put meta old new asked user facts found result u f h p =
     subst (λ (v : Result Judged Refusal). BringsIf (change_lacks result) meta old asked v result new) (sym h ∙ judged-is meta old.changes asked facts f)
-    (puts-brings meta old new asked found result (subst (λ (x : Option (List ℕ)). Puts old (record { user = x; moment = asked.moment; writes = found.writes }) found result new) u p))
+    (puts-brings meta old new asked found result (subst (λ (x : Option (List ℕ)).
+    Puts old (record { user = x; moment = asked.moment; writes = found.writes }) found result new) u p))
 
 pub brings-refused : (meta : Records) (log : LogSeen) (asked : Asked) (facts : Facts) (refused : Refusal) → facts ≡ facts_in (writes_of log.changes)
     → judged_by facts meta asked.who asked.moment asked.request ≡ Err refused → Brings meta log asked (Err (change.Refused refused)) log
 brings-refused meta log asked facts refused f h =
-    subst (λ (v : Result Judged Refusal). BringsBy meta log asked v (Err (change.Refused refused)) log) (sym h ∙ judged-is meta log.changes asked facts f) (refl, refl)
+    subst (λ (v : Result Judged Refusal). BringsBy meta log asked v (Err (change.Refused refused)) log) (sym h
+    ∙ judged-is meta log.changes asked facts f) (refl, refl)
 
 -- ---- the same beside the tables
 
@@ -90,7 +98,8 @@ after-by meta old asked found (Ok report) = record old { log = log_by meta old.l
 after-by meta old asked found (Err fault) = old
 
 abbrev StepFrom : Records → Limits → State → Asked → Result Judged Refusal → Result Report ChangeFault → State → Type 0
-StepFrom meta limits old asked found result new = StepBy (change_lacks result) (IsReplyBy meta limits old.log asked found result) (after-by meta old asked found result) old new
+StepFrom meta limits old asked found result new =
+    StepBy (change_lacks result) (IsReplyBy meta limits old.log asked found result) (after-by meta old asked found result) old new
 
 put-step : (meta : Records) (shown : Shown) (old new : LogSeen) (asked : Asked) (found : Judged) (result : Result Report ChangeFault)
     → BringsIf (change_lacks result) meta old asked (Ok found) result new
@@ -127,12 +136,23 @@ step-is meta limits old new asked (Err change.Memory) h = h
 pub brings-step : (meta : Records) (shown : Shown) (old new : LogSeen) (asked : Asked) (result : Result Report ChangeFault) → Brings meta old asked result new
     → Step meta old.limits (state_of old.changes shown) (changed asked result) (state_of new.changes shown)
 brings-step meta shown old new asked result h =
-    step-is meta old.limits (state_of old.changes shown) (state_of new.changes shown) asked result (step-by meta shown old new asked (judged_in meta old.changes asked) result h)
+    step-is meta old.limits (state_of old.changes shown) (state_of new.changes shown) asked result
+    (step-by meta shown old new asked (judged_in meta old.changes asked) result h)
 
 put-brought : (meta : Records) (shown : Shown) (old new : LogSeen) (asked : Asked) (found : Judged) (result : Result Report ChangeFault)
     → BringsIf (change_lacks result) meta old asked (Ok found) result new → Brought (seen_of old meta shown) result (seen_of new meta shown)
-put-brought meta shown old new asked found (Ok report) h =
-    (ap (λ (l : Limits). record { state = state_of new.changes shown; limits = l; meta = meta; acknowledged = new.acknowledged; kept = new.kept; faults = new.faults }) h.1.1.0, h.1.1.1)
+put-brought meta shown old new asked found (Ok report) h = (
+  ap (λ (l : Limits). record {
+    state = state_of new.changes shown;
+    limits = l;
+    meta = meta;
+    acknowledged = new.acknowledged;
+    kept = new.kept;
+    faults =
+        new.faults;
+  }) h.1.1.0,
+  h.1.1.1,
+)
 put-brought meta shown old new asked found (Err (change.Refused refused)) h = absurd h
 put-brought meta shown old new asked found (Err (change.LogFull limit)) h = ap (λ (l : LogSeen). seen_of l meta shown) h.1
 put-brought meta shown old new asked found (Err change.StoreFault) h = ((h.1.0, h.1.1.0), ap (λ (l : LogSeen). seen_of l meta shown) h.1.1.1)
@@ -151,12 +171,14 @@ brought-by : (meta : Records) (shown : Shown) (old new : LogSeen) (asked : Asked
 brought-by meta shown old new asked (Ok found) result h = put-brought meta shown old new asked found result h
 brought-by meta shown old new asked (Err refused) result h = refused-brought meta shown old new asked refused result h
 
-pub brings-brought : (meta : Records) (shown : Shown) (old new : LogSeen) (asked : Asked) (result : Result Report ChangeFault) → Brings meta old asked result new
+pub brings-brought : (meta : Records) (shown : Shown) (old new : LogSeen) (asked : Asked) (result : Result Report ChangeFault)
+    → Brings meta old asked result new
     → Brought (seen_of old meta shown) result (seen_of new meta shown)
 brings-brought meta shown old new asked result h = brought-by meta shown old new asked (judged_in meta old.changes asked) result h
 
 -- a log of the same limits and changes
-same-parts : (meta : Records) (shown : Shown) (old new : LogSeen) → IsWhole new → new.changes ≡ old.changes → new.limits ≡ old.limits → AreParts old meta shown → AreParts new meta shown
+same-parts : (meta : Records) (shown : Shown) (old new : LogSeen) → IsWhole new → new.changes ≡ old.changes → new.limits ≡ old.limits → AreParts old meta shown
+    → AreParts new meta shown
 same-parts meta shown old new w c l p = record {
   whole = w;
   order = subst (λ x. IsInOrder new.limits (state_of x shown)) (sym c) (subst (λ x. IsInOrder x (state_of old.changes shown)) (sym l) p.order);
@@ -172,16 +194,19 @@ longer-by true log c = let e = length-append log (c ∷ []) in omega arith
 longer-by false log c = omega arith
 
 -- a log of the same limits with a change last, if it has writes
-grown-parts : (meta : Records) (shown : Shown) (old new : LogSeen) (c : Change) → IsWhole new → new.changes ≡ grown old.changes c → new.limits ≡ old.limits → AreParts old meta shown
+grown-parts : (meta : Records) (shown : Shown) (old new : LogSeen) (c : Change) → IsWhole new → new.changes ≡ grown old.changes c → new.limits ≡ old.limits
+    → AreParts old meta shown
     → AreParts new meta shown
 grown-parts meta shown old new c w is l p = record {
   whole = w;
   order = subst (λ x. IsInOrder new.limits (state_of x shown)) (sym is) (subst (λ x. IsInOrder x (state_of (grown old.changes c) shown)) (sym l)
       (longer_in_order old.limits (state_of old.changes shown) (grown old.changes c) (longer-by (has_writes c) old.changes c) p.order));
-  tables = p.tables ∙ ap (tables_of meta) (sym (first-of (has_writes c) old.changes c shown.published p.order.published)) ∙ ap (λ x. tables_of meta (take shown.published x)) (sym is);
+  tables = p.tables ∙ ap (tables_of meta) (sym (first-of (has_writes c) old.changes c shown.published p.order.published))
+      ∙ ap (λ x. tables_of meta (take shown.published x)) (sym is);
 }
 
-parts-by : (meta : Records) (shown : Shown) (old new : LogSeen) (asked : Asked) (found : Result Judged Refusal) (result : Result Report ChangeFault) → AreParts old meta shown
+parts-by : (meta : Records) (shown : Shown) (old new : LogSeen) (asked : Asked) (found : Result Judged Refusal) (result : Result Report ChangeFault)
+    → AreParts old meta shown
     → IsWhole new → BringsIf (change_lacks result) meta old asked found result new → AreParts new meta shown
 parts-by meta shown old new asked (Ok found) (Ok report) p w h = grown-parts meta shown old new (change_of meta asked found) w h.1.0 h.1.1.0 p
 parts-by meta shown old new asked (Ok found) (Err (change.Refused refused)) p w h = absurd h
@@ -189,17 +214,21 @@ parts-by meta shown old new asked (Ok found) (Err (change.LogFull limit)) p w h 
     same-parts meta shown old new w (ap (λ (l : LogSeen). l.changes) h.1) (ap (λ (l : LogSeen). l.limits) h.1) p
 parts-by meta shown old new asked (Ok found) (Err change.StoreFault) p w h =
     same-parts meta shown old new w (ap (λ (l : LogSeen). l.changes) h.1.1.1) (ap (λ (l : LogSeen). l.limits) h.1.1.1) p
-parts-by meta shown old new asked (Ok found) (Err change.Memory) p w h = same-parts meta shown old new w (ap (λ (l : LogSeen). l.changes) h) (ap (λ (l : LogSeen). l.limits) h) p
-parts-by meta shown old new asked (Err refused) (Ok report) p w h = same-parts meta shown old new w (ap (λ (l : LogSeen). l.changes) h.1) (ap (λ (l : LogSeen). l.limits) h.1) p
+parts-by meta shown old new asked (Ok found) (Err change.Memory) p w h =
+    same-parts meta shown old new w (ap (λ (l : LogSeen). l.changes) h) (ap (λ (l : LogSeen). l.limits) h) p
+parts-by meta shown old new asked (Err refused) (Ok report) p w h =
+    same-parts meta shown old new w (ap (λ (l : LogSeen). l.changes) h.1) (ap (λ (l : LogSeen). l.limits) h.1) p
 parts-by meta shown old new asked (Err refused) (Err (change.Refused other)) p w h =
     same-parts meta shown old new w (ap (λ (l : LogSeen). l.changes) h.1) (ap (λ (l : LogSeen). l.limits) h.1) p
 parts-by meta shown old new asked (Err refused) (Err (change.LogFull limit)) p w h =
     same-parts meta shown old new w (ap (λ (l : LogSeen). l.changes) h.1) (ap (λ (l : LogSeen). l.limits) h.1) p
 parts-by meta shown old new asked (Err refused) (Err change.StoreFault) p w h =
     same-parts meta shown old new w (ap (λ (l : LogSeen). l.changes) h.1) (ap (λ (l : LogSeen). l.limits) h.1) p
-parts-by meta shown old new asked (Err refused) (Err change.Memory) p w h = same-parts meta shown old new w (ap (λ (l : LogSeen). l.changes) h) (ap (λ (l : LogSeen). l.limits) h) p
+parts-by meta shown old new asked (Err refused) (Err change.Memory) p w h =
+    same-parts meta shown old new w (ap (λ (l : LogSeen). l.changes) h) (ap (λ (l : LogSeen). l.limits) h) p
 
-pub brings-parts : (meta : Records) (shown : Shown) (old new : LogSeen) (asked : Asked) (result : Result Report ChangeFault) → AreParts old meta shown → IsWhole new
+pub brings-parts : (meta : Records) (shown : Shown) (old new : LogSeen) (asked : Asked) (result : Result Report ChangeFault) → AreParts old meta shown
+    → IsWhole new
     → Brings meta old asked result new → AreParts new meta shown
 brings-parts meta shown old new asked result p w h = parts-by meta shown old new asked (judged_in meta old.changes asked) result p w h
 
@@ -221,5 +250,6 @@ first-few n log h = let e = ap length (writes-parts n log) in let f = length-app
 pub first-fits : (n : ℕ) (log : List Change) → All WriteFits (writes_of log) → All WriteFits (writes_of (take n log))
 first-fits n log h =
     let first = writes_of (take n log) in
-    let e : take (length first) (writes_of log) ≡ first = ap (λ x. take (length first) x) (writes-parts n log) ∙ take_at first (writes_of (drop n log)) (length first) refl in
+    let e : take (length first) (writes_of log) ≡ first = ap (λ x. take (length first) x) (writes-parts n log)
+    ∙ take_at first (writes_of (drop n log)) (length first) refl in
     subst (All WriteFits) e (All-take WriteFits (length first) (writes_of log) h)

@@ -16,10 +16,11 @@ use Rattle.engine.specs.declared.machine.ChangeFault.{ChangeFault}
 use Rattle.engine.specs.declared.machine.ChangeFault.TheVariants as change
 use Rattle.engine.specs.Machine.{start, judged_in, change_of, stopped, report_of, log_by}
 use Rattle.engine.specs.Seen.{Seen}
+use Rattle.dh_base.specs.declared.limits.TheConstants.{MOST_RECORDS, MOST_LOG_BYTES, MOST_UPDATES}
 
 -- the largest limits that a log may have
 abbrev pub largest : Limits
-largest = record { writes = 4194304; bytes = 536870912; updates = 1000000000000 }
+largest = record { writes = MOST_RECORDS; bytes = MOST_LOG_BYTES; updates = MOST_UPDATES }
 
 -- the machine before the first call: no change is there, and no fault of the store
 abbrev pub started : Records → Seen

@@ -1,6 +1,7 @@
 -- The machine: a log of changes, tables that stand for the first changes of the log, and updates of the tables, of which one of each
 -- kind may be begun. Each call is one step: in a state it gives a reply and goes on to a state. A call out of memory leaves the state.
-use Rattle.std.specs.Prelude.{◌≡◌, ◌≢◌, ◌==◌, ◌<◌, ◌≤◌, ◌+◌, ◌++◌, ◌∷◌, ◌||◌, [], ℕ, Bool, true, false, IsTrue, nat_lt, if◌then◌else◌, max, drop, List, length, Option, None, Some, option_map, Result, Ok, Err}
+use Rattle.std.specs.Prelude.{◌≡◌, ◌≢◌, ◌==◌, ◌<◌, ◌≤◌, ◌+◌, ◌++◌, ◌∷◌, ◌||◌, [], ℕ, Bool, true, false, IsTrue, nat_lt, if◌then◌else◌, max, drop, List}
+use Rattle.std.specs.Prelude.{length, Option, None, Some, option_map, Result, Ok, Err}
 use Rattle.dh_base.specs.declared.codes.Refusal.{Refusal}
 use Rattle.dh_base.specs.declared.memory.Memory.{Memory}
 use Rattle.dh_base.specs.declared.plain.CutKind.{CutKind}

@@ -1,5 +1,6 @@
 -- What the engine shows of itself, and what always holds of it.
-use Rattle.std.specs.Prelude.{is_some, [], map, ◌≡◌, ◌==◌, ◌≤◌, if◌then◌else◌, ℕ, Bool, true, false, List, length, take, Option, None, Some, IfSome, Result, Ok, Err}
+use Rattle.std.specs.Prelude.{is_some, [], map, ◌≡◌, ◌==◌, ◌≤◌, if◌then◌else◌, ℕ, Bool, true, false, List, length, take, Option, None, Some, IfSome, Result}
+use Rattle.std.specs.Prelude.{Ok, Err}
 use Rattle.std.specs.Arc.{arc_value}
 use Rattle.dh_base.specs.declared.codes.Refusal.{Refusal}
 use Rattle.dh_base.specs.declared.memory.Memory.{Memory}
@@ -23,7 +24,8 @@ use Rattle.engine.specs.declared.machine.CutFault.TheVariants as cut
 use Rattle.engine.specs.declared.machine.View.{View}
 use Rattle.engine.specs.declared.machine.LookFault.{LookFault}
 use Rattle.engine.specs.Histories.{IsInOrder}
-use Rattle.engine.specs.Machine.{State, StepBy, IsPutReply, judged_in, change_of, change_lacks, grown, IsCutReply, after_cut, cut_lacks, IsSwapReply, after_swap, swap_lacks, IsLookReply, look_lacks, changes_for}
+use Rattle.engine.specs.Machine.{State, StepBy, IsPutReply, judged_in, change_of, change_lacks, grown, IsCutReply, after_cut, cut_lacks, IsSwapReply}
+use Rattle.engine.specs.Machine.{after_swap, swap_lacks, IsLookReply, look_lacks, changes_for}
 use Rattle.table_rows.specs.Store.{contents_in}
 use Rattle.engine.specs.Tables.{tables_of}
 

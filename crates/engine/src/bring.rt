@@ -93,7 +93,8 @@ pub(crate) fn change<K: Keeper>(
 ) -> Result<Report, ChangeFault>
     requires parts { AreParts log.old meta.now shown.now }
     requires known { IsKnown meta.now who }
-    ensures step { Step meta.now log.old.limits (state_of log.old.changes shown.now) (changed (record { who = who; moment = moment; request = request.now }) result) (state_of log.new.changes shown.now) }
+    ensures step { Step meta.now log.old.limits (state_of log.old.changes shown.now)
+        (changed (record { who = who; moment = moment; request = request.now }) result) (state_of log.new.changes shown.now) }
     ensures brought { Brought (seen_of log.old meta.now shown.now) result (seen_of log.new meta.now shown.now) }
     ensures parts { AreParts log.new meta.now shown.now }
     ensures sure { NeverFails K.keeper_faults → log.old.faults ≡ 0 → log.new.faults ≡ 0 }

@@ -1,12 +1,14 @@
 //! The engine: the machine as a value, over a keeper that stores the log.
-ghost use Rattle.std.specs.Prelude.{◌≡◌, ◌≤◌, IsTrue, length, take, option_map, IfOk};
+ghost use Rattle.std.specs.Prelude.{◌≡◌, ◌≤◌, IsTrue, List, length, take, option_map, IfOk};
 ghost use Rattle.std.specs.Arc.{arc_value};
 ghost use Rattle.dh_base.specs.declared.plain.CutKind.TheVariants.{Full};
+ghost use Rattle.dh_changes.specs.declared.change.Change.{Change};
 ghost use Rattle.change_log.specs.Log.{AreLimits, NeverFails};
 ghost use Rattle.value_import.specs.Outcomes.{IsKnown};
 ghost use Rattle.engine.specs.Machine.{start, Step, is_begun};
 ghost use Rattle.engine.specs.Machine.Act.{changed, begun, swapped, dropped, looked};
 ghost use Rattle.table_rows.specs.Store.{contents_in};
+ghost use Rattle.engine.specs.MetaAfter.{meta_after, IsAfter, published_meta};
 ghost use Rattle.engine.specs.Tables.{tables_of};
 ghost use Rattle.engine.specs.Seen.{IsSound, Brought, IsCutOf, update_in, published_in};
 
@@ -31,6 +33,15 @@ fn ticket_of(staged: Option<Staged>) -> Option<u64>
     staged.map(|update| update.ticket)
 }
 
+// No change of today shares an object or moves a unit.
+#[tactic(auto, unfolding(crate::specs::MetaAfter::meta_after))]
+fn meta_after(meta: &Metadata) -> &Metadata
+    ensures value { (log : List Change) → result.now ≡ meta_after meta.now log }
+    ensures after { (log : List Change) → IsAfter meta.now log result.now }
+{
+    meta
+}
+
 /// The log with its tables.
 #[derive(Drop)]
 pub struct Engine<K: Keeper> {
@@ -42,7 +53,7 @@ pub struct Engine<K: Keeper> {
 impl<K: Keeper> Model for Engine<K> {
     ghost use Rattle.std.specs.Arc.{arc_value};
     ghost use Rattle.std.specs.Coded.{codes};
-    ghost use Rattle.expr_lang.specs.contracts.tree.Tree as expression;
+    ghost use Rattle.expr_lang.specs.contracts.expr.Expr as expression;
     ghost use Rattle.engine.specs.Seen.{Seen, seen_of, AreParts};
 
     ghost Value = { Seen };
@@ -65,7 +76,8 @@ impl<K: Keeper> Engine<K> {
     ) -> Result<Engine<K>, Memory>
         requires empty { K.acknowledged keeper ≡ 0 }
         requires limits { AreLimits limits }
-        ensures { IfOk result (λ engine. engine ≡ record { state = start; limits = limits; meta = arc_value meta; acknowledged = 0; kept = K.kept keeper; faults = K.keeper_faults keeper }) }
+        ensures { IfOk result (λ engine. engine ≡ record
+            { state = start; limits = limits; meta = arc_value meta; acknowledged = 0; kept = K.kept keeper; faults = K.keeper_faults keeper }) }
     {
         let tables = tables_of(alloc, &meta, &[])?;
         let log = ChangeLog::new(alloc, keeper, limits);
@@ -90,7 +102,8 @@ impl<K: Keeper> Engine<K> {
         request: &ChangeRequest,
     ) -> Result<Report, ChangeFault>
         requires { IsKnown self.old.meta who }
-        ensures step { Step self.old.meta self.old.limits self.old.state (changed (record { who = who; moment = moment; request = request.now }) result) self.new.state }
+        ensures step { Step self.old.meta self.old.limits self.old.state (changed (record { who = who; moment = moment; request = request.now }) result)
+            self.new.state }
         ensures brought { Brought self.old result self.new }
         ensures sure { NeverFails K.keeper_faults → self.old.faults ≡ 0 → self.new.faults ≡ 0 }
         ensures sound { IsSound self.new }
@@ -153,6 +166,7 @@ impl<K: Keeper> Engine<K> {
     pub fn look(&self, asked: u64) -> Result<View, LookFault>
         ensures step { Step self.now.meta self.now.limits self.now.state (looked asked (published_in result)) self.now.state }
         ensures tables { IfOk result (λ view. contents_in (arc_value view.tables) ≡ tables_of self.now.meta (take view.published self.now.state.log)) }
+        ensures published { IfOk result (λ view. view.published ≡ self.now.state.published) }
     {
         look(&self.shown, asked)
     }
@@ -170,6 +184,22 @@ impl<K: Keeper> Engine<K> {
             full: ticket_of(self.shown.full),
             latest: ticket_of(self.shown.latest),
         }
+    }
+
+    /// The metadata, with rights and the tree as the published changes leave them.
+    pub fn published_meta(&self) -> &Metadata
+        ensures value { result.now ≡ published_meta self.now }
+        ensures after { IsAfter self.now.meta (take self.now.state.published self.now.state.log) result.now }
+    {
+        meta_after(&self.meta)
+    }
+
+    /// The metadata, with rights and the tree as all changes leave them.
+    pub fn latest_meta(&self) -> &Metadata
+        ensures value { result.now ≡ meta_after self.now.meta self.now.state.log }
+        ensures after { IsAfter self.now.meta self.now.state.log result.now }
+    {
+        meta_after(&self.meta)
     }
 
     /// The metadata.

@@ -13,6 +13,7 @@ use change_log::Limits;
 use change_requests::ChangeRequest;
 use dh_base::codes::{Code, Refusal};
 use dh_base::items::Items;
+use dh_base::limits::{MOST_LOG_BYTES, MOST_RECORDS, MOST_UPDATES};
 use dh_base::memory::Memory;
 use dh_base::plain::CutKind;
 use dh_metadata::metadata::Metadata;
@@ -23,9 +24,9 @@ use std::sync::Arc;
 
 // The largest limits that a log may have.
 const LARGEST: Limits = Limits {
-    writes: 4_194_304,
-    bytes: 536_870_912,
-    updates: 1_000_000_000_000,
+    writes: MOST_RECORDS as u64,
+    bytes: MOST_LOG_BYTES,
+    updates: MOST_UPDATES,
 };
 
 /// A keeper that keeps nothing for good. It counts the bytes that it acknowledged, and never fails.
@@ -118,6 +119,7 @@ pub fn tables_of_all(alloc: Global, engine: &mut Engine<Unkept>) -> Result<Arc<T
     requires more { engine.old.state.ticket < engine.old.limits.updates }
     ensures tables { IfOk result (λ tables. contents_in (arc_value tables) ≡ tables_of engine.old.meta engine.old.state.log) }
     ensures meta { engine.new.meta ≡ engine.old.meta }
+    ensures log { engine.new.state.log ≡ engine.old.state.log }
 {
     let Ok(cut) = engine.cut(alloc, CutKind::Full) else {
         return Err(Memory);

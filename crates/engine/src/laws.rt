@@ -20,12 +20,15 @@ pub fn published_was_swapped()
 
 /// What is published never falls along a legal history.
 pub fn published_never_falls()
-    ensures { (meta : Records) → (limits : Limits) → (acts : List Act) → (first later : ℕ) → IsLegal meta limits acts → first ≤ later → (after meta (take first acts)).published ≤ (after meta (take later acts)).published }
+    ensures { (meta : Records) → (limits : Limits) → (acts : List Act) → (first later : ℕ) → IsLegal meta limits acts → first ≤ later
+        → (after meta (take first acts)).published ≤ (after meta (take later acts)).published }
 {}
 
 /// In a state in order a ticket tells its update: the kind and the number.
 pub fn tickets_tell_updates()
     ensures begun { (state : State) → (kind : CutKind) → (update : Staged) → staged_of state kind ≡ Some update → is_begun state update.ticket ≡ true }
-    ensures kind { (limits : Limits) → (state : State) → (kind : CutKind) → (update : Staged) → IsInOrder limits state → staged_of state kind ≡ Some update → kind_of state update.ticket ≡ kind }
-    ensures number { (limits : Limits) → (state : State) → (kind : CutKind) → (update : Staged) → IsInOrder limits state → staged_of state kind ≡ Some update → number_of state update.ticket ≡ update.number }
+    ensures kind { (limits : Limits) → (state : State) → (kind : CutKind) → (update : Staged) → IsInOrder limits state → staged_of state kind ≡ Some update
+        → kind_of state update.ticket ≡ kind }
+    ensures number { (limits : Limits) → (state : State) → (kind : CutKind) → (update : Staged) → IsInOrder limits state → staged_of state kind ≡ Some update
+        → number_of state update.ticket ≡ update.number }
 {}

@@ -6,6 +6,7 @@ ghost use Rattle.change_bytes.specs.Forms.{WriteFits};
 ghost use Rattle.change_log.specs.Log.{writes_of};
 ghost use Rattle.table_rows.specs.Store.{contents_in};
 ghost use Rattle.engine.specs.Tables.{tables_of};
+ghost use Rattle.dh_base.specs.declared.limits.TheConstants.{MOST_RECORDS};
 
 use dh_base::items::Items;
 use dh_base::memory::Memory;
@@ -16,12 +17,13 @@ use std::alloc::Global;
 use std::marker::Model;
 use std::sync::Arc;
 use table_build::listed::build;
-use table_rows::{EventRow, Group, ListRows, RegRow, Row, RowStore, Sum};
+use table_rows::{EventRow, Group, RegRow, Row, RowStore, Sum};
+use table_sums::SummedRows;
 
 /// The tables, as a store of rows. How they are kept is not shown.
 #[derive(Drop)]
 pub struct Tables {
-    store: ListRows,
+    store: SummedRows,
 }
 
 impl Model for Tables {
@@ -86,7 +88,7 @@ pub(crate) fn tables_of(
     meta: &Metadata,
     changes: &[Arc<Change>],
 ) -> Result<Arc<Tables>, Memory>
-    requires few { length (writes_of (map arc_value changes.now)) ≤ 4194304 }
+    requires few { length (writes_of (map arc_value changes.now)) ≤ MOST_RECORDS }
     requires fits { All WriteFits (writes_of (map arc_value changes.now)) }
     ensures { IfOk result (λ tables. contents_in (arc_value tables) ≡ tables_of meta.now (map arc_value changes.now)) }
 {

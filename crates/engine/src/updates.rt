@@ -12,6 +12,7 @@ ghost use Rattle.table_rows.specs.Store.{contents_in};
 ghost use Rattle.engine.specs.Tables.{tables_of};
 ghost use Rattle.engine.specs.Histories.{IsInOrder};
 ghost use Rattle.engine.specs.Seen.{state_of, update_in, published_in, IsCutOf, refused_by, spent_of, Cuts, Swaps, Looks};
+ghost use Rattle.dh_base.specs.declared.limits.TheConstants.{MOST_RECORDS, MOST_UPDATES};
 
 use crate::machine::{Cut, CutFault, LookFault, Staged, View};
 use crate::tables::{Tables, tables_of};
@@ -114,7 +115,8 @@ fn spent(ticket: u64, limit: u64) -> Option<CutFault>
 fn stage(shown: &mut Shown, kind: CutKind, number: u64) -> u64
     requires { shown.old.ticket < 2 ^ 64 - 1 }
     ensures ticket { result ≡ shown.old.ticket + 1 }
-    ensures staged { (log : List Change) → state_of log shown.new ≡ after_cut (state_of log shown.old) kind (Ok (record { ticket = shown.old.ticket + 1; number = number })) }
+    ensures staged { (log : List Change)
+        → state_of log shown.new ≡ after_cut (state_of log shown.old) kind (Ok (record { ticket = shown.old.ticket + 1; number = number })) }
     ensures published { shown.new.published ≡ shown.old.published }
     ensures tables { shown.new.tables ≡ shown.old.tables }
 {
@@ -133,7 +135,7 @@ fn begin(
     kind: CutKind,
 ) -> Result<Cut, CutFault>
     requires order { IsInOrder limits.now (state_of (map arc_value changes.now) shown.old) }
-    requires limits { limits.now.updates ≤ 1000000000000 }
+    requires limits { limits.now.updates ≤ MOST_UPDATES }
     ensures step { Cuts limits.now (state_of (map arc_value changes.now) shown.old) kind (update_in result) (state_of (map arc_value changes.now) shown.new) }
     ensures same { shown.new.tables ≡ shown.old.tables }
     ensures published { shown.new.published ≡ shown.old.published }
@@ -165,7 +167,7 @@ pub(crate) fn cut(
     kind: CutKind,
 ) -> Result<Cut, CutFault>
     requires order { IsInOrder limits.now (state_of (map arc_value changes.now) shown.old) }
-    requires limits { limits.now.updates ≤ 1000000000000 }
+    requires limits { limits.now.updates ≤ MOST_UPDATES }
     ensures step { Cuts limits.now (state_of (map arc_value changes.now) shown.old) kind (update_in result) (state_of (map arc_value changes.now) shown.new) }
     ensures order { IsInOrder limits.now (state_of (map arc_value changes.now) shown.new) }
     ensures same { shown.new.tables ≡ shown.old.tables }
@@ -226,7 +228,7 @@ fn tables_of_first(
     number: u64,
 ) -> Result<Arc<Tables>, Memory>
     requires within { number ≤ length changes.now }
-    requires few { length (writes_of (map arc_value changes.now)) ≤ 4194304 }
+    requires few { length (writes_of (map arc_value changes.now)) ≤ MOST_RECORDS }
     requires fits { All WriteFits (writes_of (map arc_value changes.now)) }
     ensures { IfOk result (λ tables. contents_in (arc_value tables) ≡ tables_of meta.now (take number (map arc_value changes.now))) }
 {
@@ -242,7 +244,7 @@ fn swap_in(
 ) -> Result<u64, Memory>
     requires begun { IsTrue (is_begun (state_of (map arc_value changes.now) shown.old) ticket) }
     requires there { max shown.old.published (number_of (state_of (map arc_value changes.now) shown.old) ticket) ≤ length changes.now }
-    requires few { length (writes_of (map arc_value changes.now)) ≤ 4194304 }
+    requires few { length (writes_of (map arc_value changes.now)) ≤ MOST_RECORDS }
     requires fits { All WriteFits (writes_of (map arc_value changes.now)) }
     ensures step { Swaps (state_of (map arc_value changes.now) shown.old) ticket result (state_of (map arc_value changes.now) shown.new) }
     ensures tables { OnOk result (contents_in (arc_value shown.new.tables) ≡ tables_of meta.now (take shown.new.published (map arc_value changes.now))) }
@@ -267,7 +269,7 @@ pub(crate) fn swap(
 ) -> Result<u64, Memory>
     requires order { IsInOrder limits.now (state_of (map arc_value changes.now) shown.old) }
     requires begun { IsTrue (is_begun (state_of (map arc_value changes.now) shown.old) ticket) }
-    requires few { length (writes_of (map arc_value changes.now)) ≤ 4194304 }
+    requires few { length (writes_of (map arc_value changes.now)) ≤ MOST_RECORDS }
     requires fits { All WriteFits (writes_of (map arc_value changes.now)) }
     ensures step { Swaps (state_of (map arc_value changes.now) shown.old) ticket result (state_of (map arc_value changes.now) shown.new) }
     ensures order { IsInOrder limits.now (state_of (map arc_value changes.now) shown.new) }
@@ -279,21 +281,29 @@ pub(crate) fn swap(
     swap_in(alloc, shown, meta, changes, ticket)
 }
 
+// The tables that are published, with the number of the changes for which they stand.
+fn view_of(shown: &Shown) -> Result<View, Memory>
+    ensures published { IfOk result (λ view. view.published ≡ shown.now.published) }
+    ensures tables { IfOk result (λ view. arc_value view.tables ≡ arc_value shown.now.tables) }
+{
+    let tables = Arc::try_clone(&shown.tables)?;
+    let published = shown.published;
+    Ok(View { published, tables })
+}
+
 pub(crate) fn look(shown: &Shown, asked: u64) -> Result<View, LookFault>
     ensures step { (log : List Change) → Looks (state_of log shown.now) asked (published_in result) }
     ensures tables { (meta : Records) → (log : List Change) → contents_in (arc_value shown.now.tables) ≡ tables_of meta (take shown.now.published log)
         → IfOk result (λ view. contents_in (arc_value view.tables) ≡ tables_of meta (take view.published log)) }
+    ensures published { IfOk result (λ view. view.published ≡ shown.now.published) }
 {
     if shown.published < asked {
         return Err(LookFault::NotYet {
             published: shown.published,
         });
     }
-    match Arc::try_clone(&shown.tables) {
-        Ok(tables) => Ok(View {
-            published: shown.published,
-            tables,
-        }),
+    match view_of(shown) {
+        Ok(view) => Ok(view),
         Err(_) => Err(LookFault::Memory),
     }
 }

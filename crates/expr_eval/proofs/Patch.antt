@@ -10,7 +10,8 @@ pub code_in_same : (list : Bool) (code : List Instr) → code_in list (same_code
 code_in_same true code = refl
 code_in_same false code = refl
 
-pub patch_one : (make : ℕ → Instr) (base lc rc c1 c2 c3 : List Instr) (x : Instr) (n1 n2 : ℕ) → c1 ≡ base ++ lc → n1 ≡ length c1 → c2 ≡ c1 ++ x ∷ [] → c3 ≡ c2 ++ rc → n2 ≡ length c3 → slice_set c3 n1 (make (n2 - n1 - 1)) ≡ base ++ (lc ++ make (length rc) ∷ rc)
+pub patch_one : (make : ℕ → Instr) (base lc rc c1 c2 c3 : List Instr) (x : Instr) (n1 n2 : ℕ) → c1 ≡ base ++ lc → n1 ≡ length c1 → c2 ≡ c1 ++ x ∷ []
+    → c3 ≡ c2 ++ rc → n2 ≡ length c3 → slice_set c3 n1 (make (n2 - n1 - 1)) ≡ base ++ (lc ++ make (length rc) ∷ rc)
 patch_one make base lc rc c1 c2 c3 x n1 n2 e1 m1 e2 e3 m2 =
     let l2 = ap length e2 ∙ length-append c1 (x ∷ []) in
     let l3 = ap length e3 ∙ length-append c2 rc in
@@ -29,7 +30,9 @@ two_writes c a b x y i j =
     ∙ set-append_seam (c ++ i ∷ a) y b j
     ∙ append_assoc c (i ∷ a) (j ∷ b)
 
-pub patch_if : (base tc ac bc c1 c2 c3 c4 c5 : List Instr) (x y : Instr) (n1 n2 n3 : ℕ) → c1 ≡ base ++ tc → n1 ≡ length c1 → c2 ≡ c1 ++ x ∷ [] → c3 ≡ c2 ++ ac → n2 ≡ length c3 → c4 ≡ c3 ++ y ∷ [] → c5 ≡ c4 ++ bc → n3 ≡ length c5 → slice_set (slice_set c5 n1 (instr.SkipUnless (n2 - n1))) n2 (instr.GoOn (n3 - n2 - 1)) ≡ base ++ if_code tc ac bc
+pub patch_if : (base tc ac bc c1 c2 c3 c4 c5 : List Instr) (x y : Instr) (n1 n2 n3 : ℕ) → c1 ≡ base ++ tc → n1 ≡ length c1 → c2 ≡ c1 ++ x ∷ [] → c3 ≡ c2 ++ ac
+    → n2 ≡ length c3 → c4 ≡ c3 ++ y ∷ [] → c5 ≡ c4 ++ bc → n3 ≡ length c5
+    → slice_set (slice_set c5 n1 (instr.SkipUnless (n2 - n1))) n2 (instr.GoOn (n3 - n2 - 1)) ≡ base ++ if_code tc ac bc
 patch_if base tc ac bc c1 c2 c3 c4 c5 x y n1 n2 n3 e1 m1 e2 e3 m2 e4 e5 m3 =
     let l2 = ap length e2 ∙ length-append c1 (x ∷ []) in
     let l3 = ap length e3 ∙ length-append c2 ac in

@@ -1,5 +1,6 @@
 -- The postfix form of an expression, and what a machine with one stack makes of it.
-use Rattle.std.specs.Prelude.{◌≡◌, ℕ, zero, suc, ◌+◌, Bool, true, false, not, List, [], ◌∷◌, ◌++◌, length, take, drop, reverse, map, Option, Some, None, Result, Ok, Err, is_some, is_none, unwrap_or, min, if◌then◌else◌}
+use Rattle.std.specs.Prelude.{◌≡◌, ℕ, zero, suc, ◌+◌, Bool, true, false, not, List, [], ◌∷◌, ◌++◌, length, take, drop, reverse, map, Option, Some, None}
+use Rattle.std.specs.Prelude.{Result, Ok, Err, is_some, is_none, unwrap_or, min, if◌then◌else◌}
 use Rattle.dh_base.specs.declared.plain.Strategy.{Strategy}
 use Rattle.dh_base.specs.Fractions.{Fraction}
 use Rattle.expr_lang.specs.declared.tree.Item.{Item}
@@ -18,7 +19,8 @@ use Rattle.expr_eval.specs.declared.evaluation.Answer.{Answer}
 use Rattle.expr_eval.specs.declared.evaluation.Answer.TheVariants as answer
 use Rattle.expr_eval.specs.declared.code.Instr.{Instr}
 use Rattle.expr_eval.specs.declared.code.Instr.TheVariants as instr
-use Rattle.expr_eval.specs.Meaning.{zero_fraction, literal_of, number_of, truth_of, then_with, applied_one, applied_two, chosen_of, best_of, skips, value_of_cell}
+use Rattle.expr_eval.specs.Meaning.{zero_fraction, literal_of, number_of, truth_of, then_with, applied_one, applied_two, chosen_of, best_of, skips}
+use Rattle.expr_eval.specs.Meaning.{value_of_cell}
 use Rattle.expr_eval.specs.Given.{entry_at}
 
 -- ---- the form

@@ -1,7 +1,8 @@
 -- What an expression means, by its tree.
 --
 -- An item is given as a number, or as nothing where it is missing; a day is given as the number of the day.
-use Rattle.std.specs.Prelude.{◌≡◌, ℕ, ◌+◌, Bool, true, false, not, ◌&&◌, List, [], ◌∷◌, ◌++◌, Option, Some, None, Result, Ok, Err, ℤ, pos, int_lt, is_some, is_none, unwrap_or, option_map, nat_lt, nat_le, length, if◌then◌else◌}
+use Rattle.std.specs.Prelude.{◌≡◌, ℕ, ◌+◌, Bool, true, false, not, ◌&&◌, List, [], ◌∷◌, ◌++◌, Option, Some, None, Result, Ok, Err, ℤ, pos, int_lt, is_some}
+use Rattle.std.specs.Prelude.{is_none, unwrap_or, option_map, nat_lt, nat_le, length, if◌then◌else◌}
 use Rattle.std.specs.Option.{option_or}
 use Rattle.std.specs.List.{list_any, list_all}
 use Rattle.std.specs.declared.cmp.Ordering.{Ordering}

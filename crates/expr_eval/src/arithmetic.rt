@@ -1,7 +1,8 @@
 //! What the operators do with values.
 
 ghost use Rattle.std.specs.Prelude.{◌≡◌, ◌≤◌};
-ghost use Rattle.expr_eval.specs.Meaning.{zero_fraction, one_fraction, literal_of, number_of, truth_of, value_of_fault, number_cell, is_less_than_zero, applied_one, is_less, is_equal, is_greater, capped, compared, applied_two, chosen_of};
+ghost use Rattle.expr_eval.specs.Meaning.{zero_fraction, one_fraction, literal_of, number_of, truth_of, value_of_fault, number_cell, is_less_than_zero};
+ghost use Rattle.expr_eval.specs.Meaning.{applied_one, is_less, is_equal, is_greater, capped, compared, applied_two, chosen_of};
 
 use crate::value::{Cell, Value};
 use dh_base::frac::Frac;

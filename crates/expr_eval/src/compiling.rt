@@ -18,12 +18,12 @@ use std::alloc::Global;
 
 /// The postfix form of an expression, for its list of items.
 pub fn compile(alloc: Global, expr: &Expr) -> Result<Postfix, Memory>
-    ensures { IfOk result (λ form. Means (items_in expr.now) (shape_of expr.now.tree) form) }
+    ensures { IfOk result (λ form. Means (items_in expr.now) expr.now.tree form) }
 {
     let mut code = Vec::new(alloc);
-    emit(&mut code, expr.items(), false, &expr.tree)?;
+    emit(&mut code, expr.items(), false, expr.tree())?;
     let mut plain = Vec::new(alloc);
-    list_plain(&mut plain, expr.items(), &expr.tree)?;
+    list_plain(&mut plain, expr.items(), expr.tree())?;
     Ok(Postfix { code, plain })
 }
 

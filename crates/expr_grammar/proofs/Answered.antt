@@ -1,6 +1,7 @@
 -- What an answer says by the grammar.
-use Rattle.std.proofs.Common.{◌≡◌, [], ◌∷◌, subst, ℕ, ◌≤◌, Bool, true, false, cond, List, length, take, Option, Some, None, Result, Ok, Err, refl, sym, ap, ◌∙◌, arith}
-use Rattle.std.specs.Prelude.{nat_le, nat_lt, IfOk}
+use Rattle.std.proofs.Common.{◌≡◌, [], ◌∷◌, ◌++◌, subst, ℕ, ◌+◌, ◌≤◌, Bool, true, false, cond, List, length, take, Option, Some, None, Result, Ok, Err, refl}
+use Rattle.std.proofs.Common.{sym, ap, ◌∙◌, arith}
+use Rattle.std.specs.Prelude.{nat_le, nat_lt, IfOk, IfErr}
 use Rattle.std.proofs.lemmas.Bool.Decides.{nat_tests}
 use Rattle.expr_lang.specs.declared.tree.Place.{Place}
 use Rattle.expr_lang.specs.declared.tree.Item.{Item}
@@ -10,10 +11,10 @@ use Rattle.expr_lang.specs.declared.reading.Nodes.{Nodes}
 use Rattle.expr_lang.specs.declared.fault.ExprFault.{ExprFault}
 use Rattle.expr_lang.specs.declared.fault.ExprFault.TheVariants as fault
 use Rattle.expr_lang.specs.Build.{built}
-use Rattle.expr_lang.specs.Expr.{IsOf}
+use Rattle.expr_lang.specs.Expr.{IsOf, expression_from, parse_of}
 use Rattle.expr_lang.specs.Parse.{cut_short, nodes_of_text, brackets_judged, judged_text, accepted, Accepts}
 use Rattle.expr_lang.specs.Reading.{read_text}
-use Rattle.expr_lang.specs.Shape.{Shape, shape_of}
+use Rattle.expr_lang.specs.Shape.{Shape}
 use Rattle.expr_lang.specs.Survey.{survey_of, misfit_of}
 use Rattle.expr_lang.specs.Build.{shapes_behind}
 use Rattle.expr_lang.specs.Expr.{items_in, places_in}
@@ -23,7 +24,12 @@ use Rattle.expr_grammar.specs.Grammar.{tree_of}
 use Rattle.expr_grammar.specs.Laws.{OneTree}
 use Rattle.expr_grammar.proofs.Listed.{items_at, items_so, different_so}
 use Rattle.expr_grammar.specs.Limits.{AnswersBy}
-use Rattle.expr_grammar.proofs.Limits.{answered}
+use Rattle.expr_grammar.proofs.Limits.{meant_by, none_of}
+use Rattle.expr_grammar.proofs.Faulted.{goes_on}
+use Rattle.expr_grammar.specs.Continues.{GoesOnAt, EndsAt}
+use Rattle.expr_lang.proofs.Local.{first_fault}
+use Rattle.expr_lang.proofs.ExprLemmas.{IsOf-expression_of}
+use Rattle.expr_lang.specs.Faults.{FaultsAtOnce, IfSyntax}
 use Rattle.expr_grammar.proofs.Sound.{text_sound}
 use Rattle.expr_grammar.proofs.Texts.{text_read, text_told}
 
@@ -35,7 +41,8 @@ cut_fails (Err k) nodes e = cc
 nodes_read : (p : Place) (text : List ℕ) (nodes : Nodes) → nodes_of_text p text ≡ Ok nodes → (length text ≤ 4096) × (read_text p text ≡ Ok nodes)
 unfolding nodes_of_text
 nodes_read p text nodes e =
-    (elim (nat_le (length text) 4096) as (λ t. nat_le (length text) 4096 ≡ t → cond t (read_text p text) (cut_short (read_text p (take 4096 text))) ≡ Ok nodes → (length text ≤ 4096) × (read_text p text ≡ Ok nodes)) [
+    (elim (nat_le (length text) 4096) as (λ t. nat_le (length text) 4096 ≡ t → cond t (read_text p text) (cut_short (read_text p (take 4096 text))) ≡ Ok nodes
+    → (length text ≤ 4096) × (read_text p text ≡ Ok nodes)) [
       | true ↦ λ f g. (grind (arith, nat_tests), g)
       | false ↦ λ f g. absurd (cut_fails (read_text p (take 4096 text)) nodes g)
     ]) refl e
@@ -49,7 +56,9 @@ judged_ok false None None nodes m e = cc
 
 text_ok : (text : List ℕ) (days : List (List ℕ)) (wanted : Option Sort) (r : Result Nodes ℕ) (m : Nodes) → judged_text text days wanted r ≡ Ok m → r ≡ Ok m
 text_ok text days wanted (Err k) m e = absurd cc
-text_ok text days wanted (Ok nodes) m e = ap (λ (x : Nodes). Ok x) (judged_ok (nat_lt 512 (survey_of text days nodes.nodes).depth) nodes.crowded (misfit_of (survey_of text days nodes.nodes) wanted) nodes m e)
+text_ok text days wanted (Ok nodes) m e =
+    ap (λ (x : Nodes). Ok x) (judged_ok (nat_lt 512 (survey_of text days nodes.nodes).depth) nodes.crowded (misfit_of (survey_of text days nodes.nodes) wanted)
+    nodes m e)
 
 ok_is : (x y : Nodes) → ◌≡◌ {A = Result Nodes ℕ} (Ok x) (Ok y) → x ≡ y
 ok_is x y e = cc
@@ -64,38 +73,55 @@ module _ (p : Place) (days : List (List ℕ)) (wanted : Option Sort) (text : Lis
       let same : nodes ≡ r.nodes = ok_is nodes r.nodes (sym n.1 ∙ r.read) in
       tree ∙ ap (λ (x : Nodes). built text days x.nodes) same ∙ r.tree
 
-  one_of : (r : Result Expr ExprFault) (a : Result Nodes ExprFault) → accepted p days wanted text ≡ a → Accepts (IsOf text days) r a → IfOk r (λ expr. OneTree p days text (shape_of expr.tree))
-  one_of (Ok expr) (Ok nodes) e h = one_so nodes (shape_of expr.tree) e h.tree
+  one_of : (r : Result Expr ExprFault) (a : Result Nodes ExprFault) → accepted p days wanted text ≡ a → Accepts (IsOf text days) r a
+      → IfOk r (λ expr. OneTree p days text expr.tree)
+  one_of (Ok expr) (Ok nodes) e h = one_so nodes expr.tree e h.tree
   one_of (Ok expr) (Err f) e h = absurd h
   one_of (Err f) a e h = tt
 
-  -- what is read is found in the grammar
-  pub found : (r : Result Expr ExprFault) → Accepts (λ expr nodes. IsOf text days expr nodes) r (accepted p days wanted text) → AnswersBy p days wanted text r
-  found r h = answered p days wanted text r (text_sound p text) h
+  -- what is meant is what is accepted
+  meant : Accepts (λ expr nodes. IsOf text days expr nodes) (parse_of p days wanted text) (accepted p days wanted text)
+  unfolding parse_of
+  meant = by_answer (accepted p days wanted text)
+    where
+      by_answer : (a : Result Nodes ExprFault) → Accepts (λ expr nodes. IsOf text days expr nodes) (expression_from text days a) a
+      by_answer (Ok nodes) = IsOf-expression_of text days nodes
+      by_answer (Err fault.Memory) = tt
+      by_answer (Err (fault.Syntax at)) = refl
+      by_answer (Err (fault.TooDeep at)) = refl
+      by_answer (Err (fault.Sort at)) = refl
 
-  pub one_tree : (r : Result Expr ExprFault) → Accepts (IsOf text days) r (accepted p days wanted text) → IfOk r (λ expr. OneTree p days text (shape_of expr.tree))
-  one_tree r h = one_of r (accepted p days wanted text) refl h
+  pub found : AnswersBy p days wanted text (parse_of p days wanted text)
+  found = meant_by p days wanted text (text_sound p text)
+
+  pub one_tree : IfOk (parse_of p days wanted text) (λ expr. OneTree p days text expr.tree)
+  one_tree = one_of (parse_of p days wanted text) (accepted p days wanted text) refl meant
 
   -- the items are the tree's
-  items_of_one : (expr : Expr) (nodes : Nodes) → accepted p days wanted text ≡ Ok nodes → IsOf text days expr nodes → Different (items_of (shape_of expr.tree)) [] (items_in expr)
+  items_of_one : (expr : Expr) (nodes : Nodes) → accepted p days wanted text ≡ Ok nodes → IsOf text days expr nodes
+      → Different (items_of expr.tree) [] (items_in expr)
   unfolding accepted Lists
   items_of_one expr nodes e is =
       let n = nodes_read p text nodes (text_ok text days wanted (nodes_of_text p text) nodes e) in
       let F = text_sound p text nodes n.1 in
       let r = text_read p days text n.0 F.0 F.1 in
       let same : r.nodes ≡ nodes = ok_is r.nodes nodes (sym r.read ∙ n.1) in
-      let stack : shapes_behind text days nodes.nodes [] ≡ tree_of days F.0 ∷ [] = ap (λ (x : Nodes). shapes_behind text days x.nodes []) (sym same) ∙ r.evals.is [] in
-      let tree : tree_of days F.0 ≡ shape_of expr.tree = sym (one_so nodes (shape_of expr.tree) e is.tree F.0 F.1) in
-      let items : items_at (occurrences text days nodes.nodes) ≡ items_of (shape_of expr.tree) = items_so text days nodes.nodes (tree_of days F.0) stack ∙ ap items_of tree in
-      subst (λ (l : List Item). Different l [] (items_in expr)) items (different_so (occurrences text days nodes.nodes) [] [] (items_in expr) (places_in expr) is.items)
+      let stack : shapes_behind text days nodes.nodes [] ≡ tree_of days F.0 ∷ [] = ap (λ (x : Nodes). shapes_behind text days x.nodes []) (sym same)
+      ∙ r.evals.is [] in
+      let tree : tree_of days F.0 ≡ expr.tree = sym (one_so nodes expr.tree e is.tree F.0 F.1) in
+      let items : items_at (occurrences text days nodes.nodes) ≡ items_of expr.tree = items_so text days nodes.nodes (tree_of days F.0) stack
+      ∙ ap items_of tree in
+      subst (λ (l : List Item). Different l [] (items_in expr)) items
+      (different_so (occurrences text days nodes.nodes) [] [] (items_in expr) (places_in expr) is.items)
 
-  items_from : (r : Result Expr ExprFault) (a : Result Nodes ExprFault) → accepted p days wanted text ≡ a → Accepts (IsOf text days) r a → IfOk r (λ expr. Different (items_of (shape_of expr.tree)) [] (items_in expr))
+  items_from : (r : Result Expr ExprFault) (a : Result Nodes ExprFault) → accepted p days wanted text ≡ a → Accepts (IsOf text days) r a
+      → IfOk r (λ expr. Different (items_of expr.tree) [] (items_in expr))
   items_from (Ok expr) (Ok nodes) e h = items_of_one expr nodes e h
   items_from (Ok expr) (Err f) e h = absurd h
   items_from (Err f) a e h = tt
 
-  pub items_are : (r : Result Expr ExprFault) → Accepts (IsOf text days) r (accepted p days wanted text) → IfOk r (λ expr. Different (items_of (shape_of expr.tree)) [] (items_in expr))
-  items_are r h = items_from r (accepted p days wanted text) refl h
+  pub items_are : IfOk (parse_of p days wanted text) (λ expr. Different (items_of expr.tree) [] expr.items)
+  items_are = items_from (parse_of p days wanted text) (accepted p days wanted text) refl meant
 
   -- and their places are those in the form
   places_of_one : (expr : Expr) (nodes : Nodes) → accepted p days wanted text ≡ Ok nodes → IsOf text days expr nodes → ListsItems p days text expr
@@ -106,10 +132,28 @@ module _ (p : Place) (days : List (List ℕ)) (wanted : Option Sort) (text : Lis
       let same : nodes ≡ t.whole.nodes = ok_is nodes t.whole.nodes (sym n.1 ∙ t.whole.read) in
       subst (λ (l : List Occurrence). Lists l (items_in expr) (places_in expr)) (ap (λ (x : Nodes). occurrences text days x.nodes) same ∙ t.lists) is.items
 
-  places_from : (r : Result Expr ExprFault) (a : Result Nodes ExprFault) → accepted p days wanted text ≡ a → Accepts (IsOf text days) r a → IfOk r (λ expr. ListsItems p days text expr)
+  places_from : (r : Result Expr ExprFault) (a : Result Nodes ExprFault) → accepted p days wanted text ≡ a → Accepts (IsOf text days) r a
+      → IfOk r (λ expr. ListsItems p days text expr)
   places_from (Ok expr) (Ok nodes) e h = places_of_one expr nodes e h
   places_from (Ok expr) (Err f) e h = absurd h
   places_from (Err f) a e h = tt
 
-  pub places_are : (r : Result Expr ExprFault) → Accepts (IsOf text days) r (accepted p days wanted text) → IfOk r (λ expr. ListsItems p days text expr)
-  places_are r h = places_from r (accepted p days wanted text) refl h
+  pub places_are : IfOk (parse_of p days wanted text) (λ expr. ListsItems p days text expr)
+  places_are = places_from (parse_of p days wanted text) (accepted p days wanted text) refl meant
+
+  -- the bytes before a fault of syntax begin a text of the grammar, and with one more none does
+  pub before_fault : IfErr (parse_of p days wanted text) (λ f. IfSyntax f (GoesOnAt p text))
+  before_fault = goes_on p text days wanted (parse_of p days wanted text) meant
+
+  ends : (at : ℕ) → FaultsAtOnce p days wanted text at → EndsAt p text at
+  ends at h less more form = none_of p days wanted (take (at + 1) text ++ more) (text_sound p (take (at + 1) text ++ more)) at (h less more) form
+
+  ends_from : (r : Result Expr ExprFault) → IfErr r (λ f. IfSyntax f (FaultsAtOnce p days wanted text)) → IfErr r (λ f. IfSyntax f (EndsAt p text))
+  ends_from (Ok expr) h = tt
+  ends_from (Err fault.Memory) h = tt
+  ends_from (Err (fault.Syntax at)) h = ends at h
+  ends_from (Err (fault.TooDeep at)) h = tt
+  ends_from (Err (fault.Sort at)) h = tt
+
+  pub ends_at : IfErr (parse_of p days wanted text) (λ f. IfSyntax f (EndsAt p text))
+  ends_at = ends_from (parse_of p days wanted text) (first_fault (IsOf text days) p days wanted text (parse_of p days wanted text) meant)

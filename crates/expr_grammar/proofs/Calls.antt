@@ -1,5 +1,6 @@
 -- Each call of the grammar is read, and with that each form.
-use Rattle.std.proofs.Common.{◌≡◌, ℕ, ◌+◌, ◌-◌, ◌<◌, ◌≤◌, Bool, true, false, cond, List, [], ◌∷◌, ◌++◌, length, Option, Some, refl, ap, subst, ◌∙◌, append_assoc, arith}
+use Rattle.std.proofs.Common.{◌≡◌, ℕ, ◌+◌, ◌-◌, ◌<◌, ◌≤◌, Bool, true, false, cond, List, [], ◌∷◌, ◌++◌, length, Option, Some, refl, ap, subst, ◌∙◌}
+use Rattle.std.proofs.Common.{append_assoc, arith}
 use Rattle.std.specs.Prelude.{◌&&◌, nat_lt}
 use Rattle.std.proofs.lemmas.Bool.Decides.{nat_tests}
 use Rattle.expr_lang.specs.declared.tree.Place.{Place}
@@ -15,12 +16,15 @@ use Rattle.expr_lang.specs.declared.reading.CallFrame.{CallFrame}
 use Rattle.expr_lang.specs.declared.reading.Expect.{Expect}
 use Rattle.expr_lang.specs.declared.reading.Expect.TheVariants as expect
 use Rattle.expr_lang.specs.declared.reading.Reader.{Reader}
-use Rattle.expr_lang.specs.Reading.{enclosing_of, least_arguments, most_arguments, frames_reduced, nodes_reduced, spot_of, call_frame, joined, node_of_call, counted_of, later_argument, is_list_of}
+use Rattle.expr_lang.specs.Reading.{enclosing_of, least_arguments, most_arguments, frames_reduced, nodes_reduced, spot_of, call_frame, joined, node_of_call}
+use Rattle.expr_lang.specs.Reading.{counted_of, later_argument, is_list_of}
 use Rattle.expr_lang.specs.Words.{text_of}
 use Rattle.expr_grammar.specs.Grammar.{Form, Arguments, If, Condition, DaysBetween, IsBlank, IsForm, symbol_text, spelled}
 use Rattle.expr_grammar.proofs.Steps.{At, Goes, then_goes, at_past}
 use Rattle.expr_grammar.proofs.Moves.{rd, Comes, name_move, comma_move, close_move, unquote_move, quote_move, behind_quote_move}
-use Rattle.expr_grammar.proofs.Completed.{Told, told_of, Tells, Follows, calm_follows, close_calm, comma_calm, quote_calm, evals_two, evals_three}
+use Rattle.expr_grammar.proofs.Completed.{Told, told_in, told_of, Tells, tells_known, Follows, calm_follows, close_calm, comma_calm, quote_calm, place_past}
+use Rattle.expr_grammar.proofs.Completed.{evals_two, evals_three}
+use Rattle.expr_grammar.proofs.Operands.{known_of, known_any}
 use Rattle.expr_grammar.proofs.Productions.{Reading, Reads, whole, both_come}
 
 pub counted_some : (cf : CallFrame) → (1 ≤ (counted_of cf).count) × ((counted_of cf).count ≤ cf.count + 1)
@@ -31,8 +35,11 @@ counted_some cf = by_test (nat_lt cf.count 4096) refl
     by_test false e = (omega arith, (let far : 4096 ≤ cf.count = grind (arith, nat_tests) in omega arith))
 
 -- the list of a call's arguments takes in a second and each later one
-pub joins : (cf : CallFrame) (nodes : List Spot) → 1 ≤ cf.count → is_list_of cf.call ≡ true → joined cf nodes ≡ nodes ++ spot_of cf.at (node.Binary binary.Comma) ∷ []
-joins cf nodes some list = let t : nat_lt 0 cf.count ≡ true = grind (arith, nat_tests) in ap (λ (x : Bool). cond (x && is_list_of cf.call) (nodes ++ spot_of cf.at (node.Binary binary.Comma) ∷ []) nodes) t ∙ ap (λ (x : Bool). cond x (nodes ++ spot_of cf.at (node.Binary binary.Comma) ∷ []) nodes) list
+pub joins : (cf : CallFrame) (nodes : List Spot) → 1 ≤ cf.count → is_list_of cf.call ≡ true
+    → joined cf nodes ≡ nodes ++ spot_of cf.at (node.Binary binary.Comma) ∷ []
+joins cf nodes some list = let t : nat_lt 0 cf.count ≡ true =
+    grind (arith, nat_tests) in ap (λ (x : Bool). cond (x && is_list_of cf.call) (nodes ++ spot_of cf.at (node.Binary binary.Comma) ∷ []) nodes) t
+    ∙ ap (λ (x : Bool). cond x (nodes ++ spot_of cf.at (node.Binary binary.Comma) ∷ []) nodes) list
 
 module _ (p : Place) (days : List (List ℕ)) (text : List ℕ) where
   -- an argument and the comma after it
@@ -47,28 +54,58 @@ module _ (p : Place) (days : List (List ℕ)) (text : List ℕ) where
     pub own : List Spot
     pub opened : ℕ
     pub crowded : Option ℕ
-    pub comes : Comes p text r at bytes (rd (expect.Operator true) fs (joined cf (ns ++ own) ++ spot_of cf.at (node_of_call cf.call) ∷ []) opened crowded q) rest
+    pub comes : Comes p text r at bytes (rd (expect.Operator true) fs (joined cf (ns ++ own) ++ spot_of cf.at (node_of_call cf.call) ∷ []) opened crowded q)
+        rest
     pub tree : Tells text days own told
 
-  pub argument : (F : Form) → Reads p days text F → (cf : CallFrame) (fs : List Frame) (ns : List Spot) (o : ℕ) (c : Option ℕ) (q : Bool) (at : ℕ) (rest : List ℕ) → IsForm p q 1 F → Follows rest → At text at (spelled F rest)
-      → Reading p days text 1 (frame.Call cf ∷ fs) ns q (rd expect.Operand (frame.Call cf ∷ fs) ns o c q) at (spelled F rest) rest (told_of days (length text) F rest)
-  argument F ih cf fs ns o c q at rest is follows here = ih 1 expect.Operand (frame.Call cf ∷ fs) ns o c q at rest tt (omega arith) is (λ le. tt) (λ le. refl) follows here
+  pub argument : (F : Form) → Reads p days text F
+      → (cf : CallFrame) (fs : List Frame) (ns : List Spot) (o : ℕ) (c : Option ℕ) (q : Bool) (at : ℕ) (rest : List ℕ) → IsForm p q 1 F → Follows rest
+      → At text at (spelled F rest)
+      → Reading p days text 1 (frame.Call cf ∷ fs) ns q (rd expect.Operand (frame.Call cf ∷ fs) ns o c q) at (spelled F rest) rest
+      (told_of days (length text) F rest)
+  argument F ih cf fs ns o c q at rest is follows here =
+      ih 1 expect.Operand (frame.Call cf ∷ fs) ns o c q at rest tt (omega arith) is (λ le. tt) (λ le. refl) follows here
 
-  pub then_comma : (F : Form) → Reads p days text F → (cf : CallFrame) (fs : List Frame) (ns : List Spot) (o : ℕ) (c : Option ℕ) (q : Bool) (at : ℕ) (b rest : List ℕ) → IsForm p q 1 F → IsBlank b → cf.count + 1 < most_arguments cf.call → At text at (spelled F (symbol_text b symbol.Comma rest))
-      → Comma cf fs ns q (rd expect.Operand (frame.Call cf ∷ fs) ns o c q) at (spelled F (symbol_text b symbol.Comma rest)) rest (told_of days (length text) F (symbol_text b symbol.Comma rest))
+  pub then_comma : (F : Form) → Reads p days text F
+      → (cf : CallFrame) (fs : List Frame) (ns : List Spot) (o : ℕ) (c : Option ℕ) (q : Bool) (at : ℕ) (b rest : List ℕ) → IsForm p q 1 F → IsBlank b
+      → cf.count + 1 < most_arguments cf.call → At text at (spelled F (symbol_text b symbol.Comma rest))
+      → Comma cf fs ns q (rd expect.Operand (frame.Call cf ∷ fs) ns o c q) at (spelled F (symbol_text b symbol.Comma rest)) rest
+      (told_of days (length text) F (symbol_text b symbol.Comma rest))
   then_comma F ih cf fs ns o c q at b rest is blank few here =
       let one = argument F ih cf fs ns o c q at (symbol_text b symbol.Comma rest) is (calm_follows b (text_of symbol.Comma) rest blank comma_calm) here in
-      let two = comma_move p text one.power one.frames one.nodes one.opened one.crowded q one.past b rest blank cf fs (ns ++ one.own) one.after.outer (one.after.reduced 1 (omega arith)) (one.after.whole 1 (omega arith)) few one.goes.stands in
-      record { own = one.own; opened = one.opened; crowded = one.crowded; comes = both_come p days text _ at _ _ one.past (symbol_text b symbol.Comma rest) _ rest one.goes two; tree = one.tree }
+      let two =
+      comma_move p text one.power one.frames one.nodes one.opened one.crowded q one.past b rest blank cf fs (ns ++ one.own) one.after.outer
+      (one.after.reduced 1 (omega arith)) (one.after.whole 1 (omega arith)) few one.goes.stands in
+      record {
+        own = one.own;
+        opened = one.opened;
+        crowded = one.crowded;
+        comes =
+            both_come p days text _ at _ _ one.past (symbol_text b symbol.Comma rest) _ rest one.goes two;
+        tree = one.tree;
+      }
 
-  pub then_close : (F : Form) → Reads p days text F → (cf : CallFrame) (fs : List Frame) (ns : List Spot) (o : ℕ) (c : Option ℕ) (q : Bool) (at : ℕ) (b rest : List ℕ) → IsForm p q 1 F → IsBlank b → least_arguments cf.call ≤ cf.count + 1 → At text at (spelled F (symbol_text b symbol.Close rest))
-      → Last cf fs ns q (rd expect.Operand (frame.Call cf ∷ fs) ns o c q) at (spelled F (symbol_text b symbol.Close rest)) rest (told_of days (length text) F (symbol_text b symbol.Close rest))
+  pub then_close : (F : Form) → Reads p days text F
+      → (cf : CallFrame) (fs : List Frame) (ns : List Spot) (o : ℕ) (c : Option ℕ) (q : Bool) (at : ℕ) (b rest : List ℕ) → IsForm p q 1 F → IsBlank b
+      → least_arguments cf.call ≤ cf.count + 1 → At text at (spelled F (symbol_text b symbol.Close rest))
+      → Last cf fs ns q (rd expect.Operand (frame.Call cf ∷ fs) ns o c q) at (spelled F (symbol_text b symbol.Close rest)) rest
+      (told_of days (length text) F (symbol_text b symbol.Close rest))
   then_close F ih cf fs ns o c q at b rest is blank many here =
       let one = argument F ih cf fs ns o c q at (symbol_text b symbol.Close rest) is (calm_follows b (text_of symbol.Close) rest blank close_calm) here in
-      let two = close_move p text one.power one.frames one.nodes one.opened one.crowded q one.past b rest blank cf fs (ns ++ one.own) one.after.outer (one.after.reduced 1 (omega arith)) (one.after.whole 1 (omega arith)) many one.goes.stands in
-      record { own = one.own; opened = one.opened - 1; crowded = one.crowded; comes = both_come p days text _ at _ _ one.past (symbol_text b symbol.Close rest) _ rest one.goes two; tree = one.tree }
+      let two =
+      close_move p text one.power one.frames one.nodes one.opened one.crowded q one.past b rest blank cf fs (ns ++ one.own) one.after.outer
+      (one.after.reduced 1 (omega arith)) (one.after.whole 1 (omega arith)) many one.goes.stands in
+      record {
+        own = one.own;
+        opened = one.opened - 1;
+        crowded = one.crowded;
+        comes =
+            both_come p days text _ at _ _ one.past (symbol_text b symbol.Close rest) _ rest one.goes two;
+        tree = one.tree;
+      }
 
-  pub reads_if : (b d : List ℕ) (test : Form) (f : List ℕ) (one : Form) (g : List ℕ) (other : Form) (i : List ℕ) → Reads p days text test → Reads p days text one → Reads p days text other → Reads p days text (If b d test f one g other i)
+  pub reads_if : (b d : List ℕ) (test : Form) (f : List ℕ) (one : Form) (g : List ℕ) (other : Form) (i : List ℕ) → Reads p days text test
+      → Reads p days text one → Reads p days text other → Reads p days text (If b d test f one g other i)
   reads_if b d test f one g other i iht iho ihe L e fs ns o c q at rest h some is loose single follows here =
       let tail = symbol_text i symbol.Close rest in
       let third = spelled other tail in
@@ -76,26 +113,34 @@ module _ (p : Place) (days : List (List ℕ)) (text : List ℕ) where
       let first = spelled test (symbol_text f symbol.Comma second) in
       let k = at + length b in
       let cf = call_frame k call.If 0 in
-      let w = name_move p text e fs ns o c q at b call.If d first h is.1 is.0 is.2 here in
+      let w = name_move p text e fs ns o c q at b call.If d first h tt is.1 is.0 is.2 here in
       let x = then_comma test iht cf fs ns (o + 1) w.0 q w.1.0 f second is.3 is.4 (omega arith) w.1.1.stands in
       let y = then_comma one iho (counted_of cf) fs (ns ++ x.own) x.opened x.crowded q x.comes.0 g third is.5 is.6 (omega arith) x.comes.1.stands in
-      let z = then_close other ihe (counted_of (counted_of cf)) fs ((ns ++ x.own) ++ y.own) y.opened y.crowded q y.comes.0 i rest is.7 is.8 (omega arith) y.comes.1.stands in
+      let z =
+      then_close other ihe (counted_of (counted_of cf)) fs ((ns ++ x.own) ++ y.own) y.opened y.crowded q y.comes.0 i rest is.7 is.8 (omega arith)
+      y.comes.1.stands in
       let s = spot_of k node.If in
       let nodes : (((ns ++ x.own) ++ y.own) ++ z.own) ++ s ∷ [] ≡ ns ++ (((x.own ++ y.own) ++ z.own) ++ s ∷ []) = simp append_assoc in
       let all = both_come p days text (rd e fs ns o c q) at (spelled (If b d test f one g other i) rest) _ w.1.0 first _ rest w.1.1
-      (both_come p days text _ w.1.0 first _ x.comes.0 second _ rest x.comes.1 (both_come p days text _ x.comes.0 second _ y.comes.0 third _ rest y.comes.1 z.comes)) in
-      whole p days text L fs ns q (rd e fs ns o c q) at (spelled (If b d test f one g other i) rest) rest _ z.opened z.crowded (((x.own ++ y.own) ++ z.own) ++ s ∷ [])
-      (subst (λ (l : List Spot). Comes p text (rd e fs ns o c q) at (spelled (If b d test f one g other i) rest) (rd (expect.Operator true) fs l z.opened z.crowded q) rest) nodes all)
-      (evals_three text days x.own y.own z.own k (told_of days (length text) test (symbol_text f symbol.Comma second)) (told_of days (length text) one (symbol_text g symbol.Comma third)) (told_of days (length text) other tail) x.tree y.tree z.tree)
+      (both_come p days text _ w.1.0 first _ x.comes.0 second _ rest x.comes.1
+      (both_come p days text _ x.comes.0 second _ y.comes.0 third _ rest y.comes.1 z.comes)) in
+      whole p days text L fs ns q (rd e fs ns o c q) at (spelled (If b d test f one g other i) rest) rest _ z.opened z.crowded
+      (((x.own ++ y.own) ++ z.own) ++ s ∷ [])
+      (subst (λ (l : List Spot). Comes p text (rd e fs ns o c q) at (spelled (If b d test f one g other i) rest)
+      (rd (expect.Operator true) fs l z.opened z.crowded q) rest) nodes all)
+      (evals_three text days x.own y.own z.own k _ (told_of days (length text) test (symbol_text f symbol.Comma second))
+      (told_of days (length text) one (symbol_text g symbol.Comma third)) (told_of days (length text) other tail)
+      (place_past text at b (text_of (symbol.Call call.If) ++ symbol_text d symbol.Open first) here) x.tree y.tree z.tree)
 
-  pub reads_between : (b d : List ℕ) (one : Form) (f : List ℕ) (other : Form) (g : List ℕ) → Reads p days text one → Reads p days text other → Reads p days text (DaysBetween b d one f other g)
+  pub reads_between : (b d : List ℕ) (one : Form) (f : List ℕ) (other : Form) (g : List ℕ) → Reads p days text one → Reads p days text other
+      → Reads p days text (DaysBetween b d one f other g)
   reads_between b d one f other g iho ihe L e fs ns o c q at rest h some is loose single follows here =
       let tail = symbol_text g symbol.Close rest in
       let second = spelled other tail in
       let first = spelled one (symbol_text f symbol.Comma second) in
       let k = at + length b in
       let cf = call_frame k call.DaysBetween 0 in
-      let w = name_move p text e fs ns o c q at b call.DaysBetween d first h is.1 is.0 is.2 here in
+      let w = name_move p text e fs ns o c q at b call.DaysBetween d first h tt is.1 is.0 is.2 here in
       let x = then_comma one iho cf fs ns (o + 1) w.0 q w.1.0 f second is.3 is.4 (omega arith) w.1.1.stands in
       let z = then_close other ihe (counted_of cf) fs (ns ++ x.own) x.opened x.crowded q x.comes.0 g rest is.5 is.6 (omega arith) x.comes.1.stands in
       let s = spot_of k (node.Binary binary.DaysBetween) in
@@ -103,10 +148,14 @@ module _ (p : Place) (days : List (List ℕ)) (text : List ℕ) where
       let all = both_come p days text (rd e fs ns o c q) at (spelled (DaysBetween b d one f other g) rest) _ w.1.0 first _ rest w.1.1
       (both_come p days text _ w.1.0 first _ x.comes.0 second _ rest x.comes.1 z.comes) in
       whole p days text L fs ns q (rd e fs ns o c q) at (spelled (DaysBetween b d one f other g) rest) rest _ z.opened z.crowded ((x.own ++ z.own) ++ s ∷ [])
-      (subst (λ (l : List Spot). Comes p text (rd e fs ns o c q) at (spelled (DaysBetween b d one f other g) rest) (rd (expect.Operator true) fs l z.opened z.crowded q) rest) nodes all)
-      (evals_two text days x.own z.own k binary.DaysBetween (told_of days (length text) one (symbol_text f symbol.Comma second)) (told_of days (length text) other tail) x.tree z.tree)
+      (subst (λ (l : List Spot). Comes p text (rd e fs ns o c q) at (spelled (DaysBetween b d one f other g) rest)
+      (rd (expect.Operator true) fs l z.opened z.crowded q) rest) nodes all)
+      (evals_two text days x.own z.own k _ binary.DaysBetween (told_of days (length text) one (symbol_text f symbol.Comma second))
+      (told_of days (length text) other tail) (place_past text at b (text_of (symbol.Call call.DaysBetween) ++ symbol_text d symbol.Open first) here) x.tree
+      z.tree)
 
-  pub reads_condition : (b d f : List ℕ) (test : Form) (g i : List ℕ) (one : Form) (j : List ℕ) (other : Form) (l : List ℕ) → Reads p days text test → Reads p days text one → Reads p days text other → Reads p days text (Condition b d f test g i one j other l)
+  pub reads_condition : (b d f : List ℕ) (test : Form) (g i : List ℕ) (one : Form) (j : List ℕ) (other : Form) (l : List ℕ) → Reads p days text test
+      → Reads p days text one → Reads p days text other → Reads p days text (Condition b d f test g i one j other l)
   reads_condition b d f test g i one j other l iht iho ihe L e fs ns o c true at rest h some is loose single follows here = let no = is.1 in absurd cc
   reads_condition b d f test g i one j other l iht iho ihe L e fs ns o c false at rest h some is loose single follows here =
       let bytes = spelled (Condition b d f test g i one j other l) rest in
@@ -119,24 +168,36 @@ module _ (p : Place) (days : List (List ℕ)) (text : List ℕ) where
       let quote = symbol_text f symbol.Quote first in
       let k = at + length b in
       let cf = call_frame k call.Condition 0 in
-      let w = name_move p text e fs ns o c false at b call.Condition d quote h is.2 is.0 is.3 here in
+      let w = name_move p text e fs ns o c false at b call.Condition d quote h refl is.2 is.0 is.3 here in
       let r1 = rd expect.Quote (frame.Call cf ∷ fs) ns (o + 1) w.0 false in
       let v = quote_move p text (frame.Call cf ∷ fs) ns (o + 1) w.0 w.1.0 f first is.4 w.1.1.stands in
       let r2 = rd expect.Operand (frame.Quote ∷ frame.Call cf ∷ fs) ns (o + 1) w.0 true in
-      let t = iht 1 expect.Operand (frame.Quote ∷ frame.Call cf ∷ fs) ns (o + 1) w.0 true v.0 unquote tt (omega arith) is.5 (λ le. tt) (λ le. refl) (calm_follows g (text_of symbol.Quote) comma is.6 quote_calm) v.1.stands in
-      let u = unquote_move p text t.power t.frames t.nodes t.opened t.crowded true t.past g comma is.6 (frame.Call cf ∷ fs) (ns ++ t.own) t.after.outer (t.after.reduced 1 (omega arith)) (t.after.whole 1 (omega arith)) t.goes.stands in
+      let t =
+      iht 1 expect.Operand (frame.Quote ∷ frame.Call cf ∷ fs) ns (o + 1) w.0 true v.0 unquote tt (omega arith) is.5 (λ le. tt) (λ le. refl)
+      (calm_follows g (text_of symbol.Quote) comma is.6 quote_calm) v.1.stands in
+      let u =
+      unquote_move p text t.power t.frames t.nodes t.opened t.crowded true t.past g comma is.6 (frame.Call cf ∷ fs) (ns ++ t.own) t.after.outer
+      (t.after.reduced 1 (omega arith)) (t.after.whole 1 (omega arith)) t.goes.stands in
       let a = behind_quote_move p text fs (ns ++ t.own) t.opened t.crowded u.0 i second is.7 false cf u.1.stands in
       let r3 = rd expect.Operand (frame.Call (counted_of cf) ∷ fs) (ns ++ t.own) t.opened t.crowded false in
       let y = then_comma one iho (counted_of cf) fs (ns ++ t.own) t.opened t.crowded false a.0 j third is.8 is.9 (omega arith) a.1.stands in
-      let z = then_close other ihe (counted_of (counted_of cf)) fs ((ns ++ t.own) ++ y.own) y.opened y.crowded false y.comes.0 l rest is.10 is.11 (omega arith) y.comes.1.stands in
+      let z =
+      then_close other ihe (counted_of (counted_of cf)) fs ((ns ++ t.own) ++ y.own) y.opened y.crowded false y.comes.0 l rest is.10 is.11 (omega arith)
+      y.comes.1.stands in
       let s = spot_of k node.If in
       let nodes : (((ns ++ t.own) ++ y.own) ++ z.own) ++ s ∷ [] ≡ ns ++ (((t.own ++ y.own) ++ z.own) ++ s ∷ []) = simp append_assoc in
       let late = both_come p days text r3 a.0 second _ y.comes.0 third _ rest y.comes.1 z.comes in
-      let middle = both_come p days text r2 v.0 first _ t.past unquote _ rest t.goes (both_come p days text _ t.past unquote _ u.0 comma _ rest u.1 (both_come p days text _ u.0 comma r3 a.0 second _ rest a.1 late)) in
-      let all = both_come p days text (rd e fs ns o c false) at bytes r1 w.1.0 quote _ rest w.1.1 (both_come p days text r1 w.1.0 quote r2 v.0 first _ rest v.1 middle) in
+      let middle =
+      both_come p days text r2 v.0 first _ t.past unquote _ rest t.goes
+      (both_come p days text _ t.past unquote _ u.0 comma _ rest u.1 (both_come p days text _ u.0 comma r3 a.0 second _ rest a.1 late)) in
+      let all =
+      both_come p days text (rd e fs ns o c false) at bytes r1 w.1.0 quote _ rest w.1.1
+      (both_come p days text r1 w.1.0 quote r2 v.0 first _ rest v.1 middle) in
       whole p days text L fs ns false (rd e fs ns o c false) at bytes rest _ z.opened z.crowded (((t.own ++ y.own) ++ z.own) ++ s ∷ [])
       (subst (λ (x : List Spot). Comes p text (rd e fs ns o c false) at bytes (rd (expect.Operator true) fs x z.opened z.crowded false) rest) nodes all)
-      (evals_three text days t.own y.own z.own k (told_of days (length text) test unquote) (told_of days (length text) one (symbol_text j symbol.Comma third)) (told_of days (length text) other tail) t.tree y.tree z.tree)
+      (evals_three text days t.own y.own z.own k _ (told_of days (length text) test unquote) (told_of days (length text) one (symbol_text j symbol.Comma third))
+      (told_of days (length text) other tail) (place_past text at b (text_of (symbol.Call call.Condition) ++ symbol_text d symbol.Open quote) here) t.tree
+      y.tree z.tree)
 
   -- the arguments of a call that takes a list of them
   pub record Listing (cf : CallFrame) (fs : List Frame) (ns : List Spot) (q : Bool) (r : Reader) (at : ℕ) (bytes rest : List ℕ) (told : Told) : Type 0 where
@@ -150,6 +211,7 @@ module _ (p : Place) (days : List (List ℕ)) (text : List ℕ) where
     pub last : CallFrame
     pub goes : Goes p text r at bytes (rd (expect.Operator power) frames nodes opened crowded q) past rest
     pub call : last.call ≡ cf.call
+    pub place : last.at ≡ cf.at
     pub few : last.count + 2 ≤ past
     pub outer : enclosing_of frames ≡ Some (frame.Call last)
     pub reduced : frames_reduced 1 frames ≡ frame.Call last ∷ fs
@@ -158,8 +220,10 @@ module _ (p : Place) (days : List (List ℕ)) (text : List ℕ) where
 
   abbrev pub Lists : Form → Type 0
   Lists F = (name : Call) (k : ℕ) (fs : List Frame) (ns : List Spot) (o : ℕ) (c : Option ℕ) (q : Bool) (at : ℕ) (rest : List ℕ)
-      → is_list_of name ≡ true → later_argument name ≡ expect.Operand → most_arguments name ≡ 4096 → IsForm p q 0 F → 2 ≤ at → Follows rest → At text at (spelled F rest)
-      → Listing (call_frame k name 0) fs ns q (rd expect.Operand (frame.Call (call_frame k name 0) ∷ fs) ns o c q) at (spelled F rest) rest (told_of days (length text) F rest)
+      → is_list_of name ≡ true → later_argument name ≡ expect.Operand → most_arguments name ≡ 4096 → IsForm p q 0 F → 2 ≤ at → Follows rest
+      → At text at (spelled F rest)
+      → Listing (call_frame k name 0) fs ns q (rd expect.Operand (frame.Call (call_frame k name 0) ∷ fs) ns o c q) at (spelled F rest) rest
+      (told_in k days (length text) F rest)
 
   -- one argument
   pub lists_one : (F : Form) → Reads p days text F → ((q : Bool) → IsForm p q 0 F → IsForm p q 1 F) → Lists F
@@ -177,11 +241,14 @@ module _ (p : Place) (days : List (List ℕ)) (text : List ℕ) where
         last = cf;
         goes = one.goes;
         call = refl;
+        place = refl;
         few = omega (arith, one.goes.far);
         outer = one.after.outer;
         reduced = one.after.reduced 1 (omega arith);
         list = one.after.whole 1 (omega arith);
-        tree = one.tree;
+        tree =
+            tells_known text days one.own (told_of days (length text) F rest) (known_of days (length text) k F rest)
+            (known_any p q 1 F (omega arith) (up q is) days (length text) k rest) one.tree;
       }
 
   module _ (short : length text ≤ 4096) where
@@ -189,31 +256,47 @@ module _ (p : Place) (days : List (List ℕ)) (text : List ℕ) where
     at_within at bytes here = omega (arith, here.all)
 
     -- the comma after arguments
-    more_argument : (name : Call) (k : ℕ) (fs : List Frame) (ns : List Spot) (q : Bool) (r : Reader) (at : ℕ) (bytes b behind : List ℕ) (shape : Told) → later_argument name ≡ expect.Operand → most_arguments name ≡ 4096 → IsBlank b
-        → (one : Listing (call_frame k name 0) fs ns q r at bytes (symbol_text b symbol.Comma behind) shape)
-        → (past : ℕ) × Goes p text (rd (expect.Operator one.power) one.frames one.nodes one.opened one.crowded q) one.past (symbol_text b symbol.Comma behind) (rd expect.Operand (frame.Call (counted_of one.last) ∷ fs) (ns ++ one.own) one.opened one.crowded q) past behind × (one.past + 1 ≤ past)
+    more_argument : (name : Call) (k : ℕ) (fs : List Frame) (ns : List Spot) (q : Bool) (r : Reader) (at : ℕ) (bytes b beyond : List ℕ) (shape : Told)
+        → later_argument name ≡ expect.Operand → most_arguments name ≡ 4096 → IsBlank b
+        → (one : Listing (call_frame k name 0) fs ns q r at bytes (symbol_text b symbol.Comma beyond) shape)
+        → (past : ℕ) × Goes p text (rd (expect.Operator one.power) one.frames one.nodes one.opened one.crowded q) one.past (symbol_text b symbol.Comma beyond)
+        (rd expect.Operand (frame.Call (counted_of one.last) ∷ fs) (ns ++ one.own) one.opened one.crowded q) past beyond × (one.past + 1 ≤ past)
     unfolding text_of
-    more_argument name k fs ns q r at bytes b behind shape later most blank one =
+    more_argument name k fs ns q r at bytes b beyond shape later most blank one =
         let same : most_arguments one.last.call ≡ 4096 = ap most_arguments one.call ∙ most in
-        let few : one.last.count + 1 < most_arguments one.last.call = omega (arith, same, one.few, at_within one.past (symbol_text b symbol.Comma behind) one.goes.stands) in
-        let move = comma_move p text one.power one.frames one.nodes one.opened one.crowded q one.past b behind blank one.last fs (nodes_reduced 1 one.frames one.nodes) one.outer one.reduced refl few one.goes.stands in
+        let few : one.last.count + 1 < most_arguments one.last.call =
+        omega (arith, same, one.few, at_within one.past (symbol_text b symbol.Comma beyond) one.goes.stands) in
+        let move =
+        comma_move p text one.power one.frames one.nodes one.opened one.crowded q one.past b beyond blank one.last fs (nodes_reduced 1 one.frames one.nodes)
+        one.outer one.reduced refl few one.goes.stands in
         let next : later_argument one.last.call ≡ expect.Operand = ap later_argument one.call ∙ later in
-        let comma = at_past text one.past b (text_of symbol.Comma ++ behind) one.goes.stands in (
+        let comma = at_past text one.past b (text_of symbol.Comma ++ beyond) one.goes.stands in (
           move.0,
-          subst (λ (x : List Spot). Goes p text (rd (expect.Operator one.power) one.frames one.nodes one.opened one.crowded q) one.past (symbol_text b symbol.Comma behind) (rd expect.Operand (frame.Call (counted_of one.last) ∷ fs) x one.opened one.crowded q) move.0 behind) one.list
-              (subst (λ (x : Expect). Goes p text (rd (expect.Operator one.power) one.frames one.nodes one.opened one.crowded q) one.past (symbol_text b symbol.Comma behind) (rd x (frame.Call (counted_of one.last) ∷ fs) (joined one.last (nodes_reduced 1 one.frames one.nodes)) one.opened one.crowded q) move.0 behind) next move.1),
+          subst (λ (x : List Spot). Goes p text (rd (expect.Operator one.power) one.frames one.nodes one.opened one.crowded q) one.past
+              (symbol_text b symbol.Comma beyond) (rd expect.Operand (frame.Call (counted_of one.last) ∷ fs) x one.opened one.crowded q) move.0 beyond) one.list
+              (subst (λ (x : Expect). Goes p text (rd (expect.Operator one.power) one.frames one.nodes one.opened one.crowded q) one.past
+              (symbol_text b symbol.Comma beyond)
+              (rd x (frame.Call (counted_of one.last) ∷ fs) (joined one.last (nodes_reduced 1 one.frames one.nodes)) one.opened one.crowded q) move.0
+              beyond) next move.1),
           omega (arith, comma.all, move.1.stands.all),
         )
 
-    list_joined : (cf : CallFrame) (ns xs ys nodes : List Spot) → 1 ≤ cf.count → is_list_of cf.call ≡ true → nodes ≡ (ns ++ xs) ++ ys → joined cf nodes ≡ ns ++ ((xs ++ ys) ++ spot_of cf.at (node.Binary binary.Comma) ∷ [])
-    list_joined cf ns xs ys nodes some list e = joins cf nodes some list ∙ ap (λ (l : List Spot). l ++ spot_of cf.at (node.Binary binary.Comma) ∷ []) e ∙ simp append_assoc
+    list_joined : (cf : CallFrame) (ns xs ys nodes : List Spot) → 1 ≤ cf.count → is_list_of cf.call ≡ true → nodes ≡ (ns ++ xs) ++ ys
+        → joined cf nodes ≡ ns ++ ((xs ++ ys) ++ spot_of cf.at (node.Binary binary.Comma) ∷ [])
+    list_joined cf ns xs ys nodes some list e = joins cf nodes some list ∙ ap (λ (l : List Spot). l ++ spot_of cf.at (node.Binary binary.Comma) ∷ []) e
+        ∙ simp append_assoc
 
-    list_on : (first : Form) (b : List ℕ) (last : Form) (name : Call) (k : ℕ) (fs : List Frame) (ns : List Spot) (q : Bool) (r : Reader) (at : ℕ) (bytes rest : List ℕ) → is_list_of name ≡ true
-        → (one : Listing (call_frame k name 0) fs ns q r at bytes (symbol_text b symbol.Comma (spelled last rest)) (told_of days (length text) first (symbol_text b symbol.Comma (spelled last rest)))) (past : ℕ)
-        → Goes p text (rd (expect.Operator one.power) one.frames one.nodes one.opened one.crowded q) one.past (symbol_text b symbol.Comma (spelled last rest)) (rd expect.Operand (frame.Call (counted_of one.last) ∷ fs) (ns ++ one.own) one.opened one.crowded q) past (spelled last rest)
+    list_on : (first : Form) (b : List ℕ) (last : Form) (name : Call) (k : ℕ) (fs : List Frame) (ns : List Spot) (q : Bool) (r : Reader) (at : ℕ)
+        (bytes rest : List ℕ) → is_list_of name ≡ true
+        → (one : Listing (call_frame k name 0) fs ns q r at bytes (symbol_text b symbol.Comma (spelled last rest))
+        (told_in k days (length text) first (symbol_text b symbol.Comma (spelled last rest)))) (past : ℕ)
+        → Goes p text (rd (expect.Operator one.power) one.frames one.nodes one.opened one.crowded q) one.past (symbol_text b symbol.Comma (spelled last rest))
+        (rd expect.Operand (frame.Call (counted_of one.last) ∷ fs) (ns ++ one.own) one.opened one.crowded q) past (spelled last rest)
         → one.past + 1 ≤ past
-        → Reading p days text 1 (frame.Call (counted_of one.last) ∷ fs) (ns ++ one.own) q (rd expect.Operand (frame.Call (counted_of one.last) ∷ fs) (ns ++ one.own) one.opened one.crowded q) past (spelled last rest) rest (told_of days (length text) last rest)
-        → Listing (call_frame k name 0) fs ns q r at bytes rest (told_of days (length text) (Arguments first b last) rest)
+        → Reading p days text 1 (frame.Call (counted_of one.last) ∷ fs) (ns ++ one.own) q
+        (rd expect.Operand (frame.Call (counted_of one.last) ∷ fs) (ns ++ one.own) one.opened one.crowded q) past (spelled last rest) rest
+        (told_of days (length text) last rest)
+        → Listing (call_frame k name 0) fs ns q r at bytes rest (told_in k days (length text) (Arguments first b last) rest)
     list_on first b last name k fs ns q r at bytes rest list one past move passed three =
         let some = counted_some one.last in
         record {
@@ -225,24 +308,47 @@ module _ (p : Place) (days : List (List ℕ)) (text : List ℕ) where
           past = three.past;
           own = (one.own ++ three.own) ++ spot_of one.last.at (node.Binary binary.Comma) ∷ [];
           last = counted_of one.last;
-          goes = then_goes p text r at bytes (rd (expect.Operator one.power) one.frames one.nodes one.opened one.crowded q) one.past (symbol_text b symbol.Comma (spelled last rest)) (rd (expect.Operator three.power) three.frames three.nodes three.opened three.crowded q) three.past rest one.goes
-              (then_goes p text (rd (expect.Operator one.power) one.frames one.nodes one.opened one.crowded q) one.past (symbol_text b symbol.Comma (spelled last rest)) (rd expect.Operand (frame.Call (counted_of one.last) ∷ fs) (ns ++ one.own) one.opened one.crowded q) past (spelled last rest) (rd (expect.Operator three.power) three.frames three.nodes three.opened three.crowded q) three.past rest move three.goes);
+          goes =
+              then_goes p text r at bytes (rd (expect.Operator one.power) one.frames one.nodes one.opened one.crowded q) one.past
+              (symbol_text b symbol.Comma (spelled last rest)) (rd (expect.Operator three.power) three.frames three.nodes three.opened three.crowded q)
+              three.past rest one.goes
+              (then_goes p text (rd (expect.Operator one.power) one.frames one.nodes one.opened one.crowded q) one.past
+              (symbol_text b symbol.Comma (spelled last rest))
+              (rd expect.Operand (frame.Call (counted_of one.last) ∷ fs) (ns ++ one.own) one.opened one.crowded q) past (spelled last rest)
+              (rd (expect.Operator three.power) three.frames three.nodes three.opened three.crowded q) three.past rest move three.goes);
           call = one.call;
+          place = one.place;
           few = omega (arith, some.1, one.few, three.goes.far);
           outer = three.after.outer;
           reduced = three.after.reduced 1 (omega arith);
-          list = list_joined (counted_of one.last) ns one.own three.own (nodes_reduced 1 three.frames three.nodes) some.0 (ap is_list_of one.call ∙ list) (three.after.whole 1 (omega arith));
-          tree = evals_two text days one.own three.own one.last.at binary.Comma (told_of days (length text) first (symbol_text b symbol.Comma (spelled last rest))) (told_of days (length text) last rest) one.tree three.tree;
+          list =
+              list_joined (counted_of one.last) ns one.own three.own (nodes_reduced 1 three.frames three.nodes) some.0 (ap is_list_of one.call
+              ∙ list) (three.after.whole 1 (omega arith));
+          tree =
+              evals_two text days one.own three.own one.last.at k binary.Comma
+              (told_in k days (length text) first (symbol_text b symbol.Comma (spelled last rest))) (told_of days (length text) last rest) one.place one.tree
+              three.tree;
         }
 
     pub lists_more : (first : Form) (b : List ℕ) (last : Form) → Lists first → Reads p days text last → Lists (Arguments first b last)
     lists_more first b last ihf ihl name k fs ns o c q at rest list later most is two follows here =
-        let one = ihf name k fs ns o c q at (symbol_text b symbol.Comma (spelled last rest)) list later most is.1 two (calm_follows b (text_of symbol.Comma) (spelled last rest) is.2 comma_calm) here in
-        then_list one (more_argument name k fs ns q (rd expect.Operand (frame.Call (call_frame k name 0) ∷ fs) ns o c q) at (spelled first (symbol_text b symbol.Comma (spelled last rest))) b (spelled last rest) (told_of days (length text) first (symbol_text b symbol.Comma (spelled last rest))) later most is.2 one)
+        let one =
+        ihf name k fs ns o c q at (symbol_text b symbol.Comma (spelled last rest)) list later most is.1 two
+        (calm_follows b (text_of symbol.Comma) (spelled last rest) is.2 comma_calm) here in
+        then_list one (more_argument name k fs ns q (rd expect.Operand (frame.Call (call_frame k name 0) ∷ fs) ns o c q) at
+        (spelled first (symbol_text b symbol.Comma (spelled last rest))) b (spelled last rest)
+        (told_in k days (length text) first (symbol_text b symbol.Comma (spelled last rest))) later most is.2 one)
       where
-        then_list : (one : Listing (call_frame k name 0) fs ns q (rd expect.Operand (frame.Call (call_frame k name 0) ∷ fs) ns o c q) at (spelled first (symbol_text b symbol.Comma (spelled last rest))) (symbol_text b symbol.Comma (spelled last rest)) (told_of days (length text) first (symbol_text b symbol.Comma (spelled last rest))))
-            → (past : ℕ) × Goes p text (rd (expect.Operator one.power) one.frames one.nodes one.opened one.crowded q) one.past (symbol_text b symbol.Comma (spelled last rest)) (rd expect.Operand (frame.Call (counted_of one.last) ∷ fs) (ns ++ one.own) one.opened one.crowded q) past (spelled last rest) × (one.past + 1 ≤ past)
-            → Listing (call_frame k name 0) fs ns q (rd expect.Operand (frame.Call (call_frame k name 0) ∷ fs) ns o c q) at (spelled (Arguments first b last) rest) rest (told_of days (length text) (Arguments first b last) rest)
+        then_list : (one : Listing (call_frame k name 0) fs ns q (rd expect.Operand (frame.Call (call_frame k name 0) ∷ fs) ns o c q) at
+            (spelled first (symbol_text b symbol.Comma (spelled last rest))) (symbol_text b symbol.Comma (spelled last rest))
+            (told_in k days (length text) first (symbol_text b symbol.Comma (spelled last rest))))
+            → (past : ℕ) × Goes p text (rd (expect.Operator one.power) one.frames one.nodes one.opened one.crowded q) one.past
+            (symbol_text b symbol.Comma (spelled last rest))
+            (rd expect.Operand (frame.Call (counted_of one.last) ∷ fs) (ns ++ one.own) one.opened one.crowded q) past (spelled last rest)
+            × (one.past + 1 ≤ past)
+            → Listing (call_frame k name 0) fs ns q (rd expect.Operand (frame.Call (call_frame k name 0) ∷ fs) ns o c q) at
+            (spelled (Arguments first b last) rest) rest (told_in k days (length text) (Arguments first b last) rest)
         then_list one move =
-            list_on first b last name k fs ns q (rd expect.Operand (frame.Call (call_frame k name 0) ∷ fs) ns o c q) at (spelled (Arguments first b last) rest) rest list one move.0 move.1 move.2
+            list_on first b last name k fs ns q (rd expect.Operand (frame.Call (call_frame k name 0) ∷ fs) ns o c q) at (spelled (Arguments first b last) rest)
+            rest list one move.0 move.1 move.2
             (argument last ihl (counted_of one.last) fs (ns ++ one.own) one.opened one.crowded q move.0 rest is.3 follows move.1.stands)

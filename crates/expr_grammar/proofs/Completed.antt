@@ -1,5 +1,6 @@
 -- Each form of the grammar is read, and its nodes are those of its tree.
-use Rattle.std.proofs.Common.{◌≡◌, ℕ, ◌+◌, ◌-◌, ◌<◌, ◌≤◌, Bool, true, false, List, [], ◌∷◌, ◌++◌, length, drop, Some, None, Option, refl, sym, ap, subst, ◌∙◌, inl, inr, arith}
+use Rattle.std.proofs.Common.{◌≡◌, ℕ, ◌+◌, ◌-◌, ◌<◌, ◌≤◌, Bool, true, false, List, [], ◌∷◌, ◌++◌, length, drop, Some, None, Option, refl, sym, ap, subst}
+use Rattle.std.proofs.Common.{◌∙◌, inl, inr, arith}
 use Rattle.std.specs.Prelude.{◌&&◌, ◌||◌, not, nat_eq, nat_le}
 use Rattle.std.specs.Char.{is_ascii_digit}
 use Rattle.std.proofs.lemmas.Bool.Decides.{nat_tests}
@@ -29,9 +30,13 @@ use Rattle.expr_lang.specs.Token.{is_comparison_of}
 use Rattle.expr_lang.specs.Words.{text_of, items_of_place}
 use Rattle.expr_lang.specs.Items.{Occurrence, item_of_leaf_of, with_occurrence, occurrences}
 use Rattle.expr_lang.specs.Leaves.{leaf_of_node}
+use Rattle.expr_lang.specs.declared.survey.Known.{Known}
+use Rattle.expr_lang.specs.Survey.{leaf_known_of, unary_known_of, binary_known_of, if_known_of, known_after, known_behind}
 use Rattle.expr_grammar.specs.Grammar.{tree_of}
 use Rattle.expr_grammar.specs.Items.{occurrences_of}
-use Rattle.expr_grammar.specs.Grammar.{Form, Number, Item, Bracket, Power, Sign, Chain, Arguments, If, Condition, DaysBetween, Apply, IsBlank, IsDigits, IsWord, IsForm, sign_text, after_blanks, behind_point, spelled}
+use Rattle.expr_grammar.proofs.Operands.{known_of}
+use Rattle.expr_grammar.specs.Grammar.{Form, Number, Item, Bracket, Power, Sign, Chain, Arguments, If, Condition, DaysBetween, Apply, IsBlank, IsDigits}
+use Rattle.expr_grammar.specs.Grammar.{IsWord, IsForm, sign_text, after_blanks, behind_point, number_value, spelled}
 use Rattle.expr_grammar.proofs.Words.{first_is, all_of, among_all, both, same_number, literal_fits, or_cases, word_long}
 use Rattle.expr_grammar.proofs.Steps.{At, at_past}
 use Rattle.expr_grammar.proofs.Moves.{item_local}
@@ -62,7 +67,8 @@ blank_calm c e =
       ]
     ]
   where
-    at : (k : ℕ) → c ≡ k → (is_ascii_digit k ≡ false) × (nat_eq k 46 ≡ false) × (nat_eq 61 k ≡ false) → (is_ascii_digit c ≡ false) × (nat_eq c 46 ≡ false) × (nat_eq 61 c ≡ false)
+    at : (k : ℕ) → c ≡ k → (is_ascii_digit k ≡ false) × (nat_eq k 46 ≡ false) × (nat_eq 61 k ≡ false)
+        → (is_ascii_digit c ≡ false) × (nat_eq c 46 ≡ false) × (nat_eq 61 c ≡ false)
     at k same h = subst (λ (x : ℕ). (is_ascii_digit x ≡ false) × (nat_eq x 46 ≡ false) × (nat_eq 61 x ≡ false)) (sym same) h
 
 -- a word that begins so, after blanks
@@ -157,8 +163,11 @@ sign_starts s = refl
 
 -- a form begins with no `=`
 pub form_starts : (p : Place) (q : Bool) (L : ℕ) (F : Form) (rest : List ℕ) → IsForm p q L F → first_is (nat_eq 61) (spelled F rest) ≡ false
-form_starts p q L (Number b digits decimals) rest h = no_equal b (digits ++ behind_point decimals) rest h.0 (digit_starts digits (behind_point decimals) h.1.some h.1.whole)
-form_starts p q L (Item b f word) rest h = no_equal b word rest h.0 (word_starts (text_of (symbol.Item f)) word (among_all (λ w. first_is literal_start (text_of w)) (items_of_place p) (symbol.Item f) (items_start p) h.1) h.2)
+form_starts p q L (Number b digits decimals) rest h =
+    no_equal b (digits ++ behind_point decimals) rest h.0 (digit_starts digits (behind_point decimals) h.1.some h.1.whole)
+form_starts p q L (Item b f word) rest h =
+    no_equal b word rest h.0 (word_starts (text_of (symbol.Item f)) word
+    (among_all (λ w. first_is literal_start (text_of w)) (items_of_place p) (symbol.Item f) (items_start p) h.1) h.2)
 form_starts p q L (Bracket b inner c) rest h = no_equal b (text_of symbol.Open) _ h.0 open_starts
 form_starts p q L (Power atom b c digits) rest h = form_starts p q 8 atom _ h.1
 form_starts p q L (Sign b sign operand) rest h = no_equal b (sign_text sign) _ h.1 (sign_starts sign)
@@ -215,7 +224,8 @@ levels binary.Comma h = absurd (omega arith)
 
 -- ---- nodes and trees
 
-pub behind_both : (text : List ℕ) (days : List (List ℕ)) (xs ys : List Spot) (stack : List Shape) → shapes_behind text days (xs ++ ys) stack ≡ shapes_behind text days ys (shapes_behind text days xs stack)
+pub behind_both : (text : List ℕ) (days : List (List ℕ)) (xs ys : List Spot) (stack : List Shape)
+    → shapes_behind text days (xs ++ ys) stack ≡ shapes_behind text days ys (shapes_behind text days xs stack)
 behind_both text days [] ys stack = refl
 behind_both text days (x ∷ xs) ys stack = behind_both text days xs ys (shapes_after text days x.at x.node stack)
 
@@ -223,13 +233,16 @@ behind_both text days (x ∷ xs) ys stack = behind_both text days xs ys (shapes_
 pub record Evals (text : List ℕ) (days : List (List ℕ)) (nodes : List Spot) (tree : Shape) : Type 0 where
   pub is : (stack : List Shape) → shapes_behind text days nodes stack ≡ tree ∷ stack
 
-occur_both : (text : List ℕ) (days : List (List ℕ)) (xs ys : List Spot) → occurrences text days (xs ++ ys) ≡ occurrences text days xs ++ occurrences text days ys
+occur_both : (text : List ℕ) (days : List (List ℕ)) (xs ys : List Spot)
+    → occurrences text days (xs ++ ys) ≡ occurrences text days xs ++ occurrences text days ys
 occur_both text days [] ys = refl
 occur_both text days (x ∷ xs) ys =
     ap (with_occurrence (item_of_leaf_of (leaf_of_node text days x.at x.node)) x.at) (occur_both text days xs ys)
     ∙ shifted (item_of_leaf_of (leaf_of_node text days x.at x.node))
   where
-    shifted : (i : Option Item') → with_occurrence i x.at (occurrences text days xs ++ occurrences text days ys) ≡ with_occurrence i x.at (occurrences text days xs) ++ occurrences text days ys
+    shifted : (i : Option Item')
+        → with_occurrence i x.at (occurrences text days xs ++ occurrences text days ys)
+        ≡ with_occurrence i x.at (occurrences text days xs) ++ occurrences text days ys
     shifted None = refl
     shifted (Some i) = refl
 
@@ -237,57 +250,130 @@ no_more : (xs : List Occurrence) → xs ++ [] ≡ xs
 no_more [] = refl
 no_more (x ∷ xs) = ap (λ (l : List Occurrence). x ∷ l) (no_more xs)
 
--- a tree, and the occurrences of items in it
+surveyed_both : (text : List ℕ) (days : List (List ℕ)) (xs ys : List Spot) (stack : List Known)
+    → known_behind text days (xs ++ ys) stack ≡ known_behind text days ys (known_behind text days xs stack)
+surveyed_both text days [] ys stack = refl
+surveyed_both text days (x ∷ xs) ys stack = surveyed_both text days xs ys (known_after text days x.at x.node stack)
+
+-- what is known of the nodes, as one operand
+pub record Surveys (text : List ℕ) (days : List (List ℕ)) (nodes : List Spot) (known : Known) : Type 0 where
+  pub is : (stack : List Known) → known_behind text days nodes stack ≡ known ∷ stack
+
+-- the place of a word after blanks
+pub place_past : (text : List ℕ) (at : ℕ) (b more : List ℕ) → At text at (b ++ more) → at + length b ≡ length text - length more
+place_past text at b more here = omega (arith, (at_past text at b more here).all)
+
+-- a tree, the occurrences of items in it, and what is known of it
 pub record Told : Type 0 where
   pub tree : Shape
   pub items : List Occurrence
+  pub known : Known
+
+-- of arguments whose call stands at `k`
+abbrev pub told_in : ℕ → List (List ℕ) → ℕ → Form → List ℕ → Told
+told_in k days total F rest = record { tree = tree_of days F; items = occurrences_of days total F rest; known = known_of days total k F rest }
 
 abbrev pub told_of : List (List ℕ) → ℕ → Form → List ℕ → Told
-told_of days total F rest = record { tree = tree_of days F; items = occurrences_of days total F rest }
+told_of days total F rest = told_in 0 days total F rest
 
 pub record Tells (text : List ℕ) (days : List (List ℕ)) (nodes : List Spot) (told : Told) : Type 0 where
   pub evals : Evals text days nodes told.tree
   pub lists : occurrences text days nodes ≡ told.items
+  pub surveys : Surveys text days nodes told.known
+
+-- the same with another place of the call
+pub tells_known : (text : List ℕ) (days : List (List ℕ)) (nodes : List Spot) (told : Told) (known : Known) → known ≡ told.known → Tells text days nodes told
+    → Tells text days nodes (record told { known = known })
+tells_known text days nodes told known e h = record { evals = h.evals; lists = h.lists; surveys = subst (Surveys text days nodes) (sym e) h.surveys }
 
 module _ (text : List ℕ) (days : List (List ℕ)) where
-  pub evals_one : (xs : List Spot) (at : ℕ) (o : Unary) (x : Told) → Tells text days xs x → Tells text days (xs ++ spot_of at (node.Unary o) ∷ []) (record { tree = One o x.tree; items = x.items })
-  evals_one xs at o x h = record {
-    evals = record { is = λ stack. behind_both text days xs (spot_of at (node.Unary o) ∷ []) stack ∙ ap (shapes_behind text days (spot_of at (node.Unary o) ∷ [])) (h.evals.is stack) };
+  pub evals_one : (xs : List Spot) (at place : ℕ) (o : Unary) (x : Told) → at ≡ place → Tells text days xs x
+      → Tells text days (xs ++ spot_of at (node.Unary o) ∷ []) (record { tree = One o x.tree; items = x.items; known = unary_known_of place o x.known })
+  evals_one xs at place o x e h = record {
+    evals =
+        record {
+          is = λ stack. behind_both text days xs (spot_of at (node.Unary o) ∷ []) stack
+              ∙ ap (shapes_behind text days (spot_of at (node.Unary o) ∷ [])) (h.evals.is stack);
+        };
     lists = occur_both text days xs (spot_of at (node.Unary o) ∷ []) ∙ no_more (occurrences text days xs) ∙ h.lists;
+    surveys = record {
+      is = λ stack. surveyed_both text days xs (spot_of at (node.Unary o) ∷ []) stack
+          ∙ ap (known_behind text days (spot_of at (node.Unary o) ∷ [])) (h.surveys.is stack)
+          ∙ ap (λ (k : ℕ). unary_known_of k o x.known ∷ stack) e;
+    };
   }
 
-  pub evals_two : (xs ys : List Spot) (at : ℕ) (o : Binary) (x y : Told) → Tells text days xs x → Tells text days ys y → Tells text days ((xs ++ ys) ++ spot_of at (node.Binary o) ∷ []) (record { tree = Two o x.tree y.tree; items = x.items ++ y.items })
-  evals_two xs ys at o x y h g = record {
+  pub evals_two : (xs ys : List Spot) (at place : ℕ) (o : Binary) (x y : Told) → at ≡ place → Tells text days xs x → Tells text days ys y
+      → Tells text days ((xs ++ ys) ++ spot_of at (node.Binary o) ∷ [])
+      (record { tree = Two o x.tree y.tree; items = x.items ++ y.items; known = binary_known_of place o x.known y.known })
+  evals_two xs ys at place o x y e h g = record {
     evals = record {
       is = λ stack. behind_both text days (xs ++ ys) (spot_of at (node.Binary o) ∷ []) stack
-          ∙ ap (shapes_behind text days (spot_of at (node.Binary o) ∷ [])) (behind_both text days xs ys stack ∙ ap (shapes_behind text days ys) (h.evals.is stack) ∙ g.evals.is (x.tree ∷ stack));
+          ∙ ap (shapes_behind text days (spot_of at (node.Binary o) ∷ [])) (behind_both text days xs ys stack
+          ∙ ap (shapes_behind text days ys) (h.evals.is stack) ∙ g.evals.is (x.tree ∷ stack));
     };
     lists = occur_both text days (xs ++ ys) (spot_of at (node.Binary o) ∷ []) ∙ no_more (occurrences text days (xs ++ ys)) ∙ occur_both text days xs ys
         ∙ ap (λ (l : List Occurrence). l ++ occurrences text days ys) h.lists ∙ ap (λ (l : List Occurrence). x.items ++ l) g.lists;
+    surveys = record {
+      is = λ stack. surveyed_both text days (xs ++ ys) (spot_of at (node.Binary o) ∷ []) stack
+          ∙ ap (known_behind text days (spot_of at (node.Binary o) ∷ [])) (surveyed_both text days xs ys stack
+          ∙ ap (known_behind text days ys) (h.surveys.is stack) ∙ g.surveys.is (x.known ∷ stack))
+          ∙ ap (λ (k : ℕ). binary_known_of k o x.known y.known ∷ stack) e;
+    };
   }
 
-  pub evals_three : (xs ys zs : List Spot) (at : ℕ) (x y z : Told) → Tells text days xs x → Tells text days ys y → Tells text days zs z → Tells text days (((xs ++ ys) ++ zs) ++ spot_of at node.If ∷ []) (record { tree = Choice x.tree y.tree z.tree; items = (x.items ++ y.items) ++ z.items })
-  evals_three xs ys zs at x y z h g f = record {
+  pub evals_three : (xs ys zs : List Spot) (at place : ℕ) (x y z : Told) → at ≡ place → Tells text days xs x → Tells text days ys y → Tells text days zs z
+      → Tells text days (((xs ++ ys) ++ zs) ++ spot_of at node.If ∷ [])
+      (record { tree = Choice x.tree y.tree z.tree; items = (x.items ++ y.items) ++ z.items; known = if_known_of place x.known y.known z.known })
+  evals_three xs ys zs at place x y z e h g f = record {
     evals = record {
       is = λ stack. behind_both text days ((xs ++ ys) ++ zs) (spot_of at node.If ∷ []) stack
           ∙ ap (shapes_behind text days (spot_of at node.If ∷ []))
-          (behind_both text days (xs ++ ys) zs stack ∙ ap (shapes_behind text days zs) (behind_both text days xs ys stack ∙ ap (shapes_behind text days ys) (h.evals.is stack) ∙ g.evals.is (x.tree ∷ stack)) ∙ f.evals.is (y.tree ∷ x.tree ∷ stack));
+          (behind_both text days (xs ++ ys) zs stack
+          ∙ ap (shapes_behind text days zs) (behind_both text days xs ys stack ∙ ap (shapes_behind text days ys) (h.evals.is stack)
+          ∙ g.evals.is (x.tree ∷ stack)) ∙ f.evals.is (y.tree ∷ x.tree ∷ stack));
     };
-    lists = occur_both text days ((xs ++ ys) ++ zs) (spot_of at node.If ∷ []) ∙ no_more (occurrences text days ((xs ++ ys) ++ zs)) ∙ occur_both text days (xs ++ ys) zs
-        ∙ ap (λ (l : List Occurrence). l ++ occurrences text days zs) (occur_both text days xs ys ∙ ap (λ (l : List Occurrence). l ++ occurrences text days ys) h.lists ∙ ap (λ (l : List Occurrence). x.items ++ l) g.lists)
+    lists = occur_both text days ((xs ++ ys) ++ zs) (spot_of at node.If ∷ []) ∙ no_more (occurrences text days ((xs ++ ys) ++ zs))
+        ∙ occur_both text days (xs ++ ys) zs
+        ∙ ap (λ (l : List Occurrence). l ++ occurrences text days zs) (occur_both text days xs ys
+        ∙ ap (λ (l : List Occurrence). l ++ occurrences text days ys) h.lists ∙ ap (λ (l : List Occurrence). x.items ++ l) g.lists)
         ∙ ap (λ (l : List Occurrence). (x.items ++ y.items) ++ l) f.lists;
+    surveys = record {
+      is = λ stack. surveyed_both text days ((xs ++ ys) ++ zs) (spot_of at node.If ∷ []) stack
+          ∙ ap (known_behind text days (spot_of at node.If ∷ []))
+          (surveyed_both text days (xs ++ ys) zs stack
+          ∙ ap (known_behind text days zs) (surveyed_both text days xs ys stack ∙ ap (known_behind text days ys) (h.surveys.is stack)
+          ∙ g.surveys.is (x.known ∷ stack)) ∙ f.surveys.is (y.known ∷ x.known ∷ stack))
+          ∙ ap (λ (k : ℕ). if_known_of k x.known y.known z.known ∷ stack) e;
+    };
   }
 
-  pub evals_number : (at n : ℕ) → Tells text days (spot_of at (node.Number n) ∷ []) (record { tree = Operand (leaf.Number n); items = [] })
-  evals_number at n = record { evals = record { is = λ stack. refl }; lists = refl }
+  pub evals_number : (at : ℕ) (b digits decimals rest : List ℕ) → At text at (spelled (Number b digits decimals) rest)
+      → Tells text days (spot_of (at + length b) (node.Number (number_value digits decimals)) ∷ []) (told_of days (length text) (Number b digits decimals) rest)
+  evals_number at b digits decimals rest here = record {
+    evals = record { is = λ stack. refl };
+    lists = refl;
+    surveys =
+        record {
+          is =
+              λ stack. ap (λ (k : ℕ). leaf_known_of k (leaf.Number (number_value digits decimals)) ∷ stack)
+              (place_past text at b ((digits ++ behind_point decimals) ++ rest) here);
+        };
+  }
 
-  pub evals_item : (at : ℕ) (b : List ℕ) (f : ItemForm) (word rest : List ℕ) → IsWord (text_of (symbol.Item f)) word → At text at (after_blanks b word rest) → Tells text days (spot_of (at + length b) (node.Item f) ∷ []) (told_of days (length text) (Item b f word) rest)
+  pub evals_item : (at : ℕ) (b : List ℕ) (f : ItemForm) (word rest : List ℕ) → IsWord (text_of (symbol.Item f)) word → At text at (after_blanks b word rest)
+      → Tells text days (spot_of (at + length b) (node.Item f) ∷ []) (told_of days (length text) (Item b f word) rest)
   evals_item at b f word rest is here =
       let there = at_past text at b (word ++ rest) here in
-      let item : item_from f (drop (at + length b) text) ≡ item_from f word = ap (item_from f) there.rest ∙ item_local f word rest (word_long (text_of (symbol.Item f)) word is) in
+      let item : item_from f (drop (at + length b) text) ≡ item_from f word = ap (item_from f) there.rest
+      ∙ item_local f word rest (word_long (text_of (symbol.Item f)) word is) in
       let place : at + length b ≡ length text - length (word ++ rest) = omega (arith, there.all) in
       record {
         evals = record { is = λ stack. ap (λ (o : Option Item'). Operand (item_leaf days o) ∷ stack) item };
         lists = ap (λ (o : Option Item'). with_occurrence (item_of_leaf_of (item_leaf days o)) (at + length b) []) item
             ∙ ap (λ (k : ℕ). with_occurrence (item_of_leaf_of (item_leaf days (item_from f word))) k []) place;
+        surveys = record {
+          is = λ stack. ap (λ (o : Option Item'). leaf_known_of (at + length b) (item_leaf days o) ∷ stack) item
+              ∙ ap (λ (k : ℕ). leaf_known_of k (item_leaf days (item_from f word)) ∷ stack) place;
+        };
       }

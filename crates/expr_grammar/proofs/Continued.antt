@@ -1,24 +1,14 @@
 -- The bytes before a fault of syntax begin a text of the grammar.
-use Rattle.std.proofs.Common.{◌≡◌, ℕ, zero, suc, ◌+◌, ◌-◌, ◌<◌, ◌≤◌, Bool, true, false, cond, List, [], ◌∷◌, ◌++◌, length, take, drop, Option, Some, None, Result, Ok, Err, refl, sym, ap, subst, ◌⊎◌, ◌∙◌, inl, inr, append_assoc, length-append, arith}
-use Rattle.std.specs.Prelude.{◌&&◌, ◌||◌, not, nat_eq, nat_lt, nat_le, codes, slice_index}
+use Rattle.std.proofs.Common.{◌≡◌, ℕ, zero, suc, ◌+◌, ◌-◌, ◌<◌, ◌≤◌, Bool, true, false, cond, List, [], ◌∷◌, ◌++◌, length, take, drop, Option, Some, None}
+use Rattle.std.proofs.Common.{Result, Ok, Err, refl, sym, ap, subst, ◌⊎◌, ◌∙◌, inl, inr, append_assoc, length-append, arith}
+use Rattle.std.specs.Prelude.{◌&&◌, ◌||◌, nat_eq, nat_lt, nat_le, codes, slice_index}
 use Rattle.std.specs.Char.{is_ascii_digit}
 use Rattle.std.proofs.lemmas.Bool.Decides.{nat_tests}
 use Rattle.expr_lang.specs.declared.tree.Place.{Place}
-use Rattle.expr_lang.specs.declared.tree.Place.TheVariants as place
-use Rattle.expr_lang.specs.declared.tree.Binary.{Binary}
-use Rattle.expr_lang.specs.declared.tree.Binary.TheVariants as binary
-use Rattle.dh_base.specs.declared.plain.Rate.TheVariants as rates
 use Rattle.expr_lang.specs.declared.words.Symbol.{Symbol}
-use Rattle.expr_lang.specs.declared.words.Symbol.TheVariants as symbol
-use Rattle.expr_lang.specs.declared.words.Call.{Call}
-use Rattle.expr_lang.specs.declared.words.Call.TheVariants as call
-use Rattle.expr_lang.specs.declared.words.ItemForm.{ItemForm}
-use Rattle.expr_lang.specs.declared.words.ItemForm.TheVariants as form
 use Rattle.expr_lang.specs.declared.token.Allowed.{Allowed}
 use Rattle.expr_lang.specs.declared.token.Front.{Front}
-use Rattle.expr_lang.specs.declared.reading.Spot.{Spot}
 use Rattle.expr_lang.specs.declared.reading.Frame.{Frame}
-use Rattle.expr_lang.specs.declared.reading.Frame.TheVariants as frame
 use Rattle.expr_lang.specs.declared.reading.Expect.{Expect}
 use Rattle.expr_lang.specs.declared.reading.Expect.TheVariants as expect
 use Rattle.expr_lang.specs.declared.reading.Token.{Token}
@@ -26,19 +16,20 @@ use Rattle.expr_lang.specs.declared.reading.Token.TheVariants as token
 use Rattle.expr_lang.specs.declared.reading.Found.{Found}
 use Rattle.expr_lang.specs.declared.reading.Reader.{Reader}
 use Rattle.expr_lang.specs.declared.reading.Nodes.{Nodes}
-use Rattle.expr_lang.specs.Reading.{is_blank_of, blank_count, enclosing_of, compares, allowed_in, allowed_after, allowed_for, words_for, takes_number, number_found, exponent_found, word_found, token_from, with_token, with_word, with_leaf, with_sign, with_operator, with_open, with_call, with_comma, with_close, with_quote, with_exponent, comma_in, frames_reduced, nodes_reduced, is_quote, ended, go_on, may_end_in, read_rest, read_text, most_words, new_reader}
-use Rattle.expr_lang.specs.Token.{is_allowed_of, fits_of, front_of, better_of, longest_from, longest_of, no_front, digit_count, digits_of_front, number_of, exponent_of}
-use Rattle.expr_lang.specs.Words.{text_of, start_of, operands_of, items_of_place, bracket_of, nothing_of}
-use Rattle.expr_grammar.specs.Continues.{is_quoted, GoesOn, GoesOnAt}
-use Rattle.expr_grammar.specs.Grammar.{IsBlank, IsDigits, IsWord, IsAmong, behind_point, number_value}
-use Rattle.expr_grammar.proofs.Finished.{Calm, finish_stage}
-use Rattle.expr_grammar.proofs.Parts.{Part, InChain, InSign, InBracket, InQuote, InIf, InThen, InElse, InYes, InNo, InFirst, InSecond, InOne, InMore, frames_of, quoted_of}
-use Rattle.expr_grammar.proofs.Stages.{Stage, Wants, Named, Quoting, WantsItem, PlainFirst, PlainNext, Plain, Lone, Raised, Has, Tested, Whole, spelled_stage, expect_of, stage_frames, stage_quoted, Valid, Like, Next}
+use Rattle.expr_lang.specs.Reading.{blank_count, allowed_for, words_for, takes_number, number_found, exponent_found, word_found, token_from, with_token}
+use Rattle.expr_lang.specs.Reading.{nodes_reduced, ended, go_on, may_end_in, read_rest, read_text, most_words, new_reader}
+use Rattle.expr_lang.specs.Token.{is_allowed_of, fits_of, front_of, better_of, longest_from, longest_of, no_front, digit_count, digits_of_front, number_of}
+use Rattle.expr_lang.specs.Token.{exponent_of}
+use Rattle.expr_lang.specs.Words.{text_of}
+use Rattle.expr_grammar.specs.Continues.{GoesOn, GoesOnAt}
+use Rattle.expr_grammar.specs.Grammar.{IsBlank, IsDigits, IsWord, IsAmong, number_value}
+use Rattle.expr_grammar.proofs.Finished.{finish_stage}
+use Rattle.expr_grammar.proofs.Stages.{Stage, Wants, spelled_stage, expect_of, stage_frames, stage_quoted, Valid, Like, Next}
 use Rattle.expr_grammar.proofs.Moves.{rd}
 use Rattle.expr_grammar.proofs.Sound.{token_next}
 use Rattle.expr_grammar.proofs.Steps.{read_is, read_none}
 use Rattle.expr_grammar.proofs.Tokens.{IsLexeme, May, token_sound, digits_split}
-use Rattle.expr_grammar.proofs.Words.{all_of, among_all, both, blanks_split, drop_front, take_front, IsRaised, token_by, token_is}
+use Rattle.expr_grammar.proofs.Words.{both, blanks_split, drop_front, take_front, IsRaised, token_by, token_is}
 
 -- ---- a word of which the front is there
 
@@ -69,7 +60,9 @@ fills (c ∷ cs) [] = fill_none (c ∷ cs) []
 fills (c ∷ cs) (b ∷ bs) = by_test (fits_of c b) refl (fills cs bs)
   where
     by_test : (x : Bool) → fits_of c b ≡ x → Fills cs bs (front_of cs bs) → Fills (c ∷ cs) (b ∷ bs) (cond (fits_of c b) (suc (front_of cs bs)) 0)
-    by_test true e r = subst (λ (x : Bool). Fills (c ∷ cs) (b ∷ bs) (cond x (suc (front_of cs bs)) 0)) (sym e) (record { tail = r.tail; within = omega (arith, r.within); is = (e, r.is) })
+    by_test true e r =
+        subst (λ (x : Bool). Fills (c ∷ cs) (b ∷ bs) (cond x (suc (front_of cs bs)) 0)) (sym e)
+        (record { tail = r.tail; within = omega (arith, r.within); is = (e, r.is) })
     by_test false e r = subst (λ (x : Bool). Fills (c ∷ cs) (b ∷ bs) (cond x (suc (front_of cs bs)) 0)) (sym e) (fill_none (c ∷ cs) (b ∷ bs))
 
 front_most : (t bytes : List ℕ) → front_of t bytes ≤ length t
@@ -95,181 +88,35 @@ Fronts all allowed bytes best = best.symbol ≡ None → (best.len ≡ 0) ⊎ Lo
 some_none : (v : Symbol) → ◌≡◌ {A = Option Symbol} (Some v) None → ⊥
 some_none v e = cc
 
-better_fronts : (all : List Symbol) (allowed : Allowed) (bytes : List ℕ) (best : Front) (v : Symbol) → IsAmong v all → is_allowed_of allowed v ≡ true → Fronts all allowed bytes best → Fronts all allowed bytes (better_of best v bytes)
+better_fronts : (all : List Symbol) (allowed : Allowed) (bytes : List ℕ) (best : Front) (v : Symbol) → IsAmong v all → is_allowed_of allowed v ≡ true
+    → Fronts all allowed bytes best → Fronts all allowed bytes (better_of best v bytes)
 better_fronts all allowed bytes best v among may h =
-    by_test (nat_lt best.len (front_of (text_of v) bytes) || (nat_eq best.len (front_of (text_of v) bytes) && nat_eq (front_of (text_of v) bytes) (length (text_of v))))
+    by_test (nat_lt best.len (front_of (text_of v) bytes)
+    || (nat_eq best.len (front_of (text_of v) bytes) && nat_eq (front_of (text_of v) bytes) (length (text_of v))))
   where
-    by_whole : (t : Bool) → nat_eq (front_of (text_of v) bytes) (length (text_of v)) ≡ t → Fronts all allowed bytes (record { len = front_of (text_of v) bytes; symbol = cond t (Some v) None })
+    by_whole : (t : Bool) → nat_eq (front_of (text_of v) bytes) (length (text_of v)) ≡ t
+        → Fronts all allowed bytes (record { len = front_of (text_of v) bytes; symbol = cond t (Some v) None })
     by_whole true e none = absurd (some_none v none)
     by_whole false e none =
         let most = front_most (text_of v) bytes in
         inr (record { word = v; among = among; may = may; front = refl; more = grind (arith, nat_tests) })
 
-    by_test : (t : Bool) → Fronts all allowed bytes (cond t (record { len = front_of (text_of v) bytes; symbol = cond (nat_eq (front_of (text_of v) bytes) (length (text_of v))) (Some v) None }) best)
+    by_test : (t : Bool)
+        → Fronts all allowed bytes (cond t (record
+        { len = front_of (text_of v) bytes; symbol = cond (nat_eq (front_of (text_of v) bytes) (length (text_of v))) (Some v) None }) best)
     by_test true = by_whole (nat_eq (front_of (text_of v) bytes) (length (text_of v))) refl
     by_test false = h
 
-longest_fronts : (all : List Symbol) (allowed : Allowed) (bytes : List ℕ) (ws : List Symbol) (best : Front) → ((v : Symbol) → IsAmong v ws → IsAmong v all) → Fronts all allowed bytes best → Fronts all allowed bytes (longest_from best allowed ws bytes)
+longest_fronts : (all : List Symbol) (allowed : Allowed) (bytes : List ℕ) (ws : List Symbol) (best : Front) → ((v : Symbol) → IsAmong v ws → IsAmong v all)
+    → Fronts all allowed bytes best → Fronts all allowed bytes (longest_from best allowed ws bytes)
 longest_fronts all allowed bytes [] best sub h = h
 longest_fronts all allowed bytes (v ∷ vs) best sub h =
-    (elim (is_allowed_of allowed v) as (λ t. is_allowed_of allowed v ≡ t → Fronts all allowed bytes (longest_from (cond t (better_of best v bytes) best) allowed vs bytes)) [
-      | true ↦ λ e. longest_fronts all allowed bytes vs (better_of best v bytes) (λ u g. sub u (inr g)) (better_fronts all allowed bytes best v (sub v (inl refl)) e h)
+    (elim (is_allowed_of allowed v) as (λ t. is_allowed_of allowed v ≡ t
+    → Fronts all allowed bytes (longest_from (cond t (better_of best v bytes) best) allowed vs bytes)) [
+      | true ↦ λ e. longest_fronts all allowed bytes vs (better_of best v bytes) (λ u g. sub u (inr g))
+          (better_fronts all allowed bytes best v (sub v (inl refl)) e h)
       | false ↦ λ e. longest_fronts all allowed bytes vs best (λ u g. sub u (inr g)) h
     ]) refl
-
--- ---- quotes
-
-abbrev is_mark : Token → Bool
-is_mark (token.Word symbol.Quote) = true
-is_mark _ = false
-
--- without a quote
-abbrev Free : List ℕ → Type 0
-Free [] = Unit {0}
-Free (b ∷ bs) = (nat_eq b 39 ≡ false) × Free bs
-
-abbrev is_free : List ℕ → Bool
-is_free [] = true
-is_free (b ∷ bs) = not (nat_eq b 39) && is_free bs
-
-free_parts : (a c : Bool) → not a && c ≡ true → (a ≡ false) × (c ≡ true)
-free_parts true c e = absurd cc
-free_parts false c e = (refl, e)
-
-free_from : (bs : List ℕ) → is_free bs ≡ true → Free bs
-free_from [] e = tt
-free_from (b ∷ bs) e = let k = free_parts (nat_eq b 39) (is_free bs) e in (k.0, free_from bs k.1)
-
-free_both : (xs ys : List ℕ) → Free xs → Free ys → Free (xs ++ ys)
-free_both [] ys h g = g
-free_both (x ∷ xs) ys h g = (h.0, free_both xs ys h.1 g)
-
-free_front : (xs ys : List ℕ) → Free (xs ++ ys) → Free xs
-free_front [] ys h = tt
-free_front (x ∷ xs) ys h = (h.0, free_front xs ys h.1)
-
-free_digits : (ds : List ℕ) → IsDigits ds → Free ds
-free_digits [] h = tt
-free_digits (d ∷ ds) h = (let e = h.0 in grind (arith, nat_tests), free_digits ds h.1)
-
-free_point : (ds : List ℕ) → Free ds → Free (behind_point ds)
-free_point [] h = tt
-free_point (d ∷ ds) h = (refl, h)
-
-free_blanks : (bs : List ℕ) → IsBlank bs → Free bs
-free_blanks [] h = tt
-free_blanks (b ∷ bs) h = (free_blank b h.0, free_blanks bs h.1)
-  where
-    free_blank : (b : ℕ) → is_blank_of b ≡ true → nat_eq b 39 ≡ false
-    free_blank b h = grind (arith, nat_tests)
-
-free_fit : (c b : ℕ) → nat_eq c 39 ≡ false → fits_of c b ≡ true → nat_eq b 39 ≡ false
-free_fit c b g f = grind (arith, nat_tests)
-
-free_word : (t word : List ℕ) → Free t → IsWord t word → Free word
-free_word [] [] q h = tt
-free_word [] (b ∷ bs) q h = absurd h
-free_word (c ∷ cs) [] q h = absurd h
-free_word (c ∷ cs) (b ∷ bs) q h = (free_fit c b q.0 h.0, free_word cs bs q.1 h.1)
-
-free_operator : (o : Binary) → is_free (text_of (symbol.Operator o)) ≡ true
-unfolding text_of
-free_operator binary.Or = refl
-free_operator binary.And = refl
-free_operator binary.Equal = refl
-free_operator binary.NotEqual = refl
-free_operator binary.Less = refl
-free_operator binary.AtMost = refl
-free_operator binary.Greater = refl
-free_operator binary.AtLeast = refl
-free_operator binary.Add = refl
-free_operator binary.Subtract = refl
-free_operator binary.Multiply = refl
-free_operator binary.Divide = refl
-free_operator binary.Remainder = refl
-free_operator binary.DaysBetween = refl
-free_operator binary.Comma = refl
-
-free_call : (c : Call) → is_free (text_of (symbol.Call c)) ≡ true
-unfolding text_of
-free_call call.If = refl
-free_call call.Condition = refl
-free_call call.IsNull = refl
-free_call call.IsNotNull = refl
-free_call call.FirstNonNull = refl
-free_call call.Greatest = refl
-free_call call.Least = refl
-free_call call.DaysBetween = refl
-free_call call.HasValue = refl
-free_call call.Zing = refl
-free_call call.Oizp = refl
-
-free_item : (f : ItemForm) → is_free (text_of (symbol.Item f)) ≡ true
-unfolding text_of
-free_item form.Element = refl
-free_item form.ElementCombo = refl
-free_item form.ElementCombos = refl
-free_item form.Constant = refl
-free_item form.Group = refl
-free_item form.Days = refl
-free_item (form.Rate rates.Expected) = refl
-free_item (form.Rate rates.Actual) = refl
-free_item (form.Rate rates.OnTime) = refl
-free_item (form.Rate rates.Reported) = refl
-free_item (form.Rate rates.ReportedOnTime) = refl
-free_item form.StageElement = refl
-free_item form.Attribute = refl
-free_item form.EventDate = refl
-free_item form.EnrollmentDate = refl
-free_item form.EventCount = refl
-free_item form.EnrollmentCount = refl
-free_item form.EntityCount = refl
-
-free_symbol : (w : Symbol) → is_mark (token.Word w) ≡ false → is_free (text_of w) ≡ true
-unfolding text_of
-free_symbol symbol.Open e = refl
-free_symbol symbol.Close e = refl
-free_symbol symbol.Comma e = refl
-free_symbol symbol.Quote e = absurd cc
-free_symbol symbol.Caret e = refl
-free_symbol symbol.Minus e = refl
-free_symbol symbol.Bang e = refl
-free_symbol (symbol.Operator o) e = free_operator o
-free_symbol (symbol.Call c) e = free_call c
-free_symbol (symbol.Item f) e = free_item f
-
-free_lexeme : (t : Token) (lexeme : List ℕ) → is_mark t ≡ false → IsLexeme t lexeme → Free lexeme
-free_lexeme (token.Word w) lexeme e is = free_word (text_of w) lexeme (free_from (text_of w) (free_symbol w e)) is
-free_lexeme (token.Number n) lexeme e is = subst Free (sym is.2) (free_both is.0 (behind_point is.1) (free_digits is.0 is.3.whole) (free_point is.1 (free_digits is.1 is.3.part)))
-free_lexeme (token.Exponent n) lexeme e is = free_digits lexeme is.0.whole
-
-quoted_both : (q : Bool) (xs ys : List ℕ) → is_quoted q (xs ++ ys) ≡ is_quoted (is_quoted q xs) ys
-quoted_both q [] ys = refl
-quoted_both q (x ∷ xs) ys = quoted_both (cond (nat_eq x 39) (not q) q) xs ys
-
-quoted_free : (q : Bool) (xs : List ℕ) → Free xs → is_quoted q xs ≡ q
-quoted_free q [] h = refl
-quoted_free q (x ∷ xs) h = ap (λ (t : Bool). is_quoted (cond t (not q) q) xs) h.0 ∙ quoted_free q xs h.1
-
-comma_quoted : (fs : List Frame) (ns : List Spot) (r : Reader) → (comma_in fs ns r).quoted ≡ r.quoted
-comma_quoted [] ns r = refl
-comma_quoted (frame.Call c ∷ fs) ns r = refl
-comma_quoted (f ∷ fs) ns r = refl
-
-stays_quoted : (r : Reader) (at : ℕ) (t : Token) → is_mark t ≡ false → (with_token r at t).quoted ≡ r.quoted
-unfolding with_token with_word with_sign with_operator with_call with_leaf with_comma with_close with_open with_exponent
-stays_quoted r at (token.Word symbol.Open) e = refl
-stays_quoted r at (token.Word symbol.Close) e = refl
-stays_quoted r at (token.Word symbol.Comma) e = comma_quoted (frames_reduced 1 r.frames) (nodes_reduced 1 r.frames r.nodes) r
-stays_quoted r at (token.Word symbol.Quote) e = absurd cc
-stays_quoted r at (token.Word symbol.Caret) e = refl
-stays_quoted r at (token.Word symbol.Minus) e = refl
-stays_quoted r at (token.Word symbol.Bang) e = refl
-stays_quoted r at (token.Word (symbol.Operator o)) e = refl
-stays_quoted r at (token.Word (symbol.Call c)) e = refl
-stays_quoted r at (token.Word (symbol.Item f)) e = refl
-stays_quoted r at (token.Number n) e = refl
-stays_quoted r at (token.Exponent n) e = refl
 
 -- ---- a token of which the front is there
 
@@ -279,11 +126,14 @@ record Begun (e : Expect) (frames : List Frame) (quoted : Bool) (p : Place) (byt
   within : n ≤ length bytes
   may : May e frames quoted p begun
   is : IsLexeme begun (take n bytes ++ tail)
-  plain : is_mark begun ≡ false
 
 exponent_err : (bytes : List ℕ) (n : ℕ) → exponent_of bytes ≡ Err n → n ≡ 0
 unfolding exponent_of
-exponent_err bytes n h = by_tests (nat_eq (digit_count 2 bytes) 0) (nat_le (digits_of_front 2 bytes) 64) (digits_of_front 2 bytes, digit_count 2 bytes) (slice_index bytes 0 - 48, 1) h
+exponent_err bytes n h =
+    by_tests (nat_eq (digit_count 2 bytes) 0) (nat_le (digits_of_front 2 bytes) 64) (digits_of_front 2 bytes, digit_count 2 bytes) (
+      slice_index bytes 0 - 48,
+      1,
+    ) h
   where
     by_tests : (a b : Bool) (x y : ℕ × ℕ) → cond {A = Result (ℕ × ℕ) ℕ} a (Err 0) (cond b (Ok x) (Ok y)) ≡ Err n → n ≡ 0
     by_tests true b x y e = cc
@@ -300,7 +150,8 @@ record Pointed (bytes : List ℕ) (n : ℕ) : Type 0 where
   same : bytes ≡ digits ++ (46 ∷ rest)
   count : n ≡ length digits + 1
 
-number_by : (w q d n : ℕ) (x y : ℕ × ℕ) (a b c : Bool) → nat_eq w 0 ≡ a → nat_eq q 46 ≡ b → nat_eq d 0 ≡ c → cond {A = Result (ℕ × ℕ) ℕ} a (Err 0) (cond b (cond c (Err (w + 1)) (Ok x)) (Ok y)) ≡ Err n → (n ≡ 0) ⊎ ((1 ≤ w) × (q ≡ 46) × (n ≡ w + 1))
+number_by : (w q d n : ℕ) (x y : ℕ × ℕ) (a b c : Bool) → nat_eq w 0 ≡ a → nat_eq q 46 ≡ b → nat_eq d 0 ≡ c
+    → cond {A = Result (ℕ × ℕ) ℕ} a (Err 0) (cond b (cond c (Err (w + 1)) (Ok x)) (Ok y)) ≡ Err n → (n ≡ 0) ⊎ ((1 ≤ w) × (q ≡ 46) × (n ≡ w + 1))
 number_by w q d n x y true b c e f g h = inl (cc)
 number_by w q d n x y false true true e f g h = let k : n ≡ w + 1 = cc in inr (grind (arith, nat_tests), grind (arith, nat_tests), k)
 number_by w q d n x y false true false e f g h = absurd cc
@@ -323,9 +174,19 @@ number_err bytes n h =
     elim (number_by w (slice_index bytes w) d n _ _ (nat_eq w 0) (nat_eq (slice_index bytes w) 46) (nat_eq d 0) refl refl refl h) [
       | inl e ↦ inl e
       | inr g ↦
-          let point : slice_index s.1 0 ≡ 46 = sym (index_front s.0 s.1) ∙ ap (λ (l : List ℕ). slice_index l (length s.0)) (sym s.2) ∙ ap (slice_index bytes) (sym s.4) ∙ g.1 in
+          let point : slice_index s.1 0 ≡ 46 = sym (index_front s.0 s.1) ∙ ap (λ (l : List ℕ). slice_index l (length s.0)) (sym s.2)
+          ∙ ap (slice_index bytes) (sym s.4) ∙ g.1 in
           let r = first_point s.1 point in
-          inr (record { digits = s.0; rest = r.0; are = s.3; some = omega (arith, g.0, s.4); few = s.5; same = s.2 ∙ ap (λ (l : List ℕ). s.0 ++ l) r.1; count = omega (arith, g.2, s.4) })
+          inr (record {
+            digits = s.0;
+            rest = r.0;
+            are = s.3;
+            some = omega (arith, g.0, s.4);
+            few = s.5;
+            same = s.2 ∙ ap (λ (l : List ℕ). s.0 ++ l) r.1;
+            count =
+                omega (arith, g.2, s.4);
+          })
     ]
 
 take_past : (ds rest : List ℕ) (x n : ℕ) → n ≡ length ds + 1 → take n (ds ++ (x ∷ rest)) ≡ ds ++ (x ∷ [])
@@ -338,7 +199,8 @@ take_past ds rest x n e = ap (λ (k : ℕ). take k (ds ++ (x ∷ rest))) (e ∙ 
     past [] = refl
     past (d ∷ ds) = ap (λ (l : List ℕ). d ∷ l) (past ds)
 
-number_begun : (e : Expect) (frames : List Frame) (quoted : Bool) (p : Place) (bytes : List ℕ) (n : ℕ) → takes_number e ≡ true → ¬ IsRaised e → Pointed bytes n → Begun e frames quoted p bytes n
+number_begun : (e : Expect) (frames : List Frame) (quoted : Bool) (p : Place) (bytes : List ℕ) (n : ℕ) → takes_number e ≡ true → ¬ IsRaised e → Pointed bytes n
+    → Begun e frames quoted p bytes n
 number_begun e frames quoted p bytes n takes plain h =
     let ds = h.digits in
     let front : take n bytes ≡ ds ++ (46 ∷ []) = ap (take n) h.same ∙ take_past ds h.rest 46 n h.count in
@@ -354,13 +216,7 @@ number_begun e frames quoted p bytes n takes plain h =
         record { some = h.some; few = h.few; whole = h.are; short = omega arith; part = (refl, tt) },
         refl,
       );
-      plain = refl;
     }
-
-no_mark : (w : Symbol) (n : ℕ) → 1 ≤ n → n < length (text_of w) → is_mark (token.Word w) ≡ false
-unfolding text_of
-no_mark symbol.Quote n some less = absurd (omega arith)
-no_mark w n some less = refl
 
 word_err : (o : Option Symbol) (len n : ℕ) → word_found o len ≡ Err n → (o ≡ None) × (len ≡ n)
 word_err None len n e = (refl, cc)
@@ -374,10 +230,11 @@ exponent_found_err : (r : Result (ℕ × ℕ) ℕ) (n : ℕ) → exponent_found 
 exponent_found_err (Ok x) n e = absurd cc
 exponent_found_err (Err m) n e = let k : m ≡ n = cc in ap (λ (x : ℕ). Err x) k
 
-word_begun : (e : Expect) (frames : List Frame) (quoted : Bool) (p : Place) (bytes : List ℕ) (n : ℕ) → Longer (words_for e p) (allowed_for e frames quoted) bytes n → 1 ≤ n → Begun e frames quoted p bytes n
+word_begun : (e : Expect) (frames : List Frame) (quoted : Bool) (p : Place) (bytes : List ℕ) (n : ℕ)
+    → Longer (words_for e p) (allowed_for e frames quoted) bytes n → 1 ≤ n → Begun e frames quoted p bytes n
 word_begun e frames quoted p bytes n h some =
     let r = subst (Fills (text_of h.word) bytes) h.front (fills (text_of h.word) bytes) in
-    record { begun = token.Word h.word; tail = r.tail; within = r.within; may = (h.among, h.may); is = r.is; plain = no_mark h.word n some h.more }
+    record { begun = token.Word h.word; tail = r.tail; within = r.within; may = (h.among, h.may); is = r.is }
 
 none_or : (n : ℕ) → (n ≡ 0) ⊎ (1 ≤ n)
 none_or zero = inl refl
@@ -387,16 +244,19 @@ raised_or : (e : Expect) → IsRaised e ⊎ ¬ IsRaised e
 raised_or (expect.Exponent at) = inl tt
 raised_or e = inr (λ h. h)
 
-raised_err : (e : Expect) (frames : List Frame) (quoted : Bool) (p : Place) (bytes : List ℕ) (n : ℕ) → IsRaised e → token_from e frames quoted p bytes ≡ Err n → n ≡ 0
+raised_err : (e : Expect) (frames : List Frame) (quoted : Bool) (p : Place) (bytes : List ℕ) (n : ℕ) → IsRaised e → token_from e frames quoted p bytes ≡ Err n
+    → n ≡ 0
 unfolding token_from
 raised_err (expect.Exponent at) frames quoted p bytes n h e = exponent_err bytes n (exponent_found_err (exponent_of bytes) n e)
 raised_err e frames quoted p bytes n h g = absurd h
 
-longest_err : (e : Expect) (frames : List Frame) (quoted : Bool) (p : Place) (bytes : List ℕ) → Fronts (words_for e p) (allowed_for e frames quoted) bytes (longest_of (allowed_for e frames quoted) (words_for e p) bytes)
+longest_err : (e : Expect) (frames : List Frame) (quoted : Bool) (p : Place) (bytes : List ℕ)
+    → Fronts (words_for e p) (allowed_for e frames quoted) bytes (longest_of (allowed_for e frames quoted) (words_for e p) bytes)
 unfolding longest_of
 longest_err e frames quoted p bytes = longest_fronts (words_for e p) (allowed_for e frames quoted) bytes (words_for e p) no_front (λ v h. h) (λ none. inl refl)
 
-plain_err : (e : Expect) (frames : List Frame) (quoted : Bool) (p : Place) (bytes : List ℕ) (n : ℕ) → ¬ IsRaised e → (b : Bool) → takes_number e && is_ascii_digit (slice_index bytes 0) ≡ b → token_by b e frames quoted p bytes ≡ Err n → (n ≡ 0) ⊎ Begun e frames quoted p bytes n
+plain_err : (e : Expect) (frames : List Frame) (quoted : Bool) (p : Place) (bytes : List ℕ) (n : ℕ) → ¬ IsRaised e → (b : Bool)
+    → takes_number e && is_ascii_digit (slice_index bytes 0) ≡ b → token_by b e frames quoted p bytes ≡ Err n → (n ≡ 0) ⊎ Begun e frames quoted p bytes n
 plain_err e frames quoted p bytes n plain true f h =
     elim (number_err bytes n (number_found_err (number_of bytes) n h)) [
       | inl g ↦ inl g
@@ -413,122 +273,19 @@ plain_err e frames quoted p bytes n plain false f h =
       ]
     ]
 
-token_begun : (e : Expect) (frames : List Frame) (quoted : Bool) (p : Place) (bytes : List ℕ) (n : ℕ) → token_from e frames quoted p bytes ≡ Err n → (n ≡ 0) ⊎ Begun e frames quoted p bytes n
+token_begun : (e : Expect) (frames : List Frame) (quoted : Bool) (p : Place) (bytes : List ℕ) (n : ℕ) → token_from e frames quoted p bytes ≡ Err n
+    → (n ≡ 0) ⊎ Begun e frames quoted p bytes n
 token_begun e frames quoted p bytes n h =
     elim (raised_or e) [
       | inl r ↦ inl (raised_err e frames quoted p bytes n r h)
-      | inr plain ↦ plain_err e frames quoted p bytes n plain (takes_number e && is_ascii_digit (slice_index bytes 0)) refl (sym (token_is e frames quoted p bytes plain) ∙ h)
+      | inr plain ↦ plain_err e frames quoted p bytes n plain (takes_number e && is_ascii_digit (slice_index bytes 0)) refl
+          (sym (token_is e frames quoted p bytes plain) ∙ h)
     ]
-
--- ---- a quote begins or ends a quoted text
-
-quote_open : (ps : List Part) (power x : Bool) → (allowed_in (enclosing_of (frames_of ps)) power x).quote ≡ true → quoted_of ps ≡ true
-quote_open [] power x e = absurd cc
-quote_open (InChain left b op k ∷ ps) power x e = quote_open ps power x e
-quote_open (InSign b sign k ∷ ps) power x e = quote_open ps power x e
-quote_open (InBracket b ∷ ps) power x e = absurd cc
-quote_open (InQuote b c d k ∷ ps) power x e = refl
-quote_open (InIf b c k ∷ ps) power x e = absurd cc
-quote_open (InThen b c test d k ∷ ps) power x e = absurd cc
-quote_open (InElse b c test d one f k ∷ ps) power x e = absurd cc
-quote_open (InYes b c d test f g k ∷ ps) power x e = absurd cc
-quote_open (InNo b c d test f g one h k ∷ ps) power x e = absurd cc
-quote_open (InFirst b c k ∷ ps) power x e = absurd cc
-quote_open (InSecond b c one d k ∷ ps) power x e = absurd cc
-quote_open (InOne b name c k ∷ ps) power x e = absurd cc
-quote_open (InMore b name c first d k n ∷ ps) power x e = absurd cc
-
-abbrev no_mark_in : Symbol → Bool
-no_mark_in w = not (is_mark (token.Word w))
-
-none_among : (ws : List Symbol) → all_of no_mark_in ws ≡ true → IsAmong symbol.Quote ws → ⊥
-none_among ws e h = let no = among_all no_mark_in ws symbol.Quote e h in cc
-
-start_none : (p : Place) → all_of no_mark_in (start_of p) ≡ true
-unfolding start_of
-start_none place.Aggregate = refl
-start_none place.Program = refl
-
-operands_none : (p : Place) → all_of no_mark_in (operands_of p) ≡ true
-unfolding operands_of
-operands_none place.Aggregate = refl
-operands_none place.Program = refl
-
-items_none : (p : Place) → all_of no_mark_in (items_of_place p) ≡ true
-unfolding items_of_place
-items_none place.Aggregate = refl
-items_none place.Program = refl
-
-bracket_none : all_of no_mark_in bracket_of ≡ true
-unfolding bracket_of
-bracket_none = refl
-
-nothing_none : all_of no_mark_in nothing_of ≡ true
-unfolding nothing_of
-nothing_none = refl
-
-not_not : (q : Bool) → not q ≡ true → true ≡ not q
-not_not true e = absurd cc
-not_not false e = refl
-
-quote_turns : (p : Place) (s : Stage) → May (expect_of s) (stage_frames s) (stage_quoted s) p (token.Word symbol.Quote) → is_quote (expect_of s) ≡ not (stage_quoted s)
-unfolding allowed_after
-quote_turns p (Wants []) may = absurd (none_among (start_of p) (start_none p) may.0)
-quote_turns p (Wants (x ∷ ps)) may = absurd (none_among (operands_of p) (operands_none p) may.0)
-quote_turns p (Named ps b name k) may = absurd (none_among bracket_of bracket_none may.0)
-quote_turns p (Quoting ps b c k) may = not_not (quoted_of ps) may.1
-quote_turns p (WantsItem ps b name c k) may = absurd (none_among (items_of_place p) (items_none p) may.0)
-quote_turns p (PlainFirst ps b c k) may = absurd (none_among (items_of_place p) (items_none p) may.0)
-quote_turns p (PlainNext ps b c k first d n) may = absurd (none_among (items_of_place p) (items_none p) may.0)
-quote_turns p (Plain ps b c k F n) may = (let no = may.1 in absurd cc)
-quote_turns p (Lone ps b name c k F) may = (let no = may.1 in absurd cc)
-quote_turns p (Raised ps F b k) may = absurd (none_among nothing_of nothing_none may.0)
-quote_turns p (Has ps F power) may = ap not (sym (quote_open ps power (not (compares (frames_of ps))) may.1))
-quote_turns p (Tested ps b c d test e k) may = (let no = may.1 in absurd cc)
-quote_turns p (Whole F) may = absurd (none_among nothing_of nothing_none may.0)
-
-quote_sets : (t : Bool) (a b : Reader) → a.quoted ≡ true → b.quoted ≡ false → (cond t a b).quoted ≡ t
-quote_sets true a b e f = e
-quote_sets false a b e f = f
-
-quote_is : (r : Reader) (at : ℕ) → (with_token r at (token.Word symbol.Quote)).quoted ≡ is_quote r.expect
-unfolding with_token with_word with_quote
-quote_is r at = quote_sets (is_quote r.expect) _ _ refl refl
-
-one_quote : (lexeme : List ℕ) (q : Bool) → IsWord (text_of symbol.Quote) lexeme → is_quoted q lexeme ≡ not q
-unfolding text_of
-one_quote [] q h = absurd h
-one_quote (b ∷ []) q h = let e : nat_eq b 39 ≡ true = grind (arith, nat_tests, h.0) in ap (λ (t : Bool). cond t (not q) q) e
-one_quote (b ∷ c ∷ cs) q h = absurd h.1
-
--- the quoted text after a token
-mark_cases : (t : Token) → (is_mark t ≡ false) ⊎ (t ≡ token.Word symbol.Quote)
-mark_cases (token.Word symbol.Quote) = inr refl
-mark_cases t = inl refl
-
-quoted_next : (p : Place) (s : Stage) (r : Reader) (at : ℕ) (t : Token) (lexeme : List ℕ) → Like s r → May r.expect r.frames r.quoted p t → IsLexeme t lexeme → is_quoted r.quoted lexeme ≡ (with_token r at t).quoted
-quoted_next p s r at t lexeme like may is =
-    elim (mark_cases t) [
-      | inl e ↦ quoted_free r.quoted lexeme (free_lexeme t lexeme e is) ∙ sym (stays_quoted r at t e)
-      | inr e ↦
-          let is' : IsLexeme (token.Word symbol.Quote) lexeme = subst (λ (x : Token). IsLexeme x lexeme) e is in
-          let may' : May r.expect r.frames r.quoted p (token.Word symbol.Quote) = subst (λ (x : Token). May r.expect r.frames r.quoted p x) e may in
-          let here : May (expect_of s) (stage_frames s) (stage_quoted s) p (token.Word symbol.Quote) =
-          subst (λ (q : Bool). May (expect_of s) (stage_frames s) q p (token.Word symbol.Quote)) like.quoted
-          (subst (λ (f : List Frame). May (expect_of s) f r.quoted p (token.Word symbol.Quote)) like.frames
-          (subst (λ (x : Expect). May x r.frames r.quoted p (token.Word symbol.Quote)) like.expect may')) in
-          one_quote lexeme r.quoted is' ∙ ap not like.quoted ∙ sym (quote_turns p s here) ∙ ap is_quote (sym like.expect) ∙ sym (quote_is r at) ∙ ap (λ (x : Token). (with_token r at x).quoted) (sym e)
-    ]
-
-calm_from : (s : Stage) → stage_quoted s ≡ false → Calm s
-calm_from (Named ps b call.Condition k) e = e
-calm_from (Named ps b name k) e = tt
-calm_from (Quoting ps b c k) e = e
-calm_from s e = tt
 
 -- ---- the reader
 
-next_of : (p : Place) (s : Stage) (r : Reader) (at : ℕ) (b : List ℕ) (t : Token) (lexeme : List ℕ) → Like s r → Valid p s → IsBlank b → May r.expect r.frames r.quoted p t → IsLexeme t lexeme → Next p s (with_token r at t) b lexeme
+next_of : (p : Place) (s : Stage) (r : Reader) (at : ℕ) (b : List ℕ) (t : Token) (lexeme : List ℕ) → Like s r → Valid p s → IsBlank b
+    → May r.expect r.frames r.quoted p t → IsLexeme t lexeme → Next p s (with_token r at t) b lexeme
 next_of p s r at b t lexeme like v blank may is =
     let e : r ≡ rd (expect_of s) (stage_frames s) r.nodes r.opened r.crowded (stage_quoted s) =
     ap (λ (x : Expect). rd x r.frames r.nodes r.opened r.crowded r.quoted) like.expect
@@ -543,26 +300,23 @@ module _ (p : Place) where
   Spelled s before = (rest : List ℕ) → before ++ rest ≡ spelled_stage s rest
 
   -- where blanks follow
-  blanks_go_on : (s : Stage) (before b : List ℕ) → Valid p s → Spelled s before → IsBlank b → is_quoted false before ≡ stage_quoted s → GoesOn p (before ++ b)
-  blanks_go_on s before b v spell blank same outside =
-      let plain : stage_quoted s ≡ false = sym same ∙ sym (quoted_free (is_quoted false before) b (free_blanks b blank)) ∙ sym (quoted_both false before b) ∙ outside in
-      let f = finish_stage p s b blank v (calm_from s plain) in
-      (f.more, f.form, (f.whole, f.behind, f.blank, append_assoc before b f.more ∙ spell (b ++ f.more) ∙ f.same))
+  blanks_go_on : (s : Stage) (before b : List ℕ) → Valid p s → Spelled s before → IsBlank b → GoesOn p (before ++ b)
+  blanks_go_on s before b v spell blank =
+      let f = finish_stage p s b blank v in
+      (f.more, f.form, (f.whole, f.beyond, f.blank, append_assoc before b f.more ∙ spell (b ++ f.more) ∙ f.same))
 
   -- where blanks and the front of a token follow
-  front_goes_on : (s : Stage) (r : Reader) (at : ℕ) (before b bytes : List ℕ) (n : ℕ) → Like s r → Valid p s → Spelled s before → IsBlank b → is_quoted false before ≡ r.quoted → Begun r.expect r.frames r.quoted p bytes n → GoesOn p (before ++ (b ++ take n bytes))
-  front_goes_on s r at before b bytes n like v spell blank same g outside =
+  front_goes_on : (s : Stage) (r : Reader) (at : ℕ) (before b bytes : List ℕ) (n : ℕ) → Like s r → Valid p s → Spelled s before → IsBlank b
+      → Begun r.expect r.frames r.quoted p bytes n → GoesOn p (before ++ (b ++ take n bytes))
+  front_goes_on s r at before b bytes n like v spell blank g =
       let word = take n bytes in
       let x = next_of p s r at b g.begun (word ++ g.tail) like v blank g.may g.is in
-      let free = free_front word g.tail (free_lexeme g.begun (word ++ g.tail) g.plain g.is) in
-      let none : is_quoted (is_quoted false before) (b ++ word) ≡ is_quoted false before = quoted_free (is_quoted false before) (b ++ word) (free_both b word (free_blanks b blank) free) in
-      let plain : stage_quoted x.stage ≡ false = sym x.like.quoted ∙ stays_quoted r at g.begun g.plain ∙ sym same ∙ sym none ∙ sym (quoted_both false before (b ++ word)) ∙ outside in
-      let f = finish_stage p x.stage [] tt x.valid (calm_from x.stage plain) in (
+      let f = finish_stage p x.stage [] tt x.valid in (
         g.tail ++ f.more,
         f.form,
         (
           f.whole,
-          f.behind,
+          f.beyond,
           f.blank,
           append_assoc before (b ++ word) (g.tail ++ f.more)
               ∙ ap (λ (l : List ℕ). before ++ l) (append_assoc b word (g.tail ++ f.more) ∙ ap (λ (l : List ℕ). b ++ l) (sym (append_assoc word g.tail f.more)))
@@ -580,7 +334,8 @@ module _ (p : Place) where
     goes : GoesOn p (before ++ take far bytes)
 
   abbrev Faults : ℕ → Type 0
-  Faults n = (s : Stage) (r : Reader) (at : ℕ) (before bytes : List ℕ) (e : ℕ) → Like s r → Valid p s → Spelled s before → is_quoted false before ≡ r.quoted → at ≡ length before → read_rest p n r at bytes ≡ Err e → Stops before bytes e
+  Faults n = (s : Stage) (r : Reader) (at : ℕ) (before bytes : List ℕ) (e : ℕ) → Like s r → Valid p s → Spelled s before → at ≡ length before
+      → read_rest p n r at bytes ≡ Err e → Stops before bytes e
 
   err_is : (a b : ℕ) → ◌≡◌ {A = Result Nodes ℕ} (Err a) (Err b) → a ≡ b
   err_is a b e = cc
@@ -590,50 +345,54 @@ module _ (p : Place) where
   ended_err false nodes at e h = cc
 
   -- at the end of the blanks
-  stops_blank : (s : Stage) (r : Reader) (before b rest : List ℕ) (e : ℕ) → Like s r → Valid p s → Spelled s before → IsBlank b → is_quoted false before ≡ r.quoted → e ≡ length before + length b → Stops before (b ++ rest) e
-  stops_blank s r before b rest e like v spell blank same is = record {
+  stops_blank : (s : Stage) (r : Reader) (before b rest : List ℕ) (e : ℕ) → Like s r → Valid p s → Spelled s before → IsBlank b → e ≡ length before + length b
+      → Stops before (b ++ rest) e
+  stops_blank s r before b rest e like v spell blank is = record {
     far = length b;
     at = is;
     within = omega (arith, length-append b rest);
-    goes = subst (λ (l : List ℕ). GoesOn p (before ++ l)) (sym (take_front b rest)) (blanks_go_on s before b v spell blank (same ∙ like.quoted));
+    goes = subst (λ (l : List ℕ). GoesOn p (before ++ l)) (sym (take_front b rest)) (blanks_go_on s before b v spell blank);
   }
 
   take_both : (xs ys : List ℕ) (n : ℕ) → take (length xs + n) (xs ++ ys) ≡ xs ++ take n ys
   take_both [] ys n = let e : 0 + n ≡ n = omega arith in ap (λ (k : ℕ). take k ys) e
-  take_both (x ∷ xs) ys n = let e : suc (length xs) + n ≡ suc (length xs + n) = omega arith in ap (λ (k : ℕ). take k (x ∷ (xs ++ ys))) e ∙ ap (λ (l : List ℕ). x ∷ l) (take_both xs ys n)
+  take_both (x ∷ xs) ys n = let e : suc (length xs) + n ≡ suc (length xs + n) = omega arith in ap (λ (k : ℕ). take k (x ∷ (xs ++ ys))) e
+      ∙ ap (λ (l : List ℕ). x ∷ l) (take_both xs ys n)
 
-  go_stops : (n : ℕ) → Faults n → (s : Stage) (r : Reader) (at : ℕ) (before b rest : List ℕ) (e : ℕ) (f : Result Found ℕ) → Like s r → Valid p s → Spelled s before → IsBlank b → is_quoted false before ≡ r.quoted → at ≡ length before + length b → token_from r.expect r.frames r.quoted p rest ≡ f → go_on (read_rest p n) r at rest f ≡ Err e → Stops before (b ++ rest) e
-  go_stops n ih s r at before b rest e (Err m) like v spell blank same here found done =
+  go_stops : (n : ℕ) → Faults n → (s : Stage) (r : Reader) (at : ℕ) (before b rest : List ℕ) (e : ℕ) (f : Result Found ℕ) → Like s r → Valid p s
+      → Spelled s before → IsBlank b → at ≡ length before + length b → token_from r.expect r.frames r.quoted p rest ≡ f
+      → go_on (read_rest p n) r at rest f ≡ Err e → Stops before (b ++ rest) e
+  go_stops n ih s r at before b rest e (Err m) like v spell blank here found done =
       let is : at + m ≡ e = err_is (at + m) e done in
       elim (token_begun r.expect r.frames r.quoted p rest m found) [
-        | inl z ↦ stops_blank s r before b rest e like v spell blank same (omega arith)
+        | inl z ↦ stops_blank s r before b rest e like v spell blank (omega arith)
         | inr g ↦ record {
           far = length b + m;
           at = omega arith;
           within = omega (arith, length-append b rest, g.within);
-          goes = subst (λ (l : List ℕ). GoesOn p (before ++ l)) (sym (take_both b rest m)) (front_goes_on s r at before b rest m like v spell blank same g);
+          goes = subst (λ (l : List ℕ). GoesOn p (before ++ l)) (sym (take_both b rest m)) (front_goes_on s r at before b rest m like v spell blank g);
         }
       ]
-  go_stops n ih s r at before b rest e (Ok f) like v spell blank same here found done =
+  go_stops n ih s r at before b rest e (Ok f) like v spell blank here found done =
       let t = token_sound r.expect r.frames r.quoted p rest f found in
       let x = next_of p s r at b f.token t.0 like v blank t.5 t.3 in
-      let behind : drop f.len rest ≡ t.1 = ap (λ (k : ℕ). drop k rest) t.4 ∙ ap (drop (length t.0)) t.2 ∙ drop_front t.0 t.1 in
+      let beyond : drop f.len rest ≡ t.1 = ap (λ (k : ℕ). drop k rest) t.4 ∙ ap (drop (length t.0)) t.2 ∙ drop_front t.0 t.1 in
       let word = b ++ t.0 in
       let now = before ++ word in
-      let quoted : is_quoted false now ≡ (with_token r at f.token).quoted =
-      quoted_both false before word
-      ∙ quoted_both (is_quoted false before) b t.0
-      ∙ ap (λ (q : Bool). is_quoted q t.0) (quoted_free (is_quoted false before) b (free_blanks b blank) ∙ same)
-      ∙ quoted_next p s r at f.token t.0 like t.5 t.3 in
-      let so : Spelled x.stage now = λ rest. append_assoc before word rest ∙ ap (λ (l : List ℕ). before ++ l) (append_assoc b t.0 rest) ∙ spell (b ++ (t.0 ++ rest)) ∙ x.spell rest in
+      let so : Spelled x.stage now = λ rest. append_assoc before word rest ∙ ap (λ (l : List ℕ). before ++ l) (append_assoc b t.0 rest)
+      ∙ spell (b ++ (t.0 ++ rest)) ∙ x.spell rest in
       let long : length now ≡ length before + (length b + length t.0) = omega (arith, length-append before word, length-append b t.0) in
-      let z = ih x.stage (with_token r at f.token) (at + f.len) now t.1 e x.like x.valid so quoted (omega (arith, t.4)) (ap (read_rest p n (with_token r at f.token) (at + f.len)) (sym behind) ∙ done) in
+      let z =
+      ih x.stage (with_token r at f.token) (at + f.len) now t.1 e x.like x.valid so (omega (arith, t.4))
+      (ap (read_rest p n (with_token r at f.token) (at + f.len)) (sym beyond) ∙ done) in
       let all : b ++ rest ≡ word ++ t.1 = ap (λ (l : List ℕ). b ++ l) t.2 ∙ sym (append_assoc b t.0 t.1) in
       record {
         far = length word + z.far;
         at = omega (arith, z.at, length-append b t.0);
         within = omega (arith, z.within, ap length all, length-append word t.1);
-        goes = subst (λ (l : List ℕ). GoesOn p l) (append_assoc before word (take z.far t.1) ∙ ap (λ (l : List ℕ). before ++ l) (sym (ap (take (length word + z.far)) all ∙ take_both word t.1 z.far))) z.goes;
+        goes =
+            subst (λ (l : List ℕ). GoesOn p l) (append_assoc before word (take z.far t.1)
+            ∙ ap (λ (l : List ℕ). before ++ l) (sym (ap (take (length word + z.far)) all ∙ take_both word t.1 z.far))) z.goes;
       }
 
   length_none : (l : List ℕ) → nat_eq (length l) 0 ≡ true → l ≡ []
@@ -641,24 +400,34 @@ module _ (p : Place) where
   length_none (x ∷ xs) e = absurd (grind (arith, nat_tests))
 
   faults : (n : ℕ) → Faults n
-  faults zero s r at before bytes e like v spell same here done =
-      stops_blank s r before [] bytes e like v spell tt same (omega (arith, err_is at e (sym (read_none p r at bytes) ∙ done)))
-  faults (suc n) s r at before bytes e like v spell same here done =
+  faults zero s r at before bytes e like v spell here done =
+      stops_blank s r before [] bytes e like v spell tt (omega (arith, err_is at e (sym (read_none p r at bytes) ∙ done)))
+  faults (suc n) s r at before bytes e like v spell here done =
       let b = blanks_split bytes in
       let rest : drop (blank_count bytes) bytes ≡ b.1 = ap (λ (k : ℕ). drop k bytes) b.4 ∙ ap (drop (length b.0)) b.2 ∙ drop_front b.0 b.1 in
-      let read : cond (nat_eq (length b.1) 0) (ended r (at + blank_count bytes)) (go_on (read_rest p n) r (at + blank_count bytes) b.1 (token_from r.expect r.frames r.quoted p b.1)) ≡ Err e =
-      ap (λ (l : List ℕ). cond (nat_eq (length l) 0) (ended r (at + blank_count bytes)) (go_on (read_rest p n) r (at + blank_count bytes) l (token_from r.expect r.frames r.quoted p l))) (sym rest) ∙ sym (read_is p n r at bytes) ∙ done in
+      let read : cond (nat_eq (length b.1) 0) (ended r (at + blank_count bytes))
+      (go_on (read_rest p n) r (at + blank_count bytes) b.1 (token_from r.expect r.frames r.quoted p b.1)) ≡ Err e =
+      ap (λ (l : List ℕ). cond (nat_eq (length l) 0) (ended r (at + blank_count bytes))
+      (go_on (read_rest p n) r (at + blank_count bytes) l (token_from r.expect r.frames r.quoted p l))) (sym rest) ∙ sym (read_is p n r at bytes) ∙ done in
       let there : at + blank_count bytes ≡ length before + length b.0 = omega (arith, b.4) in
       subst (λ (l : List ℕ). Stops before l e) (sym b.2)
-      ((elim (nat_eq (length b.1) 0) as (λ t. nat_eq (length b.1) 0 ≡ t → cond t (ended r (at + blank_count bytes)) (go_on (read_rest p n) r (at + blank_count bytes) b.1 (token_from r.expect r.frames r.quoted p b.1)) ≡ Err e → Stops before (b.0 ++ b.1) e) [
-        | true ↦ λ f g. stops_blank s r before b.0 b.1 e like v spell b.3 same (omega (arith, ended_err (may_end_in r.expect r.frames) (record { nodes = nodes_reduced 1 r.frames r.nodes; crowded = r.crowded }) (at + blank_count bytes) e g))
-        | false ↦ λ f g. go_stops n (faults n) s r (at + blank_count bytes) before b.0 b.1 e (token_from r.expect r.frames r.quoted p b.1) like v spell b.3 same there refl g
+      ((elim (nat_eq (length b.1) 0) as (λ t. nat_eq (length b.1) 0 ≡ t
+      → cond t (ended r (at + blank_count bytes)) (go_on (read_rest p n) r (at + blank_count bytes) b.1 (token_from r.expect r.frames r.quoted p b.1))
+      ≡ Err e → Stops before (b.0 ++ b.1) e) [
+        | true ↦ λ f g. stops_blank s r before b.0 b.1 e like v spell b.3
+            (omega (
+              arith,
+              ended_err (may_end_in r.expect r.frames) (record { nodes = nodes_reduced 1 r.frames r.nodes; crowded = r.crowded })
+                  (at + blank_count bytes) e g,
+            ))
+        | false ↦ λ f g. go_stops n (faults n) s r (at + blank_count bytes) before b.0 b.1 e (token_from r.expect r.frames r.quoted p b.1) like v spell b.3
+            there refl g
       ]) refl read)
 
   -- the bytes before the place at which a text can't be read on
   pub text_stops : (text : List ℕ) (e : ℕ) → read_text p text ≡ Err e → GoesOnAt p text e
   unfolding read_text
   text_stops text e h =
-      let z = faults most_words (Wants []) new_reader 0 [] text e (record { expect = refl; frames = refl; quoted = refl }) tt (λ rest. refl) refl refl h in
+      let z = faults most_words (Wants []) new_reader 0 [] text e (record { expect = refl; frames = refl; quoted = refl }) tt (λ rest. refl) refl h in
       let same : z.far ≡ e = omega (arith, z.at) in
       (omega (arith, z.within), subst (λ (k : ℕ). GoesOn p (take k text)) same z.goes)

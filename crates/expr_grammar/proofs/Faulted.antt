@@ -1,5 +1,6 @@
 -- Where an answer is a fault of syntax, the bytes before it begin a text of the grammar.
-use Rattle.std.proofs.Common.{◌≡◌, ℕ, ◌<◌, ◌≤◌, zero, suc, Bool, true, false, cond, List, [], ◌∷◌, ◌++◌, length, take, Option, Some, None, Result, Ok, Err, refl, ap, subst, ◌∙◌, arith}
+use Rattle.std.proofs.Common.{◌≡◌, ℕ, ◌<◌, ◌≤◌, zero, suc, Bool, true, false, cond, List, [], ◌∷◌, ◌++◌, length, take, Option, Some, None, Result, Ok, Err}
+use Rattle.std.proofs.Common.{refl, ap, subst, ◌∙◌, arith}
 use Rattle.std.specs.Prelude.{IfErr, nat_le, nat_lt}
 use Rattle.std.proofs.lemmas.Bool.Decides.{nat_tests}
 use Rattle.expr_lang.specs.declared.tree.Place.{Place}
@@ -32,7 +33,8 @@ take_long zero xs le = refl
 take_long (suc m) [] le = absurd (omega arith)
 take_long (suc m) (x ∷ xs) le = ap suc (take_long m xs (omega arith))
 
-never : (b : Bool) (crowded misfit : Option ℕ) (nodes : Nodes) (at : ℕ) → cond b (Err (fault.TooDeep 0)) (brackets_judged crowded misfit nodes) ≡ Err (fault.Syntax at) → ⊥
+never : (b : Bool) (crowded misfit : Option ℕ) (nodes : Nodes) (at : ℕ)
+    → cond b (Err (fault.TooDeep 0)) (brackets_judged crowded misfit nodes) ≡ Err (fault.Syntax at) → ⊥
 never true crowded misfit nodes at e = cc
 never false (Some k) misfit nodes at e = cc
 never false None (Some k) nodes at e = cc
@@ -44,7 +46,7 @@ module _ (p : Place) (text : List ℕ) where
   cut_stops (Ok nodes) at long read e =
       let is : 4096 ≡ at = err_is 4096 at e in
       let F = text_sound p (take 4096 text) nodes read in
-      subst (GoesOnAt p text) is (omega arith, λ outside. ([], F.0, (F.1.0, F.1.1, F.1.2, nothing_behind (take 4096 text) ∙ F.1.3)))
+      subst (GoesOnAt p text) is (omega arith, ([], F.0, (F.1.0, F.1.1, F.1.2, nothing_behind (take 4096 text) ∙ F.1.3)))
     where
       err_is : (a b : ℕ) → ◌≡◌ {A = Result Nodes ℕ} (Err a) (Err b) → a ≡ b
       err_is a b e = cc
@@ -57,13 +59,16 @@ module _ (p : Place) (text : List ℕ) where
       err_is : (a b : ℕ) → ◌≡◌ {A = Result Nodes ℕ} (Err a) (Err b) → a ≡ b
       err_is a b e = cc
 
-  nodes_stop : (t : Bool) (r cut : Result Nodes ℕ) (at : ℕ) → nat_le (length text) 4096 ≡ t → read_text p text ≡ r → read_text p (take 4096 text) ≡ cut → cond t r (cut_short cut) ≡ Err at → GoesOnAt p text at
+  nodes_stop : (t : Bool) (r cut : Result Nodes ℕ) (at : ℕ) → nat_le (length text) 4096 ≡ t → read_text p text ≡ r → read_text p (take 4096 text) ≡ cut
+      → cond t r (cut_short cut) ≡ Err at → GoesOnAt p text at
   nodes_stop true r cut at e f g h = text_stops p text at (f ∙ h)
   nodes_stop false r cut at e f g h = cut_stops cut at (grind (arith, nat_tests)) g h
 
-  judged_stops : (days : List (List ℕ)) (wanted : Option Sort) (r : Result Nodes ℕ) (at : ℕ) → judged_text text days wanted r ≡ Err (fault.Syntax at) → r ≡ Err at
+  judged_stops : (days : List (List ℕ)) (wanted : Option Sort) (r : Result Nodes ℕ) (at : ℕ) → judged_text text days wanted r ≡ Err (fault.Syntax at)
+      → r ≡ Err at
   judged_stops days wanted (Err k) at e = let is : k ≡ at = cc in ap (λ (x : ℕ). Err x) is
-  judged_stops days wanted (Ok nodes) at e = absurd (never (nat_lt 512 (survey_of text days nodes.nodes).depth) nodes.crowded (misfit_of (survey_of text days nodes.nodes) wanted) nodes at e)
+  judged_stops days wanted (Ok nodes) at e =
+      absurd (never (nat_lt 512 (survey_of text days nodes.nodes).depth) nodes.crowded (misfit_of (survey_of text days nodes.nodes) wanted) nodes at e)
 
   accepted_stops : (days : List (List ℕ)) (wanted : Option Sort) (at : ℕ) → accepted p days wanted text ≡ Err (fault.Syntax at) → GoesOnAt p text at
   unfolding accepted nodes_of_text
@@ -71,7 +76,8 @@ module _ (p : Place) (text : List ℕ) where
       nodes_stop (nat_le (length text) 4096) (read_text p text) (read_text p (take 4096 text)) at refl refl refl
       (judged_stops days wanted (cond (nat_le (length text) 4096) (read_text p text) (cut_short (read_text p (take 4096 text)))) at e)
 
-  pub goes_on : (days : List (List ℕ)) (wanted : Option Sort) (r : Result Expr ExprFault) → Accepts (λ expr nodes. IsOf text days expr nodes) r (accepted p days wanted text) → IfErr r (λ f. IfSyntax f (GoesOnAt p text))
+  pub goes_on : (days : List (List ℕ)) (wanted : Option Sort) (r : Result Expr ExprFault)
+      → Accepts (λ expr nodes. IsOf text days expr nodes) r (accepted p days wanted text) → IfErr r (λ f. IfSyntax f (GoesOnAt p text))
   goes_on days wanted (Ok expr) h = tt
   goes_on days wanted (Err fault.Memory) h = tt
   goes_on days wanted (Err (fault.Syntax at)) h = accepted_stops days wanted at h

@@ -8,6 +8,7 @@ pub mod PrintedSurvey
 pub mod Tokens
 pub mod Steps
 pub mod Moves
+pub mod Operands
 pub mod Completed
 pub mod Productions
 pub mod Calls
@@ -26,3 +27,5 @@ pub mod Finished
 pub mod Listed
 pub mod Continued
 pub mod Faulted
+pub mod Misfitting
+pub mod Crowded

@@ -25,7 +25,8 @@ top_and_under : (stack : List Shape) → on_stack stack ≡ on_stack (under_shap
 top_and_under [] = refl
 top_and_under (s ∷ ss) = refl
 
-after_leaf : (text : List ℕ) (days : List (List ℕ)) (at : ℕ) (it : Node) (stack : List Shape) → on_stack (Operand (leaf_of_node text days at it) ∷ stack) ≡ on_stack stack ++ items_of_leaf (leaf_of_node text days at it)
+after_leaf : (text : List ℕ) (days : List (List ℕ)) (at : ℕ) (it : Node) (stack : List Shape)
+    → on_stack (Operand (leaf_of_node text days at it) ∷ stack) ≡ on_stack stack ++ items_of_leaf (leaf_of_node text days at it)
 after_leaf text days at it stack = refl
 
 nothing_behind : (xs : List Item) → xs ++ [] ≡ xs
@@ -33,7 +34,8 @@ nothing_behind [] = refl
 nothing_behind (x ∷ xs) = ap (λ (l : List Item). x ∷ l) (nothing_behind xs)
 
 -- one node more
-after_node : (text : List ℕ) (days : List (List ℕ)) (at : ℕ) (it : Node) (stack : List Shape) → on_stack (shapes_after text days at it stack) ≡ on_stack stack ++ items_of_leaf (leaf_of_node text days at it)
+after_node : (text : List ℕ) (days : List (List ℕ)) (at : ℕ) (it : Node) (stack : List Shape)
+    → on_stack (shapes_after text days at it stack) ≡ on_stack stack ++ items_of_leaf (leaf_of_node text days at it)
 after_node text days at (node.Number n) stack = refl
 after_node text days at (node.Item f) stack = refl
 after_node text days at (node.Unary o) stack = sym (top_and_under stack) ∙ sym (nothing_behind (on_stack stack))
@@ -59,7 +61,8 @@ occurs (leaf.Number n) at os = refl
 occurs (leaf.Item i) at os = refl
 occurs (leaf.Day i) at os = refl
 
-behind_nodes : (text : List ℕ) (days : List (List ℕ)) (nodes : List Spot) (stack : List Shape) → on_stack (shapes_behind text days nodes stack) ≡ on_stack stack ++ items_at (occurrences text days nodes)
+behind_nodes : (text : List ℕ) (days : List (List ℕ)) (nodes : List Spot) (stack : List Shape)
+    → on_stack (shapes_behind text days nodes stack) ≡ on_stack stack ++ items_at (occurrences text days nodes)
 behind_nodes text days [] stack = sym (nothing_behind (on_stack stack))
 behind_nodes text days (s ∷ nodes) stack =
     behind_nodes text days nodes (shapes_after text days s.at s.node stack)
@@ -68,10 +71,12 @@ behind_nodes text days (s ∷ nodes) stack =
     ∙ ap (λ (l : List Item). on_stack stack ++ l) (sym (occurs (leaf_of_node text days s.at s.node) s.at (occurrences text days nodes)))
 
 -- nodes of one tree alone
-pub items_so : (text : List ℕ) (days : List (List ℕ)) (nodes : List Spot) (tree : Shape) → shapes_behind text days nodes [] ≡ tree ∷ [] → items_at (occurrences text days nodes) ≡ items_of tree
+pub items_so : (text : List ℕ) (days : List (List ℕ)) (nodes : List Spot) (tree : Shape) → shapes_behind text days nodes [] ≡ tree ∷ []
+    → items_at (occurrences text days nodes) ≡ items_of tree
 items_so text days nodes tree e = sym (behind_nodes text days nodes []) ∙ ap on_stack e
 
-pub different_so : (os : List Occurrence) (items : List Item) (places : List ℕ) (all : List Item) (all_places : List ℕ) → ListsFrom os items places all all_places → Different (items_at os) items all
+pub different_so : (os : List Occurrence) (items : List Item) (places : List ℕ) (all : List Item) (all_places : List ℕ)
+    → ListsFrom os items places all all_places → Different (items_at os) items all
 different_so [] items places all all_places h = h.0
 different_so (o ∷ os) items places all all_places (inl h) = inl (h.0, different_so os items places all all_places h.1)
 different_so (o ∷ os) items places all all_places (inr h) = inr (h.0, different_so os (items ++ o.item ∷ []) _ all all_places h.1)

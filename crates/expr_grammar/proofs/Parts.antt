@@ -13,7 +13,8 @@ use Rattle.expr_lang.specs.declared.reading.Frame.{Frame}
 use Rattle.expr_lang.specs.declared.reading.Frame.TheVariants as frame
 use Rattle.expr_lang.specs.Print.{left_level_of, right_level_of}
 use Rattle.expr_lang.specs.Reading.{level_of, node_level, enclosing_of, compares, frames_reduced, spot_of, call_frame}
-use Rattle.expr_grammar.specs.Grammar.{Form, Number, Item, Bracket, Power, Sign, Chain, Arguments, If, Condition, DaysBetween, Apply, IsBlank, IsSign, IsCall, IsForm, sign_text, after_blanks, symbol_text, spelled}
+use Rattle.expr_grammar.specs.Grammar.{Form, Number, Item, Bracket, Power, Sign, Chain, Arguments, If, Condition, DaysBetween, Apply, IsBlank, IsSign}
+use Rattle.expr_grammar.specs.Grammar.{IsCall, IsForm, sign_text, after_blanks, symbol_text, spelled}
 use Rattle.expr_grammar.proofs.Completed.{levels}
 
 -- a production that is begun, with the places that the reader keeps
@@ -42,11 +43,14 @@ spelled_part (InThen b c test d k) rest = symbol_text b (symbol.Call call.If) (s
 spelled_part (InElse b c test d one e k) rest =
     symbol_text b (symbol.Call call.If) (symbol_text c symbol.Open (spelled test (symbol_text d symbol.Comma (spelled one (symbol_text e symbol.Comma rest)))))
 spelled_part (InYes b c d test e f k) rest =
-    symbol_text b (symbol.Call call.Condition) (symbol_text c symbol.Open (symbol_text d symbol.Quote (spelled test (symbol_text e symbol.Quote (symbol_text f symbol.Comma rest)))))
+    symbol_text b (symbol.Call call.Condition) (symbol_text c symbol.Open
+    (symbol_text d symbol.Quote (spelled test (symbol_text e symbol.Quote (symbol_text f symbol.Comma rest)))))
 spelled_part (InNo b c d test e f one g k) rest =
-    symbol_text b (symbol.Call call.Condition) (symbol_text c symbol.Open (symbol_text d symbol.Quote (spelled test (symbol_text e symbol.Quote (symbol_text f symbol.Comma (spelled one (symbol_text g symbol.Comma rest)))))))
+    symbol_text b (symbol.Call call.Condition) (symbol_text c symbol.Open
+    (symbol_text d symbol.Quote (spelled test (symbol_text e symbol.Quote (symbol_text f symbol.Comma (spelled one (symbol_text g symbol.Comma rest)))))))
 spelled_part (InFirst b c k) rest = symbol_text b (symbol.Call call.DaysBetween) (symbol_text c symbol.Open rest)
-spelled_part (InSecond b c one d k) rest = symbol_text b (symbol.Call call.DaysBetween) (symbol_text c symbol.Open (spelled one (symbol_text d symbol.Comma rest)))
+spelled_part (InSecond b c one d k) rest =
+    symbol_text b (symbol.Call call.DaysBetween) (symbol_text c symbol.Open (spelled one (symbol_text d symbol.Comma rest)))
 spelled_part (InOne b name c k) rest = symbol_text b (symbol.Call name) (symbol_text c symbol.Open rest)
 spelled_part (InMore b name c first d k n) rest = symbol_text b (symbol.Call name) (symbol_text c symbol.Open (spelled first (symbol_text d symbol.Comma rest)))
 
@@ -101,10 +105,13 @@ Fit p (InBracket b ∷ ps) = IsBlank b × Fit p ps
 Fit p (InQuote b c d k ∷ ps) = IsCall p call.Condition × (quoted_of ps ≡ false) × IsBlank b × IsBlank c × IsBlank d × Fit p ps
 Fit p (InIf b c k ∷ ps) = IsCall p call.If × IsBlank b × IsBlank c × Fit p ps
 Fit p (InThen b c test d k ∷ ps) = IsCall p call.If × IsBlank b × IsBlank c × IsForm p (quoted_of ps) 1 test × IsBlank d × Fit p ps
-Fit p (InElse b c test d one e k ∷ ps) = IsCall p call.If × IsBlank b × IsBlank c × IsForm p (quoted_of ps) 1 test × IsBlank d × IsForm p (quoted_of ps) 1 one × IsBlank e × Fit p ps
-Fit p (InYes b c d test e f k ∷ ps) = IsCall p call.Condition × (quoted_of ps ≡ false) × IsBlank b × IsBlank c × IsBlank d × IsForm p true 1 test × IsBlank e × IsBlank f × Fit p ps
+Fit p (InElse b c test d one e k ∷ ps) =
+    IsCall p call.If × IsBlank b × IsBlank c × IsForm p (quoted_of ps) 1 test × IsBlank d × IsForm p (quoted_of ps) 1 one × IsBlank e × Fit p ps
+Fit p (InYes b c d test e f k ∷ ps) =
+    IsCall p call.Condition × (quoted_of ps ≡ false) × IsBlank b × IsBlank c × IsBlank d × IsForm p true 1 test × IsBlank e × IsBlank f × Fit p ps
 Fit p (InNo b c d test e f one g k ∷ ps) =
-    IsCall p call.Condition × (quoted_of ps ≡ false) × IsBlank b × IsBlank c × IsBlank d × IsForm p true 1 test × IsBlank e × IsBlank f × IsForm p (quoted_of ps) 1 one × IsBlank g × Fit p ps
+    IsCall p call.Condition × (quoted_of ps ≡ false) × IsBlank b × IsBlank c × IsBlank d × IsForm p true 1 test × IsBlank e × IsBlank f
+    × IsForm p (quoted_of ps) 1 one × IsBlank g × Fit p ps
 Fit p (InFirst b c k ∷ ps) = IsCall p call.DaysBetween × IsBlank b × IsBlank c × Fit p ps
 Fit p (InSecond b c one d k ∷ ps) = IsCall p call.DaysBetween × IsBlank b × IsBlank c × IsForm p (quoted_of ps) 1 one × IsBlank d × Fit p ps
 Fit p (InOne b name c k ∷ ps) = IsCall p name × IsUsual name × IsBlank b × IsBlank c × Fit p ps
@@ -150,13 +157,32 @@ pub record Reduced (p : Place) (least m : ℕ) (ps : List Part) (F : Form) : Typ
   pub is : IsForm p (quoted_of parts) m form
   pub low : Below least parts
 
-pub reduced : (p : Place) (least m : ℕ) (ps : List Part) (F : Form) → 1 ≤ least → least ≤ 6 → m ≤ 6 → Fit p ps → Above least m ps → IsForm p (quoted_of ps) m F → IsForm p (quoted_of ps) (hole ps) F → Reduced p least m ps F
+pub reduced : (p : Place) (least m : ℕ) (ps : List Part) (F : Form) → 1 ≤ least → least ≤ 6 → m ≤ 6 → Fit p ps → Above least m ps → IsForm p (quoted_of ps) m F
+    → IsForm p (quoted_of ps) (hole ps) F → Reduced p least m ps F
 reduced p least m (InChain left b op k ∷ ps) F some few few' fit above is in_hole =
     (elim (nat_le least (level_of op)) as (λ t. nat_le least (level_of op) ≡ t → Reduced p least m (InChain left b op k ∷ ps) F) [
       | true ↦ λ e.
           let le : least ≤ level_of op = grind (arith, nat_tests) in
-          let r = reduced p least m ps (Chain left b op F) some few few' fit.4 above.1 (fit.0, above.0 le, fit.2, fit.3, in_hole) (fit.0, fit.1, fit.2, fit.3, in_hole) in
-          record { parts = r.parts; form = r.form; spell = r.spell; fit = r.fit; frames = ap (λ (x : Bool). cond x (frames_reduced least (frames_of ps)) (frames_of (InChain left b op k ∷ ps))) e ∙ r.frames; quoted = r.quoted; is = r.is; low = r.low }
+          let r =
+          reduced p least m ps (Chain left b op F) some few few' fit.4 above.1 (fit.0, above.0 le, fit.2, fit.3, in_hole) (
+            fit.0,
+            fit.1,
+            fit.2,
+            fit.3,
+            in_hole,
+          ) in
+          record {
+            parts = r.parts;
+            form = r.form;
+            spell = r.spell;
+            fit = r.fit;
+            frames =
+                ap (λ (x : Bool). cond x (frames_reduced least (frames_of ps)) (frames_of (InChain left b op k ∷ ps))) e ∙ r.frames;
+            quoted = r.quoted;
+            is =
+                r.is;
+            low = r.low;
+          }
       | false ↦ λ e.
           record {
             parts = InChain left b op k ∷ ps;
@@ -172,7 +198,18 @@ reduced p least m (InChain left b op k ∷ ps) F some few few' fit above is in_h
 reduced p least m (InSign b sign k ∷ ps) F some few few' fit above is in_hole =
     let e : nat_le least 6 ≡ true = grind (arith, nat_tests) in
     let r = reduced p least m ps (Sign b sign F) some few few' fit.2 above (few', fit.0, fit.1, in_hole) (hole_small p ps fit.2, fit.0, fit.1, in_hole) in
-    record { parts = r.parts; form = r.form; spell = r.spell; fit = r.fit; frames = ap (λ (x : Bool). cond x (frames_reduced least (frames_of ps)) (frames_of (InSign b sign k ∷ ps))) e ∙ r.frames; quoted = r.quoted; is = r.is; low = r.low }
+    record {
+      parts = r.parts;
+      form = r.form;
+      spell = r.spell;
+      fit = r.fit;
+      frames =
+          ap (λ (x : Bool). cond x (frames_reduced least (frames_of ps)) (frames_of (InSign b sign k ∷ ps))) e ∙ r.frames;
+      quoted = r.quoted;
+      is = r.is;
+      low =
+          r.low;
+    }
 reduced p least m ps F some few few' fit above is in_hole =
     record { parts = ps; form = F; spell = λ rest. refl; fit = fit; frames = refl; quoted = refl; is = is; low = tt }
 
@@ -198,7 +235,8 @@ above_compared ps e = tt
 pub enclosing_same : (least : ℕ) (fs : List Frame) → enclosing_of (frames_reduced least fs) ≡ enclosing_of fs
 enclosing_same least [] = refl
 enclosing_same least (frame.Pending s ∷ fs) =
-    elim (nat_le least (node_level s.node)) as (λ t. enclosing_of (cond t (frames_reduced least fs) (frame.Pending s ∷ fs)) ≡ enclosing_of fs) [ true ↦ enclosing_same least fs | false ↦ refl ]
+    elim (nat_le least (node_level s.node)) as (λ t. enclosing_of (cond t (frames_reduced least fs) (frame.Pending s ∷ fs)) ≡ enclosing_of fs)
+    [ true ↦ enclosing_same least fs | false ↦ refl ]
 enclosing_same least (frame.Bracket ∷ fs) = refl
 enclosing_same least (frame.Quote ∷ fs) = refl
 enclosing_same least (frame.Call c ∷ fs) = refl

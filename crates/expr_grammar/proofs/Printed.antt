@@ -1,5 +1,6 @@
 -- What is printed of a form's tree is written as a form of the grammar, with the same tree.
-use Rattle.std.proofs.Common.{◌≡◌, ℕ, ◌*◌, ◌≤◌, Bool, true, false, cond, List, [], ◌∷◌, ◌++◌, take, drop, refl, sym, ap, ◌∙◌, inl, inr, append_assoc, append-nil, arith}
+use Rattle.std.proofs.Common.{◌≡◌, ℕ, ◌*◌, ◌≤◌, Bool, true, false, cond, List, [], ◌∷◌, ◌++◌, take, drop, refl, sym, ap, ◌∙◌, inl, inr, append_assoc}
+use Rattle.std.proofs.Common.{append-nil, arith}
 use Rattle.std.specs.Prelude.{◌&&◌, nat_lt, codes}
 use Rattle.std.specs.Str.Parse.{digits_value}
 use Rattle.std.proofs.lemmas.Bool.Decides.{nat_tests}
@@ -14,11 +15,14 @@ use Rattle.expr_lang.specs.declared.words.Symbol.{Symbol}
 use Rattle.expr_lang.specs.declared.words.Symbol.TheVariants as symbol
 use Rattle.expr_lang.specs.declared.words.Call.{Call}
 use Rattle.expr_lang.specs.declared.words.Call.TheVariants as call
-use Rattle.expr_lang.specs.Print.{exponent_text, text_from, in_brackets, unary_level_of, binary_level_of, inner_level_of, before_of, behind_of, opening_of, between_of, closing_of, left_level_of, right_level_of}
+use Rattle.expr_lang.specs.Print.{exponent_text, text_from, in_brackets, unary_level_of, binary_level_of, inner_level_of, before_of, behind_of, opening_of}
+use Rattle.expr_lang.specs.Print.{between_of, closing_of, left_level_of, right_level_of}
 use Rattle.expr_lang.specs.Reading.{level_of}
 use Rattle.expr_lang.specs.Shape.{Shape, Operand, One, Two, Choice}
 use Rattle.expr_lang.specs.Words.{text_of, operands_of, items_of_place, start_of, operator_text_of, call_text_of}
-use Rattle.expr_grammar.specs.Grammar.{Form, Number, Item, Bracket, Power, Sign, Chain, Arguments, If, Condition, DaysBetween, Apply, spelled, IsSign, IsAmong, IsCall, is_item, is_plain, all_plain, arguments_level, Takes, IsForm, IsWhole, IsTextOf, number_value, applied, tree_of}
+use Rattle.expr_grammar.specs.Grammar.{Form, Number, Item, Bracket, Power, Sign, Chain, Arguments, If, Condition, DaysBetween, Apply, spelled, IsSign}
+use Rattle.expr_grammar.specs.Grammar.{IsAmong, IsCall, is_item, is_plain, all_plain, arguments_level, Takes, IsForm, IsWhole, IsTextOf, number_value}
+use Rattle.expr_grammar.specs.Grammar.{applied, tree_of}
 use Rattle.expr_grammar.proofs.PrintedNumbers.{whole_digits, part_digits, number_is, value_below, number_written, number_again, exponent_is}
 use Rattle.expr_grammar.proofs.PrintedItems.{item_written}
 
@@ -184,11 +188,13 @@ shown_takes call.Zing least arguments h = tt
 shown_takes call.Oizp least arguments h = tt
 shown_takes _ least arguments h = absurd h
 
-bracketed_is : (p : Place) (t : Bool) (level least : ℕ) (form : Form) → nat_lt level least ≡ t → IsForm p false 1 form → (least ≤ level → IsForm p false least form) → IsForm p false least (bracketed t form)
+bracketed_is : (p : Place) (t : Bool) (level least : ℕ) (form : Form) → nat_lt level least ≡ t → IsForm p false 1 form
+    → (least ≤ level → IsForm p false least form) → IsForm p false least (bracketed t form)
 bracketed_is p true level least form e one own = (tt, one, tt)
 bracketed_is p false level least form e one own = own (grind (arith, nat_tests))
 
-pub shown_is : (p : Place) (form : Form) (quoted : Bool) (level least : ℕ) → IsForm p quoted level form → least ≤ 8 * level → least ≤ 8 → IsForm p false least (shown least form)
+pub shown_is : (p : Place) (form : Form) (quoted : Bool) (level least : ℕ) → IsForm p quoted level form → least ≤ 8 * level → least ≤ 8
+    → IsForm p false least (shown least form)
 shown_is p (Number b digits decimals) quoted level least h le small = (tt, number_written (number_value digits decimals) (value_below digits decimals h.1))
 shown_is p (Item b form word) quoted level least h le small = (tt, h.1, h.2)
 shown_is p (Bracket b inner c) quoted level least h le small = shown_is p inner quoted 1 least h.1 (omega arith) small
@@ -253,8 +259,10 @@ three_same p q r = λ i. Choice (p i) (q i) (r i)
 two_same : (operator : Binary) {a b c d : Shape} → a ≡ c → b ≡ d → Two operator a b ≡ Two operator c d
 two_same operator p q = λ i. Two operator (p i) (q i)
 
-pub shown_tree : (days : List (List ℕ)) (p : Place) (form : Form) (quoted : Bool) (level least : ℕ) → IsForm p quoted level form → tree_of days (shown least form) ≡ tree_of days form
-shown_tree days p (Number b digits decimals) quoted level least h = ap (λ (n : ℕ). Operand (leaf.Number n)) (number_again (number_value digits decimals) (value_below digits decimals h.1))
+pub shown_tree : (days : List (List ℕ)) (p : Place) (form : Form) (quoted : Bool) (level least : ℕ) → IsForm p quoted level form
+    → tree_of days (shown least form) ≡ tree_of days form
+shown_tree days p (Number b digits decimals) quoted level least h =
+    ap (λ (n : ℕ). Operand (leaf.Number n)) (number_again (number_value digits decimals) (value_below digits decimals h.1))
 shown_tree days p (Item b form word) quoted level least h = refl
 shown_tree days p (Bracket b inner c) quoted level least h = shown_tree days p inner quoted 1 least h.1
 shown_tree days p (Power atom b c digits) quoted level least h =
@@ -265,7 +273,8 @@ shown_tree days p (Sign b sign operand) quoted level least h =
     bracketed_tree days (nat_lt 6 least) (Sign [] sign (shown 6 operand)) ∙ ap (One sign) (shown_tree days p operand quoted 6 6 h.3)
 shown_tree days p (Chain left b operator right) quoted level least h =
     bracketed_tree days (nat_lt (level_of operator) least) (Chain (shown (left_level_of operator) left) [] operator (shown (right_level_of operator) right))
-    ∙ two_same operator (shown_tree days p left quoted (left_level_of operator) (left_level_of operator) h.2) (shown_tree days p right quoted (right_level_of operator) (right_level_of operator) h.4)
+    ∙ two_same operator (shown_tree days p left quoted (left_level_of operator) (left_level_of operator) h.2)
+    (shown_tree days p right quoted (right_level_of operator) (right_level_of operator) h.4)
 shown_tree days p (Arguments first b last) quoted level least h =
     two_same binary.Comma (shown_tree days p first quoted 0 0 h.1) (shown_tree days p last quoted 1 1 h.3)
 shown_tree days p (If b c test d one e other f) quoted level least h =
@@ -286,7 +295,8 @@ pub not_below : (a b : ℕ) → b ≤ a → nat_lt a b ≡ false
 not_below a b h = grind (arith, nat_tests)
 
 -- one expression is printed the same where a list of them may stand
-pub lowest : (days : List (List ℕ)) (p : Place) (form : Form) (quoted : Bool) → IsForm p quoted 1 form → text_from 0 (tree_of days form) ≡ text_from 1 (tree_of days form)
+pub lowest : (days : List (List ℕ)) (p : Place) (form : Form) (quoted : Bool) → IsForm p quoted 1 form
+    → text_from 0 (tree_of days form) ≡ text_from 1 (tree_of days form)
 lowest days p (Number b digits decimals) quoted h = refl
 lowest days p (Item b form word) quoted h = refl
 lowest days p (Bracket b inner c) quoted h = lowest days p inner quoted h.1
@@ -296,7 +306,9 @@ lowest days p (Sign b unary.Not operand) quoted h = refl
 lowest days p (Sign b _ operand) quoted h = absurd h.2
 lowest days p (Chain left b operator right) quoted h =
     let e = chain_level operator h.0 in
-    let text = opening_of operator ++ text_from (left_level_of operator) (tree_of days left) ++ between_of operator ++ text_from (right_level_of operator) (tree_of days right) ++ closing_of operator in
+    let text =
+    opening_of operator ++ text_from (left_level_of operator) (tree_of days left) ++ between_of operator
+    ++ text_from (right_level_of operator) (tree_of days right) ++ closing_of operator in
     in_level (binary_level_of operator) 0 text (not_below (binary_level_of operator) 0 (omega arith))
     ∙ sym (in_level (binary_level_of operator) 1 text (not_below (binary_level_of operator) 1 (omega arith)))
 lowest days p (Arguments first b last) quoted h = absurd (omega (arith, h.0))
@@ -309,7 +321,8 @@ lowest days p (Apply b name c arguments d) quoted h =
     in_level (unary_level_of (applied name)) 0 text (not_below (unary_level_of (applied name)) 0 (omega arith))
     ∙ sym (in_level (unary_level_of (applied name)) 1 text (not_below (unary_level_of (applied name)) 1 (omega arith)))
 
-argument_text : (days : List (List ℕ)) (p : Place) (name : Call) (arguments : Form) (quoted : Bool) → IsForm p quoted (arguments_level name) arguments → text_from 0 (tree_of days arguments) ≡ text_from (arguments_level name) (tree_of days arguments)
+argument_text : (days : List (List ℕ)) (p : Place) (name : Call) (arguments : Form) (quoted : Bool) → IsForm p quoted (arguments_level name) arguments
+    → text_from 0 (tree_of days arguments) ≡ text_from (arguments_level name) (tree_of days arguments)
 argument_text days p call.FirstNonNull arguments quoted h = refl
 argument_text days p call.Greatest arguments quoted h = refl
 argument_text days p call.Least arguments quoted h = refl
@@ -330,7 +343,8 @@ power_text : (text digits : List ℕ) (form : Form) → Spells text form → Spe
 unfolding text_of
 power_text text digits form h rest = append_assoc text (codes "^" ++ digits) rest ∙ h (94 ∷ (digits ++ rest))
 
-sign_text_is : (text : List ℕ) (sign : Unary) (form : Form) → IsSign sign → Spells text form → Spells (before_of sign ++ text ++ behind_of sign) (Sign [] sign form)
+sign_text_is : (text : List ℕ) (sign : Unary) (form : Form) → IsSign sign → Spells text form
+    → Spells (before_of sign ++ text ++ behind_of sign) (Sign [] sign form)
 sign_text_is text unary.Negate form s h rest = ap (λ (l : List ℕ). 45 ∷ (l ++ rest)) (append-nil text) ∙ ap (λ (l : List ℕ). 45 ∷ l) (h rest)
 sign_text_is text unary.Not form s h rest = ap (λ (l : List ℕ). 33 ∷ (l ++ rest)) (append-nil text) ∙ ap (λ (l : List ℕ). 33 ∷ l) (h rest)
 sign_text_is text _ form s h rest = absurd s
@@ -340,11 +354,13 @@ sign_level unary.Negate s = (refl, refl)
 sign_level unary.Not s = (refl, refl)
 sign_level _ s = absurd s
 
-pub chain_words : (operator : Binary) → 1 ≤ level_of operator → (opening_of operator ≡ []) × (between_of operator ≡ operator_text_of operator) × (closing_of operator ≡ [])
+pub chain_words : (operator : Binary) → 1 ≤ level_of operator
+    → (opening_of operator ≡ []) × (between_of operator ≡ operator_text_of operator) × (closing_of operator ≡ [])
 chain_words binary.DaysBetween h = absurd (omega arith)
 chain_words _ h = (refl, refl, refl)
 
-chain_text : (operator : Binary) (one other : List ℕ) (left right : Form) → 1 ≤ level_of operator → Spells one left → Spells other right → Spells (opening_of operator ++ one ++ between_of operator ++ other ++ closing_of operator) (Chain left [] operator right)
+chain_text : (operator : Binary) (one other : List ℕ) (left right : Form) → 1 ≤ level_of operator → Spells one left → Spells other right
+    → Spells (opening_of operator ++ one ++ between_of operator ++ other ++ closing_of operator) (Chain left [] operator right)
 unfolding text_of
 chain_text operator one other left right h f g rest =
     let w = chain_words operator h in
@@ -357,13 +373,15 @@ chain_text operator one other left right h f g rest =
     ∙ ap (λ (l : List ℕ). one ++ (operator_text_of operator ++ l)) (g rest)
     ∙ f (operator_text_of operator ++ spelled right rest)
 
-arguments_text : (one other : List ℕ) (first last : Form) → Spells one first → Spells other last → Spells ((one ++ codes ",") ++ other) (Arguments first [] last)
+arguments_text : (one other : List ℕ) (first last : Form) → Spells one first → Spells other last
+    → Spells ((one ++ codes ",") ++ other) (Arguments first [] last)
 unfolding text_of
 arguments_text one other first last f g rest =
     append_assoc (one ++ codes ",") other rest ∙ append_assoc one (codes ",") (other ++ rest)
     ∙ ap (λ (l : List ℕ). one ++ 44 ∷ l) (g rest) ∙ f (44 ∷ spelled last rest)
 
-if_text : (a b c : List ℕ) (test one other : Form) → Spells a test → Spells b one → Spells c other → Spells (codes "if(" ++ a ++ codes "," ++ b ++ codes "," ++ c ++ codes ")") (If [] [] test [] one [] other [])
+if_text : (a b c : List ℕ) (test one other : Form) → Spells a test → Spells b one → Spells c other
+    → Spells (codes "if(" ++ a ++ codes "," ++ b ++ codes "," ++ c ++ codes ")") (If [] [] test [] one [] other [])
 unfolding text_of
 if_text a b c test one other f g h rest =
     ap (λ (l : List ℕ). codes "if(" ++ l)
@@ -376,7 +394,8 @@ if_text a b c test one other f g h rest =
     ∙ ap (λ (l : List ℕ). a ++ 44 ∷ l) (g (44 ∷ spelled other (41 ∷ rest)))
     ∙ f (44 ∷ spelled one (44 ∷ spelled other (41 ∷ rest))))
 
-days_text : (b c : List ℕ) (one other : Form) → Spells b one → Spells c other → Spells (codes "d2:daysBetween(" ++ b ++ codes "," ++ c ++ codes ")") (DaysBetween [] [] one [] other [])
+days_text : (b c : List ℕ) (one other : Form) → Spells b one → Spells c other
+    → Spells (codes "d2:daysBetween(" ++ b ++ codes "," ++ c ++ codes ")") (DaysBetween [] [] one [] other [])
 unfolding text_of
 days_text b c one other g h rest =
     ap (λ (l : List ℕ). codes "d2:daysBetween(" ++ l)
@@ -386,7 +405,8 @@ days_text b c one other g h rest =
     ∙ ap (λ (l : List ℕ). b ++ 44 ∷ l) (h (41 ∷ rest))
     ∙ g (44 ∷ spelled other (41 ∷ rest)))
 
-apply_text : (name : Call) (text : List ℕ) (arguments taken : Form) → Takes name taken → Spells text arguments → Spells (before_of (applied name) ++ text ++ behind_of (applied name)) (Apply [] name [] arguments [])
+apply_text : (name : Call) (text : List ℕ) (arguments taken : Form) → Takes name taken → Spells text arguments
+    → Spells (before_of (applied name) ++ text ++ behind_of (applied name)) (Apply [] name [] arguments [])
 unfolding text_of
 apply_text name text arguments taken t h rest =
     ap (λ (l : List ℕ). (l ++ text ++ behind_of (applied name)) ++ rest) (call_before name taken t)
@@ -396,10 +416,12 @@ apply_text name text arguments taken t h rest =
     ∙ append_assoc (call_text_of name) (codes "(") (text ++ 41 ∷ rest)
     ∙ ap (λ (l : List ℕ). call_text_of name ++ 40 ∷ l) (h (41 ∷ rest))
 
-pub as_one : (days : List (List ℕ)) (p : Place) (form : Form) (quoted : Bool) → IsForm p quoted 1 form → Spells (text_from 1 (tree_of days form)) (shown 1 form) → Spells (text_from 0 (tree_of days form)) (shown 1 form)
+pub as_one : (days : List (List ℕ)) (p : Place) (form : Form) (quoted : Bool) → IsForm p quoted 1 form → Spells (text_from 1 (tree_of days form)) (shown 1 form)
+    → Spells (text_from 0 (tree_of days form)) (shown 1 form)
 as_one days p form quoted h f rest = ap (λ (l : List ℕ). l ++ rest) (lowest days p form quoted h) ∙ f rest
 
-pub shown_text : (days : List (List ℕ)) (p : Place) (form : Form) (quoted : Bool) (level least : ℕ) → IsForm p quoted level form → least ≤ 8 * level → least ≤ 8 → Spells (text_from least (tree_of days form)) (shown least form)
+pub shown_text : (days : List (List ℕ)) (p : Place) (form : Form) (quoted : Bool) (level least : ℕ) → IsForm p quoted level form → least ≤ 8 * level → least ≤ 8
+    → Spells (text_from least (tree_of days form)) (shown least form)
 shown_text days p (Number b digits decimals) quoted level least h le small rest = ap (λ (l : List ℕ). l ++ rest) (number_is (number_value digits decimals))
 shown_text days p (Item b form word) quoted level least h le small rest = ap (λ (l : List ℕ). l ++ rest) (item_written days form word h.2)
 shown_text days p (Bracket b inner c) quoted level least h le small rest = shown_text days p inner quoted 1 least h.1 (omega arith) small rest
@@ -411,14 +433,16 @@ shown_text days p (Sign b sign operand) quoted level least h le small rest =
     let e = sign_level sign h.2 in
     let s = tree_of days operand in
     ap (λ (n : ℕ). in_brackets (nat_lt (unary_level_of sign) least) (before_of sign ++ text_from n s ++ behind_of sign) ++ rest) e.1
-    ∙ bracketed_by (nat_lt (unary_level_of sign) least) (nat_lt 6 least) (before_of sign ++ text_from 6 s ++ behind_of sign) (Sign [] sign (shown 6 operand)) (ap (λ (n : ℕ). nat_lt n least) e.0)
+    ∙ bracketed_by (nat_lt (unary_level_of sign) least) (nat_lt 6 least) (before_of sign ++ text_from 6 s ++ behind_of sign) (Sign [] sign (shown 6 operand))
+    (ap (λ (n : ℕ). nat_lt n least) e.0)
     (sign_text_is (text_from 6 s) sign (shown 6 operand) h.2 (shown_text days p operand quoted 6 6 h.3 (omega arith) (omega arith))) rest
 shown_text days p (Chain left b operator right) quoted level least h le small rest =
     let one = text_from (left_level_of operator) (tree_of days left) in
     let other = text_from (right_level_of operator) (tree_of days right) in
     bracketed_by (nat_lt (binary_level_of operator) least) (nat_lt (level_of operator) least)
     (opening_of operator ++ one ++ between_of operator ++ other ++ closing_of operator)
-    (Chain (shown (left_level_of operator) left) [] operator (shown (right_level_of operator) right)) (ap (λ (n : ℕ). nat_lt n least) (chain_level operator h.0))
+    (Chain (shown (left_level_of operator) left) [] operator (shown (right_level_of operator) right))
+    (ap (λ (n : ℕ). nat_lt n least) (chain_level operator h.0))
     (chain_text operator one other (shown (left_level_of operator) left) (shown (right_level_of operator) right) h.0
     (shown_text days p left quoted (left_level_of operator) (left_level_of operator) h.2 (omega arith) (left_small operator))
     (shown_text days p right quoted (right_level_of operator) (right_level_of operator) h.4 (omega arith) (right_small operator))) rest
@@ -428,7 +452,8 @@ shown_text days p (Arguments first b last) quoted level least h le small rest =
     let other = text_from 1 (tree_of days last) in
     ap (λ (n : ℕ). text_from n (Two binary.Comma (tree_of days first) (tree_of days last)) ++ rest) none
     ∙ ap (λ (l : List ℕ). l ++ rest) (append-nil ((one ++ codes ",") ++ other))
-    ∙ arguments_text one other (shown 0 first) (shown 1 last) (shown_text days p first quoted 0 0 h.1 (omega arith) (omega arith)) (shown_text days p last quoted 1 1 h.3 (omega arith) (omega arith)) rest
+    ∙ arguments_text one other (shown 0 first) (shown 1 last) (shown_text days p first quoted 0 0 h.1 (omega arith) (omega arith))
+    (shown_text days p last quoted 1 1 h.3 (omega arith) (omega arith)) rest
 shown_text days p (If b c test d one e other f) quoted level least h le small rest =
     if_text (text_from 0 (tree_of days test)) (text_from 0 (tree_of days one)) (text_from 0 (tree_of days other)) (shown 1 test) (shown 1 one) (shown 1 other)
     (as_one days p test quoted h.3 (shown_text days p test quoted 1 1 h.3 (omega arith) (omega arith)))

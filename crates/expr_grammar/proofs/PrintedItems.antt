@@ -1,5 +1,6 @@
 -- What is printed of an item is the word that names it.
-use Rattle.std.proofs.Common.{◌≡◌, ℕ, ◌+◌, ◌-◌, ◌≤◌, Bool, true, false, cond, List, [], ◌∷◌, ◌++◌, length, take, drop, Some, None, refl, sym, ap, ◌∙◌, append_assoc, append-nil, length-append, arith}
+use Rattle.std.proofs.Common.{◌≡◌, ℕ, ◌+◌, ◌-◌, ◌≤◌, Bool, true, false, cond, List, [], ◌∷◌, ◌++◌, length, take, drop, Some, None, refl, sym, ap, ◌∙◌}
+use Rattle.std.proofs.Common.{append_assoc, append-nil, length-append, arith}
 use Rattle.std.specs.Prelude.{◌&&◌, ◌||◌, not, nat_eq, nat_lt, codes, slice_range, slice_index, option_map, option_and_then}
 use Rattle.std.specs.Char.{is_ascii_alphabetic, is_ascii_alphanumeric}
 use Rattle.std.specs.List.{list_all}
@@ -156,7 +157,8 @@ ThreeUids word =
     × (uid_from 2 word ≡ Some u) × (uid_from 14 word ≡ Some v) × (uid_from 26 word ≡ Some w)
 
 third_at : (u v : List ℕ) → IsWord uid_pattern u → IsWord uid_pattern v → length (codes "#{" ++ (u ++ (codes "." ++ (v ++ codes ".")))) ≡ 26
-third_at u v h k = omega (arith, length-append u (codes "." ++ (v ++ codes ".")), length-append v (codes "."), word_long uid_pattern u h, word_long uid_pattern v k)
+third_at u v h k =
+    omega (arith, length-append u (codes "." ++ (v ++ codes ".")), length-append v (codes "."), word_long uid_pattern u h, word_long uid_pattern v k)
 
 three : (word : List ℕ) → IsWord (codes "#{@$$$$$$$$$$.@$$$$$$$$$$.@$$$$$$$$$$}") word → ThreeUids word
 three word h =
@@ -211,8 +213,12 @@ behind_dot u v back = append_assoc (u ++ codes ".") v back ∙ append_assoc u (c
 named : (it : ItemForm) (word : List ℕ) → IsWord (item_text_of it) word → Names it word
 unfolding item_from item_text
 named form.Element word h =
-    let r = one (codes "#{") (codes "}") word refl refl h in
-    (item.Element r.0 None None, ap (option_map (λ u. item.Element u None None)) r.2, ap (λ (l : List ℕ). codes "#{" ++ l) (none_more r.0 (codes "}")) ∙ sym r.1)
+    let r = one (codes "#{") (codes "}") word refl refl h in (
+      item.Element r.0 None None,
+      ap (option_map (λ u. item.Element u None None)) r.2,
+      ap (λ (l : List ℕ). codes "#{" ++ l) (none_more r.0 (codes "}"))
+          ∙ sym r.1,
+    )
 named form.ElementCombo word h =
     let r = two word h in (
       item.Element r.0 (Some r.1) None,
@@ -286,7 +292,8 @@ leaf_by true days i e = rw e refl
 leaf_by false days i e = rw e refl
 
 -- a word that names an item is what is printed of the item
-pub item_written : (days : List (List ℕ)) (it : ItemForm) (word : List ℕ) → IsWord (text_of (symbol.Item it)) word → leaf_text (item_leaf days (item_from it word)) ≡ word
+pub item_written : (days : List (List ℕ)) (it : ItemForm) (word : List ℕ) → IsWord (text_of (symbol.Item it)) word
+    → leaf_text (item_leaf days (item_from it word)) ≡ word
 unfolding text_of
 item_written days it word h =
     let r = named it word h in

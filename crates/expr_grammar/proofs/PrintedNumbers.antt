@@ -1,5 +1,6 @@
 -- What is printed of a number and of an exponent is written as a number and an exponent, of the same value.
-use Rattle.std.proofs.Common.{◌≡◌, ℕ, zero, suc, ◌+◌, ◌-◌, ◌*◌, ◌/◌, ◌%◌, ◌^◌, ◌<◌, ◌≤◌, Bool, true, false, cond, List, [], ◌∷◌, ◌++◌, length, refl, sym, ap, subst, ◌∙◌, arith}
+use Rattle.std.proofs.Common.{◌≡◌, ℕ, zero, suc, ◌+◌, ◌-◌, ◌*◌, ◌/◌, ◌%◌, ◌^◌, ◌<◌, ◌≤◌, Bool, true, false, cond, List, [], ◌∷◌, ◌++◌, length, refl, sym, ap}
+use Rattle.std.proofs.Common.{subst, ◌∙◌, arith}
 use Rattle.std.specs.Prelude.{nat_eq, nat_lt}
 use Rattle.std.specs.Char.{is_ascii_digit, digit_value}
 use Rattle.std.specs.Fmt.{decimal}
@@ -41,7 +42,8 @@ tens_some (suc k) = omega (arith, ten_more k, tens_some k)
 
 tens_both : (m k : ℕ) → 10 ^ (m + k) ≡ 10 ^ m * 10 ^ k
 tens_both zero k = let e : zero + k ≡ k = omega arith in rw e (omega arith)
-tens_both (suc m) k = let e : suc m + k ≡ suc (m + k) = omega arith in ap (λ (n : ℕ). 10 ^ n) e ∙ ten_more (m + k) ∙ omega (arith, ap (λ (x : ℕ). x * 10) (tens_both m k), ap (λ (x : ℕ). x * 10 ^ k) (ten_more m))
+tens_both (suc m) k = let e : suc m + k ≡ suc (m + k) = omega arith in ap (λ (n : ℕ). 10 ^ n) e ∙ ten_more (m + k)
+    ∙ omega (arith, ap (λ (x : ℕ). x * 10) (tens_both m k), ap (λ (x : ℕ). x * 10 ^ k) (ten_more m))
 
 pub tens_apart : (k n : ℕ) → n ≤ k → 10 ^ n * 10 ^ (k - n) ≡ 10 ^ k
 tens_apart k n le = let e : n + (k - n) ≡ k = omega arith in sym (tens_both n (k - n)) ∙ ap (λ (m : ℕ). 10 ^ m) e
@@ -77,7 +79,8 @@ more_part : (k n d r : ℕ) (ds : List ℕ) → d < 10 → n ≡ d * 10 ^ k + r 
 more_part k n d r ds small is h =
     let g = glyph d small in
     let e : suc k - suc (length ds) ≡ k - length ds = omega arith in
-    let v : digits_value 10 ((48 + d) ∷ ds) ≡ d * 10 ^ length ds + digits_value 10 ds = value_behind (0 * 10 + digit_value (48 + d)) ds ∙ ap (λ (x : ℕ). x * 10 ^ length ds + digits_value_after 10 0 ds) (omega (arith, g.1)) in (
+    let v : digits_value 10 ((48 + d) ∷ ds) ≡ d * 10 ^ length ds + digits_value 10 ds = value_behind (0 * 10 + digit_value (48 + d)) ds
+    ∙ ap (λ (x : ℕ). x * 10 ^ length ds + digits_value_after 10 0 ds) (omega (arith, g.1)) in (
       omega (arith, h.0),
       (g.0, h.1),
       ap (λ (x : ℕ). digits_value 10 ((48 + d) ∷ ds) * 10 ^ x) e
@@ -89,7 +92,8 @@ more_part k n d r ds small is h =
 div_parts : (p n : ℕ) → 0 < p → n ≡ n / p * p + n % p
 div_parts p n h = omega arith
 
-part_by : (t : Bool) (k n : ℕ) → nat_eq n 0 ≡ t → n < 10 ^ suc k → IsPart k (n % 10 ^ k) (decimals_text k (n % 10 ^ k)) → IsPart (suc k) n (decimals_text (suc k) n)
+part_by : (t : Bool) (k n : ℕ) → nat_eq n 0 ≡ t → n < 10 ^ suc k → IsPart k (n % 10 ^ k) (decimals_text k (n % 10 ^ k))
+    → IsPart (suc k) n (decimals_text (suc k) n)
 part_by true k n e h p = let z : n ≡ 0 = grind (arith, nat_tests) in subst (IsPart (suc k) n) (sym (no_place k n e)) (omega arith, tt, omega arith)
 part_by false k n e h p =
     subst (IsPart (suc k) n) (sym (one_place k n e))
@@ -122,7 +126,14 @@ unfolding number_text
 number_is n = ap (λ (l : List ℕ). decimal (n / 1000000) ++ l) (point_is 5 (n % 1000000))
 
 pub whole_below : (ds : List ℕ) → length ds ≤ 12 → IsDigits ds → digits_value 10 ds < 1000000000000
-whole_below ds few h = omega (arith, digits_value-lt 10 ds (all_digits ds h), tens_apart 12 (length ds) few, tens_some (12 - length ds), mono (10 ^ length ds) (10 ^ (12 - length ds)) (tens_some (12 - length ds)))
+whole_below ds few h =
+    omega (
+      arith,
+      digits_value-lt 10 ds (all_digits ds h),
+      tens_apart 12 (length ds) few,
+      tens_some (12 - length ds),
+      mono (10 ^ length ds) (10 ^ (12 - length ds)) (tens_some (12 - length ds)),
+    )
   where
     mono : (a b : ℕ) → 0 < b → a ≤ a * b
     mono a zero h = omega arith
@@ -137,10 +148,18 @@ scaled_below a b (suc c) h some = by_next c (scaled_below a b c h)
     by_next (suc c) g = omega (arith, g (omega arith))
 
 pub part_small : (k : ℕ) (ds : List ℕ) → length ds ≤ k → IsDigits ds → digits_value 10 ds * 10 ^ (k - length ds) < 10 ^ k
-part_small k ds few h = omega (arith, scaled_below (digits_value 10 ds) (10 ^ length ds) (10 ^ (k - length ds)) (digits_value-lt 10 ds (all_digits ds h)) (tens_some (k - length ds)), tens_apart k (length ds) few)
+part_small k ds few h =
+    omega (
+      arith,
+      scaled_below (digits_value 10 ds) (10 ^ length ds) (10 ^ (k - length ds)) (digits_value-lt 10 ds (all_digits ds h))
+          (tens_some (k - length ds)),
+      tens_apart k (length ds) few,
+    )
 
 pub value_below : (digits decimals : List ℕ) → IsNumber digits decimals → number_value digits decimals / 1000000 < 1000000000000
-value_below digits decimals h = divided (digits_value 10 digits) (digits_value 10 decimals * 10 ^ (6 - length decimals)) (whole_below digits h.few h.whole) (part_small 6 decimals h.short h.part)
+value_below digits decimals h =
+    divided (digits_value 10 digits) (digits_value 10 decimals * 10 ^ (6 - length decimals)) (whole_below digits h.few h.whole)
+    (part_small 6 decimals h.short h.part)
   where
     divided : (a b : ℕ) → a < 1000000000000 → b < 1000000 → (a * 1000000 + b) / 1000000 < 1000000000000
     divided a b h k = omega arith
@@ -172,13 +191,15 @@ exponent_by true n e h =
     let small : n < 10 = grind (arith, nat_tests) in
     let g = glyph n small in
     let v : digits_value 10 ((48 + n) ∷ []) ≡ n = omega (arith, g.1) in
-    subst (λ (ds : List ℕ). IsExponent ds × (digits_value 10 ds ≡ n)) (sym (ap (λ (t : Bool). cond t ((48 + n) ∷ []) ((48 + n / 10 % 10) ∷ (48 + n % 10) ∷ [])) e))
+    subst (λ (ds : List ℕ). IsExponent ds × (digits_value 10 ds ≡ n))
+    (sym (ap (λ (t : Bool). cond t ((48 + n) ∷ []) ((48 + n / 10 % 10) ∷ (48 + n % 10) ∷ [])) e))
     (record { some = omega arith; few = omega arith; whole = (g.0, tt); small = omega (arith, v) }, v)
 exponent_by false n e h =
     let a = glyph (n / 10 % 10) (omega arith) in
     let b = glyph (n % 10) (omega arith) in
     let v : digits_value 10 ((48 + n / 10 % 10) ∷ (48 + n % 10) ∷ []) ≡ n = omega (arith, a.1, b.1) in
-    subst (λ (ds : List ℕ). IsExponent ds × (digits_value 10 ds ≡ n)) (sym (ap (λ (t : Bool). cond t ((48 + n) ∷ []) ((48 + n / 10 % 10) ∷ (48 + n % 10) ∷ [])) e))
+    subst (λ (ds : List ℕ). IsExponent ds × (digits_value 10 ds ≡ n))
+    (sym (ap (λ (t : Bool). cond t ((48 + n) ∷ []) ((48 + n / 10 % 10) ∷ (48 + n % 10) ∷ [])) e))
     (record { some = omega arith; few = omega arith; whole = (a.0, (b.0, tt)); small = omega (arith, v) }, v)
 
 pub exponent_is : (n : ℕ) → n ≤ 64 → IsExponent (exponent_text n) × (digits_value 10 (exponent_text n) ≡ n)

@@ -1,5 +1,6 @@
 -- How many brackets are open at once: the reader counts those of the text, and the text has those of its form.
-use Rattle.std.proofs.Common.{◌≡◌, ℕ, zero, suc, ◌+◌, ◌-◌, ◌≤◌, Bool, true, false, cond, List, [], ◌∷◌, ◌++◌, length, drop, Option, Some, None, Result, Ok, Err, refl, sym, ap, subst, ◌∙◌, arith}
+use Rattle.std.proofs.Common.{◌≡◌, ℕ, zero, suc, ◌+◌, ◌-◌, ◌≤◌, Bool, true, false, cond, List, [], ◌∷◌, ◌++◌, length, drop, Option, Some, None, Result, Ok}
+use Rattle.std.proofs.Common.{Err, refl, sym, ap, subst, ◌∙◌, arith}
 use Rattle.std.specs.Prelude.{◌&&◌, not, max, nat_eq, nat_le, is_none}
 use Rattle.std.specs.Char.{is_ascii_digit}
 use Rattle.std.proofs.lemmas.Bool.Decides.{nat_tests}
@@ -24,11 +25,15 @@ use Rattle.expr_lang.specs.declared.reading.Found.{Found}
 use Rattle.expr_lang.specs.declared.reading.Reader.{Reader}
 use Rattle.expr_lang.specs.declared.reading.Nodes.{Nodes}
 use Rattle.expr_lang.specs.Print.{left_level_of, right_level_of}
-use Rattle.expr_lang.specs.Reading.{is_blank_of, blank_count, may_end_in, ended, go_on, new_reader, most_words, read_rest, read_text, token_from, with_token, with_word, with_leaf, with_sign, with_operator, with_open, with_call, with_comma, with_close, with_quote, with_exponent, comma_in, frames_reduced, nodes_reduced, is_quote}
+use Rattle.expr_lang.specs.Reading.{is_blank_of, blank_count, may_end_in, ended, go_on, new_reader, most_words, read_rest, read_text, token_from, with_token}
+use Rattle.expr_lang.specs.Reading.{with_word, with_leaf, with_sign, with_operator, with_open, with_call, with_comma, with_close, with_quote, with_exponent}
+use Rattle.expr_lang.specs.Reading.{comma_in, frames_reduced, nodes_reduced, is_quote}
 use Rattle.expr_lang.specs.Token.{fits_of}
 use Rattle.expr_lang.specs.Words.{text_of}
 use Rattle.expr_grammar.specs.Fewest.{open_of}
-use Rattle.expr_grammar.specs.Grammar.{Form, Number, Item, Bracket, Power, Sign, Chain, Arguments, If, Condition, DaysBetween, Apply, IsBlank, IsDigits, IsNumber, IsWord, IsForm, IsWhole, IsTextOf, arguments_level, sign_text, after_blanks, symbol_text, behind_point, spelled}
+use Rattle.expr_grammar.specs.Grammar.{Form, Number, Item, Bracket, Power, Sign, Chain, Arguments, If, Condition, DaysBetween, Apply, IsBlank, IsDigits}
+use Rattle.expr_grammar.specs.Grammar.{IsNumber, IsWord, IsForm, IsWhole, IsTextOf, arguments_level, sign_text, after_blanks, symbol_text, behind_point}
+use Rattle.expr_grammar.specs.Grammar.{spelled}
 use Rattle.expr_grammar.proofs.Words.{drop_front}
 use Rattle.expr_grammar.proofs.Steps.{read_is, read_none}
 use Rattle.expr_grammar.proofs.Tokens.{IsLexeme, token_sound}
@@ -62,11 +67,11 @@ scan_both (x ∷ xs) ys s = scan_both xs ys (one_scanned x s)
 
 -- ---- bytes that aren't brackets
 
-abbrev Quiet : List ℕ → Type 0
+abbrev pub Quiet : List ℕ → Type 0
 Quiet [] = Unit {0}
 Quiet (b ∷ bs) = (nat_eq b 40 ≡ false) × (nat_eq b 41 ≡ false) × Quiet bs
 
-quiet_both : (xs ys : List ℕ) → Quiet xs → Quiet ys → Quiet (xs ++ ys)
+pub quiet_both : (xs ys : List ℕ) → Quiet xs → Quiet ys → Quiet (xs ++ ys)
 quiet_both [] ys h g = g
 quiet_both (x ∷ xs) ys h g = (h.0, h.1, quiet_both xs ys h.2 g)
 
@@ -80,7 +85,7 @@ skip (x ∷ xs) ys s h =
 quiet_digit : (b : ℕ) → is_ascii_digit b ≡ true → (nat_eq b 40 ≡ false) × (nat_eq b 41 ≡ false)
 quiet_digit b h = (grind (arith, nat_tests), grind (arith, nat_tests))
 
-quiet_digits : (ds : List ℕ) → IsDigits ds → Quiet ds
+pub quiet_digits : (ds : List ℕ) → IsDigits ds → Quiet ds
 quiet_digits [] h = tt
 quiet_digits (d ∷ ds) h = let k = quiet_digit d h.0 in (k.0, k.1, quiet_digits ds h.1)
 
@@ -88,7 +93,7 @@ quiet_point : (ds : List ℕ) → Quiet ds → Quiet (behind_point ds)
 quiet_point [] h = tt
 quiet_point (d ∷ ds) h = (refl, refl, h)
 
-quiet_blank : (b : ℕ) → is_blank_of b ≡ true → (nat_eq b 40 ≡ false) × (nat_eq b 41 ≡ false)
+pub quiet_blank : (b : ℕ) → is_blank_of b ≡ true → (nat_eq b 40 ≡ false) × (nat_eq b 41 ≡ false)
 quiet_blank b h = (grind (arith, nat_tests), grind (arith, nat_tests))
 
 quiet_blanks : (bs : List ℕ) → IsBlank bs → Quiet bs
@@ -98,7 +103,7 @@ quiet_blanks (b ∷ bs) h = let k = quiet_blank b h.0 in (k.0, k.1, quiet_blanks
 quiet_fit : (c b : ℕ) → nat_eq c 40 ≡ false → nat_eq c 41 ≡ false → fits_of c b ≡ true → (nat_eq b 40 ≡ false) × (nat_eq b 41 ≡ false)
 quiet_fit c b g h f = (grind (arith, nat_tests), grind (arith, nat_tests))
 
-quiet_word : (t word : List ℕ) → Quiet t → IsWord t word → Quiet word
+pub quiet_word : (t word : List ℕ) → Quiet t → IsWord t word → Quiet word
 quiet_word [] [] q h = tt
 quiet_word [] (b ∷ bs) q h = absurd h
 quiet_word (c ∷ cs) [] q h = absurd h
@@ -112,13 +117,14 @@ quiet_from : (bs : List ℕ) → is_quiet bs ≡ true → Quiet bs
 quiet_from [] e = tt
 quiet_from (b ∷ bs) e = by_parts (nat_eq b 40) (nat_eq b 41) (is_quiet bs) refl refl refl e (quiet_from bs)
   where
-    by_parts : (x y z : Bool) → nat_eq b 40 ≡ x → nat_eq b 41 ≡ y → is_quiet bs ≡ z → not x && not y && z ≡ true → (is_quiet bs ≡ true → Quiet bs) → Quiet (b ∷ bs)
+    by_parts : (x y z : Bool) → nat_eq b 40 ≡ x → nat_eq b 41 ≡ y → is_quiet bs ≡ z → not x && not y && z ≡ true → (is_quiet bs ≡ true → Quiet bs)
+        → Quiet (b ∷ bs)
     by_parts false false true f g h e k = (f, g, k h)
     by_parts false false false f g h e k = absurd cc
     by_parts true y z f g h e k = absurd cc
     by_parts false true z f g h e k = absurd cc
 
-quiet_operator : (o : Binary) → Quiet (text_of (symbol.Operator o))
+pub quiet_operator : (o : Binary) → Quiet (text_of (symbol.Operator o))
 unfolding text_of
 quiet_operator binary.Or = quiet_from (text_of (symbol.Operator binary.Or)) refl
 quiet_operator binary.And = quiet_from (text_of (symbol.Operator binary.And)) refl
@@ -136,7 +142,7 @@ quiet_operator binary.Remainder = quiet_from (text_of (symbol.Operator binary.Re
 quiet_operator binary.DaysBetween = quiet_from (text_of (symbol.Operator binary.DaysBetween)) refl
 quiet_operator binary.Comma = quiet_from (text_of (symbol.Operator binary.Comma)) refl
 
-quiet_call : (c : Call) → Quiet (text_of (symbol.Call c))
+pub quiet_call : (c : Call) → Quiet (text_of (symbol.Call c))
 unfolding text_of
 quiet_call call.If = quiet_from (text_of (symbol.Call call.If)) refl
 quiet_call call.Condition = quiet_from (text_of (symbol.Call call.Condition)) refl
@@ -150,7 +156,7 @@ quiet_call call.HasValue = quiet_from (text_of (symbol.Call call.HasValue)) refl
 quiet_call call.Zing = quiet_from (text_of (symbol.Call call.Zing)) refl
 quiet_call call.Oizp = quiet_from (text_of (symbol.Call call.Oizp)) refl
 
-quiet_item : (f : ItemForm) → Quiet (text_of (symbol.Item f))
+pub quiet_item : (f : ItemForm) → Quiet (text_of (symbol.Item f))
 unfolding text_of
 quiet_item form.Element = quiet_from (text_of (symbol.Item form.Element)) refl
 quiet_item form.ElementCombo = quiet_from (text_of (symbol.Item form.ElementCombo)) refl
@@ -178,7 +184,7 @@ record Tracks (r : Reader) (s : Brackets) : Type 0 where
   crowded : is_none r.crowded ≡ nat_le s.most 64
 
 -- a step that opens and closes nothing
-abbrev Keeps : Reader → Reader → Type 0
+abbrev pub Keeps : Reader → Reader → Type 0
 Keeps r t = (t.opened ≡ r.opened) × (t.crowded ≡ r.crowded)
 
 kept : (r t : Reader) (s : Brackets) (word : List ℕ) → Keeps r t → Quiet word → Tracks r s → Tracks t (scanned word s)
@@ -192,12 +198,12 @@ kept r t s word k q h =
         ∙ ap (λ (t : Bool). scanned xs (cond t (closed s) s)) q.1
         ∙ scan_none xs s q.2
 
-comma_keeps : (fs : List Frame) (ns : List Spot) (r : Reader) → Keeps r (comma_in fs ns r)
+pub comma_keeps : (fs : List Frame) (ns : List Spot) (r : Reader) → Keeps r (comma_in fs ns r)
 comma_keeps [] ns r = (refl, refl)
 comma_keeps (frame.Call c ∷ fs) ns r = (refl, refl)
 comma_keeps (f ∷ fs) ns r = (refl, refl)
 
-quote_keeps : (t : Bool) (r a b : Reader) → Keeps r a → Keeps r b → Keeps r (cond t a b)
+pub quote_keeps : (t : Bool) (r a b : Reader) → Keeps r a → Keeps r b → Keeps r (cond t a b)
 quote_keeps true r a b h g = h
 quote_keeps false r a b h g = g
 
@@ -209,7 +215,9 @@ crowded_by None at o d h = by_test (nat_le 64 o) refl
   where
     by_test : (t : Bool) → nat_le 64 o ≡ t → is_none (cond (nat_le 64 o) (Some at) None) ≡ nat_le (max d (o + 1)) 64
     by_test true e = (let g : nat_le (max d (o + 1)) 64 ≡ false = grind (arith, nat_tests) in ap (λ (t : Bool). is_none (cond t (Some at) None)) e ∙ sym g)
-    by_test false e = (let k : nat_le d 64 ≡ true = sym h in let g : nat_le (max d (o + 1)) 64 ≡ true = grind (arith, nat_tests) in ap (λ (t : Bool). is_none (cond t (Some at) None)) e ∙ sym g)
+    by_test false e =
+        (let k : nat_le d 64 ≡ true = sym h in let g : nat_le (max d (o + 1)) 64 ≡ true =
+        grind (arith, nat_tests) in ap (λ (t : Bool). is_none (cond t (Some at) None)) e ∙ sym g)
 
 open_tracks : (r : Reader) (at : ℕ) (s : Brackets) → Tracks r s → Tracks (with_open r at) (opened s)
 unfolding with_open
@@ -222,7 +230,7 @@ close_tracks : (r : Reader) (s : Brackets) → Tracks r s → Tracks (with_close
 unfolding with_close
 close_tracks r s h = record { opened = ap (λ (n : ℕ). n - 1) h.opened; crowded = h.crowded }
 
-one_byte : (c : ℕ) (word : List ℕ) → not (nat_eq c 64) && not (nat_eq c 36) ≡ true → IsWord (c ∷ []) word → word ≡ c ∷ []
+pub one_byte : (c : ℕ) (word : List ℕ) → not (nat_eq c 64) && not (nat_eq c 36) ≡ true → IsWord (c ∷ []) word → word ≡ c ∷ []
 one_byte c [] e h = absurd h
 one_byte c (b ∷ []) e h = let same : b ≡ c = same_letter c b e h.0 in ap (λ (x : ℕ). x ∷ []) same
   where
@@ -230,20 +238,30 @@ one_byte c (b ∷ []) e h = let same : b ≡ c = same_letter c b e h.0 in ap (λ
     same_letter c b h f = grind (arith, nat_tests)
 one_byte c (b ∷ d ∷ ds) e h = absurd h.1
 
-word_tracks : (r : Reader) (at : ℕ) (w : Symbol) (word : List ℕ) (s : Brackets) → IsWord (text_of w) word → Tracks r s → Tracks (with_word r at w) (scanned word s)
+word_tracks : (r : Reader) (at : ℕ) (w : Symbol) (word : List ℕ) (s : Brackets) → IsWord (text_of w) word → Tracks r s
+    → Tracks (with_word r at w) (scanned word s)
 unfolding with_word text_of with_sign with_operator with_call with_leaf with_comma with_quote
 word_tracks r at symbol.Open word s is h = subst (λ (l : List ℕ). Tracks (with_open r at) (scanned l s)) (sym (one_byte 40 word refl is)) (open_tracks r at s h)
 word_tracks r at symbol.Close word s is h = subst (λ (l : List ℕ). Tracks (with_close r) (scanned l s)) (sym (one_byte 41 word refl is)) (close_tracks r s h)
-word_tracks r at symbol.Comma word s is h = kept r (with_word r at symbol.Comma) s word (comma_keeps (frames_reduced 1 r.frames) (nodes_reduced 1 r.frames r.nodes) r) (quiet_word (text_of symbol.Comma) word (refl, refl, tt) is) h
-word_tracks r at symbol.Quote word s is h = kept r (with_word r at symbol.Quote) s word (quote_keeps (is_quote r.expect) r _ _ (refl, refl) (refl, refl)) (quiet_word (text_of symbol.Quote) word (refl, refl, tt) is) h
-word_tracks r at symbol.Caret word s is h = kept r (with_word r at symbol.Caret) s word (refl, refl) (quiet_word (text_of symbol.Caret) word (refl, refl, tt) is) h
-word_tracks r at symbol.Minus word s is h = kept r (with_word r at symbol.Minus) s word (refl, refl) (quiet_word (text_of symbol.Minus) word (refl, refl, tt) is) h
+word_tracks r at symbol.Comma word s is h =
+    kept r (with_word r at symbol.Comma) s word (comma_keeps (frames_reduced 1 r.frames) (nodes_reduced 1 r.frames r.nodes) r)
+    (quiet_word (text_of symbol.Comma) word (refl, refl, tt) is) h
+word_tracks r at symbol.Quote word s is h =
+    kept r (with_word r at symbol.Quote) s word (quote_keeps (is_quote r.expect) r _ _ (refl, refl) (refl, refl))
+    (quiet_word (text_of symbol.Quote) word (refl, refl, tt) is) h
+word_tracks r at symbol.Caret word s is h =
+    kept r (with_word r at symbol.Caret) s word (refl, refl) (quiet_word (text_of symbol.Caret) word (refl, refl, tt) is) h
+word_tracks r at symbol.Minus word s is h =
+    kept r (with_word r at symbol.Minus) s word (refl, refl) (quiet_word (text_of symbol.Minus) word (refl, refl, tt) is) h
 word_tracks r at symbol.Bang word s is h = kept r (with_word r at symbol.Bang) s word (refl, refl) (quiet_word (text_of symbol.Bang) word (refl, refl, tt) is) h
-word_tracks r at (symbol.Operator o) word s is h = kept r (with_word r at (symbol.Operator o)) s word (refl, refl) (quiet_word (text_of (symbol.Operator o)) word (quiet_operator o) is) h
-word_tracks r at (symbol.Call c) word s is h = kept r (with_word r at (symbol.Call c)) s word (refl, refl) (quiet_word (text_of (symbol.Call c)) word (quiet_call c) is) h
-word_tracks r at (symbol.Item f) word s is h = kept r (with_word r at (symbol.Item f)) s word (refl, refl) (quiet_word (text_of (symbol.Item f)) word (quiet_item f) is) h
+word_tracks r at (symbol.Operator o) word s is h =
+    kept r (with_word r at (symbol.Operator o)) s word (refl, refl) (quiet_word (text_of (symbol.Operator o)) word (quiet_operator o) is) h
+word_tracks r at (symbol.Call c) word s is h =
+    kept r (with_word r at (symbol.Call c)) s word (refl, refl) (quiet_word (text_of (symbol.Call c)) word (quiet_call c) is) h
+word_tracks r at (symbol.Item f) word s is h =
+    kept r (with_word r at (symbol.Item f)) s word (refl, refl) (quiet_word (text_of (symbol.Item f)) word (quiet_item f) is) h
 
-quiet_number : (digits decimals : List ℕ) → IsNumber digits decimals → Quiet (digits ++ behind_point decimals)
+pub quiet_number : (digits decimals : List ℕ) → IsNumber digits decimals → Quiet (digits ++ behind_point decimals)
 quiet_number digits decimals h = quiet_both digits (behind_point decimals) (quiet_digits digits h.whole) (quiet_point decimals (quiet_digits decimals h.part))
 
 token_tracks : (r : Reader) (at : ℕ) (t : Token) (word : List ℕ) (s : Brackets) → IsLexeme t word → Tracks r s → Tracks (with_token r at t) (scanned word s)
@@ -257,7 +275,8 @@ scan_blanks : (bytes : List ℕ) (s : Brackets) → scanned bytes s ≡ scanned 
 scan_blanks [] s = refl
 scan_blanks (b ∷ bs) s = by_test (is_blank_of b) refl (scan_blanks bs s)
   where
-    by_test : (t : Bool) → is_blank_of b ≡ t → scanned bs s ≡ scanned (drop (blank_count bs) bs) s → scanned (b ∷ bs) s ≡ scanned (drop (cond (is_blank_of b) (suc (blank_count bs)) 0) (b ∷ bs)) s
+    by_test : (t : Bool) → is_blank_of b ≡ t → scanned bs s ≡ scanned (drop (blank_count bs) bs) s
+        → scanned (b ∷ bs) s ≡ scanned (drop (cond (is_blank_of b) (suc (blank_count bs)) 0) (b ∷ bs)) s
     by_test true e h =
         let k = quiet_blank b e in
         ap (λ (t : Bool). scanned bs (cond t (opened s) (cond (nat_eq b 41) (closed s) s))) k.0
@@ -268,7 +287,7 @@ scan_blanks (b ∷ bs) s = by_test (is_blank_of b) refl (scan_blanks bs s)
 abbrev Counts : Nodes → Brackets → Type 0
 Counts nodes s = is_none nodes.crowded ≡ nat_le s.most 64
 
-ended_ok : (t : Bool) (m nodes : Nodes) (at : ℕ) → cond t (Ok m) (Err at) ≡ Ok nodes → m ≡ nodes
+pub ended_ok : (t : Bool) (m nodes : Nodes) (at : ℕ) → cond t (Ok m) (Err at) ≡ Ok nodes → m ≡ nodes
 ended_ok true m nodes at e = cc
 ended_ok false m nodes at e = absurd cc
 
@@ -277,24 +296,28 @@ ended_counts r at nodes s h g =
     let is = ended_ok (may_end_in r.expect r.frames) (record { nodes = nodes_reduced 1 r.frames r.nodes; crowded = r.crowded }) nodes at g in
     ap (λ (m : Nodes). is_none m.crowded) (sym is) ∙ h.crowded
 
-no_bytes : (l : List ℕ) → nat_eq (length l) 0 ≡ true → l ≡ []
+pub no_bytes : (l : List ℕ) → nat_eq (length l) 0 ≡ true → l ≡ []
 no_bytes [] e = refl
 no_bytes (x ∷ xs) e = absurd (grind (arith, nat_tests))
 
-abbrev next_step : Place → ℕ → Reader → ℕ → List ℕ → Bool → Result Found ℕ → Result Nodes ℕ
+abbrev pub next_step : Place → ℕ → Reader → ℕ → List ℕ → Bool → Result Found ℕ → Result Nodes ℕ
 next_step p n r at rest t found = cond t (ended r at) (go_on (read_rest p n) r at rest found)
 
 abbrev Reads : Place → ℕ → Type 0
-Reads p n = (r : Reader) (at : ℕ) (bytes : List ℕ) (s : Brackets) (nodes : Nodes) → Tracks r s → read_rest p n r at bytes ≡ Ok nodes → Counts nodes (scanned bytes s)
+Reads p n = (r : Reader) (at : ℕ) (bytes : List ℕ) (s : Brackets) (nodes : Nodes) → Tracks r s → read_rest p n r at bytes ≡ Ok nodes
+    → Counts nodes (scanned bytes s)
 
-step_counts : (p : Place) (n : ℕ) → Reads p n → (r : Reader) (at : ℕ) (rest : List ℕ) (s : Brackets) (nodes : Nodes) → Tracks r s → (t : Bool) (f : Result Found ℕ) → nat_eq (length rest) 0 ≡ t → token_from r.expect r.frames r.quoted p rest ≡ f → next_step p n r at rest t f ≡ Ok nodes → Counts nodes (scanned rest s)
+step_counts : (p : Place) (n : ℕ) → Reads p n → (r : Reader) (at : ℕ) (rest : List ℕ) (s : Brackets) (nodes : Nodes) → Tracks r s
+    → (t : Bool) (f : Result Found ℕ) → nat_eq (length rest) 0 ≡ t → token_from r.expect r.frames r.quoted p rest ≡ f → next_step p n r at rest t f ≡ Ok nodes
+    → Counts nodes (scanned rest s)
 step_counts p n next r at rest s nodes h true f e g k =
     subst (λ (l : List ℕ). Counts nodes (scanned l s)) (sym (no_bytes rest e)) (ended_counts r at nodes s h k)
 step_counts p n next r at rest s nodes h false (Err m) e g k = absurd cc
 step_counts p n next r at rest s nodes h false (Ok f) e g k =
     let t = token_sound r.expect r.frames r.quoted p rest f g in
-    let behind : drop f.len rest ≡ t.1 = (λ i. drop (t.4 i) (t.2 i)) ∙ drop_front t.0 t.1 in
-    let more : read_rest p n (with_token r at f.token) (at + f.len) t.1 ≡ Ok nodes = sym (ap (read_rest p n (with_token r at f.token) (at + f.len)) behind) ∙ k in
+    let beyond : drop f.len rest ≡ t.1 = (λ i. drop (t.4 i) (t.2 i)) ∙ drop_front t.0 t.1 in
+    let more : read_rest p n (with_token r at f.token) (at + f.len) t.1 ≡ Ok nodes = sym (ap (read_rest p n (with_token r at f.token) (at + f.len)) beyond)
+    ∙ k in
     subst (Counts nodes) (sym (ap (λ (l : List ℕ). scanned l s) t.2 ∙ scan_both t.0 t.1 s))
     (next (with_token r at f.token) (at + f.len) t.1 (scanned t.0 s) nodes (token_tracks r at f.token t.0 s t.3 h) more)
 
@@ -306,7 +329,8 @@ read_counts p zero r at bytes s nodes h e = absurd (no_result at nodes (sym (rea
 read_counts p (suc n) r at bytes s nodes h e =
     let rest = drop (blank_count bytes) bytes in
     subst (Counts nodes) (sym (scan_blanks bytes s))
-    (step_counts p n (read_counts p n) r (at + blank_count bytes) rest s nodes h (nat_eq (length rest) 0) (token_from r.expect r.frames r.quoted p rest) refl refl (sym (read_is p n r at bytes) ∙ e))
+    (step_counts p n (read_counts p n) r (at + blank_count bytes) rest s nodes h (nat_eq (length rest) 0) (token_from r.expect r.frames r.quoted p rest) refl
+    refl (sym (read_is p n r at bytes) ∙ e))
 
 text_counts : (p : Place) (text : List ℕ) (nodes : Nodes) → read_text p text ≡ Ok nodes → Counts nodes (scanned text (brackets 0 0))
 unfolding read_text
@@ -365,11 +389,13 @@ side_by_side s m n = same_brackets s.now (max (max s.most (s.now + m)) (s.now + 
 still_below : (s : Brackets) (m : ℕ) → (deepened s m).now ≤ (deepened s m).most
 still_below s m = omega arith
 
-both_deepen : (write other : List ℕ → List ℕ) (between : List ℕ → List ℕ) (m n : ℕ) → Deepens write m → Deepens other n → ((rest : List ℕ) (s : Brackets) → scanned (between rest) s ≡ scanned rest s) → Deepens (λ rest. write (between (other rest))) (max m n)
+both_deepen : (write other : List ℕ → List ℕ) (between : List ℕ → List ℕ) (m n : ℕ) → Deepens write m → Deepens other n
+    → ((rest : List ℕ) (s : Brackets) → scanned (between rest) s ≡ scanned rest s) → Deepens (λ rest. write (between (other rest))) (max m n)
 both_deepen write other between m n h g q rest s le =
     h (between (other rest)) s le ∙ q (other rest) (deepened s m) ∙ g rest (deepened s m) (still_below s m) ∙ ap (scanned rest) (side_by_side s m n)
 
-in_brackets_deepen : (name c : List ℕ) (d : List ℕ) (write : List ℕ → List ℕ) (m : ℕ) → Quiet name → Quiet c → Quiet d → Deepens write m → Deepens (λ rest. name ++ symbol_text c symbol.Open (write (symbol_text d symbol.Close rest))) (1 + m)
+in_brackets_deepen : (name c : List ℕ) (d : List ℕ) (write : List ℕ → List ℕ) (m : ℕ) → Quiet name → Quiet c → Quiet d → Deepens write m
+    → Deepens (λ rest. name ++ symbol_text c symbol.Open (write (symbol_text d symbol.Close rest))) (1 + m)
 in_brackets_deepen name c d write m q k l h rest s le =
     let e : suc m ≡ 1 + m = omega arith in
     skip name (symbol_text c symbol.Open (write (symbol_text d symbol.Close rest))) s q
@@ -389,15 +415,19 @@ bracket_deepens b c inner m q k h rest s le =
     ∙ ap (scanned rest) (inside s m le)
 
 -- a call's name, and what stands in its brackets
-call_deepens : (b c d : List ℕ) (name : Call) (write : List ℕ → List ℕ) (m : ℕ) → Quiet b → Quiet c → Quiet d → Deepens write m → Deepens (λ rest. symbol_text b (symbol.Call name) (symbol_text c symbol.Open (write (symbol_text d symbol.Close rest)))) (1 + m)
+call_deepens : (b c d : List ℕ) (name : Call) (write : List ℕ → List ℕ) (m : ℕ) → Quiet b → Quiet c → Quiet d → Deepens write m
+    → Deepens (λ rest. symbol_text b (symbol.Call name) (symbol_text c symbol.Open (write (symbol_text d symbol.Close rest)))) (1 + m)
 call_deepens b c d name write m q k l h rest s le =
     calm b (symbol.Call name) q (quiet_call name) (symbol_text c symbol.Open (write (symbol_text d symbol.Close rest))) s
     ∙ in_brackets_deepen [] c d write m tt k l h rest s le
 
 form_deepens : (p : Place) (F : Form) (quoted : Bool) (level : ℕ) → IsForm p quoted level F → Deepens (spelled F) (open_of F)
-form_deepens p (Number b digits decimals) quoted level h rest s le = quiet_deepens b (digits ++ behind_point decimals) (quiet_blanks b h.0) (quiet_number digits decimals h.1) rest s le
-form_deepens p (Item b form word) quoted level h rest s le = quiet_deepens b word (quiet_blanks b h.0) (quiet_word (text_of (symbol.Item form)) word (quiet_item form) h.2) rest s le
-form_deepens p (Bracket b inner c) quoted level h rest s le = bracket_deepens b c inner (open_of inner) (quiet_blanks b h.0) (quiet_blanks c h.2) (form_deepens p inner quoted 1 h.1) rest s le
+form_deepens p (Number b digits decimals) quoted level h rest s le =
+    quiet_deepens b (digits ++ behind_point decimals) (quiet_blanks b h.0) (quiet_number digits decimals h.1) rest s le
+form_deepens p (Item b form word) quoted level h rest s le =
+    quiet_deepens b word (quiet_blanks b h.0) (quiet_word (text_of (symbol.Item form)) word (quiet_item form) h.2) rest s le
+form_deepens p (Bracket b inner c) quoted level h rest s le =
+    bracket_deepens b c inner (open_of inner) (quiet_blanks b h.0) (quiet_blanks c h.2) (form_deepens p inner quoted 1 h.1) rest s le
 form_deepens p (Power atom b c digits) quoted level h rest s le =
     form_deepens p atom quoted 8 h.1 (symbol_text b symbol.Caret (after_blanks c digits rest)) s le
     ∙ calm b symbol.Caret (quiet_blanks b h.2) quiet_caret (after_blanks c digits rest) (deepened s (open_of atom))
@@ -412,26 +442,36 @@ form_deepens p (Arguments first b last) quoted level h rest s le =
     both_deepen (spelled first) (spelled last) (symbol_text b symbol.Comma) (open_of first) (open_of last)
     (form_deepens p first quoted 0 h.1) (form_deepens p last quoted 1 h.3) (calm b symbol.Comma (quiet_blanks b h.2) quiet_comma) rest s le
 form_deepens p (If b c test d one e other f) quoted level h rest s le =
-    call_deepens b c f call.If (λ r. spelled test (symbol_text d symbol.Comma (spelled one (symbol_text e symbol.Comma (spelled other r))))) (max (open_of test) (max (open_of one) (open_of other)))
+    call_deepens b c f call.If (λ r. spelled test (symbol_text d symbol.Comma (spelled one (symbol_text e symbol.Comma (spelled other r)))))
+    (max (open_of test) (max (open_of one) (open_of other)))
     (quiet_blanks b h.1) (quiet_blanks c h.2) (quiet_blanks f h.8)
-    (both_deepen (spelled test) (λ r. spelled one (symbol_text e symbol.Comma (spelled other r))) (symbol_text d symbol.Comma) (open_of test) (max (open_of one) (open_of other))
+    (both_deepen (spelled test) (λ r. spelled one (symbol_text e symbol.Comma (spelled other r))) (symbol_text d symbol.Comma) (open_of test)
+    (max (open_of one) (open_of other))
     (form_deepens p test quoted 1 h.3)
-    (both_deepen (spelled one) (spelled other) (symbol_text e symbol.Comma) (open_of one) (open_of other) (form_deepens p one quoted 1 h.5) (form_deepens p other quoted 1 h.7) (calm e symbol.Comma (quiet_blanks e h.6) quiet_comma))
+    (both_deepen (spelled one) (spelled other) (symbol_text e symbol.Comma) (open_of one) (open_of other) (form_deepens p one quoted 1 h.5)
+    (form_deepens p other quoted 1 h.7) (calm e symbol.Comma (quiet_blanks e h.6) quiet_comma))
     (calm d symbol.Comma (quiet_blanks d h.4) quiet_comma)) rest s le
 form_deepens p (Condition b c d test e f one g other i) quoted level h rest s le =
-    call_deepens b c i call.Condition (λ r. symbol_text d symbol.Quote (spelled test (symbol_text e symbol.Quote (symbol_text f symbol.Comma (spelled one (symbol_text g symbol.Comma (spelled other r)))))))
+    call_deepens b c i call.Condition (λ r. symbol_text d symbol.Quote
+    (spelled test (symbol_text e symbol.Quote (symbol_text f symbol.Comma (spelled one (symbol_text g symbol.Comma (spelled other r)))))))
     (max (open_of test) (max (open_of one) (open_of other))) (quiet_blanks b h.2) (quiet_blanks c h.3) (quiet_blanks i h.11)
-    (λ r t under. calm d symbol.Quote (quiet_blanks d h.4) quiet_quote (spelled test (symbol_text e symbol.Quote (symbol_text f symbol.Comma (spelled one (symbol_text g symbol.Comma (spelled other r)))))) t
-    ∙ both_deepen (spelled test) (λ r. spelled one (symbol_text g symbol.Comma (spelled other r))) (λ r. symbol_text e symbol.Quote (symbol_text f symbol.Comma r)) (open_of test) (max (open_of one) (open_of other))
+    (λ r t under. calm d symbol.Quote (quiet_blanks d h.4) quiet_quote
+    (spelled test (symbol_text e symbol.Quote (symbol_text f symbol.Comma (spelled one (symbol_text g symbol.Comma (spelled other r)))))) t
+    ∙ both_deepen (spelled test) (λ r. spelled one (symbol_text g symbol.Comma (spelled other r))) (λ r.
+    symbol_text e symbol.Quote (symbol_text f symbol.Comma r)) (open_of test) (max (open_of one) (open_of other))
     (form_deepens p test true 1 h.5)
-    (both_deepen (spelled one) (spelled other) (symbol_text g symbol.Comma) (open_of one) (open_of other) (form_deepens p one quoted 1 h.8) (form_deepens p other quoted 1 h.10) (calm g symbol.Comma (quiet_blanks g h.9) quiet_comma))
-    (λ r s. calm e symbol.Quote (quiet_blanks e h.6) quiet_quote (symbol_text f symbol.Comma r) s ∙ calm f symbol.Comma (quiet_blanks f h.7) quiet_comma r s) r t under) rest s le
+    (both_deepen (spelled one) (spelled other) (symbol_text g symbol.Comma) (open_of one) (open_of other) (form_deepens p one quoted 1 h.8)
+    (form_deepens p other quoted 1 h.10) (calm g symbol.Comma (quiet_blanks g h.9) quiet_comma))
+    (λ r s. calm e symbol.Quote (quiet_blanks e h.6) quiet_quote (symbol_text f symbol.Comma r) s
+    ∙ calm f symbol.Comma (quiet_blanks f h.7) quiet_comma r s) r t under) rest s le
 form_deepens p (DaysBetween b c one d other e) quoted level h rest s le =
     call_deepens b c e call.DaysBetween (λ r. spelled one (symbol_text d symbol.Comma (spelled other r))) (max (open_of one) (open_of other))
     (quiet_blanks b h.1) (quiet_blanks c h.2) (quiet_blanks e h.6)
-    (both_deepen (spelled one) (spelled other) (symbol_text d symbol.Comma) (open_of one) (open_of other) (form_deepens p one quoted 1 h.3) (form_deepens p other quoted 1 h.5) (calm d symbol.Comma (quiet_blanks d h.4) quiet_comma)) rest s le
+    (both_deepen (spelled one) (spelled other) (symbol_text d symbol.Comma) (open_of one) (open_of other) (form_deepens p one quoted 1 h.3)
+    (form_deepens p other quoted 1 h.5) (calm d symbol.Comma (quiet_blanks d h.4) quiet_comma)) rest s le
 form_deepens p (Apply b name c arguments d) quoted level h rest s le =
-    call_deepens b c d name (spelled arguments) (open_of arguments) (quiet_blanks b h.1) (quiet_blanks c h.2) (quiet_blanks d h.5) (form_deepens p arguments quoted (arguments_level name) h.3) rest s le
+    call_deepens b c d name (spelled arguments) (open_of arguments) (quiet_blanks b h.1) (quiet_blanks c h.2) (quiet_blanks d h.5)
+    (form_deepens p arguments quoted (arguments_level name) h.3) rest s le
 
 whole_deepens : (p : Place) (F : Form) → IsWhole p F → Deepens (spelled F) (open_of F)
 whole_deepens p (Item b form word) h = quiet_deepens b word (quiet_blanks b h.0) (quiet_word (text_of (symbol.Item form)) word (quiet_item form) h.2)
@@ -447,7 +487,8 @@ whole_deepens p (DaysBetween b c one d other e) h = form_deepens p (DaysBetween 
 whole_deepens p (Apply b name c arguments d) h = form_deepens p (Apply b name c arguments d) false 1 h
 
 -- a text that is read is crowded where more than 64 brackets of its form are open at once
-pub crowded_is : (p : Place) (text : List ℕ) (F : Form) (nodes : Nodes) → IsTextOf p text F → read_text p text ≡ Ok nodes → is_none nodes.crowded ≡ nat_le (open_of F) 64
+pub crowded_is : (p : Place) (text : List ℕ) (F : Form) (nodes : Nodes) → IsTextOf p text F → read_text p text ≡ Ok nodes
+    → is_none nodes.crowded ≡ nat_le (open_of F) 64
 crowded_is p text F nodes h e =
     let all : scanned text (brackets 0 0) ≡ deepened (brackets 0 0) (open_of F) =
     ap (λ (l : List ℕ). scanned l (brackets 0 0)) h.3

@@ -1,5 +1,6 @@
 -- What is known of a tree that was read depends on the tree alone, but for places: texts of one tree are judged alike.
-use Rattle.std.proofs.Common.{◌≡◌, ℕ, suc, ◌+◌, ◌-◌, ◌<◌, ◌≤◌, Bool, true, false, cond, List, [], ◌∷◌, length, Option, Some, None, Ok, Err, refl, sym, ap, subst, ◌∙◌, ◌⊎◌, inl, inr, arith}
+use Rattle.std.proofs.Common.{◌≡◌, ℕ, suc, ◌+◌, ◌-◌, ◌<◌, ◌≤◌, Bool, true, false, cond, List, [], ◌∷◌, length, Option, Some, None, Ok, Err, refl, sym, ap}
+use Rattle.std.proofs.Common.{subst, ◌∙◌, ◌⊎◌, inl, inr, arith}
 use Rattle.std.specs.Prelude.{◌&&◌, max, min, nat_lt, is_none}
 use Rattle.std.proofs.lemmas.Bool.Decides.{nat_tests}
 use Rattle.expr_lang.specs.declared.tree.Leaf.{Leaf}
@@ -19,7 +20,8 @@ use Rattle.expr_lang.specs.Leaves.{leaf_of_node}
 use Rattle.expr_lang.specs.Parse.{judged, brackets_judged}
 use Rattle.expr_lang.specs.Shape.{Shape, Operand, One, Two, Choice}
 use Rattle.expr_grammar.specs.Sorts.{above_two, depth_of, sort_of, has_sort, sorts_fit}
-use Rattle.expr_lang.specs.Survey.{same_sort, taken_by_of, taken_by_two, first_of_two, edge_of, edge_if_taken, one_deeper, deeper_of, unary_known_of, binary_known_of, if_known_of, leaf_known_of, known_after, known_behind, survey_of, misfit_of, topmost}
+use Rattle.expr_lang.specs.Survey.{same_sort, taken_by_of, taken_by_two, first_of_two, edge_of, edge_if_taken, one_deeper, deeper_of, unary_known_of}
+use Rattle.expr_lang.specs.Survey.{binary_known_of, if_known_of, leaf_known_of, known_after, known_behind, survey_of, misfit_of, topmost}
 
 -- ---- of a tree
 
@@ -46,9 +48,11 @@ both_same : {a b c d : Bool} → a ≡ c → b ≡ d → a && b ≡ c && d
 both_same p q = λ i. p i && q i
 
 edge_is : (place : ℕ) (taken : Sort) (known : Known) (tree : Shape) → IsKnown known tree → is_none (edge_of place taken known) ≡ same_sort (sort_of tree) taken
-edge_is place taken known tree h = no_edge_by (same_sort known.sort taken) place (min place known.at) known.literal ∙ ap (λ (s : Sort). same_sort s taken) h.sort
+edge_is place taken known tree h = no_edge_by (same_sort known.sort taken) place (min place known.at) known.literal
+    ∙ ap (λ (s : Sort). same_sort s taken) h.sort
 
-edge_if : (place : ℕ) (taken : Option Sort) (known : Known) (tree : Shape) → IsKnown known tree → is_none (edge_if_taken place taken known) ≡ has_sort taken tree
+edge_if : (place : ℕ) (taken : Option Sort) (known : Known) (tree : Shape) → IsKnown known tree
+    → is_none (edge_if_taken place taken known) ≡ has_sort taken tree
 edge_if place (Some taken) known tree h = edge_is place taken known tree h
 edge_if place None known tree h = refl
 
@@ -63,14 +67,16 @@ deeper_two : (operator : Binary) (x d : ℕ) → x ≡ min d 513 → deeper_of o
 deeper_two binary.Comma x d h = h
 deeper_two _ x d h = deeper x d h
 
-known_one : (place : ℕ) (operator : Unary) (known : Known) (tree : Shape) → IsKnown known tree → IsKnown (unary_known_of place operator known) (One operator tree)
+known_one : (place : ℕ) (operator : Unary) (known : Known) (tree : Shape) → IsKnown known tree
+    → IsKnown (unary_known_of place operator known) (One operator tree)
 known_one place operator known tree h = record {
   depth = deeper known.depth (depth_of tree) h.depth;
   sort = refl;
   fits = neither (edge_if_taken place (taken_by_of operator) known) known.misfit ∙ both_same (edge_if place (taken_by_of operator) known tree h) h.fits;
 }
 
-known_two : (place : ℕ) (operator : Binary) (k l : Known) (left right : Shape) → IsKnown k left → IsKnown l right → IsKnown (binary_known_of place operator k l) (Two operator left right)
+known_two : (place : ℕ) (operator : Binary) (k l : Known) (left right : Shape) → IsKnown k left → IsKnown l right
+    → IsKnown (binary_known_of place operator k l) (Two operator left right)
 known_two place operator k l left right g h =
     let a = edge_of place (taken_by_two operator) k in
     let b = edge_of place (taken_by_two operator) l in
@@ -82,7 +88,8 @@ known_two place operator k l left right g h =
           (neither k.misfit l.misfit ∙ both_same g.fits h.fits);
     }
 
-known_three : (place : ℕ) (k l m : Known) (test one other : Shape) → IsKnown k test → IsKnown l one → IsKnown m other → IsKnown (if_known_of place k l m) (Choice test one other)
+known_three : (place : ℕ) (k l m : Known) (test one other : Shape) → IsKnown k test → IsKnown l one → IsKnown m other
+    → IsKnown (if_known_of place k l m) (Choice test one other)
 known_three place k l m test one other f g h =
     let a = edge_of place sort.Truth k in
     let b = edge_of place sort.Number l in
@@ -91,7 +98,9 @@ known_three place k l m test one other f g h =
       depth = deeper (max (max k.depth l.depth) m.depth) (max (max (depth_of test) (depth_of one)) (depth_of other)) (omega (arith, f.depth, g.depth, h.depth));
       sort = refl;
       fits = neither (first_of_two a (first_of_two b c)) (first_of_two k.misfit (first_of_two l.misfit m.misfit))
-          ∙ both_same (neither a (first_of_two b c) ∙ both_same (edge_is place sort.Truth k test f) (neither b c ∙ both_same (edge_is place sort.Number l one g) (edge_is place sort.Number m other h)))
+          ∙ both_same (neither a (first_of_two b c)
+          ∙ both_same (edge_is place sort.Truth k test f) (neither b c
+          ∙ both_same (edge_is place sort.Number l one g) (edge_is place sort.Number m other h)))
           (neither k.misfit (first_of_two l.misfit m.misfit) ∙ both_same f.fits (neither l.misfit m.misfit ∙ both_same g.fits h.fits));
     }
 
@@ -120,14 +129,16 @@ under_long : (stack : List Shape) → length (under_shape stack) ≡ length stac
 under_long [] = omega arith
 under_long (s ∷ ss) = omega arith
 
-after_long : (text : List ℕ) (days : List (List ℕ)) (at : ℕ) (it : Node) (stack : List Shape) → length (shapes_after text days at it stack) ≡ suc (length stack - operands_in it)
+after_long : (text : List ℕ) (days : List (List ℕ)) (at : ℕ) (it : Node) (stack : List Shape)
+    → length (shapes_after text days at it stack) ≡ suc (length stack - operands_in it)
 after_long text days at (node.Number n) stack = omega arith
 after_long text days at (node.Item form) stack = omega arith
 after_long text days at (node.Unary operator) stack = omega (arith, under_long stack)
 after_long text days at (node.Binary operator) stack = omega (arith, under_long stack, under_long (under_shape stack))
 after_long text days at node.If stack = omega (arith, under_long stack, under_long (under_shape stack), under_long (under_shape (under_shape stack)))
 
-behind_long : (text : List ℕ) (days : List (List ℕ)) (spots : List Spot) (stack : List Shape) → length (shapes_behind text days spots stack) ≡ height spots (length stack)
+behind_long : (text : List ℕ) (days : List (List ℕ)) (spots : List Spot) (stack : List Shape)
+    → length (shapes_behind text days spots stack) ≡ height spots (length stack)
 behind_long text days [] stack = refl
 behind_long text days (spot ∷ spots) stack =
     behind_long text days spots (shapes_after text days spot.at spot.node stack) ∙ ap (height spots) (after_long text days spot.at spot.node stack)
@@ -139,7 +150,9 @@ order a b = by_test (nat_lt b a) refl
     by_test true e = inr (grind (arith, nat_tests))
     by_test false e = inl (grind (arith, nat_tests))
 
-operands_by : (spot : Spot) (spots : List Spot) (n : ℕ) → ((operands_in spot.node ≤ n) ⊎ (n < operands_in spot.node)) → ((m : ℕ) → height spots (suc m) ≡ suc (height spots m) → HasOperands spots m) → height (spot ∷ spots) (suc n) ≡ suc (height (spot ∷ spots) n) → HasOperands (spot ∷ spots) n
+operands_by : (spot : Spot) (spots : List Spot) (n : ℕ) → ((operands_in spot.node ≤ n) ⊎ (n < operands_in spot.node))
+    → ((m : ℕ) → height spots (suc m) ≡ suc (height spots m) → HasOperands spots m) → height (spot ∷ spots) (suc n) ≡ suc (height (spot ∷ spots) n)
+    → HasOperands (spot ∷ spots) n
 operands_by spot spots n (inl le) next h =
     let e : suc (suc n - operands_in spot.node) ≡ suc (suc (n - operands_in spot.node)) = omega arith in
     (le, next (suc (n - operands_in spot.node)) (sym (ap (height spots) e) ∙ h))
@@ -157,7 +170,8 @@ AreKnown [] [] = Unit {0}
 AreKnown (k ∷ ks) (s ∷ ss) = IsKnown k s × AreKnown ks ss
 AreKnown _ _ = ⊥
 
-after_known : (text : List ℕ) (days : List (List ℕ)) (at : ℕ) (it : Node) (ks : List Known) (ss : List Shape) → AreKnown ks ss → operands_in it ≤ length ss → AreKnown (known_after text days at it ks) (shapes_after text days at it ss)
+after_known : (text : List ℕ) (days : List (List ℕ)) (at : ℕ) (it : Node) (ks : List Known) (ss : List Shape) → AreKnown ks ss → operands_in it ≤ length ss
+    → AreKnown (known_after text days at it ks) (shapes_after text days at it ss)
 after_known text days at (node.Number n) ks ss h le = (known_leaf at (leaf_of_node text days at (node.Number n)), h)
 after_known text days at (node.Item form) ks ss h le = (known_leaf at (leaf_of_node text days at (node.Item form)), h)
 after_known text days at (node.Unary operator) (k ∷ ks) (s ∷ ss) h le = (known_one at operator k s h.0, h.1)
@@ -176,7 +190,8 @@ after_known text days at node.If [] (u ∷ t ∷ s ∷ ss) h le = absurd h
 after_known text days at node.If (m ∷ []) (u ∷ t ∷ s ∷ ss) h le = absurd h.1
 after_known text days at node.If (m ∷ l ∷ []) (u ∷ t ∷ s ∷ ss) h le = absurd h.1.1
 
-behind_known : (text : List ℕ) (days : List (List ℕ)) (spots : List Spot) (ks : List Known) (ss : List Shape) → AreKnown ks ss → HasOperands spots (length ss) → AreKnown (known_behind text days spots ks) (shapes_behind text days spots ss)
+behind_known : (text : List ℕ) (days : List (List ℕ)) (spots : List Spot) (ks : List Known) (ss : List Shape) → AreKnown ks ss → HasOperands spots (length ss)
+    → AreKnown (known_behind text days spots ks) (shapes_behind text days spots ss)
 behind_known text days [] ks ss h g = h
 behind_known text days (spot ∷ spots) ks ss h g =
     behind_known text days spots (known_after text days spot.at spot.node ks) (shapes_after text days spot.at spot.node ss)
@@ -190,7 +205,8 @@ top_known (k ∷ ks) s h = h.0
 abbrev pub Makes : List ℕ → List (List ℕ) → List Spot → Shape → Type 0
 Makes text days spots tree = (stack : List Shape) → shapes_behind text days spots stack ≡ tree ∷ stack
 
-pub survey_is : (text : List ℕ) (days : List (List ℕ)) (spots : List Spot) (tree : Shape) → Makes text days spots tree → IsKnown (survey_of text days spots) tree
+pub survey_is : (text : List ℕ) (days : List (List ℕ)) (spots : List Spot) (tree : Shape) → Makes text days spots tree
+    → IsKnown (survey_of text days spots) tree
 unfolding survey_of
 survey_is text days spots tree h =
     let none : height spots 0 ≡ 1 = sym (behind_long text days spots []) ∙ ap length (h []) in
@@ -210,7 +226,8 @@ misfit_by true o at = refl
 misfit_by false (Some x) at = refl
 misfit_by false None at = refl
 
-pub misfit_is : (known : Known) (tree : Shape) (wanted : Option Sort) → IsKnown known tree → is_none (misfit_of known wanted) ≡ has_sort wanted tree && sorts_fit tree
+pub misfit_is : (known : Known) (tree : Shape) (wanted : Option Sort) → IsKnown known tree
+    → is_none (misfit_of known wanted) ≡ has_sort wanted tree && sorts_fit tree
 misfit_is known tree None h = h.fits
 misfit_is known tree (Some wanted) h =
     misfit_by (same_sort known.sort wanted) known.misfit known.at ∙ (λ i. same_sort (h.sort i) wanted && h.fits i)
@@ -219,7 +236,8 @@ is_nothing : (o : Option ℕ) → is_none o ≡ true → o ≡ None
 is_nothing None e = refl
 is_nothing (Some x) e = absurd cc
 
-pub judged_good : (known : Known) (tree : Shape) (wanted : Option Sort) (nodes : Nodes) → IsKnown known tree → IsGood tree wanted → nodes.crowded ≡ None → judged known wanted nodes ≡ Ok nodes
+pub judged_good : (known : Known) (tree : Shape) (wanted : Option Sort) (nodes : Nodes) → IsKnown known tree → IsGood tree wanted → nodes.crowded ≡ None
+    → judged known wanted nodes ≡ Ok nodes
 judged_good known tree wanted nodes h good free =
     let low : known.depth ≤ 512 = omega (arith, h.depth, good.flat) in
     let a : nat_lt 512 known.depth ≡ false = grind (arith, nat_tests) in
@@ -230,7 +248,9 @@ judged_good known tree wanted nodes h good free =
 abbrev WasGood : Known → Shape → Option Sort → Nodes → Nodes → Type 0
 WasGood known tree wanted nodes same = IsGood tree wanted × (nodes.crowded ≡ None) × (same ≡ nodes)
 
-good_by : (known : Known) (tree : Shape) (wanted : Option Sort) (nodes same : Nodes) → IsKnown known tree → (t : Bool) (crowded misfit : Option ℕ) → nat_lt 512 known.depth ≡ t → nodes.crowded ≡ crowded → misfit_of known wanted ≡ misfit → cond t (Err (fault.TooDeep 0)) (brackets_judged crowded misfit nodes) ≡ Ok same → WasGood known tree wanted nodes same
+good_by : (known : Known) (tree : Shape) (wanted : Option Sort) (nodes same : Nodes) → IsKnown known tree → (t : Bool) (crowded misfit : Option ℕ)
+    → nat_lt 512 known.depth ≡ t → nodes.crowded ≡ crowded → misfit_of known wanted ≡ misfit
+    → cond t (Err (fault.TooDeep 0)) (brackets_judged crowded misfit nodes) ≡ Ok same → WasGood known tree wanted nodes same
 good_by known tree wanted nodes same h true crowded misfit a b c e = absurd cc
 good_by known tree wanted nodes same h false (Some x) misfit a b c e = absurd cc
 good_by known tree wanted nodes same h false None (Some x) a b c e = absurd cc
@@ -238,5 +258,7 @@ good_by known tree wanted nodes same h false None None a b c e =
     let low : known.depth ≤ 512 = grind (arith, nat_tests) in
     (record { flat = omega (arith, h.depth, low); fits = sym (misfit_is known tree wanted h) ∙ ap (λ o. is_none o) c }, b, cc)
 
-pub good_judged : (known : Known) (tree : Shape) (wanted : Option Sort) (nodes same : Nodes) → IsKnown known tree → judged known wanted nodes ≡ Ok same → WasGood known tree wanted nodes same
-good_judged known tree wanted nodes same h e = good_by known tree wanted nodes same h (nat_lt 512 known.depth) nodes.crowded (misfit_of known wanted) refl refl refl e
+pub good_judged : (known : Known) (tree : Shape) (wanted : Option Sort) (nodes same : Nodes) → IsKnown known tree → judged known wanted nodes ≡ Ok same
+    → WasGood known tree wanted nodes same
+good_judged known tree wanted nodes same h e =
+    good_by known tree wanted nodes same h (nat_lt 512 known.depth) nodes.crowded (misfit_of known wanted) refl refl refl e

@@ -17,15 +17,17 @@ use Rattle.expr_lang.specs.declared.reading.Expect.TheVariants as expect
 use Rattle.expr_lang.specs.declared.reading.Reader.{Reader}
 use Rattle.expr_lang.specs.Reading.{spot_of, call_frame, counted_of}
 use Rattle.expr_lang.specs.Words.{text_of, items_of_place}
-use Rattle.expr_grammar.specs.Grammar.{Form, Number, Item, Power, Arguments, Apply, IsBlank, IsWord, IsAmong, IsCall, IsForm, Takes, is_item, all_plain, arguments_level, symbol_text, spelled}
+use Rattle.expr_grammar.specs.Grammar.{Form, Number, Item, Power, Arguments, Apply, IsBlank, IsWord, IsAmong, IsCall, IsForm, Takes, is_item, all_plain}
+use Rattle.expr_grammar.specs.Grammar.{arguments_level, symbol_text, spelled}
 use Rattle.expr_grammar.specs.Grammar.{IsWhole}
 use Rattle.expr_lang.specs.declared.reading.Token.{Token}
 use Rattle.expr_lang.specs.declared.reading.Token.TheVariants as token
-use Rattle.expr_lang.specs.Reading.{is_count_of, with_token, with_word, with_leaf, with_sign, with_open, with_call, with_comma, with_close, with_quote, with_exponent}
+use Rattle.expr_lang.specs.Reading.{is_count_of, with_token, with_word, with_leaf, with_sign, with_open, with_call, with_comma, with_close, with_quote}
+use Rattle.expr_lang.specs.Reading.{with_exponent}
 use Rattle.expr_lang.specs.Words.{start_of}
 use Rattle.expr_grammar.proofs.Tokens.{IsLexeme}
 use Rattle.expr_grammar.proofs.Steps.{only, IsPlainWord}
-use Rattle.expr_grammar.proofs.Moves.{rd, IsOpen, item_token, spot_token, open_token}
+use Rattle.expr_grammar.proofs.Moves.{rd, IsOpen, IsInner, item_token, spot_token, open_token}
 use Rattle.expr_grammar.proofs.Parts.{Part, InSign, InBracket, InQuote, InIf, InYes, InFirst, InOne, spelled_parts, frames_of, quoted_of, Fit, weaken}
 
 -- how far a form is read: what is begun, and what comes next
@@ -57,7 +59,8 @@ spelled_stage (Plain ps b c k F n) rest = spelled_parts ps (named b call.FirstNo
 spelled_stage (Lone ps b name c k F) rest = spelled_parts ps (named b name c (spelled F rest))
 spelled_stage (Raised ps F b k) rest = spelled_parts ps (spelled F (symbol_text b symbol.Caret rest))
 spelled_stage (Has ps F power) rest = spelled_parts ps (spelled F rest)
-spelled_stage (Tested ps b c d test e k) rest = spelled_parts ps (named b call.Condition c (symbol_text d symbol.Quote (spelled test (symbol_text e symbol.Quote rest))))
+spelled_stage (Tested ps b c d test e k) rest =
+    spelled_parts ps (named b call.Condition c (symbol_text d symbol.Quote (spelled test (symbol_text e symbol.Quote rest))))
 spelled_stage (Whole F) rest = spelled F rest
 
 abbrev pub expect_of : Stage → Expect
@@ -111,16 +114,18 @@ IsItemCall _ = ⊥
 
 abbrev pub Valid : Place → Stage → Type 0
 Valid p (Wants ps) = Fit p ps
-Valid p (Named ps b name k) = Fit p ps × IsCall p name × IsBlank b
-Valid p (Quoting ps b c k) = Fit p ps × IsCall p call.Condition × IsBlank b × IsBlank c
+Valid p (Named ps b name k) = Fit p ps × IsCall p name × IsBlank b × IsInner (quoted_of ps) (symbol.Call name)
+Valid p (Quoting ps b c k) = Fit p ps × IsCall p call.Condition × IsBlank b × IsBlank c × (quoted_of ps ≡ false)
 Valid p (WantsItem ps b name c k) = Fit p ps × IsCall p name × IsBlank b × IsBlank c × IsItemCall name
 Valid p (PlainFirst ps b c k) = Fit p ps × IsCall p call.FirstNonNull × IsBlank b × IsBlank c
-Valid p (PlainNext ps b c k first d n) = Fit p ps × IsCall p call.FirstNonNull × IsBlank b × IsBlank c × IsForm p (quoted_of ps) 0 first × (all_plain first ≡ true) × IsBlank d
+Valid p (PlainNext ps b c k first d n) =
+    Fit p ps × IsCall p call.FirstNonNull × IsBlank b × IsBlank c × IsForm p (quoted_of ps) 0 first × (all_plain first ≡ true) × IsBlank d
 Valid p (Plain ps b c k F n) = Fit p ps × IsCall p call.FirstNonNull × IsBlank b × IsBlank c × IsForm p (quoted_of ps) 0 F × (all_plain F ≡ true)
 Valid p (Lone ps b name c k F) = Fit p ps × IsCall p name × IsBlank b × IsBlank c × IsItemCall name × IsForm p (quoted_of ps) 1 F × (is_item F ≡ true)
 Valid p (Raised ps F b k) = Fit p ps × IsForm p (quoted_of ps) 8 F × IsBlank b
 Valid p (Has ps F power) = Fit p ps × IsForm p (quoted_of ps) 7 F × (power ≡ true → IsForm p (quoted_of ps) 8 F)
-Valid p (Tested ps b c d test e k) = Fit p ps × (quoted_of ps ≡ false) × IsCall p call.Condition × IsBlank b × IsBlank c × IsBlank d × IsForm p true 1 test × IsBlank e
+Valid p (Tested ps b c d test e k) =
+    Fit p ps × (quoted_of ps ≡ false) × IsCall p call.Condition × IsBlank b × IsBlank c × IsBlank d × IsForm p true 1 test × IsBlank e
 Valid p (Whole F) = IsWhole p F
 
 -- the reader stands so
@@ -145,7 +150,8 @@ module _ (p : Place) (ns : List Spot) (o : ℕ) (c : Option ℕ) (at : ℕ) (b :
   After s t lexeme = Next p s (with_token (rd (expect_of s) (stage_frames s) ns o c (stage_quoted s)) at t) b lexeme
 
   -- a word that is written in one way
-  pub as_written : (s : Stage) (w : Symbol) (lexeme : List ℕ) → IsPlainWord w → IsLexeme (token.Word w) lexeme → After s (token.Word w) (text_of w) → After s (token.Word w) lexeme
+  pub as_written : (s : Stage) (w : Symbol) (lexeme : List ℕ) → IsPlainWord w → IsLexeme (token.Word w) lexeme → After s (token.Word w) (text_of w)
+      → After s (token.Word w) lexeme
   as_written s w lexeme plain is h = subst (λ (l : List ℕ). After s (token.Word w) l) (sym (only w lexeme plain is)) h
 
   -- ---- where an operand is wanted
@@ -157,19 +163,48 @@ module _ (p : Place) (ns : List Spot) (o : ℕ) (c : Option ℕ) (at : ℕ) (b :
   pub wants_open : (ps : List Part) → Fit p ps → After (Wants ps) (token.Word symbol.Open) (text_of symbol.Open)
   wants_open ps fit =
       let e = open_token (expect_of (Wants ps)) at (frames_of ps) ns o c (quoted_of ps) (open_stage ps) in
-      record { stage = Wants (InBracket b ∷ ps); like = record { expect = ap (λ (r : Reader). r.expect) e; frames = ap (λ (r : Reader). r.frames) e; quoted = ap (λ (r : Reader). r.quoted) e }; valid = (blank, fit); spell = λ rest. refl }
+      record {
+        stage = Wants (InBracket b ∷ ps);
+        like =
+            record { expect = ap (λ (r : Reader). r.expect) e; frames = ap (λ (r : Reader). r.frames) e; quoted = ap (λ (r : Reader). r.quoted) e };
+        valid =
+            (blank, fit);
+        spell = λ rest. refl;
+      }
 
   pub wants_minus : (ps : List Part) → Fit p ps → After (Wants ps) (token.Word symbol.Minus) (text_of symbol.Minus)
   unfolding with_token with_word with_sign text_of
-  wants_minus ps fit = record { stage = Wants (InSign b unary.Negate at ∷ ps); like = record { expect = refl; frames = refl; quoted = refl }; valid = (blank, tt, fit); spell = λ rest. refl }
+  wants_minus ps fit =
+      record {
+        stage = Wants (InSign b unary.Negate at ∷ ps);
+        like = record { expect = refl; frames = refl; quoted = refl };
+        valid = (blank, tt, fit);
+        spell =
+            λ rest. refl;
+      }
 
   pub wants_bang : (ps : List Part) → Fit p ps → After (Wants ps) (token.Word symbol.Bang) (text_of symbol.Bang)
   unfolding with_token with_word with_sign text_of
-  wants_bang ps fit = record { stage = Wants (InSign b unary.Not at ∷ ps); like = record { expect = refl; frames = refl; quoted = refl }; valid = (blank, tt, fit); spell = λ rest. refl }
+  wants_bang ps fit =
+      record {
+        stage = Wants (InSign b unary.Not at ∷ ps);
+        like = record { expect = refl; frames = refl; quoted = refl };
+        valid = (blank, tt, fit);
+        spell =
+            λ rest. refl;
+      }
 
-  pub wants_call : (ps : List Part) (name : Call) → Fit p ps → IsCall p name → After (Wants ps) (token.Word (symbol.Call name)) (text_of (symbol.Call name))
+  pub wants_call : (ps : List Part) (name : Call) → Fit p ps → IsCall p name → IsInner (quoted_of ps) (symbol.Call name)
+      → After (Wants ps) (token.Word (symbol.Call name)) (text_of (symbol.Call name))
   unfolding with_token with_word with_call
-  wants_call ps name fit is = record { stage = Named ps b name at; like = record { expect = refl; frames = refl; quoted = refl }; valid = (fit, is, blank); spell = λ rest. refl }
+  wants_call ps name fit is inner =
+      record {
+        stage = Named ps b name at;
+        like = record { expect = refl; frames = refl; quoted = refl };
+        valid = (fit, is, blank, inner);
+        spell =
+            λ rest. refl;
+      }
 
   pub wants_number : (ps : List Part) (n : ℕ) (lexeme : List ℕ) → Fit p ps → IsLexeme (token.Number n) lexeme → After (Wants ps) (token.Number n) lexeme
   wants_number ps n lexeme fit is =
@@ -181,7 +216,8 @@ module _ (p : Place) (ns : List Spot) (o : ℕ) (c : Option ℕ) (at : ℕ) (b :
         spell = λ rest. ap (λ (l : List ℕ). spelled_parts ps (b ++ (l ++ rest))) is.2;
       }
 
-  pub wants_item : (ps : List Part) (f : ItemForm) (lexeme : List ℕ) → Fit p ps → IsAmong (symbol.Item f) (items_of_place p) → is_count_of (node.Item f) ≡ false → IsWord (text_of (symbol.Item f)) lexeme → After (Wants ps) (token.Word (symbol.Item f)) lexeme
+  pub wants_item : (ps : List Part) (f : ItemForm) (lexeme : List ℕ) → Fit p ps → IsAmong (symbol.Item f) (items_of_place p) → is_count_of (node.Item f) ≡ false
+      → IsWord (text_of (symbol.Item f)) lexeme → After (Wants ps) (token.Word (symbol.Item f)) lexeme
   wants_item ps f lexeme fit among plain is =
       let e = item_token (expect_of (Wants ps)) at f (frames_of ps) ns o c (quoted_of ps) (open_stage ps)
       ∙ ap (λ (x : Bool). rd (cond x expect.End (expect.Operator true)) (frames_of ps) (ns ++ spot_of at (node.Item f) ∷ []) o c (quoted_of ps)) plain in
@@ -192,9 +228,11 @@ module _ (p : Place) (ns : List Spot) (o : ℕ) (c : Option ℕ) (at : ℕ) (b :
         spell = λ rest. refl;
       }
 
-  pub wants_count : (f : ItemForm) (lexeme : List ℕ) → IsAmong (symbol.Item f) (start_of p) → is_count_of (node.Item f) ≡ true → IsWord (text_of (symbol.Item f)) lexeme → After (Wants []) (token.Word (symbol.Item f)) lexeme
+  pub wants_count : (f : ItemForm) (lexeme : List ℕ) → IsAmong (symbol.Item f) (start_of p) → is_count_of (node.Item f) ≡ true
+      → IsWord (text_of (symbol.Item f)) lexeme → After (Wants []) (token.Word (symbol.Item f)) lexeme
   wants_count f lexeme among count is =
-      let e = item_token expect.Start at f [] ns o c false tt ∙ ap (λ (x : Bool). rd (cond x expect.End (expect.Operator true)) [] (ns ++ spot_of at (node.Item f) ∷ []) o c false) count in
+      let e = item_token expect.Start at f [] ns o c false tt
+      ∙ ap (λ (x : Bool). rd (cond x expect.End (expect.Operator true)) [] (ns ++ spot_of at (node.Item f) ∷ []) o c false) count in
       record {
         stage = Whole (Item b f lexeme);
         like = record { expect = ap (λ (r : Reader). r.expect) e; frames = ap (λ (r : Reader). r.frames) e; quoted = ap (λ (r : Reader). r.quoted) e };
@@ -204,37 +242,148 @@ module _ (p : Place) (ns : List Spot) (o : ℕ) (c : Option ℕ) (at : ℕ) (b :
 
   -- ---- after a name, a quote, a caret
 
-  pub named_open : (ps : List Part) (d : List ℕ) (name : Call) (k : ℕ) → Valid p (Named ps d name k) → After (Named ps d name k) (token.Word symbol.Open) (text_of symbol.Open)
+  pub named_open : (ps : List Part) (d : List ℕ) (name : Call) (k : ℕ) → Valid p (Named ps d name k)
+      → After (Named ps d name k) (token.Word symbol.Open) (text_of symbol.Open)
   unfolding with_token with_word with_open
-  named_open ps d call.If k v = record { stage = Wants (InIf d b k ∷ ps); like = record { expect = refl; frames = refl; quoted = refl }; valid = (v.1, v.2, blank, v.0); spell = λ rest. refl }
-  named_open ps d call.Condition k v = record { stage = Quoting ps d b k; like = record { expect = refl; frames = refl; quoted = refl }; valid = (v.0, v.1, v.2, blank); spell = λ rest. refl }
-  named_open ps d call.DaysBetween k v = record { stage = Wants (InFirst d b k ∷ ps); like = record { expect = refl; frames = refl; quoted = refl }; valid = (v.1, v.2, blank, v.0); spell = λ rest. refl }
-  named_open ps d call.IsNull k v = record { stage = WantsItem ps d call.IsNull b k; like = record { expect = refl; frames = refl; quoted = refl }; valid = (v.0, v.1, v.2, blank, tt); spell = λ rest. refl }
-  named_open ps d call.IsNotNull k v = record { stage = WantsItem ps d call.IsNotNull b k; like = record { expect = refl; frames = refl; quoted = refl }; valid = (v.0, v.1, v.2, blank, tt); spell = λ rest. refl }
-  named_open ps d call.HasValue k v = record { stage = WantsItem ps d call.HasValue b k; like = record { expect = refl; frames = refl; quoted = refl }; valid = (v.0, v.1, v.2, blank, tt); spell = λ rest. refl }
-  named_open ps d call.FirstNonNull k v = record { stage = PlainFirst ps d b k; like = record { expect = refl; frames = refl; quoted = refl }; valid = (v.0, v.1, v.2, blank); spell = λ rest. refl }
-  named_open ps d call.Greatest k v = record { stage = Wants (InOne d call.Greatest b k ∷ ps); like = record { expect = refl; frames = refl; quoted = refl }; valid = (v.1, tt, v.2, blank, v.0); spell = λ rest. refl }
-  named_open ps d call.Least k v = record { stage = Wants (InOne d call.Least b k ∷ ps); like = record { expect = refl; frames = refl; quoted = refl }; valid = (v.1, tt, v.2, blank, v.0); spell = λ rest. refl }
-  named_open ps d call.Zing k v = record { stage = Wants (InOne d call.Zing b k ∷ ps); like = record { expect = refl; frames = refl; quoted = refl }; valid = (v.1, tt, v.2, blank, v.0); spell = λ rest. refl }
-  named_open ps d call.Oizp k v = record { stage = Wants (InOne d call.Oizp b k ∷ ps); like = record { expect = refl; frames = refl; quoted = refl }; valid = (v.1, tt, v.2, blank, v.0); spell = λ rest. refl }
+  named_open ps d call.If k v =
+      record {
+        stage = Wants (InIf d b k ∷ ps);
+        like = record { expect = refl; frames = refl; quoted = refl };
+        valid = (v.1, v.2, blank, v.0);
+        spell =
+            λ rest. refl;
+      }
+  named_open ps d call.Condition k v =
+      record {
+        stage = Quoting ps d b k;
+        like = record { expect = refl; frames = refl; quoted = refl };
+        valid = (v.0, v.1, v.2, blank, v.3);
+        spell =
+            λ rest. refl;
+      }
+  named_open ps d call.DaysBetween k v =
+      record {
+        stage = Wants (InFirst d b k ∷ ps);
+        like = record { expect = refl; frames = refl; quoted = refl };
+        valid = (v.1, v.2, blank, v.0);
+        spell =
+            λ rest. refl;
+      }
+  named_open ps d call.IsNull k v =
+      record {
+        stage = WantsItem ps d call.IsNull b k;
+        like = record { expect = refl; frames = refl; quoted = refl };
+        valid =
+            (v.0, v.1, v.2, blank, tt);
+        spell = λ rest. refl;
+      }
+  named_open ps d call.IsNotNull k v =
+      record {
+        stage = WantsItem ps d call.IsNotNull b k;
+        like = record { expect = refl; frames = refl; quoted = refl };
+        valid =
+            (v.0, v.1, v.2, blank, tt);
+        spell = λ rest. refl;
+      }
+  named_open ps d call.HasValue k v =
+      record {
+        stage = WantsItem ps d call.HasValue b k;
+        like = record { expect = refl; frames = refl; quoted = refl };
+        valid =
+            (v.0, v.1, v.2, blank, tt);
+        spell = λ rest. refl;
+      }
+  named_open ps d call.FirstNonNull k v =
+      record {
+        stage = PlainFirst ps d b k;
+        like = record { expect = refl; frames = refl; quoted = refl };
+        valid = (v.0, v.1, v.2, blank);
+        spell =
+            λ rest. refl;
+      }
+  named_open ps d call.Greatest k v =
+      record {
+        stage = Wants (InOne d call.Greatest b k ∷ ps);
+        like = record { expect = refl; frames = refl; quoted = refl };
+        valid =
+            (v.1, tt, v.2, blank, v.0);
+        spell = λ rest. refl;
+      }
+  named_open ps d call.Least k v =
+      record {
+        stage = Wants (InOne d call.Least b k ∷ ps);
+        like = record { expect = refl; frames = refl; quoted = refl };
+        valid =
+            (v.1, tt, v.2, blank, v.0);
+        spell = λ rest. refl;
+      }
+  named_open ps d call.Zing k v =
+      record {
+        stage = Wants (InOne d call.Zing b k ∷ ps);
+        like = record { expect = refl; frames = refl; quoted = refl };
+        valid =
+            (v.1, tt, v.2, blank, v.0);
+        spell = λ rest. refl;
+      }
+  named_open ps d call.Oizp k v =
+      record {
+        stage = Wants (InOne d call.Oizp b k ∷ ps);
+        like = record { expect = refl; frames = refl; quoted = refl };
+        valid =
+            (v.1, tt, v.2, blank, v.0);
+        spell = λ rest. refl;
+      }
 
-  pub quoting_quote : (ps : List Part) (d e : List ℕ) (k : ℕ) → Valid p (Quoting ps d e k) → quoted_of ps ≡ false → After (Quoting ps d e k) (token.Word symbol.Quote) (text_of symbol.Quote)
+  pub quoting_quote : (ps : List Part) (d e : List ℕ) (k : ℕ) → Valid p (Quoting ps d e k)
+      → After (Quoting ps d e k) (token.Word symbol.Quote) (text_of symbol.Quote)
   unfolding with_token with_word with_quote
-  quoting_quote ps d e k v plain = record { stage = Wants (InQuote d e b k ∷ ps); like = record { expect = refl; frames = refl; quoted = refl }; valid = (v.1, plain, v.2, v.3, blank, v.0); spell = λ rest. refl }
+  quoting_quote ps d e k v =
+      record {
+        stage = Wants (InQuote d e b k ∷ ps);
+        like = record { expect = refl; frames = refl; quoted = refl };
+        valid =
+            (v.1, v.4, v.2, v.3, blank, v.0);
+        spell = λ rest. refl;
+      }
 
-  pub raised_number : (ps : List Part) (F : Form) (d : List ℕ) (k n : ℕ) (lexeme : List ℕ) → Valid p (Raised ps F d k) → IsLexeme (token.Exponent n) lexeme → After (Raised ps F d k) (token.Exponent n) lexeme
+  pub raised_number : (ps : List Part) (F : Form) (d : List ℕ) (k n : ℕ) (lexeme : List ℕ) → Valid p (Raised ps F d k) → IsLexeme (token.Exponent n) lexeme
+      → After (Raised ps F d k) (token.Exponent n) lexeme
   unfolding with_token with_exponent
-  raised_number ps F d k n lexeme v is = record { stage = Has ps (Power F d b lexeme) false; like = record { expect = refl; frames = refl; quoted = refl }; valid = (v.0, (omega arith, v.1, v.2, blank, is.0), λ t. absurd cc); spell = λ rest. refl }
+  raised_number ps F d k n lexeme v is =
+      record {
+        stage = Has ps (Power F d b lexeme) false;
+        like = record { expect = refl; frames = refl; quoted = refl };
+        valid =
+            (v.0, (omega arith, v.1, v.2, blank, is.0), λ t. absurd cc);
+        spell = λ rest. refl;
+      }
 
-  pub tested_comma : (ps : List Part) (d e f : List ℕ) (test : Form) (g : List ℕ) (k : ℕ) → Valid p (Tested ps d e f test g k) → After (Tested ps d e f test g k) (token.Word symbol.Comma) (text_of symbol.Comma)
+  pub tested_comma : (ps : List Part) (d e f : List ℕ) (test : Form) (g : List ℕ) (k : ℕ) → Valid p (Tested ps d e f test g k)
+      → After (Tested ps d e f test g k) (token.Word symbol.Comma) (text_of symbol.Comma)
   unfolding with_token with_word with_comma
-  tested_comma ps d e f test g k v = record { stage = Wants (InYes d e f test g b k ∷ ps); like = record { expect = refl; frames = refl; quoted = refl }; valid = (v.2, v.1, v.3, v.4, v.5, v.6, v.7, blank, v.0); spell = λ rest. refl }
+  tested_comma ps d e f test g k v =
+      record {
+        stage = Wants (InYes d e f test g b k ∷ ps);
+        like = record { expect = refl; frames = refl; quoted = refl };
+        valid =
+            (v.2, v.1, v.3, v.4, v.5, v.6, v.7, blank, v.0);
+        spell = λ rest. refl;
+      }
 
   -- ---- items and numbers alone
 
-  pub lone_item : (ps : List Part) (d : List ℕ) (name : Call) (e : List ℕ) (k : ℕ) (f : ItemForm) (lexeme : List ℕ) → Valid p (WantsItem ps d name e k) → IsAmong (symbol.Item f) (items_of_place p) → IsWord (text_of (symbol.Item f)) lexeme → After (WantsItem ps d name e k) (token.Word (symbol.Item f)) lexeme
+  pub lone_item : (ps : List Part) (d : List ℕ) (name : Call) (e : List ℕ) (k : ℕ) (f : ItemForm) (lexeme : List ℕ) → Valid p (WantsItem ps d name e k)
+      → IsAmong (symbol.Item f) (items_of_place p) → IsWord (text_of (symbol.Item f)) lexeme
+      → After (WantsItem ps d name e k) (token.Word (symbol.Item f)) lexeme
   unfolding with_token with_word with_leaf
-  lone_item ps d name e k f lexeme v among is = record { stage = Lone ps d name e k (Item b f lexeme); like = record { expect = refl; frames = refl; quoted = refl }; valid = (v.0, v.1, v.2, v.3, v.4, (blank, among, is), refl); spell = λ rest. refl }
+  lone_item ps d name e k f lexeme v among is =
+      record {
+        stage = Lone ps d name e k (Item b f lexeme);
+        like = record { expect = refl; frames = refl; quoted = refl };
+        valid =
+            (v.0, v.1, v.2, v.3, v.4, (blank, among, is), refl);
+        spell = λ rest. refl;
+      }
 
   item_takes : (name : Call) (F : Form) → IsItemCall name → is_item F ≡ true → (arguments_level name ≡ 1) × Takes name F
   item_takes call.IsNull F h g = (refl, g)
@@ -242,46 +391,98 @@ module _ (p : Place) (ns : List Spot) (o : ℕ) (c : Option ℕ) (at : ℕ) (b :
   item_takes call.HasValue F h g = (refl, g)
   item_takes name F h g = absurd h
 
-  applied_form : (ps : List Part) (d : List ℕ) (name : Call) (e : List ℕ) (F : Form) → IsCall p name → IsBlank d → IsBlank e → IsForm p (quoted_of ps) (arguments_level name) F → Takes name F → (L : ℕ) → IsForm p (quoted_of ps) L (Apply d name e F b)
+  applied_form : (ps : List Part) (d : List ℕ) (name : Call) (e : List ℕ) (F : Form) → IsCall p name → IsBlank d → IsBlank e
+      → IsForm p (quoted_of ps) (arguments_level name) F → Takes name F → (L : ℕ) → IsForm p (quoted_of ps) L (Apply d name e F b)
   applied_form ps d name e F is blank' blank'' form takes L = (is, blank', blank'', form, takes, blank)
 
-  pub lone_close : (ps : List Part) (d : List ℕ) (name : Call) (e : List ℕ) (k : ℕ) (F : Form) → Valid p (Lone ps d name e k F) → After (Lone ps d name e k F) (token.Word symbol.Close) (text_of symbol.Close)
+  pub lone_close : (ps : List Part) (d : List ℕ) (name : Call) (e : List ℕ) (k : ℕ) (F : Form) → Valid p (Lone ps d name e k F)
+      → After (Lone ps d name e k F) (token.Word symbol.Close) (text_of symbol.Close)
   unfolding with_token with_word with_close
   lone_close ps d name e k F v =
       let t = item_takes name F v.4 v.6 in
       let form = applied_form ps d name e F v.1 v.2 v.3 (subst (λ (n : ℕ). IsForm p (quoted_of ps) n F) (sym t.0) v.5) t.1 in
-      record { stage = Has ps (Apply d name e F b) true; like = record { expect = refl; frames = refl; quoted = refl }; valid = (v.0, form 7, λ x. form 8); spell = λ rest. refl }
+      record {
+        stage = Has ps (Apply d name e F b) true;
+        like = record { expect = refl; frames = refl; quoted = refl };
+        valid =
+            (v.0, form 7, λ x. form 8);
+        spell = λ rest. refl;
+      }
 
-  pub plain_close : (ps : List Part) (d e : List ℕ) (k : ℕ) (F : Form) (n : ℕ) → Valid p (Plain ps d e k F n) → After (Plain ps d e k F n) (token.Word symbol.Close) (text_of symbol.Close)
+  pub plain_close : (ps : List Part) (d e : List ℕ) (k : ℕ) (F : Form) (n : ℕ) → Valid p (Plain ps d e k F n)
+      → After (Plain ps d e k F n) (token.Word symbol.Close) (text_of symbol.Close)
   unfolding with_token with_word with_close
   plain_close ps d e k F n v =
       let form = applied_form ps d call.FirstNonNull e F v.1 v.2 v.3 v.4 v.5 in
-      record { stage = Has ps (Apply d call.FirstNonNull e F b) true; like = record { expect = refl; frames = refl; quoted = refl }; valid = (v.0, form 7, λ x. form 8); spell = λ rest. refl }
+      record {
+        stage = Has ps (Apply d call.FirstNonNull e F b) true;
+        like = record { expect = refl; frames = refl; quoted = refl };
+        valid =
+            (v.0, form 7, λ x. form 8);
+        spell = λ rest. refl;
+      }
 
-  pub plain_comma : (ps : List Part) (d e : List ℕ) (k : ℕ) (F : Form) (n : ℕ) → Valid p (Plain ps d e k F n) → After (Plain ps d e k F n) (token.Word symbol.Comma) (text_of symbol.Comma)
+  pub plain_comma : (ps : List Part) (d e : List ℕ) (k : ℕ) (F : Form) (n : ℕ) → Valid p (Plain ps d e k F n)
+      → After (Plain ps d e k F n) (token.Word symbol.Comma) (text_of symbol.Comma)
   unfolding with_token with_word with_comma
   plain_comma ps d e k F n v =
-      record { stage = PlainNext ps d e k F b (counted_of (call_frame k call.FirstNonNull n)).count; like = record { expect = refl; frames = refl; quoted = refl }; valid = (v.0, v.1, v.2, v.3, v.4, v.5, blank); spell = λ rest. refl }
+      record {
+        stage = PlainNext ps d e k F b (counted_of (call_frame k call.FirstNonNull n)).count;
+        like =
+            record { expect = refl; frames = refl; quoted = refl };
+        valid = (v.0, v.1, v.2, v.3, v.4, v.5, blank);
+        spell = λ rest. refl;
+      }
 
-  pub first_number : (ps : List Part) (d e : List ℕ) (k n : ℕ) (lexeme : List ℕ) → Valid p (PlainFirst ps d e k) → IsLexeme (token.Number n) lexeme → After (PlainFirst ps d e k) (token.Number n) lexeme
+  pub first_number : (ps : List Part) (d e : List ℕ) (k n : ℕ) (lexeme : List ℕ) → Valid p (PlainFirst ps d e k) → IsLexeme (token.Number n) lexeme
+      → After (PlainFirst ps d e k) (token.Number n) lexeme
   unfolding with_token with_leaf
   first_number ps d e k n lexeme v is =
-      record { stage = Plain ps d e k (Number b is.0 is.1) 0; like = record { expect = refl; frames = refl; quoted = refl }; valid = (v.0, v.1, v.2, v.3, (blank, is.3), refl); spell = λ rest. ap (λ (l : List ℕ). spelled_stage (PlainFirst ps d e k) (b ++ (l ++ rest))) is.2 }
+      record {
+        stage = Plain ps d e k (Number b is.0 is.1) 0;
+        like = record { expect = refl; frames = refl; quoted = refl };
+        valid =
+            (v.0, v.1, v.2, v.3, (blank, is.3), refl);
+        spell = λ rest. ap (λ (l : List ℕ). spelled_stage (PlainFirst ps d e k) (b ++ (l ++ rest))) is.2;
+      }
 
-  pub first_item : (ps : List Part) (d e : List ℕ) (k : ℕ) (f : ItemForm) (lexeme : List ℕ) → Valid p (PlainFirst ps d e k) → IsAmong (symbol.Item f) (items_of_place p) → IsWord (text_of (symbol.Item f)) lexeme → After (PlainFirst ps d e k) (token.Word (symbol.Item f)) lexeme
+  pub first_item : (ps : List Part) (d e : List ℕ) (k : ℕ) (f : ItemForm) (lexeme : List ℕ) → Valid p (PlainFirst ps d e k)
+      → IsAmong (symbol.Item f) (items_of_place p) → IsWord (text_of (symbol.Item f)) lexeme → After (PlainFirst ps d e k) (token.Word (symbol.Item f)) lexeme
   unfolding with_token with_word with_leaf
   first_item ps d e k f lexeme v among is =
-      record { stage = Plain ps d e k (Item b f lexeme) 0; like = record { expect = refl; frames = refl; quoted = refl }; valid = (v.0, v.1, v.2, v.3, (blank, among, is), refl); spell = λ rest. refl }
+      record {
+        stage = Plain ps d e k (Item b f lexeme) 0;
+        like = record { expect = refl; frames = refl; quoted = refl };
+        valid =
+            (v.0, v.1, v.2, v.3, (blank, among, is), refl);
+        spell = λ rest. refl;
+      }
 
   plain_more : (first : Form) → all_plain first ≡ true → all_plain first && true ≡ true
   plain_more first e = rw e refl
 
-  pub next_number : (ps : List Part) (d e : List ℕ) (k : ℕ) (first : Form) (f : List ℕ) (m n : ℕ) (lexeme : List ℕ) → Valid p (PlainNext ps d e k first f m) → IsLexeme (token.Number n) lexeme → After (PlainNext ps d e k first f m) (token.Number n) lexeme
+  pub next_number : (ps : List Part) (d e : List ℕ) (k : ℕ) (first : Form) (f : List ℕ) (m n : ℕ) (lexeme : List ℕ) → Valid p (PlainNext ps d e k first f m)
+      → IsLexeme (token.Number n) lexeme → After (PlainNext ps d e k first f m) (token.Number n) lexeme
   unfolding with_token with_leaf
   next_number ps d e k first f m n lexeme v is =
-      record { stage = Plain ps d e k (Arguments first f (Number b is.0 is.1)) m; like = record { expect = refl; frames = refl; quoted = refl }; valid = (v.0, v.1, v.2, v.3, (refl, v.4, v.6, (blank, is.3)), plain_more first v.5); spell = λ rest. ap (λ (l : List ℕ). spelled_stage (PlainNext ps d e k first f m) (b ++ (l ++ rest))) is.2 }
+      record {
+        stage = Plain ps d e k (Arguments first f (Number b is.0 is.1)) m;
+        like = record { expect = refl; frames = refl; quoted = refl };
+        valid =
+            (v.0, v.1, v.2, v.3, (refl, v.4, v.6, (blank, is.3)), plain_more first v.5);
+        spell =
+            λ rest. ap (λ (l : List ℕ). spelled_stage (PlainNext ps d e k first f m) (b ++ (l ++ rest))) is.2;
+      }
 
-  pub next_item : (ps : List Part) (d e : List ℕ) (k : ℕ) (first : Form) (f : List ℕ) (m : ℕ) (i : ItemForm) (lexeme : List ℕ) → Valid p (PlainNext ps d e k first f m) → IsAmong (symbol.Item i) (items_of_place p) → IsWord (text_of (symbol.Item i)) lexeme → After (PlainNext ps d e k first f m) (token.Word (symbol.Item i)) lexeme
+  pub next_item : (ps : List Part) (d e : List ℕ) (k : ℕ) (first : Form) (f : List ℕ) (m : ℕ) (i : ItemForm) (lexeme : List ℕ)
+      → Valid p (PlainNext ps d e k first f m) → IsAmong (symbol.Item i) (items_of_place p) → IsWord (text_of (symbol.Item i)) lexeme
+      → After (PlainNext ps d e k first f m) (token.Word (symbol.Item i)) lexeme
   unfolding with_token with_word with_leaf
   next_item ps d e k first f m i lexeme v among is =
-      record { stage = Plain ps d e k (Arguments first f (Item b i lexeme)) m; like = record { expect = refl; frames = refl; quoted = refl }; valid = (v.0, v.1, v.2, v.3, (refl, v.4, v.6, (blank, among, is)), plain_more first v.5); spell = λ rest. refl }
+      record {
+        stage = Plain ps d e k (Arguments first f (Item b i lexeme)) m;
+        like = record { expect = refl; frames = refl; quoted = refl };
+        valid =
+            (v.0, v.1, v.2, v.3, (refl, v.4, v.6, (blank, among, is)), plain_more first v.5);
+        spell = λ rest. refl;
+      }

@@ -1,5 +1,6 @@
 -- One step of the reader over a text, and several.
-use Rattle.std.proofs.Common.{◌≡◌, ℕ, zero, suc, ◌+◌, ◌≤◌, Bool, true, false, cond, List, [], ◌∷◌, ◌++◌, length, drop, Result, Err, refl, sym, ap, subst, ◌∙◌, inl, inr, arith}
+use Rattle.std.proofs.Common.{◌≡◌, ℕ, zero, suc, ◌+◌, ◌≤◌, Bool, true, false, cond, List, [], ◌∷◌, ◌++◌, length, drop, Result, Err, refl, sym, ap, subst}
+use Rattle.std.proofs.Common.{◌∙◌, inl, inr, arith}
 use Rattle.std.specs.Prelude.{◌&&◌, ◌||◌, nat_eq}
 use Rattle.std.proofs.lemmas.Bool.Decides.{nat_tests}
 use Rattle.std.proofs.lemmas.List.{drop-drop}
@@ -41,7 +42,8 @@ step_in p n reader at bytes rest b =
     cond (nat_eq (length rest) 0) (ended reader (at + b))
     (go_on (read_rest p n) reader (at + b) rest (token_from reader.expect reader.frames reader.quoted p rest))
 
-pub read_is : (p : Place) (n : ℕ) (reader : Reader) (at : ℕ) (bytes : List ℕ) → read_rest p (suc n) reader at bytes ≡ step_in p n reader at bytes (drop (blank_count bytes) bytes) (blank_count bytes)
+pub read_is : (p : Place) (n : ℕ) (reader : Reader) (at : ℕ) (bytes : List ℕ)
+    → read_rest p (suc n) reader at bytes ≡ step_in p n reader at bytes (drop (blank_count bytes) bytes) (blank_count bytes)
 unfolding read_rest
 read_is p n reader at bytes = refl
 
@@ -50,7 +52,8 @@ unfolding read_rest
 read_none p reader at bytes = refl
 
 -- with blanks before the rest
-pub read_past : (p : Place) (n : ℕ) (reader : Reader) (at : ℕ) (b rest : List ℕ) → IsBlank b → first_is is_blank_of rest ≡ false → read_rest p (suc n) reader at (b ++ rest) ≡ step_in p n reader at (b ++ rest) rest (length b)
+pub read_past : (p : Place) (n : ℕ) (reader : Reader) (at : ℕ) (b rest : List ℕ) → IsBlank b → first_is is_blank_of rest ≡ false
+    → read_rest p (suc n) reader at (b ++ rest) ≡ step_in p n reader at (b ++ rest) rest (length b)
 read_past p n reader at b rest h f =
     let count = blank_is b rest h f in
     let past : drop (blank_count (b ++ rest)) (b ++ rest) ≡ rest = ap (λ (k : ℕ). drop k (b ++ rest)) count ∙ drop_front b rest in
@@ -65,11 +68,14 @@ pub record Goes (p : Place) (text : List ℕ) (reader : Reader) (at : ℕ) (byte
   pub goes : (n : ℕ) → read_rest p (count + n) reader at bytes ≡ read_rest p n to past rest
   pub stands : At text past rest
 
-pub then_goes : (p : Place) (text : List ℕ) (r : Reader) (at : ℕ) (bytes : List ℕ) (s : Reader) (past : ℕ) (more : List ℕ) (t : Reader) (end : ℕ) (rest : List ℕ) → Goes p text r at bytes s past more → Goes p text s past more t end rest → Goes p text r at bytes t end rest
+pub then_goes : (p : Place) (text : List ℕ) (r : Reader) (at : ℕ) (bytes : List ℕ) (s : Reader) (past : ℕ) (more : List ℕ) (t : Reader) (end : ℕ)
+    (rest : List ℕ) → Goes p text r at bytes s past more → Goes p text s past more t end rest → Goes p text r at bytes t end rest
 then_goes p text r at bytes s past more t end rest g h = record {
   count = g.count + h.count;
   far = omega (arith, g.far, h.far);
-  goes = λ n. (let e : g.count + h.count + n ≡ g.count + (h.count + n) = omega arith in ap (λ (k : ℕ). read_rest p k r at bytes) e ∙ g.goes (h.count + n) ∙ h.goes n);
+  goes =
+      λ n. (let e : g.count + h.count + n ≡ g.count + (h.count + n) = omega arith in ap (λ (k : ℕ). read_rest p k r at bytes) e ∙ g.goes (h.count + n)
+      ∙ h.goes n);
   stands = h.stands;
 }
 
@@ -77,7 +83,9 @@ some_length : (l : List ℕ) → 1 ≤ length l → nat_eq (length l) 0 ≡ fals
 some_length l h = grind (arith, nat_tests)
 
 -- a token with blanks before it
-pub step : (p : Place) (text : List ℕ) (r : Reader) (at : ℕ) (t : Token) (b word rest : List ℕ) → IsBlank b → May r.expect r.frames r.quoted p t → IsLexeme t word → Ends t rest → At text at (b ++ (word ++ rest)) → Goes p text r at (b ++ (word ++ rest)) (with_token r (at + length b) t) (at + length b + length word) rest
+pub step : (p : Place) (text : List ℕ) (r : Reader) (at : ℕ) (t : Token) (b word rest : List ℕ) → IsBlank b → May r.expect r.frames r.quoted p t
+    → IsLexeme t word → Ends t rest → At text at (b ++ (word ++ rest))
+    → Goes p text r at (b ++ (word ++ rest)) (with_token r (at + length b) t) (at + length b + length word) rest
 step p text r at t b word rest blank may is ends here =
     let d = token_dark r.expect r.frames r.quoted p t word rest may is in
     let more : 1 ≤ length (word ++ rest) = omega (arith, d.0, length_both word rest) in
@@ -87,7 +95,9 @@ step p text r at t b word rest blank may is ends here =
       goes = λ n. (let e : 1 + n ≡ suc n = omega arith in
           ap (λ (k : ℕ). read_rest p k r at (b ++ (word ++ rest))) e
           ∙ read_past p n r at b (word ++ rest) blank d.1
-          ∙ ap (λ (x : Bool). cond x (ended r (at + length b)) (go_on (read_rest p n) r (at + length b) (word ++ rest) (token_from r.expect r.frames r.quoted p (word ++ rest)))) (some_length (word ++ rest) more)
+          ∙ ap (λ (x : Bool). cond x (ended r (at + length b))
+          (go_on (read_rest p n) r (at + length b) (word ++ rest) (token_from r.expect r.frames r.quoted p (word ++ rest))))
+          (some_length (word ++ rest) more)
           ∙ ap (go_on (read_rest p n) r (at + length b) (word ++ rest)) (token_read r.expect r.frames r.quoted p t word rest may is ends)
           ∙ ap (read_rest p n (with_token r (at + length b) t) (at + length b + length word)) (drop_front word rest));
       stands = at_past text (at + length b) word rest (at_past text at b (word ++ rest) here);
@@ -176,5 +186,7 @@ pub only : (w : Symbol) (word : List ℕ) → IsPlainWord w → IsWord (text_of 
 only w word h g = own_only (text_of w) word (own_symbol w h) g
 
 -- a word that is written in one way, with blanks before it
-pub word_step : (p : Place) (text : List ℕ) (r : Reader) (at : ℕ) (w : Symbol) (b rest : List ℕ) → IsBlank b → IsPlainWord w → May r.expect r.frames r.quoted p (token.Word w) → (is_open w ≡ true → first_is (nat_eq 61) rest ≡ false) → At text at (symbol_text b w rest) → Goes p text r at (symbol_text b w rest) (with_token r (at + length b) (token.Word w)) (at + length b + length (text_of w)) rest
+pub word_step : (p : Place) (text : List ℕ) (r : Reader) (at : ℕ) (w : Symbol) (b rest : List ℕ) → IsBlank b → IsPlainWord w
+    → May r.expect r.frames r.quoted p (token.Word w) → (is_open w ≡ true → first_is (nat_eq 61) rest ≡ false) → At text at (symbol_text b w rest)
+    → Goes p text r at (symbol_text b w rest) (with_token r (at + length b) (token.Word w)) (at + length b + length (text_of w)) rest
 word_step p text r at w b rest blank plain may ends here = step p text r at (token.Word w) b (text_of w) rest blank may (own w plain) ends here

@@ -1,5 +1,6 @@
 -- The next word of a text: what is written as a word is read as it, and what is read is written so.
-use Rattle.std.proofs.Common.{◌≡◌, ℕ, suc, ◌<◌, ◌≤◌, Bool, true, false, cond, List, [], ◌∷◌, ◌++◌, length, take, drop, Option, Some, None, Result, Ok, refl, sym, ap, subst, ◌⊎◌, ◌∙◌, inl, inr, arith}
+use Rattle.std.proofs.Common.{◌≡◌, ℕ, suc, ◌<◌, ◌≤◌, Bool, true, false, cond, List, [], ◌∷◌, ◌++◌, length, take, drop, Option, Some, None, Result, Ok, refl}
+use Rattle.std.proofs.Common.{sym, ap, subst, ◌⊎◌, ◌∙◌, inl, inr, arith}
 use Rattle.std.specs.Prelude.{◌&&◌, ◌||◌, not, nat_eq, nat_lt, slice_index}
 use Rattle.std.specs.Char.{is_ascii_digit, is_ascii_alphabetic, is_ascii_alphanumeric}
 use Rattle.std.proofs.lemmas.Bool.Decides.{nat_tests}
@@ -210,7 +211,9 @@ wild_fits c b e f = wild_alnum (nat_eq c 64) (nat_eq c 36) (is_ascii_alphabetic 
 pub literal_fits : (c b : ℕ) → nat_eq c 64 || nat_eq c 36 ≡ false → fits_of c b ≡ nat_eq c b
 literal_fits c b e = literal (nat_eq c 64) (nat_eq c 36) (is_ascii_alphabetic b) (is_ascii_alphanumeric b) (nat_eq c b) e
 
-apart_by : (x y : Bool) (c d b : ℕ) → nat_eq c 64 || nat_eq c 36 ≡ x → nat_eq d 64 || nat_eq d 36 ≡ y → cond x (cond y false (not (is_ascii_alphanumeric d))) (cond y (not (is_ascii_alphanumeric c)) (not (nat_eq c d))) ≡ true → fits_of c b ≡ true → (t : Bool) → fits_of d b ≡ t → fits_of d b ≡ false
+apart_by : (x y : Bool) (c d b : ℕ) → nat_eq c 64 || nat_eq c 36 ≡ x → nat_eq d 64 || nat_eq d 36 ≡ y
+    → cond x (cond y false (not (is_ascii_alphanumeric d))) (cond y (not (is_ascii_alphanumeric c)) (not (nat_eq c d))) ≡ true → fits_of c b ≡ true → (t : Bool)
+    → fits_of d b ≡ t → fits_of d b ≡ false
 apart_by x y c d b e f h g false k = k
 apart_by true true c d b e f h g true k = absurd cc
 apart_by true false c d b e f h g true k =
@@ -266,7 +269,8 @@ open_end g d ds (r ∷ rest) h look =
     let other = look parts.0 in
     ap (λ (k : ℕ). cond (fits_of k r) (suc (front_of ds rest)) 0) is ∙ ap (λ (t : Bool). cond t (suc (front_of ds rest)) 0) other
 
-front_weak : (g : Bool) (t u word rest : List ℕ) → IsWord t word → clear g t u ≡ true → (g ≡ true → first_is (nat_eq 61) rest ≡ false) → Weaker (length t) u (word ++ rest)
+front_weak : (g : Bool) (t u word rest : List ℕ) → IsWord t word → clear g t u ≡ true → (g ≡ true → first_is (nat_eq 61) rest ≡ false)
+    → Weaker (length t) u (word ++ rest)
 front_weak g [] [] word rest h c look = absurd cc
 front_weak g [] (d ∷ ds) [] rest h c look = inr (open_end g d ds rest c look, omega arith)
 front_weak g [] (d ∷ ds) (b ∷ bs) rest h c look = absurd h
@@ -286,14 +290,21 @@ word_at n w = record { len = n; symbol = Some w }
 
 test_weak : (l n f m : ℕ) → ((f < n) ⊎ ((f ≡ n) × (n < m))) → l ≡ n → nat_lt l f || (nat_eq l f && nat_eq f m) ≡ false
 test_weak l n f m (inl h) e = grind (arith, nat_tests)
-test_weak l n f m (inr h) e = let far : nat_eq f m ≡ false = grind (arith, nat_tests) in let no : nat_lt l f ≡ false = grind (arith, nat_tests) in rw (no, far) (and_false (nat_eq l f))
+test_weak l n f m (inr h) e = let far : nat_eq f m ≡ false = grind (arith, nat_tests) in let no : nat_lt l f ≡ false =
+    grind (arith, nat_tests) in rw (no, far) (and_false (nat_eq l f))
   where
     and_false : (b : Bool) → b && false ≡ false
     and_false true = refl
     and_false false = refl
 
 kept : (best : Front) (v : Symbol) (n : ℕ) (bytes : List ℕ) → Weaker n (text_of v) bytes → best.len ≡ n → better_of best v bytes ≡ best
-kept best v n bytes h e = ap (λ (t : Bool). cond t (record { len = front_of (text_of v) bytes; symbol = cond (nat_eq (front_of (text_of v) bytes) (length (text_of v))) (Some v) None }) best) (test_weak best.len n (front_of (text_of v) bytes) (length (text_of v)) h e)
+kept best v n bytes h e =
+    ap (λ (t : Bool). cond t (record {
+      len = front_of (text_of v) bytes;
+      symbol =
+          cond (nat_eq (front_of (text_of v) bytes) (length (text_of v))) (Some v) None;
+    }) best)
+    (test_weak best.len n (front_of (text_of v) bytes) (length (text_of v)) h e)
 
 below : (t : Bool) (best : Front) (f n : ℕ) (s : Option Symbol) → f ≤ n → best.len ≤ n → (cond t (record { len = f; symbol = s }) best).len ≤ n
 below true best f n s h e = h
@@ -306,7 +317,8 @@ weak_le n u bytes (inr h) = omega arith
 lower : (best : Front) (v : Symbol) (n : ℕ) (bytes : List ℕ) → Weaker n (text_of v) bytes → best.len ≤ n → (better_of best v bytes).len ≤ n
 lower best v n bytes h e =
     let f = front_of (text_of v) bytes in
-    below (nat_lt best.len f || (nat_eq best.len f && nat_eq f (length (text_of v)))) best f n (cond (nat_eq f (length (text_of v))) (Some v) None) (weak_le n (text_of v) bytes h) e
+    below (nat_lt best.len f || (nat_eq best.len f && nat_eq f (length (text_of v)))) best f n (cond (nat_eq f (length (text_of v))) (Some v) None)
+    (weak_le n (text_of v) bytes h) e
 
 test_whole : (l n m : ℕ) → l ≤ n → n ≡ m → nat_lt l n || (nat_eq l n && nat_eq n m) ≡ true
 test_whole l n m h e = by_test (nat_lt l n) refl
@@ -315,7 +327,8 @@ test_whole l n m h e = by_test (nat_lt l n) refl
     by_test true f = refl
     by_test false f = let a : nat_eq l n ≡ true = grind (arith, nat_tests) in let b : nat_eq n m ≡ true = grind (arith, nat_tests) in rw (a, b) refl
 
-taken : (best : Front) (w : Symbol) (bytes : List ℕ) → front_of (text_of w) bytes ≡ length (text_of w) → best.len ≤ length (text_of w) → better_of best w bytes ≡ word_at (length (text_of w)) w
+taken : (best : Front) (w : Symbol) (bytes : List ℕ) → front_of (text_of w) bytes ≡ length (text_of w) → best.len ≤ length (text_of w)
+    → better_of best w bytes ≡ word_at (length (text_of w)) w
 taken best w bytes e h =
     let n = length (text_of w) in
     let same : nat_eq n n ≡ true = grind (arith, nat_tests) in
@@ -323,21 +336,25 @@ taken best w bytes e h =
     ∙ ap (λ (t : Bool). cond t (record { len = n; symbol = cond (nat_eq n n) (Some w) None }) best) (test_whole best.len n n h refl)
     ∙ ap (λ (t : Bool). record { len = n; symbol = cond t (Some w) None }) same
 
-module _ (w : Symbol) (word rest : List ℕ) (fits : IsWord (text_of w) word) (look : is_open w ≡ true → first_is (nat_eq 61) rest ≡ false) (allowed : Allowed) where
+module _ (w : Symbol) (word rest : List ℕ) (fits : IsWord (text_of w) word) (look : is_open w ≡ true
+    → first_is (nat_eq 61) rest ≡ false) (allowed : Allowed) where
   weak : (v : Symbol) → clear_of w v ≡ true → Weaker (length (text_of w)) (text_of v) (word ++ rest)
   weak v c = front_weak (is_open w) (text_of w) (text_of v) word rest fits c look
 
-  longest_keeps : (best : Front) (v : Symbol) (ws : List Symbol) → all_of (λ u. clear_of w u && clear_of u w) ws ≡ true → best.len ≡ length (text_of w) → longest_from best allowed ws (word ++ rest) ≡ best
+  longest_keeps : (best : Front) (v : Symbol) (ws : List Symbol) → all_of (λ u. clear_of w u && clear_of u w) ws ≡ true → best.len ≡ length (text_of w)
+      → longest_from best allowed ws (word ++ rest) ≡ best
   longest_keeps best v [] c e = refl
   longest_keeps best v (u ∷ us) c e =
       let parts = both (clear_of w u && clear_of u w) (all_of (λ u. clear_of w u && clear_of u w) us) c in
       let one = both (clear_of w u) (clear_of u w) parts.0 in
       elim (is_allowed_of allowed u) as (λ b. longest_from (cond b (better_of best u (word ++ rest)) best) allowed us (word ++ rest) ≡ best) [
-        | true ↦ ap (λ (f : Front). longest_from f allowed us (word ++ rest)) (kept best u (length (text_of w)) (word ++ rest) (weak u one.0) e) ∙ longest_keeps best v us parts.1 e
+        | true ↦ ap (λ (f : Front). longest_from f allowed us (word ++ rest)) (kept best u (length (text_of w)) (word ++ rest) (weak u one.0) e)
+            ∙ longest_keeps best v us parts.1 e
         | false ↦ longest_keeps best v us parts.1 e
       ]
 
-  longest_finds : (best : Front) (ws : List Symbol) → IsAmong w ws → is_allowed_of allowed w ≡ true → pairs_clear ws ≡ true → best.len ≤ length (text_of w) → longest_from best allowed ws (word ++ rest) ≡ word_at (length (text_of w)) w
+  longest_finds : (best : Front) (ws : List Symbol) → IsAmong w ws → is_allowed_of allowed w ≡ true → pairs_clear ws ≡ true → best.len ≤ length (text_of w)
+      → longest_from best allowed ws (word ++ rest) ≡ word_at (length (text_of w)) w
   longest_finds best [] h a c e = absurd h
   longest_finds best (v ∷ vs) (inl h) a c e =
       let parts = both (all_of (λ u. clear_of v u && clear_of u v) vs) (pairs_clear vs) c in
@@ -348,7 +365,8 @@ module _ (w : Symbol) (word rest : List ℕ) (fits : IsWord (text_of w) word) (l
   longest_finds best (v ∷ vs) (inr h) a c e =
       let parts = both (all_of (λ u. clear_of v u && clear_of u v) vs) (pairs_clear vs) c in
       let one = both (clear_of v w) (clear_of w v) (among_all (λ u. clear_of v u && clear_of u v) vs w parts.0 h) in
-      elim (is_allowed_of allowed v) as (λ b. longest_from (cond b (better_of best v (word ++ rest)) best) allowed vs (word ++ rest) ≡ word_at (length (text_of w)) w) [
+      elim (is_allowed_of allowed v) as (λ b. longest_from (cond b (better_of best v (word ++ rest)) best) allowed vs (word ++ rest)
+      ≡ word_at (length (text_of w)) w) [
         | true ↦ longest_finds (better_of best v (word ++ rest)) vs h a parts.1 (lower best v (length (text_of w)) (word ++ rest) (weak v one.1) e)
         | false ↦ longest_finds best vs h a parts.1 e
       ]
@@ -356,13 +374,15 @@ module _ (w : Symbol) (word rest : List ℕ) (fits : IsWord (text_of w) word) (l
 -- what isn't an exponent is a number or a word
 abbrev pub token_by : Bool → Expect → List Frame → Bool → Place → List ℕ → Result Found ℕ
 token_by b e frames quoted p bytes =
-    cond b (number_found (number_of bytes)) (word_found (longest_of (allowed_for e frames quoted) (words_for e p) bytes).symbol (longest_of (allowed_for e frames quoted) (words_for e p) bytes).len)
+    cond b (number_found (number_of bytes)) (word_found (longest_of (allowed_for e frames quoted) (words_for e p) bytes).symbol
+    (longest_of (allowed_for e frames quoted) (words_for e p) bytes).len)
 
 abbrev pub IsRaised : Expect → Type 0
 IsRaised (expect.Exponent at) = Unit {0}
 IsRaised _ = ⊥
 
-pub token_is : (e : Expect) (frames : List Frame) (quoted : Bool) (p : Place) (bytes : List ℕ) → ¬ IsRaised e → token_from e frames quoted p bytes ≡ token_by (takes_number e && is_ascii_digit (slice_index bytes 0)) e frames quoted p bytes
+pub token_is : (e : Expect) (frames : List Frame) (quoted : Bool) (p : Place) (bytes : List ℕ) → ¬ IsRaised e
+    → token_from e frames quoted p bytes ≡ token_by (takes_number e && is_ascii_digit (slice_index bytes 0)) e frames quoted p bytes
 unfolding token_from
 token_is (expect.Exponent at) frames quoted p bytes plain = absurd (plain tt)
 token_is e frames quoted p bytes plain = refl
@@ -382,7 +402,8 @@ dark_digit c b h f =
     (ap is_ascii_digit (sym same) ∙ not_true _ digit.0, ap is_blank_of (sym same) ∙ not_true _ blank.0)
 
 -- a word is neither blank nor a digit at its first byte
-pub word_dark : (w : Symbol) (t word rest : List ℕ) → first_is dark t ≡ true → IsWord t word → (is_ascii_digit (slice_index (word ++ rest) 0) ≡ false) × (first_is is_blank_of (word ++ rest) ≡ false)
+pub word_dark : (w : Symbol) (t word rest : List ℕ) → first_is dark t ≡ true → IsWord t word
+    → (is_ascii_digit (slice_index (word ++ rest) 0) ≡ false) × (first_is is_blank_of (word ++ rest) ≡ false)
 word_dark w [] word rest h f = absurd cc
 word_dark w (c ∷ cs) [] rest h f = absurd f
 word_dark w (c ∷ cs) (b ∷ bs) rest h f = dark_digit c b h f.0
@@ -392,7 +413,9 @@ and_no true b e = e
 and_no false b e = refl
 
 -- what is written as a word that may stand there is read as it
-pub word_token : (e : Expect) (frames : List Frame) (quoted : Bool) (p : Place) (w : Symbol) (word rest : List ℕ) → IsAmong w (words_for e p) → is_allowed_of (allowed_for e frames quoted) w ≡ true → IsWord (text_of w) word → (is_open w ≡ true → first_is (nat_eq 61) rest ≡ false) → token_from e frames quoted p (word ++ rest) ≡ Ok (found (token.Word w) (length word))
+pub word_token : (e : Expect) (frames : List Frame) (quoted : Bool) (p : Place) (w : Symbol) (word rest : List ℕ) → IsAmong w (words_for e p)
+    → is_allowed_of (allowed_for e frames quoted) w ≡ true → IsWord (text_of w) word → (is_open w ≡ true → first_is (nat_eq 61) rest ≡ false)
+    → token_from e frames quoted p (word ++ rest) ≡ Ok (found (token.Word w) (length word))
 unfolding longest_of
 word_token e frames quoted p w word rest among allowed fits look =
     let clean = words_clear e p in

@@ -3,11 +3,11 @@
 use Rattle.std.specs.Prelude.{◌≡◌, ℕ, suc, ◌+◌, ◌≤◌, max, List, length, Option, Ok}
 use Rattle.expr_lang.specs.declared.tree.Place.{Place}
 use Rattle.expr_lang.specs.declared.tree.Sort.{Sort}
-use Rattle.expr_lang.specs.declared.reading.Nodes.{Nodes}
-use Rattle.expr_lang.specs.Build.{built}
-use Rattle.expr_lang.specs.Parse.{accepted}
+use Rattle.expr_lang.specs.Expr.{parse_of}
+use Rattle.expr_lang.specs.Expression.{Expression}
 use Rattle.expr_lang.specs.Shape.{Shape}
-use Rattle.expr_grammar.specs.Grammar.{Form, Number, Item, Bracket, Power, Sign, Chain, Arguments, If, Condition, DaysBetween, Apply, IsWhole, IsTextOf, tree_of}
+use Rattle.expr_grammar.specs.Grammar.{Form, Number, Item, Bracket, Power, Sign, Chain, Arguments, If, Condition, DaysBetween, Apply, IsWhole, IsTextOf}
+use Rattle.expr_grammar.specs.Grammar.{tree_of}
 
 -- what brackets come to where those of a call count so much, and those of several operands are joined so
 abbrev pub brackets_by : (ℕ → ℕ → ℕ) → ℕ → Form → ℕ
@@ -47,8 +47,8 @@ abbrev pub IsPrintedAgain : Shape → List ℕ → Type 0
 IsPrintedAgain tree text =
     (place : Place) (days : List (List ℕ)) (form : Form) → IsWhole place form → tree_of days form ≡ tree → IsPrinted place days tree text
 
--- A text is accepted as this tree where any text is.
+-- A text means an expression with this tree where any text does.
 pub record IsReadAgain (tree : Shape) (text : List ℕ) : Type 0 where
-  pub read : (place : Place) (days : List (List ℕ)) (wanted : Option Sort) (other : List ℕ) (nodes : Nodes)
-      → accepted place days wanted other ≡ Ok nodes → built other days nodes.nodes ≡ tree
-      → (again : Nodes) × (accepted place days wanted text ≡ Ok again) × (built text days again.nodes ≡ tree)
+  pub read : (place : Place) (days : List (List ℕ)) (wanted : Option Sort) (other : List ℕ) (expr : Expression)
+      → parse_of place days wanted other ≡ Ok expr → expr.tree ≡ tree
+      → (again : Expression) × (parse_of place days wanted text ≡ Ok again) × (again.tree ≡ tree)

@@ -10,7 +10,8 @@ use Rattle.expr_lang.specs.Expr.{items_in, places_in}
 use Rattle.expr_lang.specs.Item.{item_from}
 use Rattle.expr_lang.specs.Items.{Occurrence, item_of_leaf_of, with_occurrence, Lists}
 use Rattle.expr_lang.specs.Leaves.{item_leaf}
-use Rattle.expr_grammar.specs.Grammar.{Form, Number, Item as Named, Bracket, Power, Sign, Chain, Arguments, If, Condition, DaysBetween, Apply, IsTextOf, spelled, symbol_text, after_blanks}
+use Rattle.expr_grammar.specs.Grammar.{Form, Number, Item as Named, Bracket, Power, Sign, Chain, Arguments, If, Condition, DaysBetween, Apply, IsTextOf}
+use Rattle.expr_grammar.specs.Grammar.{spelled, symbol_text, after_blanks}
 use Rattle.expr_lang.specs.Shape.{Shape, Operand, One, Two, Choice}
 
 abbrev pub items_of_leaf : Leaf → List Item
@@ -47,7 +48,8 @@ occurrences_of days total (If b c test d one e other f) rest =
     ++ occurrences_of days total one (symbol_text e symbol.Comma (spelled other (symbol_text f symbol.Close rest))))
     ++ occurrences_of days total other (symbol_text f symbol.Close rest)
 occurrences_of days total (Condition b c d test e f one g other h) rest =
-    (occurrences_of days total test (symbol_text e symbol.Quote (symbol_text f symbol.Comma (spelled one (symbol_text g symbol.Comma (spelled other (symbol_text h symbol.Close rest))))))
+    (occurrences_of days total test (symbol_text e symbol.Quote
+    (symbol_text f symbol.Comma (spelled one (symbol_text g symbol.Comma (spelled other (symbol_text h symbol.Close rest))))))
     ++ occurrences_of days total one (symbol_text g symbol.Comma (spelled other (symbol_text h symbol.Close rest))))
     ++ occurrences_of days total other (symbol_text h symbol.Close rest)
 occurrences_of days total (DaysBetween b c one d other e) rest =

@@ -5,3 +5,7 @@ pub mod Limits
 pub mod Laws
 pub mod Continues
 pub mod Items
+pub mod Misfits
+pub mod Brackets
+pub use Rattle.expr_lang.specs.Expr
+pub use Rattle.expr_lang.specs.Expression

@@ -1,14 +1,12 @@
 //! Reading expressions.
 
 ghost use Rattle.std.specs.Prelude.{◌≡◌, [], Some, None, IfOk, IfErr};
-ghost use Rattle.expr_grammar.specs.Continues.{GoesOnAt};
+ghost use Rattle.expr_grammar.specs.Continues.{GoesOnAt, EndsAt};
 ghost use Rattle.expr_grammar.specs.Items.{items_of, Different, ListsItems};
 ghost use Rattle.expr_grammar.specs.Laws.{OneTree};
 ghost use Rattle.expr_grammar.specs.Limits.{AnswersBy};
-ghost use Rattle.expr_lang.specs.Expr.{IsOf, items_in};
-ghost use Rattle.expr_lang.specs.Faults.{FaultsAtOnce, IfSyntax};
-ghost use Rattle.expr_lang.specs.Parse.{accepted, Accepts};
-ghost use Rattle.expr_lang.specs.Shape.{shape_of};
+ghost use Rattle.expr_lang.specs.Expr.{parse_of, Answers};
+ghost use Rattle.expr_lang.specs.Faults.{IfSyntax};
 
 use dh_base::uid::Uid;
 use expr_lang::{Expr, ExprFault, Place, Sort};
@@ -17,19 +15,19 @@ use std::alloc::Global;
 /// The expression that a text is, of any sort. `days` has the elements and attributes whose values
 /// are days.
 pub fn parse(alloc: Global, text: &[u8], place: Place, days: &[Uid]) -> Result<Expr, ExprFault>
-    ensures accepted { Accepts (λ expr nodes. IsOf text.now days.now expr nodes) result (accepted place days.now None text.now) }
-    // A fault of syntax stands at the first byte with which no text goes on that is read.
-    ensures first { IfErr result (λ fault. IfSyntax fault (FaultsAtOnce place days.now None text.now)) }
-    // The bytes before it begin a text of the grammar, but inside a quoted text.
-    ensures before { IfErr result (λ fault. IfSyntax fault (GoesOnAt place text.now)) }
-    // What is read is a form of the grammar, and nothing of the grammar is refused, but for its depth or its sorts.
-    ensures read { AnswersBy place days.now None text.now result }
+    // The answer is what the text means, unless memory runs out.
+    ensures value { Answers result (parse_of place days.now None text.now) }
+    // What it means is the tree of a form of the grammar, or why no form is accepted, and where.
+    ensures read { AnswersBy place days.now None text.now (parse_of place days.now None text.now) }
+    // The bytes before a fault of syntax begin a text of the grammar, and with the byte there none does.
+    ensures before { IfErr (parse_of place days.now None text.now) (λ fault. IfSyntax fault (GoesOnAt place text.now)) }
+    ensures ends { IfErr (parse_of place days.now None text.now) (λ fault. IfSyntax fault (EndsAt place text.now)) }
     // All forms that the text is have one tree.
-    ensures one { IfOk result (λ expr. OneTree place days.now text.now (shape_of expr.tree)) }
+    ensures one { IfOk (parse_of place days.now None text.now) (λ expr. OneTree place days.now text.now expr.tree) }
     // Its items are those of the tree, in order of their first occurrence.
-    ensures items { IfOk result (λ expr. Different (items_of (shape_of expr.tree)) [] (items_in expr)) }
+    ensures items { IfOk (parse_of place days.now None text.now) (λ expr. Different (items_of expr.tree) [] expr.items) }
     // The place of an item is where its first occurrence stands in the form.
-    ensures places { IfOk result (λ expr. ListsItems place days.now text.now expr) }
+    ensures places { IfOk (parse_of place days.now None text.now) (λ expr. ListsItems place days.now text.now expr) }
 {
     expr_lang::parse(alloc, text, place, days)
 }
@@ -42,13 +40,13 @@ pub fn parse_sorted(
     days: &[Uid],
     wanted: Sort,
 ) -> Result<Expr, ExprFault>
-    ensures accepted { Accepts (λ expr nodes. IsOf text.now days.now expr nodes) result (accepted place days.now (Some wanted) text.now) }
-    ensures first { IfErr result (λ fault. IfSyntax fault (FaultsAtOnce place days.now (Some wanted) text.now)) }
-    ensures before { IfErr result (λ fault. IfSyntax fault (GoesOnAt place text.now)) }
-    ensures read { AnswersBy place days.now (Some wanted) text.now result }
-    ensures one { IfOk result (λ expr. OneTree place days.now text.now (shape_of expr.tree)) }
-    ensures items { IfOk result (λ expr. Different (items_of (shape_of expr.tree)) [] (items_in expr)) }
-    ensures places { IfOk result (λ expr. ListsItems place days.now text.now expr) }
+    ensures value { Answers result (parse_of place days.now (Some wanted) text.now) }
+    ensures read { AnswersBy place days.now (Some wanted) text.now (parse_of place days.now (Some wanted) text.now) }
+    ensures before { IfErr (parse_of place days.now (Some wanted) text.now) (λ fault. IfSyntax fault (GoesOnAt place text.now)) }
+    ensures ends { IfErr (parse_of place days.now (Some wanted) text.now) (λ fault. IfSyntax fault (EndsAt place text.now)) }
+    ensures one { IfOk (parse_of place days.now (Some wanted) text.now) (λ expr. OneTree place days.now text.now expr.tree) }
+    ensures items { IfOk (parse_of place days.now (Some wanted) text.now) (λ expr. Different (items_of expr.tree) [] expr.items) }
+    ensures places { IfOk (parse_of place days.now (Some wanted) text.now) (λ expr. ListsItems place days.now text.now expr) }
 {
     expr_lang::parse_sorted(alloc, text, place, days, wanted)
 }

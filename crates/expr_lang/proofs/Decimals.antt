@@ -1,5 +1,6 @@
 -- Digits after a point, one after the other.
-use Rattle.std.proofs.Common.{◌≡◌, ℕ, zero, suc, ◌+◌, ◌-◌, ◌*◌, ◌/◌, ◌%◌, ◌^◌, ◌<◌, ◌≤◌, Bool, true, false, cond, List, [], ◌∷◌, ◌++◌, refl, sym, ap, subst, ◌∙◌, append_assoc, arith}
+use Rattle.std.proofs.Common.{◌≡◌, ℕ, zero, suc, ◌+◌, ◌-◌, ◌*◌, ◌/◌, ◌%◌, ◌^◌, ◌<◌, ◌≤◌, Bool, true, false, cond, List, [], ◌∷◌, ◌++◌, refl, sym, ap, subst}
+use Rattle.std.proofs.Common.{◌∙◌, append_assoc, arith}
 use Rattle.std.specs.Prelude.{nat_eq}
 use Rattle.std.proofs.Math.Nat.{pow-suc, div-lt_iff_lt-mul}
 use Rattle.std.proofs.lemmas.Bool.Decides.{nat_tests}
@@ -26,7 +27,8 @@ pub part_below : (k n : ℕ) → n % 10 ^ k < 10 ^ k
 part_below k n = omega (arith, tens_some k)
 
 -- one digit more
-pub digits_on : (out total : List ℕ) (p left one : ℕ) → 0 < p → 0 < left → one ≡ 10 ^ (p - 1) → out ++ decimals_text p left ≡ total → (out ++ (48 + left / one) ∷ []) ++ decimals_text (p - 1) (left % one) ≡ total
+pub digits_on : (out total : List ℕ) (p left one : ℕ) → 0 < p → 0 < left → one ≡ 10 ^ (p - 1) → out ++ decimals_text p left ≡ total
+    → (out ++ (48 + left / one) ∷ []) ++ decimals_text (p - 1) (left % one) ≡ total
 digits_on out total p left one positive some is so_far =
     let e : p ≡ suc (p - 1) = omega arith in
     append_assoc out ((48 + left / one) ∷ []) (decimals_text (p - 1) (left % one))

@@ -1,5 +1,6 @@
 -- Digits at the front of a text.
-use Rattle.std.proofs.Common.{◌≡◌, ℕ, zero, suc, ◌+◌, ◌-◌, ◌*◌, ◌^◌, ◌<◌, ◌≤◌, Bool, true, false, cond, List, [], ◌∷◌, length, get_or, take, drop, refl, sym, ap, subst, ◌∙◌, add-one, arith}
+use Rattle.std.proofs.Common.{◌≡◌, ℕ, zero, suc, ◌+◌, ◌-◌, ◌*◌, ◌^◌, ◌<◌, ◌≤◌, Bool, true, false, cond, List, [], ◌∷◌, length, get_or, take, drop, refl, sym}
+use Rattle.std.proofs.Common.{ap, subst, ◌∙◌, add-one, arith}
 use Rattle.std.specs.Char.{is_ascii_digit, digit_value}
 use Rattle.std.proofs.Math.Seq.{drop-cons}
 use Rattle.std.proofs.Math.Nat.{pow-suc}
@@ -10,7 +11,8 @@ use Rattle.expr_lang.specs.Token.{digit_count, front_of}
 pub digit_is : (b : ℕ) → is_ascii_digit b ≡ true → (digit_value b ≡ b - 48) × (b - 48 < 10) × (48 ≤ b)
 digit_is b h = (grind (arith, nat_tests), grind (arith, nat_tests), grind (arith, nat_tests))
 
-pub count_at : (m n : ℕ) (bs : List ℕ) → n < m → n < length bs → is_ascii_digit (get_or bs n 0) ≡ true → digit_count (m - n) (drop n bs) ≡ suc (digit_count (m - (n + 1)) (drop (n + 1) bs))
+pub count_at : (m n : ℕ) (bs : List ℕ) → n < m → n < length bs → is_ascii_digit (get_or bs n 0) ≡ true
+    → digit_count (m - n) (drop n bs) ≡ suc (digit_count (m - (n + 1)) (drop (n + 1) bs))
 count_at m n bs below within digit =
     let e : m - n ≡ suc (m - (n + 1)) = omega arith in
     let f : suc n ≡ n + 1 = omega arith in

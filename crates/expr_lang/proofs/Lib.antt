@@ -4,3 +4,4 @@ pub mod Readings
 pub mod Decimals
 pub mod Listing
 pub mod Local
+pub mod ExprLemmas

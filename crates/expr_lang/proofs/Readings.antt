@@ -1,5 +1,6 @@
 -- One step of reading.
-use Rattle.std.proofs.Common.{◌≡◌, ℕ, zero, suc, ◌+◌, ◌-◌, ◌<◌, ◌≤◌, Bool, true, false, cond, eqb, List, [], ◌∷◌, length, drop, Option, Some, None, Result, Ok, Err, refl, sym, ap, subst, ◌∙◌, arith}
+use Rattle.std.proofs.Common.{◌≡◌, ℕ, zero, suc, ◌+◌, ◌-◌, ◌<◌, ◌≤◌, Bool, true, false, cond, eqb, List, [], ◌∷◌, length, drop, Option, Some, None, Result}
+use Rattle.std.proofs.Common.{Ok, Err, refl, sym, ap, subst, ◌∙◌, arith}
 use Rattle.std.specs.Prelude.{◌&&◌, nat_eq, if◌then◌else◌}
 use Rattle.std.proofs.lemmas.Bool.Decides.{nat_tests}
 use Rattle.std.proofs.lemmas.List.{drop-drop, length-drop}
@@ -15,7 +16,8 @@ use Rattle.expr_lang.specs.declared.reading.Token.{Token}
 use Rattle.expr_lang.specs.declared.reading.Token.TheVariants as token
 use Rattle.expr_lang.specs.declared.reading.Reader.{Reader}
 use Rattle.expr_lang.specs.declared.reading.Nodes.{Nodes}
-use Rattle.expr_lang.specs.Reading.{frames_reduced, nodes_reduced, comma_in, is_quote, with_leaf, with_sign, with_operator, with_open, with_call, with_comma, with_close, with_quote, with_word, with_exponent, with_token, blank_count, ended, go_on, read_rest, token_from}
+use Rattle.expr_lang.specs.Reading.{frames_reduced, nodes_reduced, comma_in, is_quote, with_leaf, with_sign, with_operator, with_open, with_call, with_comma}
+use Rattle.expr_lang.specs.Reading.{with_close, with_quote, with_word, with_exponent, with_token, blank_count, ended, go_on, read_rest, token_from}
 
 opened_comma : (frames : List Frame) (nodes : List Spot) (reader : Reader) → (comma_in frames nodes reader).opened ≡ reader.opened
 opened_comma [] nodes reader = refl
@@ -57,20 +59,29 @@ module _ (place : Place) (n : ℕ) (reader : Reader) (at blanks : ℕ) (text : L
   rest_is = ap (λ (k : ℕ). drop k (drop at text)) (sym counted) ∙ drop-drop blanks at text
 
   -- one word more, or the end
-  step : read_rest place (suc n) reader at (drop at text) ≡ cond (nat_eq (length (drop (at + blanks) text)) 0) (ended reader (at + blanks)) (go_on (read_rest place n) reader (at + blanks) (drop (at + blanks) text) (token_from reader.expect reader.frames reader.quoted place (drop (at + blanks) text)))
+  step : read_rest place (suc n) reader at (drop at text)
+      ≡ cond (nat_eq (length (drop (at + blanks) text)) 0) (ended reader (at + blanks))
+      (go_on (read_rest place n) reader (at + blanks) (drop (at + blanks) text)
+      (token_from reader.expect reader.frames reader.quoted place (drop (at + blanks) text)))
   unfolding read_rest
   step = rw (rest_is, ← counted) refl
 
   pub step_ends : at + blanks ≡ length text → read_rest place (suc n) reader at (drop at text) ≡ ended reader (at + blanks)
   step_ends all =
-      let none : nat_eq (length (drop (at + blanks) text)) 0 ≡ true = let e : length (drop (at + blanks) text) ≡ 0 = omega (arith, length-drop (at + blanks) text) in rw e refl in
-      step ∙ ap (λ (b : Bool). cond b (ended reader (at + blanks)) (go_on (read_rest place n) reader (at + blanks) (drop (at + blanks) text) (token_from reader.expect reader.frames reader.quoted place (drop (at + blanks) text)))) none
+      let none : nat_eq (length (drop (at + blanks) text)) 0 ≡ true = let e : length (drop (at + blanks) text) ≡ 0 =
+      omega (arith, length-drop (at + blanks) text) in rw e refl in
+      step ∙ ap (λ (b : Bool). cond b (ended reader (at + blanks))
+      (go_on (read_rest place n) reader (at + blanks) (drop (at + blanks) text)
+      (token_from reader.expect reader.frames reader.quoted place (drop (at + blanks) text)))) none
 
   some : at + blanks < length text → nat_eq (length (drop (at + blanks) text)) 0 ≡ false
   some more = let e : 0 < length (drop (at + blanks) text) = omega (arith, length-drop (at + blanks) text) in grind (arith, nat_tests)
 
-  pub step_on : (f : Result Found ℕ) → at + blanks < length text → f ≡ token_from reader.expect reader.frames reader.quoted place (drop (at + blanks) text) → read_rest place (suc n) reader at (drop at text) ≡ go_on (read_rest place n) reader (at + blanks) (drop (at + blanks) text) f
+  pub step_on : (f : Result Found ℕ) → at + blanks < length text → f ≡ token_from reader.expect reader.frames reader.quoted place (drop (at + blanks) text)
+      → read_rest place (suc n) reader at (drop at text) ≡ go_on (read_rest place n) reader (at + blanks) (drop (at + blanks) text) f
   step_on f more is =
       step
-      ∙ ap (λ (b : Bool). cond b (ended reader (at + blanks)) (go_on (read_rest place n) reader (at + blanks) (drop (at + blanks) text) (token_from reader.expect reader.frames reader.quoted place (drop (at + blanks) text)))) (some more)
+      ∙ ap (λ (b : Bool). cond b (ended reader (at + blanks))
+      (go_on (read_rest place n) reader (at + blanks) (drop (at + blanks) text)
+      (token_from reader.expect reader.frames reader.quoted place (drop (at + blanks) text)))) (some more)
       ∙ ap (go_on (read_rest place n) reader (at + blanks) (drop (at + blanks) text)) (sym is)

@@ -1,5 +1,6 @@
 -- Items of a stack by how many stand above them.
-use Rattle.std.proofs.Common.{◌≡◌, ℕ, zero, suc, ◌+◌, ◌<◌, ◌≤◌, List, [], ◌∷◌, ◌-◌, ◌++◌, length, take, drop, reverse, Option, Some, None, refl, sym, ap, add-one, ◌∙◌, inl, inr, arith}
+use Rattle.std.proofs.Common.{◌≡◌, ℕ, zero, suc, ◌+◌, ◌<◌, ◌≤◌, List, [], ◌∷◌, ◌-◌, ◌++◌, length, take, drop, reverse, Option, Some, None, refl, sym, ap}
+use Rattle.std.proofs.Common.{add-one, ◌∙◌, inl, inr, arith}
 use Rattle.std.proofs.lemmas.Bool.{cases_lt}
 use Rattle.std.proofs.lemmas.List.{take-append-drop, reverse-append, length-reverse, length-drop, drop_at, drop_all}
 use Rattle.std.specs.Prelude.{slice_get, IfSome, IfNone}
@@ -29,7 +30,8 @@ cut_off xs n =
     elim (cases_lt (length xs) n) [
       | inr within ↦
           let k = length xs - n in
-          let all : reverse xs ≡ reverse (drop k xs) ++ reverse (take k xs) = ap reverse (sym (take-append-drop k xs)) ∙ reverse-append (take k xs) (drop k xs) in
+          let all : reverse xs ≡ reverse (drop k xs) ++ reverse (take k xs) = ap reverse (sym (take-append-drop k xs))
+          ∙ reverse-append (take k xs) (drop k xs) in
           let len : length (reverse (drop k xs)) ≡ n = omega (arith, length-reverse (drop k xs), length-drop k xs) in
           sym (ap (drop n) all ∙ drop_at (reverse (drop k xs)) (reverse (take k xs)) n len)
       | inl past ↦

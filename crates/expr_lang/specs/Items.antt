@@ -1,6 +1,11 @@
 -- The items of a text.
-use Rattle.std.specs.Prelude.{◌≡◌, ℕ, List, [], ◌∷◌, ◌++◌, Option, Some, None, Contains, ◌⊎◌}
+use Rattle.std.specs.Prelude.{◌≡◌, ℕ, Bool, ◌&&◌, List, [], ◌∷◌, ◌++◌, Option, Some, None, Contains, ◌⊎◌, cond, nat_eq}
+use Rattle.std.specs.List.{list_any}
+use Rattle.std.specs.Cmp.Lexicographic.{pointwise}
+use Rattle.dh_base.specs.declared.plain.Rate.{Rate}
+use Rattle.dh_base.specs.declared.plain.Rate.TheVariants as rates
 use Rattle.expr_lang.specs.declared.tree.Item.{Item}
+use Rattle.expr_lang.specs.declared.tree.Item.TheVariants as item
 use Rattle.expr_lang.specs.declared.tree.Leaf.{Leaf}
 use Rattle.expr_lang.specs.declared.tree.Leaf.TheVariants as leaf
 use Rattle.expr_lang.specs.declared.reading.Spot.{Spot}
@@ -43,3 +48,45 @@ ListsFrom (o ∷ others) items places all_items all_places =
 -- the different items in order of their first occurrence, and the places of these
 unfoldable pub Lists : List Occurrence → List Item → List ℕ → Type 0
 Lists all items places = ListsFrom all [] [] items places
+
+-- the form of an item as a number, and the identifiers in it
+abbrev pub rate_key : Rate → ℕ
+rate_key rates.Expected = 6
+rate_key rates.Actual = 7
+rate_key rates.OnTime = 8
+rate_key rates.Reported = 9
+rate_key rates.ReportedOnTime = 10
+
+abbrev pub item_key : Item → ℕ × List (List ℕ)
+item_key (item.Element element None None) = (0, element ∷ [])
+item_key (item.Element element (Some combo) None) = (1, element ∷ combo ∷ [])
+item_key (item.Element element None (Some attribute)) = (2, element ∷ attribute ∷ [])
+item_key (item.Element element (Some combo) (Some attribute)) = (3, element ∷ combo ∷ attribute ∷ [])
+item_key (item.Constant uid) = (4, uid ∷ [])
+item_key (item.Group uid) = (5, uid ∷ [])
+item_key (item.Rate set rate) = (rate_key rate, set ∷ [])
+item_key (item.StageElement stage element) = (11, stage ∷ element ∷ [])
+item_key (item.Attribute uid) = (12, uid ∷ [])
+item_key item.Days = (13, [])
+item_key item.EventDate = (14, [])
+item_key item.EnrollmentDate = (15, [])
+item_key item.EventCount = (16, [])
+item_key item.EnrollmentCount = (17, [])
+item_key item.EntityCount = (18, [])
+
+abbrev pub is_one_key : ℕ × List (List ℕ) → ℕ × List (List ℕ) → Bool
+is_one_key a b = nat_eq a.0 b.0 && pointwise (pointwise nat_eq) a.1 b.1
+
+-- whether two items are one
+unfoldable pub is_one : Item → Item → Bool
+is_one a b = is_one_key (item_key a) (item_key b)
+
+-- The lists with each occurrence of an item put at their ends, with its place, unless it is in them already.
+abbrev pub listed_from : List Occurrence → List Item → List ℕ → List Item × List ℕ
+listed_from [] items places = (items, places)
+listed_from (o ∷ others) items places =
+    cond (list_any (is_one o.item) items) (listed_from others items places) (listed_from others (items ++ o.item ∷ []) (places ++ o.at ∷ []))
+
+-- the different items in order of their first occurrence, and the places of these
+unfoldable pub listed : List Occurrence → List Item × List ℕ
+listed occurring = listed_from occurring [] []

@@ -6,6 +6,7 @@ pub mod Reading
 pub mod Leaves
 pub mod Survey
 pub mod Shape
+pub mod Expression
 pub mod Build
 pub mod Items
 pub mod Print

@@ -1,16 +1,13 @@
 -- The expression that a text is, or the first fault.
-use Rattle.std.specs.Prelude.{◌≡◌, ℕ, Bool, List, length, take, Option, Some, None, Result, Ok, Err, nat_le, nat_lt, if◌then◌else◌}
+use Rattle.std.specs.Prelude.{◌≡◌, ℕ, List, length, take, Option, Some, None, Result, Ok, Err, nat_le, nat_lt, if◌then◌else◌}
 use Rattle.expr_lang.specs.declared.tree.Place.{Place}
 use Rattle.expr_lang.specs.declared.tree.Sort.{Sort}
-use Rattle.expr_lang.specs.declared.tree.Tree.{Tree}
 use Rattle.expr_lang.specs.declared.reading.Nodes.{Nodes}
 use Rattle.expr_lang.specs.declared.survey.Known.{Known}
 use Rattle.expr_lang.specs.declared.fault.ExprFault.{ExprFault}
 use Rattle.expr_lang.specs.declared.fault.ExprFault.TheVariants as fault
 use Rattle.expr_lang.specs.Reading.{read_text}
-use Rattle.expr_lang.specs.Shape.{Shape, shape_of}
 use Rattle.expr_lang.specs.Survey.{survey_of, misfit_of}
-use Rattle.expr_lang.specs.Build.{built}
 
 -- a text that goes on after 4,096 bytes is at fault there, if not before
 abbrev pub cut_short : Result Nodes ℕ → Result Nodes ℕ
@@ -47,7 +44,3 @@ Accepts Is (Ok x) (Ok nodes) = Is x nodes
 Accepts Is (Ok x) (Err f) = ⊥
 Accepts Is (Err fault.Memory) answer = Unit {0}
 Accepts Is (Err f) answer = answer ≡ Err f
-
--- a tree has these nodes
-abbrev pub HasNodes : List ℕ → List (List ℕ) → Tree → Nodes → Type 0
-HasNodes text days tree nodes = shape_of tree ≡ built text days nodes.nodes

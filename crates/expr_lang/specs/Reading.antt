@@ -2,7 +2,8 @@
 --
 -- A reader keeps what it has opened or begun, the last of these first, and the nodes of the tree that are whole, each
 -- after its operands. What may come next decides on the next word.
-use Rattle.std.specs.Prelude.{◌≡◌, ℕ, zero, suc, ◌+◌, ◌-◌, Bool, true, false, ◌||◌, ◌&&◌, not, List, [], ◌∷◌, ◌++◌, Option, Some, None, Result, Ok, Err, length, take, drop, slice_index, nat_eq, nat_lt, nat_le, if◌then◌else◌, is_some, is_none, option_map}
+use Rattle.std.specs.Prelude.{◌≡◌, ℕ, zero, suc, ◌+◌, ◌-◌, Bool, true, false, ◌||◌, ◌&&◌, not, List, [], ◌∷◌, ◌++◌, Option, Some, None, Result, Ok, Err}
+use Rattle.std.specs.Prelude.{length, take, drop, slice_index, nat_eq, nat_lt, nat_le, if◌then◌else◌, is_some, is_none, option_map}
 use Rattle.std.specs.Char.{is_ascii_digit}
 use Rattle.expr_lang.specs.declared.tree.Binary.{Binary}
 use Rattle.expr_lang.specs.declared.tree.Binary.TheVariants as binary
@@ -87,7 +88,7 @@ most_arguments _ = 1
 
 abbrev pub allow : Bool → Bool → Bool → Bool → Bool → Allowed
 allow with_caret with_close with_comma with_quote with_comparison =
-    record { caret = with_caret; close = with_close; comma = with_comma; quote = with_quote; comparison = with_comparison }
+    record { caret = with_caret; close = with_close; comma = with_comma; quote = with_quote; comparison = with_comparison; condition = true }
 
 abbrev pub allowed_in : Option Frame → Bool → Bool → Allowed
 allowed_in (Some frame.Bracket) with_caret with_comparison = allow with_caret true false false with_comparison
@@ -102,6 +103,10 @@ allowed_after frames with_caret = allowed_in (enclosing_of frames) with_caret (n
 
 abbrev pub all_allowed : Allowed
 all_allowed = allow true true true true true
+
+-- a quoted text has no other in it
+abbrev pub quotes_allowed : Bool → Allowed
+quotes_allowed quoted = record all_allowed { condition = not quoted }
 
 -- the words of which the next may be one
 abbrev pub words_for : Expect → Place → List Symbol
@@ -121,7 +126,8 @@ words_for expect.End place = nothing_of
 -- and which of these are allowed
 abbrev pub allowed_for : Expect → List Frame → Bool → Allowed
 allowed_for (expect.Operator with_caret) frames quoted = allowed_after frames with_caret
-allowed_for expect.Quote frames quoted = allow false false false (not quoted) false
+allowed_for expect.Operand frames quoted = quotes_allowed quoted
+allowed_for expect.Quote frames quoted = allow false false false true false
 allowed_for expect.Comma frames quoted = allow false false true false false
 allowed_for expect.Close frames quoted = allow false true false false false
 allowed_for expect.More frames quoted = allow false true true false false

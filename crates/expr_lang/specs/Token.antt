@@ -1,11 +1,13 @@
 -- The next word of a text.
-use Rattle.std.specs.Prelude.{ℕ, zero, suc, ◌+◌, ◌-◌, ◌*◌, ◌^◌, Bool, true, false, ◌||◌, ◌&&◌, List, [], ◌∷◌, Option, Some, None, Result, Ok, Err, length, take, drop, slice_index, nat_eq, nat_lt, nat_le, not, if◌then◌else◌}
+use Rattle.std.specs.Prelude.{ℕ, zero, suc, ◌+◌, ◌-◌, ◌*◌, ◌^◌, Bool, true, false, ◌||◌, ◌&&◌, List, [], ◌∷◌, Option, Some, None, Result, Ok, Err, length}
+use Rattle.std.specs.Prelude.{take, drop, slice_index, nat_eq, nat_lt, nat_le, not, if◌then◌else◌}
 use Rattle.std.specs.Char.{is_ascii_alphabetic, is_ascii_alphanumeric, is_ascii_digit}
 use Rattle.std.specs.Str.Parse.{digits_value}
 use Rattle.expr_lang.specs.declared.tree.Binary.{Binary}
 use Rattle.expr_lang.specs.declared.tree.Binary.TheVariants as binary
 use Rattle.expr_lang.specs.declared.words.Symbol.{Symbol}
 use Rattle.expr_lang.specs.declared.words.Symbol.TheVariants as symbol
+use Rattle.expr_lang.specs.declared.words.Call.TheVariants as call
 use Rattle.expr_lang.specs.declared.token.Allowed.{Allowed}
 use Rattle.expr_lang.specs.declared.token.Front.{Front}
 use Rattle.expr_lang.specs.Words.{text_of}
@@ -25,6 +27,7 @@ is_allowed_of allowed symbol.Close = allowed.close
 is_allowed_of allowed symbol.Comma = allowed.comma
 is_allowed_of allowed symbol.Quote = allowed.quote
 is_allowed_of allowed (symbol.Operator operator) = allowed.comparison || not (is_comparison_of operator)
+is_allowed_of allowed (symbol.Call call.Condition) = allowed.condition
 is_allowed_of allowed _ = true
 
 -- whether a byte may stand where a word has this letter

@@ -1,7 +1,7 @@
 //! Reading expressions.
 
 ghost use Rattle.std.specs.Prelude.{◌≡◌, Some, None, IfOk, IfErr};
-ghost use Rattle.expr_lang.specs.Expr.{IsOf};
+ghost use Rattle.expr_lang.specs.Expr.{IsOf, parse_of, Answers};
 ghost use Rattle.expr_lang.specs.Faults.{FaultsAtOnce, IfSyntax};
 ghost use Rattle.expr_lang.specs.Parse.{nodes_of_text, judged, accepted, Accepts};
 ghost use Rattle.expr_lang.specs.Reading.{Gives};
@@ -100,6 +100,7 @@ pub fn parse(alloc: Global, text: &[u8], place: Place, days: &[Uid]) -> Result<E
     ensures accepted { Accepts (λ expr nodes. IsOf text.now days.now expr nodes) result (accepted place days.now None text.now) }
     // A fault of syntax stands at the first byte with which no text goes on that is read.
     ensures first { IfErr result (λ fault. IfSyntax fault (FaultsAtOnce place days.now None text.now)) }
+    ensures value { Answers result (parse_of place days.now None text.now) }
 {
     whole(alloc, text, place, days, None)
 }
@@ -114,6 +115,7 @@ pub fn parse_sorted(
 ) -> Result<Expr, ExprFault>
     ensures accepted { Accepts (λ expr nodes. IsOf text.now days.now expr nodes) result (accepted place days.now (Some wanted) text.now) }
     ensures first { IfErr result (λ fault. IfSyntax fault (FaultsAtOnce place days.now (Some wanted) text.now)) }
+    ensures value { Answers result (parse_of place days.now (Some wanted) text.now) }
 {
     whole(alloc, text, place, days, Some(wanted))
 }

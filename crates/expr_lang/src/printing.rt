@@ -2,7 +2,9 @@
 
 ghost use Rattle.std.specs.Prelude.{◌≡◌, ◌++◌, ◌<◌, ◌≤◌, ◌^◌, ◌+◌, [], if◌then◌else◌, OnOk, IfOk, codes, nat_eq};
 ghost use Rattle.std.specs.Fmt.{decimal};
-ghost use Rattle.expr_lang.specs.Print.{decimals_text, number_text, rate_name_of, more_text, named_text, item_text, leaf_text, unary_level_of, binary_level_of, exponent_text, before_of, behind_of, inner_level_of, opening_of, between_of, closing_of, left_level_of, right_level_of, text_from};
+ghost use Rattle.expr_lang.specs.Print.{decimals_text, number_text, rate_name_of, more_text, named_text, item_text, leaf_text, unary_level_of};
+ghost use Rattle.expr_lang.specs.Print.{binary_level_of, exponent_text, before_of, behind_of, inner_level_of, opening_of, between_of, closing_of};
+ghost use Rattle.expr_lang.specs.Print.{left_level_of, right_level_of, text_from};
 ghost use Rattle.expr_lang.specs.Shape.{shape_of};
 ghost use Rattle.expr_lang.specs.Words.{operator_text_of};
 
@@ -17,10 +19,10 @@ use std::alloc::Global;
 
 /// The text of an expression, with the fewest brackets.
 pub fn print(alloc: Global, expr: &Expr) -> Result<Vec<u8>, Memory>
-    ensures { IfOk result (λ text. text.items ≡ text_from 0 (shape_of expr.now.tree)) }
+    ensures { IfOk result (λ text. text.items ≡ text_from 0 expr.now.tree) }
 {
     let mut out = Vec::new(alloc);
-    put_tree(alloc, &mut out, 0, &expr.tree)?;
+    put_tree(alloc, &mut out, 0, expr.tree())?;
     Ok(out)
 }
 

@@ -1,7 +1,12 @@
 //! Reading a text from left to right.
 
 ghost use Rattle.std.specs.Prelude.{◌≡◌, ◌≤◌, ◌<◌, ◌^◌, length, drop, List, OnOk, IfErr, MatchResult, Err, true};
-ghost use Rattle.expr_lang.specs.Reading.{level_of, node_level, enclosing_of, compares, least_arguments, most_arguments, allow, all_allowed, allowed_in, allowed_after, words_for, allowed_for, takes_number, token_from, binding_of, frames_reduced, nodes_reduced, after_leaf_of, is_count_of, with_leaf, with_sign, with_operator, first_argument, after_open_of, with_open, with_call, is_list_of, counted_of, joined, node_of_call, later_argument, with_comma, with_close, with_quote, with_word, with_exponent, with_token, is_blank_of, blank_count, may_end_in, new_reader, ended, Gives, read_text};
+ghost use Rattle.expr_lang.specs.Reading.{level_of, node_level, enclosing_of, compares, least_arguments, most_arguments, allow, all_allowed, quotes_allowed};
+ghost use Rattle.expr_lang.specs.Reading.{allowed_in, allowed_after, words_for, allowed_for, takes_number, token_from, binding_of, frames_reduced};
+ghost use Rattle.expr_lang.specs.Reading.{nodes_reduced, after_leaf_of, is_count_of, with_leaf, with_sign, with_operator, first_argument, after_open_of};
+ghost use Rattle.expr_lang.specs.Reading.{with_open, with_call, is_list_of, counted_of, joined, node_of_call, later_argument, with_comma, with_close};
+ghost use Rattle.expr_lang.specs.Reading.{with_quote, with_word, with_exponent, with_token, is_blank_of, blank_count, may_end_in, new_reader, ended, Gives};
+ghost use Rattle.expr_lang.specs.Reading.{read_text};
 ghost use Rattle.expr_lang.specs.Reading.{number_found as specs_number_found, exponent_found as specs_exponent_found, word_found as specs_word_found};
 ghost use Rattle.expr_lang.specs.Reading.{most_words as words_limit};
 ghost use Rattle.expr_lang.specs.Stack.{top_of};
@@ -180,6 +185,7 @@ fn allowing(caret: bool, close: bool, comma: bool, quote: bool, comparison: bool
         comma,
         quote,
         comparison,
+        condition: true,
     }
 }
 
@@ -221,13 +227,24 @@ fn words_at(expect: Expect, place: Place) -> &'static [Symbol]
     }
 }
 
+/// An operand of a quoted text has no other quoted text in it.
+fn within_quotes(quoted: bool) -> Allowed
+    ensures { result ≡ quotes_allowed quoted }
+{
+    Allowed {
+        condition: !quoted,
+        ..allowing(true, true, true, true, true)
+    }
+}
+
 /// And which of these are allowed.
 fn allowed(expect: Expect, frames: &Stack<Frame>, quoted: bool) -> Allowed
     ensures { result ≡ allowed_for expect frames.now quoted }
 {
     match expect {
         Expect::Operator(caret) => allowed_at(frames, caret),
-        Expect::Quote => allowing(false, false, false, !quoted, false),
+        Expect::Operand => within_quotes(quoted),
+        Expect::Quote => allowing(false, false, false, true, false),
         Expect::Comma => allowing(false, false, true, false, false),
         Expect::Close => allowing(false, true, false, false, false),
         Expect::More => allowing(false, true, true, false, false),

@@ -2,7 +2,9 @@
 
 ghost use Rattle.std.specs.Prelude.{◌≡◌, OnOk, IfOk};
 ghost use Rattle.expr_lang.specs.Leaves.{leaf_of_node};
-ghost use Rattle.expr_lang.specs.Survey.{same_sort, leaf_sort_of, is_literal_of, taken_by_of, given_by_of, taken_by_two, given_by_two, first_of_two, edge_of, one_deeper, edge_if_taken, leaf_known_of, unary_known_of, deeper_of, binary_known_of, if_known_of, topmost, below, known_after, survey_of, misfit_of};
+ghost use Rattle.expr_lang.specs.Survey.{same_sort, leaf_sort_of, is_literal_of, taken_by_of, given_by_of, taken_by_two, given_by_two, first_of_two, edge_of};
+ghost use Rattle.expr_lang.specs.Survey.{one_deeper, edge_if_taken, leaf_known_of, unary_known_of, deeper_of, binary_known_of, if_known_of, topmost, below};
+ghost use Rattle.expr_lang.specs.Survey.{known_after, survey_of, misfit_of};
 
 use crate::item::{item_of, leaf_of};
 use crate::reading::{Node, Spot, rest};

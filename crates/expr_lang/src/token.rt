@@ -1,12 +1,13 @@
 //! The next word of a text.
 
 ghost use Rattle.std.specs.Prelude.{◌≡◌, ◌≤◌, ◌<◌, ◌^◌, ◌-◌, length, MatchResult};
-ghost use Rattle.expr_lang.specs.Token.{is_comparison_of, is_allowed_of, fits_of, front_of, better_of, longest_of, digit_count, digits_of_front, number_of, exponent_of};
+ghost use Rattle.expr_lang.specs.Token.{is_comparison_of, is_allowed_of, fits_of, front_of, better_of, longest_of, digit_count, digits_of_front, number_of};
+ghost use Rattle.expr_lang.specs.Token.{exponent_of};
 
 use crate::tree::Binary;
-use crate::words::{self, Symbol};
+use crate::words::{self, Call, Symbol};
 
-/// Which of the words that may follow an operand are allowed.
+/// Which words are allowed, of those that aren't everywhere.
 #[derive(Clone, Copy)]
 pub struct Allowed {
     pub caret: bool,
@@ -14,6 +15,8 @@ pub struct Allowed {
     pub comma: bool,
     pub quote: bool,
     pub comparison: bool,
+    /// `d2:condition`, which a quoted text doesn't have.
+    pub condition: bool,
 }
 
 /// The longest front of some words with which a text begins, and the word that it is, if it is one.
@@ -46,6 +49,7 @@ fn is_allowed(allowed: Allowed, symbol: Symbol) -> bool
         Symbol::Comma => allowed.comma,
         Symbol::Quote => allowed.quote,
         Symbol::Operator(operator) => allowed.comparison || !is_comparison(operator),
+        Symbol::Call(Call::Condition) => allowed.condition,
         _ => true,
     }
 }

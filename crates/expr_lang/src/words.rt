@@ -1,7 +1,8 @@
 //! The words of the language, and which of them may come where.
 
 ghost use Rattle.std.specs.Prelude.{◌≡◌};
-ghost use Rattle.expr_lang.specs.Words.{text_of, operator_text_of, call_text_of, item_text_of, rate_text_of, operands_of, start_of, items_of_place, followers, marks_of, bracket_of, nothing_of};
+ghost use Rattle.expr_lang.specs.Words.{text_of, operator_text_of, call_text_of, item_text_of, rate_text_of, operands_of, start_of, items_of_place};
+ghost use Rattle.expr_lang.specs.Words.{followers, marks_of, bracket_of, nothing_of};
 
 use crate::tree::{Binary, Place};
 use dh_base::plain::Rate;

@@ -1,5 +1,6 @@
 -- Bodies, as their bytes come.
-use Rattle.std.proofs.Common.{◌≡◌, ◌∙◌, ℕ, ◌+◌, ◌-◌, ◌<◌, ◌≤◌, true, false, cond, List, [], ◌∷◌, ◌++◌, length, drop, take, Option, Ok, Err, refl, sym, ap, subst, arith, nat_le, length-append}
+use Rattle.std.proofs.Common.{◌≡◌, ◌∙◌, ℕ, ◌+◌, ◌-◌, ◌<◌, ◌≤◌, true, false, cond, List, [], ◌∷◌, ◌++◌, length, drop, take, Option, Ok, Err, refl, sym, ap}
+use Rattle.std.proofs.Common.{subst, arith, nat_le, length-append}
 use Rattle.std.specs.Prelude.{⊤}
 use Rattle.std.proofs.lemmas.List.{drop-append-le, length-drop}
 use Rattle.std.proofs.Math.Seq.{drop-append_seam}
@@ -50,7 +51,8 @@ stepped_steps (stepping.Fails code) chunks byte = tt
 advanced_steps : (chunks : Chunks) (byte : ℕ) → Steps chunks.seen (advanced chunks byte)
 unfolding Steps
 advanced_steps chunks byte =
-    elim (nat_le frame_limit chunks.seen) as (λ t. Steps chunks.seen (cond t (body.refused F3) (stepped (step chunks.place (length chunks.content) byte) chunks byte)))
+    elim (nat_le frame_limit chunks.seen) as (λ t.
+    Steps chunks.seen (cond t (body.refused F3) (stepped (step chunks.place (length chunks.content) byte) chunks byte)))
     [ true ↦ tt | false ↦ stepped_steps (step chunks.place (length chunks.content) byte) chunks byte ]
 
 within_by : (o : Outcome) (seen more : ℕ) (bytes content : List ℕ) (count : ℕ) → Steps seen o
@@ -62,13 +64,17 @@ within_by (body.refused code) seen more bytes content count steps later is = abs
 within_by (body.whole other n) seen more bytes content count steps later is = let same : n ≡ count = cc in omega (arith, steps)
 
 -- a whole body lies within the bytes
-pub run_within : (bytes : List ℕ) (chunks : Chunks) (content : List ℕ) (count : ℕ) → run chunks bytes ≡ body.whole content count → count ≤ chunks.seen + length bytes
+pub run_within : (bytes : List ℕ) (chunks : Chunks) (content : List ℕ) (count : ℕ) → run chunks bytes ≡ body.whole content count
+    → count ≤ chunks.seen + length bytes
 run_within [] chunks content count is = absurd (cc)
 run_within (byte ∷ bytes) chunks content count is =
-    let bound = within_by (advanced chunks byte) chunks.seen (length bytes) bytes content count (advanced_steps chunks byte) (λ next e. run_within bytes next content count e) is in
+    let bound =
+    within_by (advanced chunks byte) chunks.seen (length bytes) bytes content count (advanced_steps chunks byte) (λ next e.
+    run_within bytes next content count e) is in
     omega (arith, bound)
 
-pub chunked_within : (bytes : List ℕ) (end : ℕ) (content : List ℕ) (count : ℕ) → end ≤ length bytes → chunked (drop end bytes) ≡ body.whole content count → end + count ≤ length bytes
+pub chunked_within : (bytes : List ℕ) (end : ℕ) (content : List ℕ) (count : ℕ) → end ≤ length bytes → chunked (drop end bytes) ≡ body.whole content count
+    → end + count ≤ length bytes
 chunked_within bytes end content count within is =
     let bound = run_within (drop end bytes) at_first content count is in
     omega (arith, bound, length-drop end bytes)
@@ -91,30 +97,36 @@ sized_short all end count short =
     ap (λ t. cond t (complete (take count (drop end all)) count) waiting) test
 
 -- a body of so many bytes isn't whole while fewer stand after its head
-paced_sized : {talk talk' : Option Talk} (held taken : List ℕ) (end count : ℕ) → Paced talk talk' (IsShort end count) held taken → Paced talk talk' (IsWaiting end (Sized count)) held taken
+paced_sized : {talk talk' : Option Talk} (held taken : List ℕ) (end count : ℕ) → Paced talk talk' (IsShort end count) held taken
+    → Paced talk talk' (IsWaiting end (Sized count)) held taken
 paced_sized {talk} {talk'} held taken end count paced =
-    paced_rebase talk talk' (IsShort end count) (IsWaiting end (Sized count)) held held taken (λ more is. (is.0, sized_short (held ++ more) end count is.1)) paced
+    paced_rebase talk talk' (IsShort end count) (IsWaiting end (Sized count)) held held taken (λ more is. (is.0, sized_short (held ++ more) end count is.1))
+    paced
 
 pub reads_sized : {left left' : Option (List ℕ)} {talk talk' : Option Talk} {held held1 held' : List ℕ} {read read' : ℕ} (end count : ℕ) (content : List ℕ)
-    → Gathers (IsShort end count) left left' talk talk' held held1 read read' → end ≤ length held1 → count ≤ length held1 - end → content ≡ take count (drop end held1)
+    → Gathers (IsShort end count) left left' talk talk' held held1 read read' → end ≤ length held1 → count ≤ length held1 - end
+    → content ≡ take count (drop end held1)
     → held' ≡ drop (end + count) held1 → ReadsBody left left' talk talk' held held' read read' end (Sized count) (Ok content)
 reads_sized {left} {left'} {talk} {talk'} {held} {held1} {held'} {read} {read'} end count content gains within enough same rest = record {
   taken = gains.taken;
   consumed = gains.consumed;
   counted = gains.counted;
-  gives = subst (λ all. GivesBody all held' end (Sized count) (IsSpent left' read') (Ok content)) gains.behind
+  gives = subst (λ all. GivesBody all held' end (Sized count) (IsSpent left' read') (Ok content)) gains.beyond
       (count, sized_whole held1 end count within enough ∙ ap (λ xs. complete xs count) (sym same), rest);
   paced = paced_sized held gains.taken end count gains.paced;
 }
 
 pub reads_sized_stop : {left left' : Option (List ℕ)} {talk talk' : Option Talk} {held held1 : List ℕ} {read read' : ℕ} (end count : ℕ) (e : WireFault)
-    → Gathers (IsShort end count) left left' talk talk' held held1 read read' → length held1 - end < count → is_stop e ≡ true → (e ≡ fault.Truncated → IsSpent left' read')
+    → Gathers (IsShort end count) left left' talk talk' held held1 read read' → length held1 - end < count → is_stop e ≡ true
+    → (e ≡ fault.Truncated → IsSpent left' read')
     → ReadsBody left left' talk talk' held held1 read read' end (Sized count) (Err e)
 reads_sized_stop {left} {left'} {talk} {talk'} {held} {held1} {read} {read'} end count e gains short stop spent = record {
   taken = gains.taken;
   consumed = gains.consumed;
   counted = gains.counted;
-  gives = subst (λ all. GivesBody all held1 end (Sized count) (IsSpent left' read') (Err e)) gains.behind (at_stop e (sized_short held1 end count short) stop spent);
+  gives =
+      subst (λ all. GivesBody all held1 end (Sized count) (IsSpent left' read') (Err e)) gains.beyond
+      (at_stop e (sized_short held1 end count short) stop spent);
   paced = paced_sized held gains.taken end count gains.paced;
 }
   where
@@ -126,23 +138,25 @@ reads_sized_stop {left} {left'} {talk} {talk'} {held} {held1} {read} {read'} end
     at_stop fault.Memory still stop spent = refl
 
 pub reads_no_memory : {left left' : Option (List ℕ)} {talk talk' : Option Talk} {held held1 held' : List ℕ} {read read' : ℕ} (end count : ℕ)
-    → Gathers (IsShort end count) left left' talk talk' held held1 read read' → held' ≡ held1 → ReadsBody left left' talk talk' held held' read read' end (Sized count) (Err fault.Memory)
+    → Gathers (IsShort end count) left left' talk talk' held held1 read read' → held' ≡ held1
+    → ReadsBody left left' talk talk' held held' read read' end (Sized count) (Err fault.Memory)
 reads_no_memory {held = held} end count gains same = record {
   taken = gains.taken;
   consumed = gains.consumed;
   counted = gains.counted;
-  gives = same ∙ gains.behind;
+  gives = same ∙ gains.beyond;
   paced = paced_sized held gains.taken end count gains.paced;
 }
 
 pub reads_chunked : {left left' : Option (List ℕ)} {talk talk' : Option Talk} {held held1 held' : List ℕ} {read read' : ℕ} (end used : ℕ) (content : List ℕ)
-    → Gathers (IsWaiting end Chunked) left left' talk talk' held held1 read read' → chunked (drop end held1) ≡ body.whole content used → held' ≡ drop (end + used) held1
+    → Gathers (IsWaiting end Chunked) left left' talk talk' held held1 read read' → chunked (drop end held1) ≡ body.whole content used
+    → held' ≡ drop (end + used) held1
     → ReadsBody left left' talk talk' held held' read read' end Chunked (Ok content)
 reads_chunked {left} {left'} {talk} {talk'} {held} {held1} {held'} {read} {read'} end used content gains whole rest = record {
   taken = gains.taken;
   consumed = gains.consumed;
   counted = gains.counted;
-  gives = subst (λ all. GivesBody all held' end Chunked (IsSpent left' read') (Ok content)) gains.behind (used, ap by_chunks whole, rest);
+  gives = subst (λ all. GivesBody all held' end Chunked (IsSpent left' read') (Ok content)) gains.beyond (used, ap by_chunks whole, rest);
   paced = gains.paced;
 }
 
@@ -153,7 +167,7 @@ reads_chunked_stop {left} {left'} {talk} {talk'} {held} {held1} {read} {read'} e
   taken = gains.taken;
   consumed = gains.consumed;
   counted = gains.counted;
-  gives = subst (λ all. GivesBody all held1 end Chunked (IsSpent left' read') (Err e)) gains.behind (at_stop e gives);
+  gives = subst (λ all. GivesBody all held1 end Chunked (IsSpent left' read') (Err e)) gains.beyond (at_stop e gives);
   paced = gains.paced;
 }
   where

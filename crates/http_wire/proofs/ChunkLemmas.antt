@@ -1,5 +1,6 @@
 -- Bodies of chunks, as their bytes come.
-use Rattle.std.proofs.Common.{◌≡◌, ◌∙◌, ◌≤◌, ◌<◌, ◌+◌, ◌-◌, suc, ℕ, true, false, List, [], ◌∷◌, ◌++◌, length, take, drop, refl, sym, ap, arith, append_assoc, append-nil, nat_eq, nat_lt, nat_le}
+use Rattle.std.proofs.Common.{◌≡◌, ◌∙◌, ◌≤◌, ◌<◌, ◌+◌, ◌-◌, suc, ℕ, true, false, List, [], ◌∷◌, ◌++◌, length, take, drop, refl, sym, ap, arith, append_assoc}
+use Rattle.std.proofs.Common.{append-nil, nat_eq, nat_lt, nat_le}
 use Rattle.std.proofs.Common.{length-take}
 use Rattle.std.proofs.lemmas.List.{take-append-drop}
 use Rattle.std.proofs.lemmas.Bool.Decides.{nat_tests}
@@ -36,7 +37,8 @@ content_run (byte ∷ bytes) rest left content seen short room =
     ∙ ap (λ n. run (in_content (left - suc (length bytes)) (content ++ byte ∷ bytes) n) rest) b
 
 -- the content at the front of bytes
-pub content_taken : (chunks : Chunks) (bytes content : List ℕ) (n left : ℕ) → chunks.place ≡ Content left → n ≤ length bytes → n ≤ left → chunks.seen + n ≤ frame_limit
+pub content_taken : (chunks : Chunks) (bytes content : List ℕ) (n left : ℕ) → chunks.place ≡ Content left → n ≤ length bytes → n ≤ left
+    → chunks.seen + n ≤ frame_limit
     → content ≡ chunks.content ++ take n bytes → run chunks bytes ≡ run (in_content (left - n) content (chunks.seen + n)) (drop n bytes)
 content_taken chunks bytes content n left at within short room same =
     let count : length (take n bytes) ≡ n = omega (arith, length-take n bytes) in

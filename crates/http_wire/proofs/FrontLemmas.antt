@@ -7,7 +7,7 @@ use Rattle.dh_outside.specs.Talk.{Talk}
 use Rattle.dh_outside.proofs.TalkLemmas.{paced_none, paced_on, paced_one}
 use Rattle.wire_head.specs.Lines.{blank_length, opening_of, IsPassed}
 use Rattle.wire_head.specs.declared.lines.Opening.TheVariants.{Nothing, Unfinished}
-use Rattle.http_wire.specs.Next.{Found, ended, cut, behind, IsFoundBy, IsFirst, skipped, IsNext, IsOpen}
+use Rattle.http_wire.specs.Next.{Found, ended, cut, beyond, IsFoundBy, IsFirst, skipped, IsNext, IsOpen}
 use Rattle.http_wire.specs.Reads.{Gathers, Skims}
 use Rattle.http_wire.proofs.OpeningLaws.{skip_on, skip_twice, blank_skipped, opening_nothing, passed_more, passed_none}
 use Rattle.std.proofs.lemmas.List.{get_or-take, get_or-drop, ext_get_or, length-take, length-drop}
@@ -22,32 +22,34 @@ moved_all old new from within len at =
 
 -- ---- what was taken
 
-pub gathers_none : (Open : List ℕ → Type 0) (left : Option (List ℕ)) (talk : Option Talk) (held : List ℕ) (read : ℕ) → Gathers Open left left talk talk held held read read
+pub gathers_none : (Open : List ℕ → Type 0) (left : Option (List ℕ)) (talk : Option Talk) (held : List ℕ) (read : ℕ)
+    → Gathers Open left left talk talk held held read read
 gathers_none Open left talk held read = record {
   taken = [];
   consumed = Consumes-nil left;
-  behind = sym (append-nil held);
+  beyond = sym (append-nil held);
   counted = omega arith;
   paced = paced_none talk Open held;
 }
 
 -- one more piece, asked for while the bytes held were open
-pub gathers_on : {Open : List ℕ → Type 0} {left left' left'' : Option (List ℕ)} {talk talk' talk'' : Option Talk} {held held' held'' : List ℕ} {read read' read'' : ℕ}
+pub gathers_on : {Open : List ℕ → Type 0} {left left' left'' : Option (List ℕ)} {talk talk' talk'' : Option Talk} {held held' held'' : List ℕ}
+    {read read' read'' : ℕ}
     → Gathers Open left left' talk talk' held held' read read' → Open held' → Gains left' left'' talk' talk'' held' held'' read' read''
     → Gathers Open left left'' talk talk'' held held'' read read''
 gathers_on {Open} {left} {left'} {left''} {talk} {talk'} {talk''} {held} {held'} {held''} {read} {read'} {read''} first is second = record {
   taken = first.taken ++ second.taken;
   consumed = Consumes-trans left left' left'' first.taken second.taken first.consumed second.consumed;
-  behind = second.behind ∙ ap (λ xs. xs ++ second.taken) first.behind ∙ append_assoc held first.taken second.taken;
+  beyond = second.beyond ∙ ap (λ xs. xs ++ second.taken) first.beyond ∙ append_assoc held first.taken second.taken;
   counted = (let sum = length-append first.taken second.taken in omega (arith, first.counted, second.counted));
   paced = paced_on talk talk' talk'' Open held first.taken second.taken first.paced
-      (paced_one talk' talk'' Open (held ++ first.taken) second.taken (subst Open first.behind is) second.hears);
+      (paced_one talk' talk'' Open (held ++ first.taken) second.taken (subst Open first.beyond is) second.hears);
 }
 
 pub skip_zero : (b : List ℕ) → blank_length b ≡ 0 → skipped b ≡ b
 skip_zero b none = ap (λ n. drop n b) none
 
-pub next_by : (all front : List ℕ) (first : Found) → front ≡ skipped all → IsFirst front first → IsNext all (behind (blank_length all) first)
+pub next_by : (all front : List ℕ) (first : Found) → front ≡ skipped all → IsFirst front first → IsNext all (beyond (blank_length all) first)
 next_by all front first at is = (first, subst (λ xs. IsFirst xs first) at is, refl)
 
 -- bytes are open where no head is found at their front
@@ -80,7 +82,7 @@ pub skims_more : {left left' left'' : Option (List ℕ)} {talk talk' talk'' : Op
 skims_more {left} {left'} {left''} {talk} {talk'} {talk''} {held} {held'} {held''} {read} {read'} {read''} skims front opening gains = record {
   taken = skims.taken ++ gains.taken;
   consumed = Consumes-trans left left' left'' skims.taken gains.taken skims.consumed gains.consumed;
-  same = ap skipped gains.behind ∙ skip_on held' gains.taken ∙ ap (λ xs. skipped (xs ++ gains.taken)) skims.same
+  same = ap skipped gains.beyond ∙ skip_on held' gains.taken ∙ ap (λ xs. skipped (xs ++ gains.taken)) skims.same
       ∙ sym (skip_on (held ++ skims.taken) gains.taken) ∙ ap skipped (append_assoc held skims.taken gains.taken);
   counted = (let sum = length-append skims.taken gains.taken in omega (arith, skims.counted, gains.counted));
   paced = paced_on talk talk' talk'' IsOpen held skims.taken gains.taken skims.paced
@@ -95,7 +97,8 @@ pub front_same : (held held' held'' : List ℕ) → held' ≡ skipped held → h
 front_same held held' held'' at same = ap blank_length same ∙ front_skipped held held' at
 
 -- what was looked at need not be looked at again
-pub passed_on : (held held' taken : List ℕ) (from : ℕ) → (opening_of held ≡ Nothing) ⊎ (opening_of held ≡ Unfinished) → from ≡ length held - 2 → held' ≡ held ++ taken → IsPassed held' from
+pub passed_on : (held held' taken : List ℕ) (from : ℕ) → (opening_of held ≡ Nothing) ⊎ (opening_of held ≡ Unfinished) → from ≡ length held - 2
+    → held' ≡ held ++ taken → IsPassed held' from
 passed_on held held' taken from (inl none) at more =
     let nothing : from ≡ 0 = (let empty = ap length (opening_nothing held none) in omega arith) in
     subst (λ n. IsPassed held' n) (sym nothing) (passed_none held')

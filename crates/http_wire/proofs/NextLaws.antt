@@ -1,6 +1,7 @@
 -- At most one thing is next in bytes; what was decided stays decided as more bytes come; a whole request lies within
 -- the bytes.
-use Rattle.std.proofs.Common.{◌≡◌, ◌∙◌, ℕ, ◌≤◌, Bool, true, false, cond, List, [], ◌++◌, length, drop, take, Result, Ok, Err, refl, sym, ap, subst, arith, nat_le, length-append}
+use Rattle.std.proofs.Common.{◌≡◌, ◌∙◌, ℕ, ◌≤◌, Bool, true, false, cond, List, [], ◌++◌, length, drop, take, Result, Ok, Err, refl, sym, ap, subst, arith}
+use Rattle.std.proofs.Common.{nat_le, length-append}
 use Rattle.std.specs.Prelude.{⊤}
 use Rattle.std.proofs.lemmas.List.{drop-append-le, take-append-le, length-drop}
 use Rattle.std.proofs.lemmas.Bool.Decides.{nat_tests}
@@ -16,7 +17,8 @@ use Rattle.wire_head.specs.declared.lines.Opening.TheVariants.{Nothing, Unfinish
 use Rattle.wire_head.specs.declared.plan.Plan.{Plan}
 use Rattle.wire_head.specs.declared.plan.Plan.TheVariants.{Sized, Chunked}
 use Rattle.wire_head.proofs.HeadLaws.{says_unique}
-use Rattle.http_wire.specs.Next.{Found, ended, cut, refused, whole, behind, waiting, complete, by_chunks, body_of, with_body, behind_head, IsFoundBy, IsFirst, skipped, IsNext}
+use Rattle.http_wire.specs.Next.{Found, ended, cut, refused, whole, beyond, waiting, complete, by_chunks, body_of, with_body, behind_head, IsFoundBy}
+use Rattle.http_wire.specs.Next.{IsFirst, skipped, IsNext}
 use Rattle.http_wire.proofs.OpeningLaws.{skip_still, blank_within, opening_head, opening_more, opening_long}
 use Rattle.http_wire.proofs.BodyLemmas.{run_within}
 
@@ -27,11 +29,11 @@ found_unique Nothing bytes f g one two = one ∙ sym two
 found_unique Unfinished bytes f g one two = one ∙ sym two
 found_unique TooLong bytes f g one two = one ∙ sym two
 found_unique (Whole n) bytes f g one two =
-    one.2 ∙ ap (λ said. behind n (behind_head said (drop n bytes))) (says_unique (take n bytes) one.0 two.0 one.1 two.1) ∙ sym two.2
+    one.2 ∙ ap (λ said. beyond n (behind_head said (drop n bytes))) (says_unique (take n bytes) one.0 two.0 one.1 two.1) ∙ sym two.2
 
 pub next_unique : (bytes : List ℕ) (f g : Found) → IsNext bytes f → IsNext bytes g → f ≡ g
 next_unique bytes f g one two =
-    one.2 ∙ ap (behind (blank_length bytes)) (found_unique (opening_of (skipped bytes)) (skipped bytes) one.0 two.0 one.1 two.1) ∙ sym two.2
+    one.2 ∙ ap (beyond (blank_length bytes)) (found_unique (opening_of (skipped bytes)) (skipped bytes) one.0 two.0 one.1 two.1) ∙ sym two.2
 
 -- ---- what was decided
 
@@ -41,13 +43,14 @@ IsDecided cut = ⊥
 IsDecided (refused code) = ⊤
 IsDecided (whole request used) = ⊤
 
-decided_front : (n : ℕ) (f : Found) → IsDecided (behind n f) → IsDecided f
+decided_front : (n : ℕ) (f : Found) → IsDecided (beyond n f) → IsDecided f
 decided_front n ended is = is
 decided_front n cut is = is
 decided_front n (refused code) is = tt
 decided_front n (whole request used) is = tt
 
-chunks_stay : (head : Head) (outcome : Outcome) (more : List ℕ) → IsDecided (with_body head (by_chunks outcome)) → and_on outcome (λ next. run next more) ≡ outcome
+chunks_stay : (head : Head) (outcome : Outcome) (more : List ℕ) → IsDecided (with_body head (by_chunks outcome))
+    → and_on outcome (λ next. run next more) ≡ outcome
 chunks_stay head (open_at chunks) more is = absurd is
 chunks_stay head (body.refused code) more is = refl
 chunks_stay head (body.whole content count) more is = refl
@@ -62,7 +65,8 @@ sized_stay head count bytes more true test is =
     ap (λ u. cond u (complete (take count (bytes ++ more)) count) waiting) longer ∙ ap (λ xs. complete xs count) (take-append-le count bytes more fits)
 sized_stay head count bytes more false test is = absurd is
 
-body_stays : (head : Head) (plan : Plan) (bytes more : List ℕ) → IsDecided (with_body head (body_of plan bytes)) → body_of plan (bytes ++ more) ≡ body_of plan bytes
+body_stays : (head : Head) (plan : Plan) (bytes more : List ℕ) → IsDecided (with_body head (body_of plan bytes))
+    → body_of plan (bytes ++ more) ≡ body_of plan bytes
 body_stays head (Sized count) bytes more is = sized_stay head count bytes more (nat_le count (length bytes)) refl is
 body_stays head Chunked bytes more is = ap by_chunks (run_append at_first bytes more ∙ chunks_stay head (chunked bytes) more is)
 
@@ -90,7 +94,7 @@ first_stays (Whole n) bytes more f at is decided =
     subst (λ o. IsFoundBy o (bytes ++ more) f) (sym (opening_more bytes more n at)) (
       is.0,
       subst (λ xs. Says xs is.0) (sym (take-append-le n bytes more high)) is.1,
-      is.2 ∙ ap (behind n) (sym (ap (behind_head is.0) (drop-append-le n bytes more high) ∙ head_stays is.0 (drop n bytes) more here)),
+      is.2 ∙ ap (beyond n) (sym (ap (behind_head is.0) (drop-append-le n bytes more high) ∙ head_stays is.0 (drop n bytes) more here)),
     )
 
 pub next_stays : (bytes more : List ℕ) (f : Found) → IsNext bytes f → IsDecided f → IsNext (bytes ++ more) f
@@ -99,7 +103,7 @@ next_stays bytes more f is decided =
     let long = skip_still bytes more (two_bytes (opening_of (skipped bytes)) (skipped bytes) is.0 refl is.1 first) in (
       is.0,
       subst (λ xs. IsFirst xs is.0) (sym long.1) (first_stays (opening_of (skipped bytes)) (skipped bytes) more is.0 refl is.1 first),
-      is.2 ∙ ap (λ n. behind n is.0) (sym long.0),
+      is.2 ∙ ap (λ n. beyond n is.0) (sym long.0),
     )
 
 -- ---- within the bytes
@@ -110,7 +114,7 @@ IsWithin bytes cut = ⊤
 IsWithin bytes (refused code) = ⊤
 IsWithin bytes (whole request used) = used ≤ length bytes
 
-behind_within : (bytes : List ℕ) (n : ℕ) (f : Found) → n ≤ length bytes → IsWithin (drop n bytes) f → IsWithin bytes (behind n f)
+behind_within : (bytes : List ℕ) (n : ℕ) (f : Found) → n ≤ length bytes → IsWithin (drop n bytes) f → IsWithin bytes (beyond n f)
 behind_within bytes n ended short is = tt
 behind_within bytes n cut short is = tt
 behind_within bytes n (refused code) short is = tt

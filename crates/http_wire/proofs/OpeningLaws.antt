@@ -1,5 +1,6 @@
 -- Empty lines, heads and what stands at the front of bytes, as more bytes come.
-use Rattle.std.proofs.Common.{◌≡◌, ◌∙◌, ℕ, suc, ◌+◌, ◌-◌, ◌<◌, ◌≤◌, ◌&&◌, Bool, true, false, cond, List, [], ◌∷◌, ◌++◌, length, drop, take, Option, Some, None, refl, sym, ap, arith, append-nil, zero, length-append, nat_eq, nat_lt, nat_le}
+use Rattle.std.proofs.Common.{◌≡◌, ◌∙◌, ℕ, suc, ◌+◌, ◌-◌, ◌<◌, ◌≤◌, ◌&&◌, Bool, true, false, cond, List, [], ◌∷◌, ◌++◌, length, drop, take, Option, Some}
+use Rattle.std.proofs.Common.{None, refl, sym, ap, arith, append-nil, zero, length-append, nat_eq, nat_lt, nat_le}
 use Rattle.std.proofs.lemmas.List.{drop-drop, drop-append-le, take-append-le, length-take, take_all}
 use Rattle.std.proofs.Math.Seq.{take-append-add}
 use Rattle.std.proofs.lemmas.Bool.Decides.{nat_tests}

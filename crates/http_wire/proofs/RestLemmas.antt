@@ -1,5 +1,6 @@
 -- The next request, from what is read of its head and of its body.
-use Rattle.std.proofs.Common.{◌≡◌, ◌∙◌, ℕ, ◌+◌, ◌≤◌, List, [], ◌++◌, length, drop, take, Option, None, Some, Result, Ok, Err, inl, inr, refl, sym, ap, subst, arith, append-nil, append_assoc, length-append}
+use Rattle.std.proofs.Common.{◌≡◌, ◌∙◌, ℕ, ◌+◌, ◌≤◌, List, [], ◌++◌, length, drop, take, Option, None, Some, Result, Ok, Err, inl, inr, refl, sym, ap, subst}
+use Rattle.std.proofs.Common.{arith, append-nil, append_assoc, length-append}
 use Rattle.std.proofs.lemmas.List.{drop-drop, take-append-le}
 use Rattle.std.proofs.KnownBytes.{Consumes-nil, Consumes-trans}
 use Rattle.dh_base.specs.declared.codes.Code.{Code}
@@ -14,7 +15,7 @@ use Rattle.wire_head.specs.declared.head.HeadFault.{HeadFault}
 use Rattle.wire_head.specs.declared.head.HeadFault.TheVariants as head_fault
 use Rattle.wire_head.specs.declared.lines.Opening.TheVariants.{Nothing, Whole}
 use Rattle.http_wire.specs.Faults.{comes_from}
-use Rattle.http_wire.specs.Next.{Found, ended, cut, refused, whole, behind, with_body, request_of, IsFoundBy, skipped, IsNext, IsOpen}
+use Rattle.http_wire.specs.Next.{Found, ended, cut, refused, whole, beyond, with_body, request_of, IsFoundBy, skipped, IsNext, IsOpen}
 use Rattle.http_wire.specs.Reads.{RestSeen, seen, IsCutBehind, IsWaiting, Gives, Reads, Opens, Skims, IsBehind, GivesBehind, ReadsBehind, GivesBody, ReadsBody}
 use Rattle.http_wire.specs.declared.request.Request.{Request}
 use Rattle.http_wire.specs.declared.request.WireFault.{WireFault}
@@ -28,7 +29,8 @@ use Rattle.http_wire.proofs.OpeningLaws.{skip_still, opening_head, opening_more,
 says_on : (held taken : List ℕ) (end : ℕ) (said : Result Head Code) → end ≤ length held → Says (take end held) said → Says (take end (held ++ taken)) said
 says_on held taken end said within says = subst (λ xs. Says xs said) (sym (take-append-le end held taken within)) says
 
-behind_ok : (all held' : List ℕ) (end : ℕ) (Spent : Type 0) (head : Head) (content : List ℕ) (request : Request) → Says (take end all) (Ok head) → request ≡ request_of head content
+behind_ok : (all held' : List ℕ) (end : ℕ) (Spent : Type 0) (head : Head) (content : List ℕ) (request : Request) → Says (take end all) (Ok head)
+    → request ≡ request_of head content
     → GivesBody all held' end head.plan Spent (Ok content) → GivesBehind all held' end Spent (Ok request)
 behind_ok all held' end Spent head content request says same gives =
     (gives.0, (Ok head, says, ap (with_body head) gives.1 ∙ ap (λ r. whole r gives.0) (sym same)), gives.2)
@@ -47,14 +49,18 @@ paced_cut {talk} {talk'} held taken end head within says paced =
     paced_rebase talk talk' (IsWaiting end head.plan) (IsCutBehind end) held held taken
     (λ more is. (is.0, (Ok head, says_on held more end (Ok head) within says, ap (with_body head) is.1))) paced
 
-pub reads_behind : {left left' : Option (List ℕ)} {talk talk' : Option Talk} {held held' : List ℕ} {read read' end : ℕ} (head : Head) (content : List ℕ) (request : Request)
+pub reads_behind : {left left' : Option (List ℕ)} {talk talk' : Option Talk} {held held' : List ℕ} {read read' end : ℕ} (head : Head) (content : List ℕ)
+    (request : Request)
     → end ≤ length held → Says (take end held) (Ok head) → request ≡ request_of head content
-    → ReadsBody left left' talk talk' held held' read read' end head.plan (Ok content) → ReadsBehind left left' talk talk' held held' read read' end (Ok request)
+    → ReadsBody left left' talk talk' held held' read read' end head.plan (Ok content)
+    → ReadsBehind left left' talk talk' held held' read read' end (Ok request)
 reads_behind {left} {left'} {talk} {talk'} {held} {held'} {read} {read'} {end} head content request within says same reads = record {
   taken = reads.taken;
   consumed = reads.consumed;
   counted = reads.counted;
-  gives = behind_ok (held ++ reads.taken) held' end (IsSpent left' read') head content request (says_on held reads.taken end (Ok head) within says) same reads.gives;
+  gives =
+      behind_ok (held ++ reads.taken) held' end (IsSpent left' read') head content request (says_on held reads.taken end (Ok head) within says) same
+      reads.gives;
   paced = paced_cut held reads.taken end head within says reads.paced;
 }
 
@@ -69,33 +75,42 @@ reads_behind_stop {left} {left'} {talk} {talk'} {held} {held'} {read} {read'} {e
   paced = paced_cut held reads.taken end head within says reads.paced;
 }
 
-head_stop : (f : HeadFault) (held : List ℕ) (end : ℕ) (Spent : Type 0) → Answers (Err f) (Says (take end held)) → GivesBehind held held end Spent (Err (comes_from f))
+head_stop : (f : HeadFault) (held : List ℕ) (end : ℕ) (Spent : Type 0) → Answers (Err f) (Says (take end held))
+    → GivesBehind held held end Spent (Err (comes_from f))
 head_stop (head_fault.Refused code) held end Spent says = (Err code, says, refl)
 head_stop head_fault.Memory held end Spent says = refl
 
-pub reads_behind_head : (left : Option (List ℕ)) (talk : Option Talk) (held : List ℕ) (read end : ℕ) (f : HeadFault) (e : WireFault) → e ≡ comes_from f → Answers (Err f) (Says (take end held))
+pub reads_behind_head : (left : Option (List ℕ)) (talk : Option Talk) (held : List ℕ) (read end : ℕ) (f : HeadFault) (e : WireFault) → e ≡ comes_from f
+    → Answers (Err f) (Says (take end held))
     → ReadsBehind left left talk talk held held read read end (Err e)
 reads_behind_head left talk held read end f e same says = record {
   taken = [];
   consumed = Consumes-nil left;
   counted = omega arith;
   gives = subst (λ x. GivesBehind (held ++ []) held end (IsSpent left read) (Err x)) (sym same)
-      (subst (λ all. GivesBehind all held end (IsSpent left read) (Err (comes_from f))) (sym (append-nil held)) (head_stop f held end (IsSpent left read) says));
+      (subst (λ all. GivesBehind all held end (IsSpent left read) (Err (comes_from f))) (sym (append-nil held))
+      (head_stop f held end (IsSpent left read) says));
   paced = paced_none talk (IsCutBehind end) held;
 }
 
 -- ---- at the front
 
-front_is : {left left' : Option (List ℕ)} {talk talk' : Option Talk} {held held' : List ℕ} {read read' : ℕ} (skims : Skims left left' talk talk' held held' read read') → blank_length held' ≡ 0 → held' ≡ skipped (held ++ skims.taken)
+front_is : {left left' : Option (List ℕ)} {talk talk' : Option Talk} {held held' : List ℕ} {read read' : ℕ}
+    (skims : Skims left left' talk talk' held held' read read') → blank_length held' ≡ 0 → held' ≡ skipped (held ++ skims.taken)
 front_is {held' = held'} skims none = sym (skip_zero held' none) ∙ skims.same
 
-pub reads_end : {left left' : Option (List ℕ)} {talk talk' : Option Talk} {held held' : List ℕ} {read read' : ℕ} → Skims left left' talk talk' held held' read read' → blank_length held' ≡ 0
+pub reads_end : {left left' : Option (List ℕ)} {talk talk' : Option Talk} {held held' : List ℕ} {read read' : ℕ}
+    → Skims left left' talk talk' held held' read read' → blank_length held' ≡ 0
     → opening_of held' ≡ Nothing → IsSpent left' read' → Reads left left' talk talk' (seen held read) (seen held' read') (Ok None)
 reads_end {held = held} {held' = held'} skims none nothing spent = record {
   taken = skims.taken;
   consumed = skims.consumed;
   counted = skims.counted;
-  gives = (next_by (held ++ skims.taken) held' ended (front_is skims none) (subst (λ o. IsFoundBy o held' ended) (sym nothing) refl), opening_nothing held' nothing, spent);
+  gives = (
+    next_by (held ++ skims.taken) held' ended (front_is skims none) (subst (λ o. IsFoundBy o held' ended) (sym nothing) refl),
+    opening_nothing held' nothing,
+    spent,
+  );
   paced = skims.paced;
 }
 
@@ -107,7 +122,8 @@ open_stop fault.ReadFault all held Spent at (inl nothing) = (inl (next_by all he
 open_stop fault.ReadFault all held Spent at (inr still) = (inr (next_by all held cut at (subst (λ o. IsFoundBy o held cut) (sym still) refl)), at)
 open_stop fault.Memory all held Spent at opens = at
 
-pub reads_stop : {left left' : Option (List ℕ)} {talk talk' : Option Talk} {held held' : List ℕ} {read read' : ℕ} (e : WireFault) → Skims left left' talk talk' held held' read read' → blank_length held' ≡ 0
+pub reads_stop : {left left' : Option (List ℕ)} {talk talk' : Option Talk} {held held' : List ℕ} {read read' : ℕ} (e : WireFault)
+    → Skims left left' talk talk' held held' read read' → blank_length held' ≡ 0
     → Opens held' (IsSpent left' read') (Err e) → Reads left left' talk talk' (seen held read) (seen held' read') (Err e)
 reads_stop {left} {left'} {talk} {talk'} {held} {held'} {read} {read'} e skims none opens = record {
   taken = skims.taken;
@@ -128,9 +144,9 @@ front_on all front taken end at is =
     ap (λ xs. xs ++ taken) at ∙ sym stays.1
 
 behind_next : (all front : List ℕ) (end : ℕ) (found : Found) → front ≡ skipped all → opening_of front ≡ Whole end → IsBehind front end found
-    → IsNext all (behind (blank_length all) (behind end found))
+    → IsNext all (beyond (blank_length all) (beyond end found))
 behind_next all front end found at is back =
-    next_by all front (behind end found) at (subst (λ o. IsFoundBy o front (behind end found)) (sym is) (back.0, back.1, ap (behind end) (sym back.2)))
+    next_by all front (beyond end found) at (subst (λ o. IsFoundBy o front (beyond end found)) (sym is) (back.0, back.1, ap (beyond end) (sym back.2)))
 
 -- bytes are open while the request at their front is cut off
 paced_behind : {talk talk' : Option Talk} (all front taken : List ℕ) (end : ℕ) → front ≡ skipped all → opening_of front ≡ Whole end
@@ -154,9 +170,11 @@ stop_gives fault.Truncated all front held' end Spent at is gives = (behind_next 
 stop_gives fault.ReadFault all front held' end Spent at is gives = (inr (behind_next all front end cut at is gives.0), gives.1 ∙ at)
 stop_gives fault.Memory all front held' end Spent at is gives = gives ∙ at
 
-pub reads_some : {left left1 left' : Option (List ℕ)} {talk talk1 talk' : Option Talk} {held held1 held' : List ℕ} {read read1 read' : ℕ} (end : ℕ) (request : Request)
+pub reads_some : {left left1 left' : Option (List ℕ)} {talk talk1 talk' : Option Talk} {held held1 held' : List ℕ} {read read1 read' : ℕ} (end : ℕ)
+    (request : Request)
     → Skims left left1 talk talk1 held held1 read read1 → blank_length held1 ≡ 0 → opening_of held1 ≡ Whole end
-    → ReadsBehind left1 left' talk1 talk' held1 held' read1 read' end (Ok request) → Reads left left' talk talk' (seen held read) (seen held' read') (Ok (Some request))
+    → ReadsBehind left1 left' talk1 talk' held1 held' read1 read' end (Ok request)
+    → Reads left left' talk talk' (seen held read) (seen held' read') (Ok (Some request))
 reads_some {left} {left1} {left'} {talk} {talk1} {talk'} {held} {held1} {held'} {read} {read1} {read'} end request skims none is reads = record {
   taken = skims.taken ++ reads.taken;
   consumed = Consumes-trans left left1 left' skims.taken reads.taken skims.consumed reads.consumed;
@@ -164,10 +182,13 @@ reads_some {left} {left1} {left'} {talk} {talk1} {talk'} {held} {held1} {held'} 
   gives = subst (λ all. Gives all held' (IsSpent left' read') (Ok (Some request))) (append_assoc held skims.taken reads.taken)
       (some_gives ((held ++ skims.taken) ++ reads.taken) (held1 ++ reads.taken) held' end (IsSpent left' read') request
       (front_on (held ++ skims.taken) held1 reads.taken end (front_is skims none) is) (opening_more held1 reads.taken end is) reads.gives);
-  paced = paced_on talk talk1 talk' IsOpen held skims.taken reads.taken skims.paced (paced_behind (held ++ skims.taken) held1 reads.taken end (front_is skims none) is reads.paced);
+  paced =
+      paced_on talk talk1 talk' IsOpen held skims.taken reads.taken skims.paced
+      (paced_behind (held ++ skims.taken) held1 reads.taken end (front_is skims none) is reads.paced);
 }
 
-pub reads_some_stop : {left left1 left' : Option (List ℕ)} {talk talk1 talk' : Option Talk} {held held1 held' : List ℕ} {read read1 read' : ℕ} (end : ℕ) (e : WireFault)
+pub reads_some_stop : {left left1 left' : Option (List ℕ)} {talk talk1 talk' : Option Talk} {held held1 held' : List ℕ} {read read1 read' : ℕ} (end : ℕ)
+    (e : WireFault)
     → Skims left left1 talk talk1 held held1 read read1 → blank_length held1 ≡ 0 → opening_of held1 ≡ Whole end
     → ReadsBehind left1 left' talk1 talk' held1 held' read1 read' end (Err e) → Reads left left' talk talk' (seen held read) (seen held' read') (Err e)
 reads_some_stop {left} {left1} {left'} {talk} {talk1} {talk'} {held} {held1} {held'} {read} {read1} {read'} end e skims none is reads = record {
@@ -177,7 +198,9 @@ reads_some_stop {left} {left1} {left'} {talk} {talk1} {talk'} {held} {held1} {he
   gives = subst (λ all. Gives all held' (IsSpent left' read') (Err e)) (append_assoc held skims.taken reads.taken)
       (stop_gives e ((held ++ skims.taken) ++ reads.taken) (held1 ++ reads.taken) held' end (IsSpent left' read')
       (front_on (held ++ skims.taken) held1 reads.taken end (front_is skims none) is) (opening_more held1 reads.taken end is) reads.gives);
-  paced = paced_on talk talk1 talk' IsOpen held skims.taken reads.taken skims.paced (paced_behind (held ++ skims.taken) held1 reads.taken end (front_is skims none) is reads.paced);
+  paced =
+      paced_on talk talk1 talk' IsOpen held skims.taken reads.taken skims.paced
+      (paced_behind (held ++ skims.taken) held1 reads.taken end (front_is skims none) is reads.paced);
 }
 
 pub opens_some : (held : List ℕ) (Spent : Type 0) (found : Option ℕ) (end : ℕ) → found ≡ Some end → Opens held Spent (Ok found) → opening_of held ≡ Whole end

@@ -33,11 +33,11 @@ pub data Found : Type 0 where
   whole : Request → ℕ → Found
 
 -- the same after so many bytes
-abbrev pub behind : ℕ → Found → Found
-behind count ended = ended
-behind count cut = cut
-behind count (refused code) = refused code
-behind count (whole request used) = whole request (count + used)
+abbrev pub beyond : ℕ → Found → Found
+beyond count ended = ended
+beyond count cut = cut
+beyond count (refused code) = refused code
+beyond count (whole request used) = whole request (count + used)
 
 -- a body that is not yet whole, one that is refused, or a whole one: its content and how many bytes it takes
 pub data Body : Type 0 where
@@ -70,7 +70,7 @@ abbrev pub IsFoundBy : Opening → List ℕ → Found → Type 0
 IsFoundBy Nothing bytes found = found ≡ ended
 IsFoundBy Unfinished bytes found = found ≡ cut
 IsFoundBy TooLong bytes found = found ≡ refused F2
-IsFoundBy (Whole count) bytes found = (said : Result Head Code) × Says (take count bytes) said × (found ≡ behind count (behind_head said (drop count bytes)))
+IsFoundBy (Whole count) bytes found = (said : Result Head Code) × Says (take count bytes) said × (found ≡ beyond count (behind_head said (drop count bytes)))
 
 abbrev pub IsFirst : List ℕ → Found → Type 0
 IsFirst bytes found = IsFoundBy (opening_of bytes) bytes found
@@ -81,7 +81,7 @@ skipped bytes = drop (blank_length bytes) bytes
 
 -- what is found in bytes
 abbrev pub IsNext : List ℕ → Found → Type 0
-IsNext bytes found = (first : Found) × IsFirst (skipped bytes) first × (found ≡ behind (blank_length bytes) first)
+IsNext bytes found = (first : Found) × IsFirst (skipped bytes) first × (found ≡ beyond (blank_length bytes) first)
 
 -- no request and no refusal, but more bytes may bring one
 abbrev pub IsOpen : List ℕ → Type 0

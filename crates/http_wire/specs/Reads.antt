@@ -49,7 +49,7 @@ pub record Reads (left left' : Option (List ℕ)) (talk talk' : Option Talk) (ol
 pub record Gathers (Open : List ℕ → Type 0) (left left' : Option (List ℕ)) (talk talk' : Option Talk) (held held' : List ℕ) (read read' : ℕ) : Type 0 where
   pub taken : List ℕ
   pub consumed : Consumes left left' taken
-  pub behind : held' ≡ held ++ taken
+  pub beyond : held' ≡ held ++ taken
   pub counted : read' ≡ read + length taken
   pub paced : Paced talk talk' Open held taken
 
@@ -94,7 +94,8 @@ GivesBehind all held count Spent (Err fault.ReadFault) = IsBehind all count cut 
 GivesBehind all held count Spent (Err fault.Memory) = held ≡ all
 
 -- the same with what was taken
-pub record ReadsBehind (left left' : Option (List ℕ)) (talk talk' : Option Talk) (held held' : List ℕ) (read read' count : ℕ) (answer : Result Request WireFault) : Type 0 where
+pub record ReadsBehind (left left' : Option (List ℕ)) (talk talk' : Option Talk) (held held' : List ℕ) (read read' count : ℕ)
+    (answer : Result Request WireFault) : Type 0 where
   pub taken : List ℕ
   pub consumed : Consumes left left' taken
   pub counted : read' ≡ read + length taken
@@ -109,7 +110,8 @@ GivesBody all held count plan Spent (Err fault.Truncated) = (body_of plan (drop 
 GivesBody all held count plan Spent (Err fault.ReadFault) = (body_of plan (drop count all) ≡ waiting) × (held ≡ all)
 GivesBody all held count plan Spent (Err fault.Memory) = held ≡ all
 
-pub record ReadsBody (left left' : Option (List ℕ)) (talk talk' : Option Talk) (held held' : List ℕ) (read read' count : ℕ) (plan : Plan) (answer : Result (List ℕ) WireFault) : Type 0 where
+pub record ReadsBody (left left' : Option (List ℕ)) (talk talk' : Option Talk) (held held' : List ℕ) (read read' count : ℕ) (plan : Plan)
+    (answer : Result (List ℕ) WireFault) : Type 0 where
   pub taken : List ℕ
   pub consumed : Consumes left left' taken
   pub counted : read' ≡ read + length taken

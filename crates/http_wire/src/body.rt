@@ -44,7 +44,7 @@ fn wait_for<S: Source>(
 }
 
 // The bytes from a place on.
-fn behind(bytes: &[u8], from: usize) -> &[u8]
+fn beyond(bytes: &[u8], from: usize) -> &[u8]
     requires { from ≤ length bytes.now }
     ensures { result.now ≡ drop from bytes.now }
 {
@@ -117,7 +117,7 @@ fn read_chunks<S: Source>(
     let mut chunks = start(alloc);
     let mut at = end;
     loop {
-        match feed(&mut chunks, behind(bytes, at))? {
+        match feed(&mut chunks, beyond(bytes, at))? {
             Fed::Whole => return Ok(chunks),
             Fed::Refused(code) => return Err(WireFault::Refused(code)),
             Fed::More => {}

@@ -9,6 +9,8 @@ use Rattle.indicator_values.specs.declared.sides.Sides.{Sides}
 use Rattle.indicator_values.specs.Value.{AreSides, side_of, indicator_value_of, value_over}
 
 -- over the values of the items, the sides give the indicator's value
-pub value_over-is : (r : Records) (indicator : Indicator) (sides : Sides) (value : Item → Option Fraction) (days : ℕ) → AreSides r indicator sides → value_over sides days (map value (items_in indicator.numerator)) (map value (items_in indicator.denominator)) ≡ indicator_value_of r value days indicator
+pub value_over-is : (r : Records) (indicator : Indicator) (sides : Sides) (value : Item → Option Fraction) (days : ℕ) → AreSides r indicator sides
+    → value_over sides days (map value (items_in indicator.numerator)) (map value (items_in indicator.denominator)) ≡ indicator_value_of r value days indicator
 unfolding value_over indicator_value_of side_of
-value_over-is r indicator sides value days are = cc (are.numerator.agrees _ (map value (items_in indicator.numerator)), are.denominator.agrees _ (map value (items_in indicator.denominator)))
+value_over-is r indicator sides value days are =
+    cc (are.numerator.agrees _ (map value (items_in indicator.numerator)), are.denominator.agrees _ (map value (items_in indicator.denominator)))

@@ -6,7 +6,6 @@ use Rattle.dh_base.specs.Fractions.{Fraction}
 use Rattle.expr_lang.specs.declared.expr.Expr.{Expr}
 use Rattle.expr_lang.specs.declared.tree.Item.{Item}
 use Rattle.expr_lang.specs.Expr.{items_in}
-use Rattle.expr_lang.specs.Shape.{shape_of}
 use Rattle.expr_eval.specs.declared.value.Value.{Value}
 use Rattle.expr_eval.specs.Meaning.{meaning}
 use Rattle.expr_eval.specs.Given.{given_by}
@@ -24,7 +23,7 @@ given_in expr value = given_by (items_in expr) (map value (items_in expr))
 
 -- the value of a side
 unfoldable pub side_of : (Item → Option Fraction) → Expr → Value
-side_of value expr = meaning SkipIfAll (given_in expr value) (shape_of expr.tree)
+side_of value expr = meaning SkipIfAll (given_in expr value) expr.tree
 
 -- the factor of the indicator's type
 abbrev pub factor_of : Records → Indicator → ℤ
@@ -37,8 +36,8 @@ indicator_value_of r value days indicator =
 
 -- the sides in the form that is evaluated
 pub record AreSides (r : Records) (indicator : Indicator) (sides : Sides) : Type 0 where
-  pub numerator : Means (items_in indicator.numerator) (shape_of indicator.numerator.tree) sides.numerator
-  pub denominator : Means (items_in indicator.denominator) (shape_of indicator.denominator.tree) sides.denominator
+  pub numerator : Means (items_in indicator.numerator) indicator.numerator.tree sides.numerator
+  pub denominator : Means (items_in indicator.denominator) indicator.denominator.tree sides.denominator
   pub factor : sides.factor ≡ factor_of r indicator
   pub annualized : sides.annualized ≡ indicator.annualized
 

@@ -24,7 +24,8 @@ data_of_kept : (o : Option (Value Global)) → option_map data_of o ≡ option_m
 data_of_kept None = refl
 data_of_kept (Some v) = refl
 
-pub read_of : (bytes : List ℕ) (o : Option (Value Global)) → IsUtf8 bytes → option_map value_view o ≡ kept (tree_of bytes) → option_map data_of o ≡ document_of bytes
+pub read_of : (bytes : List ℕ) (o : Option (Value Global)) → IsUtf8 bytes → option_map value_view o ≡ kept (tree_of bytes)
+    → option_map data_of o ≡ document_of bytes
 read_of bytes o utf8 e =
     data_of_kept o ∙ ap (option_map meant) e ∙ of_tree (tree_of bytes) ∙ rw (is_utf8-from_IsUtf8 bytes utf8) refl
 

@@ -1,5 +1,6 @@
 -- What is found in a tree means what is found in the data that it means.
-use Rattle.std.proofs.Common.{◌≡◌, ℕ, Bool, true, false, cond, List, [], ◌∷◌, Option, Some, None, option_map, Ordering, Less, Equal, Greater, nat_cmp, refl, sym, ap, ◌∙◌, subst}
+use Rattle.std.proofs.Common.{◌≡◌, ℕ, Bool, true, false, cond, List, [], ◌∷◌, Option, Some, None, option_map, Ordering, Less, Equal, Greater, nat_cmp, refl}
+use Rattle.std.proofs.Common.{sym, ap, ◌∙◌, subst}
 use Rattle.std.specs.Str.{bytes_eq}
 use Rattle.std.specs.Borrow.{Bor}
 use Rattle.std.specs.Ordering.{match_ordering}
@@ -32,11 +33,13 @@ put_at key k j found true e =
 put_at key k j found false e =
     get_member-put_other key k (meant j) found (λ same. false_is_true (sym e ∙ (bytes_eq-Decides k key).1 (sym same)))
 
-joined : (r o : Option json.Json) (before : Option Data) → later (option_map meant r) (later (option_map meant o) before) ≡ later (option_map meant (tree.later_or r o)) before
+joined : (r o : Option json.Json) (before : Option Data)
+    → later (option_map meant r) (later (option_map meant o) before) ≡ later (option_map meant (tree.later_or r o)) before
 joined None o before = refl
 joined (Some j) o before = refl
 
-get_in : (key : List ℕ) (ms : json.Members) (found : Members) → get_member key (members_meant ms found) ≡ later (option_map meant (tree.get_member key ms)) (get_member key found)
+get_in : (key : List ℕ) (ms : json.Members) (found : Members)
+    → get_member key (members_meant ms found) ≡ later (option_map meant (tree.get_member key ms)) (get_member key found)
 get_in key json.no_members found = refl
 get_in key (json.member k j ms) found =
     get_in key ms (put k (meant j) found)
@@ -60,7 +63,8 @@ data_of_found None = refl
 data_of_found (Some found) = refl
 
 -- what is found after a key
-pub get_of : (key : List ℕ) (value : Value Global) (o : Option (Bor (Value Global))) → option_map (λ found. value_view found.now) o ≡ tree.get key (value_view value)
+pub get_of : (key : List ℕ) (value : Value Global) (o : Option (Bor (Value Global)))
+    → option_map (λ found. value_view found.now) o ≡ tree.get key (value_view value)
     → option_map (λ found. data_of found.now) o ≡ get key (data_of value)
 get_of key value o e = data_of_found o ∙ ap (option_map meant) e ∙ sym (meant_get key (value_view value))
 
@@ -77,7 +81,8 @@ items_of_list vs = ap Some (sym (items_meant-map vs))
 abbrev Entry : Type 0
 Entry = Bor (List ℕ) × Bor (Value Global)
 
-members_data-choice : (o : Ordering) (a b c : List Entry) → members_data (match_ordering o a b c) ≡ match_ordering o (members_data a) (members_data b) (members_data c)
+members_data-choice : (o : Ordering) (a b c : List Entry)
+    → members_data (match_ordering o a b c) ≡ match_ordering o (members_data a) (members_data b) (members_data c)
 members_data-choice Less a b c = refl
 members_data-choice Equal a b c = refl
 members_data-choice Greater a b c = refl

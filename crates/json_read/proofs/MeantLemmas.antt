@@ -41,7 +41,8 @@ item_beyond false b d ds h first rest = rw (first refl) refl
 item_beyond true b None ds h first rest = refl
 item_beyond true b (Some x) ds h first rest = rw (rest h) refl
 
-member_beyond : (a b : Bool) (d : Option Data) (rest : Data → Option Members) → (a && b) ≡ false → (a ≡ false → d ≡ None) → (b ≡ false → (x : Data) → rest x ≡ None)
+member_beyond : (a b : Bool) (d : Option Data) (rest : Data → Option Members) → (a && b) ≡ false → (a ≡ false → d ≡ None)
+    → (b ≡ false → (x : Data) → rest x ≡ None)
     → option_and_then rest d ≡ None
 member_beyond false b d rest h first more = rw (first refl) refl
 member_beyond true b None rest h first more = refl
@@ -64,4 +65,5 @@ mutual
   pub members_beyond : (ms : json.Members) (found : Members) → are_members_within ms ≡ false → of_members ms found ≡ None
   members_beyond json.no_members found h = absurd (cc)
   members_beyond (json.member k j ms) found h =
-      member_beyond (is_within j) (are_members_within ms) (of_json j) (λ d. of_members ms (put k d found)) h (beyond j) (λ e x. members_beyond ms (put k x found) e)
+      member_beyond (is_within j) (are_members_within ms) (of_json j) (λ d. of_members ms (put k d found)) h (beyond j) (λ e x.
+      members_beyond ms (put k x found) e)

@@ -13,14 +13,14 @@ abbrev pub Formed : Type 0 → Type 0
 Formed A = Result A (List ℕ)
 
 -- a path with one more step in front
-abbrev pub behind : List ℕ → List ℕ → List ℕ
-behind step [] = step
-behind step (byte ∷ path) = step ++ 46 ∷ byte ∷ path
+abbrev pub after_step : List ℕ → List ℕ → List ℕ
+after_step step [] = step
+after_step step (byte ∷ path) = step ++ 46 ∷ byte ∷ path
 
 -- a fault found after a step has the step in its path
 abbrev pub at_step : {A : Type 0} → List ℕ → Formed A → Formed A
 at_step step (Ok value) = Ok value
-at_step step (Err path) = Err (behind step path)
+at_step step (Err path) = Err (after_step step path)
 
 -- go on with the value, or keep the fault
 abbrev pub and_then : {A B : Type 0} → Formed A → (A → Formed B) → Formed B

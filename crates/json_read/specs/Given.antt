@@ -2,7 +2,7 @@
 use Rattle.std.specs.Prelude.{◌≡◌, ℕ, List, [], Option, None, is_some, true, Result, Ok, Err, ⊤}
 use Rattle.serde_json.specs.Data.{Data}
 use Rattle.serde_json.specs.Find.{as_object}
-use Rattle.json_read.specs.Forms.{behind}
+use Rattle.json_read.specs.Forms.{after_step}
 use Rattle.json_read.specs.declared.fault.FormFault.{FormFault}
 use Rattle.json_read.specs.declared.fault.FormFault.TheVariants as fault
 
@@ -14,7 +14,7 @@ Gives meant (Err fault.Memory) = ⊤
 
 -- a fault as it is seen from before a step
 abbrev pub IsSeenFrom : List ℕ → FormFault → FormFault → Type 0
-IsSeenFrom step (fault.At path) (fault.At longer) = longer ≡ behind step path
+IsSeenFrom step (fault.At path) (fault.At longer) = longer ≡ after_step step path
 IsSeenFrom step (fault.At path) fault.Memory = ⊤
 IsSeenFrom step fault.Memory seen = seen ≡ fault.Memory
 

@@ -3,7 +3,7 @@ ghost use Rattle.std.specs.Fmt.{decimal};
 ghost use Rattle.serde_json.specs.Data.{Data};
 ghost use Rattle.json_read.specs.Views.{data_of, items_data};
 ghost use Rattle.serde_json.specs.Find.{get};
-ghost use Rattle.json_read.specs.Forms.{behind, at_step, text_of, truth_of, identifier_of, each_of, list_of, field_of, optional_of, listed_of, field_or_of};
+ghost use Rattle.json_read.specs.Forms.{after_step, at_step, text_of, truth_of, identifier_of, each_of, list_of, field_of, optional_of, listed_of, field_or_of};
 ghost use Rattle.json_read.specs.Given.{Gives, IsSeenFrom, IsAt, IsObject};
 
 use crate::fault::FormFault;
@@ -44,7 +44,7 @@ fn seen_from(alloc: Global, step: &[u8], fault: FormFault) -> FormFault
 }
 
 fn joined(alloc: Global, step: &[u8], path: &[u8]) -> Result<Vec<u8>, AllocError>
-    ensures { IfOk result (λ v. v.items ≡ behind step.now path.now) }
+    ensures { IfOk result (λ v. v.items ≡ after_step step.now path.now) }
 {
     let mut all = step.to_vec(alloc)?;
     if !path.is_empty() {

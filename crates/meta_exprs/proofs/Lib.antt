@@ -1,3 +1,4 @@
 pub mod ReadLemmas
 pub mod MadeLemmas
 pub mod StageLemmas
+pub mod ExpressionLemmas

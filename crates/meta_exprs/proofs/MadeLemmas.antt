@@ -1,5 +1,6 @@
 -- Objects made one after the other.
-use Rattle.std.proofs.Common.{◌≡◌, ◌∙◌, ℕ, zero, suc, ◌+◌, ◌<◌, List, [], ◌∷◌, ◌++◌, length, get_or, take, drop, Option, None, refl, sym, ap, subst, arith, add-one, drop-cons}
+use Rattle.std.proofs.Common.{◌≡◌, ◌∙◌, ℕ, zero, suc, ◌+◌, ◌<◌, List, [], ◌∷◌, ◌++◌, length, get_or, take, drop, Option, None, refl, sym, ap, subst, arith}
+use Rattle.std.proofs.Common.{add-one, drop-cons}
 use Rattle.std.specs.Option.{option_or}
 use Rattle.std.proofs.lemmas.List.{take_more}
 use Rattle.meta_exprs.specs.declared.fault.ExprFault.{ExprFault}
@@ -27,7 +28,8 @@ split : {A : Type 0} (xs : List A) (i : ℕ) (x : A) → i < length xs → x ≡
 split xs i x within at = rw add-one (drop-cons xs i x within ∙ ap (λ y. y ∷ drop (suc i) xs) (sym at))
 
 -- what is known after one object more
-pub record Step {A B C : Type 0} (unread_of : A → Option ExprFault) (IsMade : A → B → C → Type 0) (raw : List A) (links : List B) (i : ℕ) (rest : List B) (all : List C) : Type 0 where
+pub record Step {A B C : Type 0} (unread_of : A → Option ExprFault) (IsMade : A → B → C
+    → Type 0) (raw : List A) (links : List B) (i : ℕ) (rest : List B) (all : List C) : Type 0 where
   pub unread : first_unread unread_of (drop i raw) ≡ first_unread unread_of (drop (i + 1) raw)
   pub left : rest ≡ drop (i + 1) links
   pub made : AllMade IsMade (take (i + 1) raw) (take (i + 1) links) all

@@ -19,7 +19,7 @@ use Rattle.meta_exprs.specs.declared.fault.ExprFault.{ExprFault}
 use Rattle.meta_exprs.specs.declared.fault.ExprError.{ExprError}
 use Rattle.meta_exprs.specs.declared.fault.ExprError.TheVariants.{Unread, Memory}
 use Rattle.meta_exprs.specs.Names.{KindIds}
-use Rattle.meta_exprs.specs.Read.{unread_at, IsExprOf}
+use Rattle.meta_exprs.specs.Read.{unread_at, IsExprOf, expr_in}
 
 -- the answer is the expression that isn't read; where each is, so much holds of what is handed on
 abbrev pub Unless : {X : Type 0} → Option ExprFault → (X → Type 0) → Result X ExprError → Type 0
@@ -98,3 +98,48 @@ pub record IsProgramIndicator (days : List (List ℕ)) (raw : RawProgramIndicato
   pub analytics_type : made.analytics_type ≡ raw.analytics_type
   pub decimals : made.decimals ≡ raw.decimals
   pub sharing : made.sharing ≡ links.sharing
+
+-- an indicator of a file, with its references and its expressions
+abbrev pub indicator_in : List (List ℕ) → RawIndicator → IndicatorLinks → Indicator
+indicator_in days raw links = record {
+  id = raw.id;
+  name = raw.name;
+  numerator = expr_in days Aggregate Number raw.numerator;
+  denominator = expr_in days Aggregate Number raw.denominator;
+  indicator_type = links.indicator_type;
+  annualized = raw.annualized;
+  decimals = raw.decimals;
+  sharing = links.sharing;
+}
+
+-- a validation rule
+abbrev pub rule_in : List (List ℕ) → RawRule → Sharing → Rule
+rule_in days raw links = record {
+  id = raw.id;
+  name = raw.name;
+  operator = raw.operator;
+  period_type = raw.period_type;
+  left_side = (expr_in days Aggregate Number raw.left_side.0, raw.left_side.1);
+  right_side = (expr_in days Aggregate Number raw.right_side.0, raw.right_side.1);
+  sharing = links;
+}
+
+-- a program indicator
+abbrev pub program_indicator_in : List (List ℕ) → RawProgramIndicator → ProgramIndicatorLinks → ProgramIndicator
+program_indicator_in days raw links = record {
+  id = raw.id;
+  name = raw.name;
+  program = links.program;
+  expression = expr_in days Program Number raw.expression;
+  filter = option_map (expr_in days Program Truth) raw.filter;
+  aggregation_type = raw.aggregation_type;
+  analytics_type = raw.analytics_type;
+  decimals = raw.decimals;
+  sharing = links.sharing;
+}
+
+-- each object made of what stands at its place in two lists
+abbrev pub made_of : {A B C : Type 0} → (A → B → C) → List A → List B → List C
+made_of make [] links = []
+made_of make (raw ∷ others) [] = []
+made_of make (raw ∷ others) (own ∷ links) = make raw own ∷ made_of make others links

@@ -4,12 +4,12 @@ use Rattle.expr_lang.specs.declared.tree.Item.{Item}
 use Rattle.expr_lang.specs.declared.tree.Place.{Place}
 use Rattle.expr_lang.specs.declared.tree.Sort.{Sort}
 use Rattle.expr_lang.specs.declared.expr.Expr.{Expr}
-use Rattle.expr_lang.specs.declared.reading.Nodes.{Nodes}
 use Rattle.expr_lang.specs.declared.fault.ExprFault.{ExprFault}
 use Rattle.expr_lang.specs.declared.fault.ExprFault.TheVariants as syntax_fault
-use Rattle.expr_lang.specs.Items.{Occurrence, occurrences}
-use Rattle.expr_lang.specs.Parse.{accepted}
-use Rattle.expr_lang.specs.Expr.{IsOf}
+use Rattle.expr_lang.specs.declared.tree.Leaf.TheVariants as leaf
+use Rattle.expr_lang.specs.Expr.{parse_of}
+use Rattle.expr_lang.specs.Expression.{Expression}
+use Rattle.expr_lang.specs.Shape.{Operand}
 use Rattle.meta_exprs.specs.declared.fault.TextFault.{TextFault}
 use Rattle.meta_exprs.specs.declared.fault.TextFault.TheVariants.{At, Memory}
 use Rattle.meta_exprs.specs.Names.{KindIds, is_missing}
@@ -25,27 +25,24 @@ abbrev pub text_fault_of : ExprFault → TextFault
 text_fault_of syntax_fault.Memory = Memory
 text_fault_of fault = At (byte_of fault)
 
--- the first byte of the first item that names an object which isn't there
-abbrev pub first_missing : KindIds → List Occurrence → Option ℕ
-first_missing ids [] = None
-first_missing ids (occurrence ∷ others) = cond (is_missing ids occurrence.item) (Some occurrence.at) (first_missing ids others)
+-- the place of the first item that passes a test
+abbrev pub missing_place : (Item → Bool) → List Item → List ℕ → Option ℕ
+missing_place test [] places = None
+missing_place test (item ∷ items) [] = None
+missing_place test (item ∷ items) (place ∷ places) = cond (test item) (Some place) (missing_place test items places)
 
--- where a text is wrong that is accepted so
-abbrev pub wrong_at : KindIds → List (List ℕ) → List ℕ → Result Nodes ExprFault → Option ℕ
-wrong_at ids days text (Err fault) = Some (byte_of fault)
-wrong_at ids days text (Ok nodes) = first_missing ids (occurrences text days nodes.nodes)
+-- where a text is wrong that means this
+abbrev pub wrong_at : KindIds → Result Expression ExprFault → Option ℕ
+wrong_at ids (Err fault) = Some (byte_of fault)
+wrong_at ids (Ok expression) = missing_place (is_missing ids) expression.items expression.places
 
 -- the byte at which a text isn't an expression of this place and sort, or at which it names an object that isn't there
 unfoldable pub unread_at : KindIds → List (List ℕ) → Place → Sort → List ℕ → Option ℕ
-unread_at ids days place wanted text = wrong_at ids days text (accepted place days (Some wanted) text)
-
-abbrev pub IsAccepted : List (List ℕ) → List ℕ → Result Nodes ExprFault → Expr → Type 0
-IsAccepted days text (Ok nodes) expr = IsOf text days expr nodes
-IsAccepted days text (Err fault) expr = ⊥
+unread_at ids days place wanted text = wrong_at ids (parse_of place days (Some wanted) text)
 
 -- the expression is the text's
 abbrev pub IsExprOf : List (List ℕ) → Place → Sort → List ℕ → Expr → Type 0
-IsExprOf days place wanted text expr = IsAccepted days text (accepted place days (Some wanted) text) expr
+IsExprOf days place wanted text expr = parse_of place days (Some wanted) text ≡ Ok expr
 
 -- the text's expression, or the byte at which it is wrong
 abbrev pub ReadAs : KindIds → List (List ℕ) → Place → Sort → List ℕ → Result Expr TextFault → Type 0
@@ -53,8 +50,11 @@ ReadAs ids days place wanted text (Ok expr) = (unread_at ids days place wanted t
 ReadAs ids days place wanted text (Err (At at)) = unread_at ids days place wanted text ≡ Some at
 ReadAs ids days place wanted text (Err Memory) = ⊤
 
--- the place of the first item that passes a test
-abbrev pub missing_place : (Item → Bool) → List Item → List ℕ → Option ℕ
-missing_place test [] places = None
-missing_place test (item ∷ items) [] = None
-missing_place test (item ∷ items) (place ∷ places) = cond (test item) (Some place) (missing_place test items places)
+-- the number 0 where nothing is read
+abbrev pub read_or_zero : Result Expression ExprFault → Expression
+read_or_zero (Ok expression) = expression
+read_or_zero (Err fault) = record { tree = Operand (leaf.Number 0); items = []; places = [] }
+
+-- the expression that a text is
+unfoldable pub expr_in : List (List ℕ) → Place → Sort → List ℕ → Expression
+expr_in days place wanted text = read_or_zero (parse_of place days (Some wanted) text)

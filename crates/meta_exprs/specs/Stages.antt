@@ -21,7 +21,8 @@ use Rattle.meta_exprs.specs.Names.{KindIds}
 -- the identifier is that of a stage of the program
 abbrev pub is_stage_of : KindIds → List Stage → ℕ → List ℕ → Bool
 is_stage_of ids stages program stage =
-    option_map_or (λ place. option_map_or (λ (found : Stage). found.program == program) (slice_get stages place) false) (place_of (ids_at ids ProgramStage) stage) false
+    option_map_or (λ place. option_map_or (λ (found : Stage). found.program == program) (slice_get stages place) false)
+    (place_of (ids_at ids ProgramStage) stage) false
 
 -- the item names a stage that isn't of the program
 abbrev pub is_foreign : KindIds → List Stage → ℕ → Item → Bool

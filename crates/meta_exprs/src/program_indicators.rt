@@ -80,7 +80,8 @@ pub fn program_indicators(
     links: Items<ProgramIndicatorLinks>,
 ) -> Result<Vec<ProgramIndicator>, ExprError>
     requires { length raw.now ≡ length links }
-    ensures { Unless (first_unread (program_indicator_unread ids.now days.now) raw.now) (λ made. AllMade (IsProgramIndicator days.now) raw.now links made.items) result }
+    ensures { Unless (first_unread (program_indicator_unread ids.now days.now) raw.now) (λ made. AllMade (IsProgramIndicator days.now) raw.now links made.items)
+        result }
 {
     let mut rest = waiting(alloc, links.items)?;
     let mut made = Vec::with_capacity(alloc, raw.len())?;

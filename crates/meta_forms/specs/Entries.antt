@@ -91,7 +91,10 @@ tokens_of json = and_then (listed_of (codes "apiTokens") token_of json) (λ foun
 
 -- the settings of the system
 unfoldable pub settings_of : Data → Formed Settings
-settings_of = object_of (λ json. and_then (field_or_of (codes "keyAcceptanceRequiredForApproval") truth_of false json) (λ required. Ok (record { acceptance_required = required })))
+settings_of =
+    object_of (λ json. and_then (field_or_of (codes "keyAcceptanceRequiredForApproval") truth_of false json) (λ required.
+    Ok (record { acceptance_required = required })))
 
 unfoldable pub acceptance_of : Data → Formed Bool
-acceptance_of json = and_then (field_or_of (codes "systemSettings") settings_of (record { acceptance_required = false }) json) (λ settings. Ok settings.acceptance_required)
+acceptance_of json =
+    and_then (field_or_of (codes "systemSettings") settings_of (record { acceptance_required = false }) json) (λ settings. Ok settings.acceptance_required)

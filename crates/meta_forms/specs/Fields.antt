@@ -41,7 +41,8 @@ references_at key json = and_then (listed_of key reference_of json) (λ found. O
 
 -- a whole number from the first to the second
 unfoldable pub whole_within : ℤ → ℤ → Data → Option ℤ
-whole_within low high json = option_and_then (λ number. cond (int_le low number && int_le number high) (Some number) None) (option_and_then as_i64 (as_number json))
+whole_within low high json =
+    option_and_then (λ number. cond (int_le low number && int_le number high) (Some number) None) (option_and_then as_i64 (as_number json))
 
 abbrev pub whole_of : ℤ → ℤ → Data → Formed ℤ
 whole_of low high json = or_fault (whole_within low high json)

@@ -5,7 +5,9 @@ use Rattle.json_read.specs.Forms.{Formed, and_then, object_of}
 use Rattle.meta_parts.specs.declared.parts.MetaParts.{MetaParts}
 use Rattle.meta_forms.specs.Objects.{objects_at}
 use Rattle.meta_forms.specs.Entries.{tokens_of, acceptance_of}
-use Rattle.meta_forms.specs.Table.{unit_of, unit_group_of, category_option_of, category_of, category_combo_of, option_combo_of, element_of, approval_level_of, workflow_of, data_set_of, constant_object_of, indicator_type_of, indicator_of, rule_of, entity_type_of, tracked_attribute_of, program_of, stage_of, program_indicator_of, role_of, user_of, user_group_of}
+use Rattle.meta_forms.specs.Table.{unit_of, unit_group_of, category_option_of, category_of, category_combo_of, option_combo_of, element_of}
+use Rattle.meta_forms.specs.Table.{approval_level_of, workflow_of, data_set_of, constant_object_of, indicator_type_of, indicator_of, rule_of, entity_type_of}
+use Rattle.meta_forms.specs.Table.{tracked_attribute_of, program_of, stage_of, program_indicator_of, role_of, user_of, user_group_of}
 use Rattle.meta_forms.specs.declared.parts.Hierarchy.{Hierarchy}
 use Rattle.meta_forms.specs.declared.parts.Elements.{Elements}
 use Rattle.meta_forms.specs.declared.parts.Sets.{Sets}
@@ -21,7 +23,13 @@ hierarchy_of json =
     and_then (objects_at (codes "organisationUnitGroups") unit_group_of json) (λ organisation_unit_groups.
     and_then (objects_at (codes "categoryOptions") category_option_of json) (λ category_options.
     and_then (objects_at (codes "categories") category_of json) (λ categories.
-    Ok (record { organisation_units = organisation_units; organisation_unit_groups = organisation_unit_groups; category_options = category_options; categories = categories })))))
+    Ok (record {
+      organisation_units = organisation_units;
+      organisation_unit_groups = organisation_unit_groups;
+      category_options = category_options;
+      categories =
+          categories;
+    })))))
 
 unfoldable pub elements_of : Data → Formed Elements
 elements_of json =
@@ -29,7 +37,13 @@ elements_of json =
     and_then (objects_at (codes "categoryOptionCombos") option_combo_of json) (λ category_option_combos.
     and_then (objects_at (codes "dataElements") element_of json) (λ data_elements.
     and_then (objects_at (codes "dataApprovalLevels") approval_level_of json) (λ data_approval_levels.
-    Ok (record { category_combos = category_combos; category_option_combos = category_option_combos; data_elements = data_elements; data_approval_levels = data_approval_levels })))))
+    Ok (record {
+      category_combos = category_combos;
+      category_option_combos = category_option_combos;
+      data_elements = data_elements;
+      data_approval_levels =
+          data_approval_levels;
+    })))))
 
 unfoldable pub sets_of : Data → Formed Sets
 sets_of json =
@@ -45,7 +59,13 @@ indicators_of json =
     and_then (objects_at (codes "validationRules") rule_of json) (λ validation_rules.
     and_then (objects_at (codes "trackedEntityTypes") entity_type_of json) (λ tracked_entity_types.
     and_then (objects_at (codes "trackedEntityAttributes") tracked_attribute_of json) (λ tracked_entity_attributes.
-    Ok (record { indicators = indicators; validation_rules = validation_rules; tracked_entity_types = tracked_entity_types; tracked_entity_attributes = tracked_entity_attributes })))))
+    Ok (record {
+      indicators = indicators;
+      validation_rules = validation_rules;
+      tracked_entity_types = tracked_entity_types;
+      tracked_entity_attributes =
+          tracked_entity_attributes;
+    })))))
 
 unfoldable pub programs_of : Data → Formed Programs
 programs_of json =

@@ -31,7 +31,8 @@ step_of outer key = outer ++ 46 ∷ key
 -- the members of the object under a key, by the byte order of their own keys
 abbrev pub members_of : List ℕ → Members → Formed (List (List ℕ × List ℕ × Access))
 members_of outer no_members = Ok []
-members_of outer (member key json rest) = and_then (at_step (step_of outer key) (member_of key json)) (λ found. and_then (members_of outer rest) (λ more. Ok (found ∷ more)))
+members_of outer (member key json rest) =
+    and_then (at_step (step_of outer key) (member_of key json)) (λ found. and_then (members_of outer rest) (λ more. Ok (found ∷ more)))
 
 abbrev pub members_in : List ℕ → Data → Formed (List (List ℕ × List ℕ × Access))
 members_in outer json = and_then (at_step outer (or_fault (as_object json))) (members_of outer)

@@ -8,7 +8,8 @@ ghost use Rattle.json_read.specs.Views.{data_of};
 ghost use Rattle.json_read.specs.Forms.{text_of, listed_of, field_or_of};
 ghost use Rattle.json_read.specs.Given.{Gives};
 ghost use Rattle.dh_base.specs.Decimals.{decimal_of};
-ghost use Rattle.meta_forms.specs.Entries.{is_visible, is_token, token_in, constant_of, acceptance_of, set_elements_of, attributes_of, stage_elements_of, side_of, tokens_of};
+ghost use Rattle.meta_forms.specs.Entries.{is_visible, is_token, token_in, constant_of, acceptance_of, set_elements_of, attributes_of, stage_elements_of};
+ghost use Rattle.meta_forms.specs.Entries.{side_of, tokens_of};
 
 use crate::field::{optional_reference, reference};
 use crate::named::named_or;

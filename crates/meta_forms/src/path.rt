@@ -1,7 +1,7 @@
 //! Faults as they are seen from before a key or a place.
 
 ghost use Rattle.std.specs.Prelude.{◌≡◌, [], Ok, Err, IfOk};
-ghost use Rattle.json_read.specs.Forms.{behind, at_step, or_fault};
+ghost use Rattle.json_read.specs.Forms.{after_step, at_step, or_fault};
 ghost use Rattle.json_read.specs.Given.{Gives, IsSeenFrom, IsAt};
 
 use dh_base::items::Items;
@@ -16,7 +16,7 @@ pub(crate) fn here(alloc: Global) -> FormFault
 }
 
 fn joined(alloc: Global, step: &[u8], path: &[u8]) -> Result<Vec<u8>, AllocError>
-    ensures { IfOk result (λ v. v.items ≡ behind step.now path.now) }
+    ensures { IfOk result (λ v. v.items ≡ after_step step.now path.now) }
 {
     let mut all = step.to_vec(alloc)?;
     if !path.is_empty() {

@@ -4,7 +4,8 @@ ghost use Rattle.std.specs.Prelude.{◌≡◌, IfOk, codes};
 ghost use Rattle.json_read.specs.Views.{data_of, members_data};
 ghost use Rattle.json_read.specs.Forms.{at_step};
 ghost use Rattle.json_read.specs.Given.{Gives};
-ghost use Rattle.meta_forms.specs.Sharing.{open_access, open_sharing, member_of, step_of, members_of, members_in, members_at, sharing_fields_of, sharing_form, sharing_of};
+ghost use Rattle.meta_forms.specs.Sharing.{open_access, open_sharing, member_of, step_of, members_of, members_in, members_at, sharing_fields_of};
+ghost use Rattle.meta_forms.specs.Sharing.{sharing_form, sharing_of};
 
 use crate::named::{named_at, named_or};
 use crate::path::{at_key, seen_from};

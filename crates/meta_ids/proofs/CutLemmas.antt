@@ -1,5 +1,6 @@
 -- Lists cut out of one list that grows at its end.
-use Rattle.std.proofs.Common.{◌≡◌, ◌∙◌, ℕ, ◌+◌, ◌-◌, ◌≤◌, ◌<◌, ◌^◌, List, [], ◌∷◌, ◌++◌, length, get_or, take, drop, refl, sym, ap, subst, arith, append_assoc, length-append, zero, suc}
+use Rattle.std.proofs.Common.{◌≡◌, ◌∙◌, ℕ, ◌+◌, ◌-◌, ◌≤◌, ◌<◌, ◌^◌, List, [], ◌∷◌, ◌++◌, length, get_or, take, drop, refl, sym, ap, subst, arith}
+use Rattle.std.proofs.Common.{append_assoc, length-append, zero, suc}
 use Rattle.std.proofs.lemmas.List.{take-append-le, drop-append-le, drop_at, drop_all, drop-drop, take-append-drop, take_all, length-drop, length-take-le}
 use Rattle.std.specs.List.{flat_map}
 use Rattle.meta_ids.specs.Cut.{piece, cut, AreEnds, AreKinds}
@@ -41,7 +42,8 @@ piece-rest from end xs up =
     ap (λ zs. piece from end xs ++ zs) (ap (λ n. drop n xs) (sym same) ∙ sym deeper) ∙ take-append-drop (end - from) (drop from xs)
 
 -- the pieces one after the other are the list
-pub cut-joined : {A : Type 0} (from : ℕ) (ends : List ℕ) (xs : List A) → AreEnds from ends (length xs) → flat_map (λ (piece : List A). piece) (cut from ends xs) ≡ drop from xs
+pub cut-joined : {A : Type 0} (from : ℕ) (ends : List ℕ) (xs : List A) → AreEnds from ends (length xs)
+    → flat_map (λ (piece : List A). piece) (cut from ends xs) ≡ drop from xs
 cut-joined from [] xs are = sym (drop_all from xs (omega arith))
 cut-joined from (end ∷ ends) xs are =
     ap (λ zs. piece from end xs ++ zs) (cut-joined end ends xs are.1) ∙ piece-rest from end xs are.0
@@ -66,11 +68,13 @@ length-piece from end xs up within =
     length-take-le (end - from) (drop from xs) (omega arith)
 
 -- what a list with one more piece is cut into
-pub cut_add : {A : Type 0} (ends more : List ℕ) (xs ys all : List A) → AreEnds 0 ends (length xs) → all ≡ xs ++ ys → more ≡ ends ++ length all ∷ [] → cut 0 more all ≡ cut 0 ends xs ++ ys ∷ []
+pub cut_add : {A : Type 0} (ends more : List ℕ) (xs ys all : List A) → AreEnds 0 ends (length xs) → all ≡ xs ++ ys → more ≡ ends ++ length all ∷ []
+    → cut 0 more all ≡ cut 0 ends xs ++ ys ∷ []
 cut_add ends more xs ys all are is longer = ap (λ es. cut 0 es all) longer ∙ ap (λ zs. cut 0 (ends ++ length zs ∷ []) zs) is ∙ cut-more 0 ends xs ys are
 
 -- and its places
-pub ends_more : {A : Type 0} (ends more : List ℕ) (xs ys all : List A) → AreEnds 0 ends (length xs) → all ≡ xs ++ ys → more ≡ ends ++ length all ∷ [] → AreEnds 0 more (length all)
+pub ends_more : {A : Type 0} (ends more : List ℕ) (xs ys all : List A) → AreEnds 0 ends (length xs) → all ≡ xs ++ ys → more ≡ ends ++ length all ∷ []
+    → AreEnds 0 more (length all)
 ends_more ends more xs ys all are is longer =
     let long : length all ≡ length xs + length ys = ap length is ∙ length-append xs ys in
     subst (λ es. AreEnds 0 es (length all)) (sym longer) (ends-add 0 ends (length xs) (length all) are (omega arith))

@@ -1,5 +1,6 @@
 -- Identifiers of which none stands twice, and places that were found.
-use Rattle.std.proofs.Common.{◌≡◌, ◌≢◌, ◌∙◌, ℕ, ◌+◌, ◌-◌, ◌<◌, ◌≤◌, Bool, true, false, cond, List, [], ◌∷◌, ◌++◌, ◌||◌, ◌⊎◌, inl, inr, length, get_or, Option, Some, None, refl, sym, ap, arith, subst, append_assoc, length-append, zero, suc}
+use Rattle.std.proofs.Common.{◌≡◌, ◌≢◌, ◌∙◌, ℕ, ◌+◌, ◌-◌, ◌<◌, ◌≤◌, Bool, true, false, cond, List, [], ◌∷◌, ◌++◌, ◌||◌, ◌⊎◌, inl, inr, length, get_or}
+use Rattle.std.proofs.Common.{Option, Some, None, refl, sym, ap, arith, subst, append_assoc, length-append, zero, suc}
 use Rattle.std.proofs.Math.ListN.{get_or-append}
 use Rattle.std.proofs.Math.Seq.{get_or-append_seam}
 use Rattle.std.proofs.lemmas.Bool.{cases_order}
@@ -11,8 +12,11 @@ use Rattle.meta_ids.specs.Places.{same_id, place_of, repeat_of, repeat_behind}
 pub position_from-below : {K : Type 0} (t : K → Bool) (first : ℕ) (xs : List K) (place : ℕ) → position_from t first xs ≡ Some place → place < first + length xs
 position_from-below t first [] place at = absurd (cc)
 position_from-below t first (x ∷ xs) place at =
-    elim (t x) as (λ b. cond b (Some first) (position_from t (first + 1) xs) ≡ Some place → place < first + length (x ∷ xs))
-    [ true ↦ λ here. (let e : first ≡ place = cc in omega arith) | false ↦ λ later. (let below = position_from-below t (first + 1) xs place later in omega arith) ] at
+    elim (t x) as (λ b. cond b (Some first) (position_from t (first + 1) xs) ≡ Some place → place < first + length (x ∷ xs)) [
+      | true ↦ λ here. (let e : first ≡ place = cc in omega arith)
+      | false ↦ λ later.
+          (let below = position_from-below t (first + 1) xs place later in omega arith)
+    ] at
 
 pub place_of-below : (ids : List (List ℕ)) (id : List ℕ) (place : ℕ) → place_of ids id ≡ Some place → place < length ids
 place_of-below ids id place at = let below = position_from-below (λ other. same_id id other) 0 ids place at in omega arith
@@ -26,7 +30,8 @@ or-false_right true b none = absurd (cc)
 or-false_right false b none = none
 
 -- none of these is the identifier
-apart_from : (before : List (List ℕ)) (id : List ℕ) (i : ℕ) → list_any (λ other. same_id id other) before ≡ false → i < length before → get_or before i [] ≡ id → ⊥
+apart_from : (before : List (List ℕ)) (id : List ℕ) (i : ℕ) → list_any (λ other. same_id id other) before ≡ false → i < length before → get_or before i [] ≡ id
+    → ⊥
 apart_from [] id i none within same = absurd (omega arith)
 apart_from (x ∷ before) id zero none within same =
     let met : same_id id x ≡ true = ap (same_id id) same ∙ nat_list_eq_equiv.refl id in

@@ -1,5 +1,6 @@
 -- Where an identifier stands in a piece of a list of identifiers that differ.
-use Rattle.std.proofs.Common.{◌≡◌, ◌∙◌, ℕ, ◌+◌, ◌-◌, ◌≤◌, ◌<◌, ◌&&◌, ◌⊎◌, inl, inr, Bool, true, false, cond, List, [], ◌∷◌, ◌++◌, length, length-append, get_or, take, drop, Option, Some, None, refl, sym, ap, arith, zero, suc}
+use Rattle.std.proofs.Common.{◌≡◌, ◌∙◌, ℕ, ◌+◌, ◌-◌, ◌≤◌, ◌<◌, ◌&&◌, ◌⊎◌, inl, inr, Bool, true, false, cond, List, [], ◌∷◌, ◌++◌, length, length-append}
+use Rattle.std.proofs.Common.{get_or, take, drop, Option, Some, None, refl, sym, ap, arith, zero, suc}
 use Rattle.std.specs.Prelude.{nat_le, nat_lt}
 use Rattle.std.specs.List.{position_from, list_any}
 use Rattle.std.specs.Cmp.Lexicographic.{same_text}
@@ -22,7 +23,8 @@ position_from-first t first (x ∷ xs) place at =
     ] at
 
 -- what was found passes the test
-position_from-passes : {K : Type 0} (t : K → Bool) (first : ℕ) (xs : List K) (place : ℕ) (d : K) → position_from t first xs ≡ Some place → t (get_or xs (place - first) d) ≡ true
+position_from-passes : {K : Type 0} (t : K → Bool) (first : ℕ) (xs : List K) (place : ℕ) (d : K) → position_from t first xs ≡ Some place
+    → t (get_or xs (place - first) d) ≡ true
 position_from-passes t first [] place d at = absurd (cc)
 position_from-passes t first (x ∷ xs) place d at =
     elim (t x) as (λ b. t x ≡ b → cond b (Some first) (position_from t (first + 1) xs) ≡ Some place → t (get_or (x ∷ xs) (place - first) d) ≡ true) [
@@ -39,7 +41,8 @@ position_from-front : {K : Type 0} (t : K → Bool) (first n : ℕ) (xs : List K
 position_from-front t first n [] place at within = absurd (cc)
 position_from-front t first zero (x ∷ xs) place at within = let past = position_from-first t first (x ∷ xs) place at in absurd (omega arith)
 position_from-front t first (suc n) (x ∷ xs) place at within =
-    elim (t x) as (λ b. cond b (Some first) (position_from t (first + 1) xs) ≡ Some place → cond b (Some first) (position_from t (first + 1) (take n xs)) ≡ Some place) [
+    elim (t x) as (λ b. cond b (Some first) (position_from t (first + 1) xs) ≡ Some place
+    → cond b (Some first) (position_from t (first + 1) (take n xs)) ≡ Some place) [
       | true ↦ λ here. here
       | false ↦ λ later. position_from-front t (first + 1) n xs place later (omega arith)
     ] at
@@ -70,12 +73,15 @@ position_from-rest t first (suc n) (x ∷ xs) place at past =
     ] at
 
 -- counting from 0 in place of a later number
-position_from-zero : {K : Type 0} (t : K → Bool) (more first : ℕ) (xs : List K) (place : ℕ) → position_from t (more + first) xs ≡ Some place → position_from t first xs ≡ Some (place - more)
+position_from-zero : {K : Type 0} (t : K → Bool) (more first : ℕ) (xs : List K) (place : ℕ) → position_from t (more + first) xs ≡ Some place
+    → position_from t first xs ≡ Some (place - more)
 position_from-zero t more first [] place at = absurd (cc)
 position_from-zero t more first (x ∷ xs) place at =
-    elim (t x) as (λ b. cond b (Some (more + first)) (position_from t (more + first + 1) xs) ≡ Some place → cond b (Some first) (position_from t (first + 1) xs) ≡ Some (place - more)) [
+    elim (t x) as (λ b. cond b (Some (more + first)) (position_from t (more + first + 1) xs) ≡ Some place
+    → cond b (Some first) (position_from t (first + 1) xs) ≡ Some (place - more)) [
       | true ↦ λ here. (let e : more + first ≡ place = cc in ap Some (omega arith))
-      | false ↦ λ later. (let same : more + (first + 1) ≡ more + first + 1 = omega arith in position_from-zero t more (first + 1) xs place (ap (λ m. position_from t m xs) same ∙ later))
+      | false ↦ λ later. (let same : more + (first + 1) ≡ more + first + 1 =
+          omega arith in position_from-zero t more (first + 1) xs place (ap (λ m. position_from t m xs) same ∙ later))
     ] at
 
 -- what has a place is at it
@@ -87,7 +93,8 @@ place_of-at ids id place at =
     sym (same_text id (get_or ids place []) (sym passes))
 
 -- what has no place has none after the front either
-position_from-absent : {K : Type 0} (t : K → Bool) (first other n : ℕ) (xs : List K) → position_from t first xs ≡ None → position_from t other (drop n xs) ≡ None
+position_from-absent : {K : Type 0} (t : K → Bool) (first other n : ℕ) (xs : List K) → position_from t first xs ≡ None
+    → position_from t other (drop n xs) ≡ None
 position_from-absent t first other zero [] absent = refl
 position_from-absent t first other (suc n) [] absent = refl
 position_from-absent t first other zero (x ∷ xs) absent =
@@ -106,28 +113,33 @@ not_behind ids id from early place differ first before at =
     let long : length (drop from ids) ≡ length ids - from = length-drop from ids in
     let whole : get_or ids (from + place) [] ≡ id = sym (get_or-drop from ids place []) ∙ found in
     let within : early < 0 + length ids = position_from-below (λ other. same_id id other) 0 ids early first in
-    let same : early ≡ from + place = repeat_of-differ ids differ early (from + place) (omega arith) (omega arith) (place_of-at ids id early first ∙ sym whole) in
+    let same : early ≡ from + place =
+    repeat_of-differ ids differ early (from + place) (omega arith) (omega arith) (place_of-at ids id early first ∙ sym whole) in
     omega arith
 
 -- so it has no place there
-none_behind : (ids : List (List ℕ)) (id : List ℕ) (from early : ℕ) → repeat_of ids ≡ None → place_of ids id ≡ Some early → early < from → place_of (drop from ids) id ≡ None
+none_behind : (ids : List (List ℕ)) (id : List ℕ) (from early : ℕ) → repeat_of ids ≡ None → place_of ids id ≡ Some early → early < from
+    → place_of (drop from ids) id ≡ None
 none_behind ids id from early differ first before =
     elim (place_of (drop from ids) id) as (λ o. place_of (drop from ids) id ≡ o → o ≡ None)
     [ None ↦ λ at. refl | Some place ↦ λ at. absurd (not_behind ids id from early place differ first before at) ] refl
 
 -- an identifier that stands later has its place there, counted from its beginning
-some_behind : (ids : List (List ℕ)) (id : List ℕ) (from place : ℕ) → place_of ids id ≡ Some place → from ≤ place → place_of (drop from ids) id ≡ Some (place - from)
+some_behind : (ids : List (List ℕ)) (id : List ℕ) (from place : ℕ) → place_of ids id ≡ Some place → from ≤ place
+    → place_of (drop from ids) id ≡ Some (place - from)
 some_behind ids id from place at past =
     let same : from + 0 ≡ 0 + from = omega arith in
     position_from-zero (λ other. same_id id other) from 0 (drop from ids) place
-    (ap (λ m. position_from (λ other. same_id id other) m (drop from ids)) same ∙ position_from-rest (λ other. same_id id other) 0 from ids place at (omega arith))
+    (ap (λ m. position_from (λ other. same_id id other) m (drop from ids)) same
+    ∙ position_from-rest (λ other. same_id id other) 0 from ids place at (omega arith))
 
 -- what has no place has none in the front
 none_front : (n : ℕ) (ids : List (List ℕ)) (id : List ℕ) → place_of ids id ≡ None → place_of (take n ids) id ≡ None
 none_front n ids id none = position_from-not_front (λ other. same_id id other) 0 n ids (λ place at. absurd (cc))
 
 -- the place in a piece of a list of identifiers that differ
-pub piece_place : (ids : List (List ℕ)) (id : List ℕ) (from end : ℕ) → repeat_of ids ≡ None → place_of (piece from end ids) id ≡ in_piece from end (place_of ids id)
+pub piece_place : (ids : List (List ℕ)) (id : List ℕ) (from end : ℕ) → repeat_of ids ≡ None
+    → place_of (piece from end ids) id ≡ in_piece from end (place_of ids id)
 piece_place ids id from end differ =
     elim (place_of ids id) as (λ o. place_of ids id ≡ o → place_of (piece from end ids) id ≡ in_piece from end o) [
       | None ↦ λ at. none_front (end - from) (drop from ids) id (position_from-absent (λ other. same_id id other) 0 0 from ids at)
@@ -136,11 +148,11 @@ piece_place ids id from end differ =
             none_front (end - from) (drop from ids) id (none_behind ids id from place differ at before)
             ∙ sym (ap (λ b. cond (b && nat_lt place end) (Some (place - from)) None) (lt-leb from place before))
         | inr past ↦ (
-            let behind : place_of (drop from ids) id ≡ Some (place - from) = some_behind ids id from place at past in
+            let beyond : place_of (drop from ids) id ≡ Some (place - from) = some_behind ids id from place at past in
             let reached : nat_le from place ≡ true = le-leb from place past in
             elim (cases_lt place end) [
               | inl within ↦
-                  position_from-front (λ other. same_id id other) 0 (end - from) (drop from ids) (place - from) behind (omega arith)
+                  position_from-front (λ other. same_id id other) 0 (end - from) (drop from ids) (place - from) beyond (omega arith)
                   ∙ sym (ap (λ b. cond b (Some (place - from)) None) (and_from (nat_le from place) (nat_lt place end) reached (lt-ltb place end within)))
               | inr after ↦
                   position_from-not_front (λ other. same_id id other) 0 (end - from) (drop from ids)
@@ -160,7 +172,8 @@ found_at ends ids at id are within =
 repeat_behind-below : (before ids : List (List ℕ)) (place : ℕ) → repeat_behind before ids ≡ Some place → place < length before + length ids
 repeat_behind-below before [] place at = absurd (cc)
 repeat_behind-below before (id ∷ ids) place at =
-    elim (list_any (λ other. same_id id other) before) as (λ b. cond b (Some (length before)) (repeat_behind (before ++ id ∷ []) ids) ≡ Some place → place < length before + length (id ∷ ids)) [
+    elim (list_any (λ other. same_id id other) before) as (λ b. cond b (Some (length before)) (repeat_behind (before ++ id ∷ []) ids) ≡ Some place
+    → place < length before + length (id ∷ ids)) [
       | true ↦ λ here. (let e : length before ≡ place = cc in omega arith)
       | false ↦ λ later.
           (let below = repeat_behind-below (before ++ id ∷ []) ids place later in

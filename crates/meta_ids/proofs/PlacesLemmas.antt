@@ -9,7 +9,8 @@ pub position_from-kept : {K : Type 0} (t : K → Bool) (first : ℕ) (xs : List 
     → position_from t first (xs ++ x ∷ []) ≡ Some place
 position_from-kept t first [] x place at = cc
 position_from-kept t first (y ∷ xs) x place at =
-    elim (t y) as (λ b. cond b (Some first) (position_from t (first + 1) xs) ≡ Some place → cond b (Some first) (position_from t (first + 1) (xs ++ x ∷ [])) ≡ Some place)
+    elim (t y) as (λ b. cond b (Some first) (position_from t (first + 1) xs) ≡ Some place
+    → cond b (Some first) (position_from t (first + 1) (xs ++ x ∷ [])) ≡ Some place)
     [ true ↦ λ found. found | false ↦ λ found. position_from-kept t (first + 1) xs x place found ] at
 
 -- what doesn't stand in the list stands at most at its new end

@@ -6,11 +6,17 @@ use Rattle.meta_ids.specs.Places.{repeat_of, is_one_of}
 use Rattle.meta_parts.specs.BuiltIn.{default_combo, default_option_combo}
 use Rattle.meta_parts.specs.declared.parts.MetaParts.{MetaParts}
 use Rattle.meta_parts.specs.declared.kind.Kind.{Kind}
-use Rattle.meta_parts.specs.declared.kind.Kind.TheVariants.{OrganisationUnit, OrganisationUnitGroup, CategoryOption, Category, CategoryCombo, CategoryOptionCombo, DataElement, ApprovalLevel, Workflow, DataSet, Constant, IndicatorType, Indicator, ValidationRule, TrackedEntityType, TrackedEntityAttribute, Program, ProgramStage, ProgramIndicator, UserRole, User, UserGroup}
+use Rattle.meta_parts.specs.declared.kind.Kind.TheVariants.{OrganisationUnit, OrganisationUnitGroup, CategoryOption, Category, CategoryCombo}
+use Rattle.meta_parts.specs.declared.kind.Kind.TheVariants.{CategoryOptionCombo, DataElement, ApprovalLevel, Workflow, DataSet, Constant, IndicatorType}
+use Rattle.meta_parts.specs.declared.kind.Kind.TheVariants.{Indicator, ValidationRule, TrackedEntityType, TrackedEntityAttribute, Program, ProgramStage}
+use Rattle.meta_parts.specs.declared.kind.Kind.TheVariants.{ProgramIndicator, UserRole, User, UserGroup}
 
 -- the kinds in the order in which they are tried
 abbrev pub kinds : List Kind
-kinds = OrganisationUnit ∷ OrganisationUnitGroup ∷ CategoryOption ∷ Category ∷ CategoryCombo ∷ CategoryOptionCombo ∷ DataElement ∷ ApprovalLevel ∷ Workflow ∷ DataSet ∷ Constant ∷ IndicatorType ∷ Indicator ∷ ValidationRule ∷ TrackedEntityType ∷ TrackedEntityAttribute ∷ Program ∷ ProgramStage ∷ ProgramIndicator ∷ UserRole ∷ User ∷ UserGroup ∷ []
+kinds =
+    OrganisationUnit ∷ OrganisationUnitGroup ∷ CategoryOption ∷ Category ∷ CategoryCombo ∷ CategoryOptionCombo ∷ DataElement ∷ ApprovalLevel ∷ Workflow ∷
+    DataSet ∷ Constant ∷ IndicatorType ∷ Indicator ∷ ValidationRule ∷ TrackedEntityType ∷ TrackedEntityAttribute ∷ Program ∷ ProgramStage ∷ ProgramIndicator ∷
+    UserRole ∷ User ∷ UserGroup ∷ []
 
 -- the place of a kind among them, from 0
 abbrev pub kind_place : Kind → ℕ

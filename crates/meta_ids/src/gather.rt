@@ -1,6 +1,9 @@
 ghost use Rattle.std.specs.Prelude.{◌≡◌, ◌++◌, ◌∷◌, [], IfOk, map};
 ghost use Rattle.meta_ids.specs.Ids.{ids_in, ids_of};
-ghost use Rattle.meta_parts.specs.declared.kind.Kind.TheVariants.{OrganisationUnit, OrganisationUnitGroup, CategoryOption, Category, CategoryCombo, CategoryOptionCombo, DataElement, ApprovalLevel, Workflow, DataSet, Constant, IndicatorType, Indicator, ValidationRule, TrackedEntityType, TrackedEntityAttribute, Program, ProgramStage, ProgramIndicator, UserRole, User, UserGroup};
+ghost use Rattle.meta_parts.specs.declared.kind.Kind.TheVariants.{OrganisationUnit, OrganisationUnitGroup, CategoryOption, Category, CategoryCombo};
+ghost use Rattle.meta_parts.specs.declared.kind.Kind.TheVariants.{CategoryOptionCombo, DataElement, ApprovalLevel, Workflow, DataSet, Constant};
+ghost use Rattle.meta_parts.specs.declared.kind.Kind.TheVariants.{IndicatorType, Indicator, ValidationRule, TrackedEntityType, TrackedEntityAttribute};
+ghost use Rattle.meta_parts.specs.declared.kind.Kind.TheVariants.{Program, ProgramStage, ProgramIndicator, UserRole, User, UserGroup};
 
 use crate::lists::Lists;
 use dh_base::memory::Memory;
@@ -20,7 +23,9 @@ pub fn lists_of(alloc: Global, parts: &MetaParts) -> Result<Lists, Memory>
 }
 
 fn add_more(lists: Lists, parts: &MetaParts) -> Result<Lists, Memory>
-    ensures { IfOk result (λ all. all ≡ lists ++ map (ids_in parts.now) (Indicator ∷ ValidationRule ∷ TrackedEntityType ∷ TrackedEntityAttribute ∷ Program ∷ ProgramStage ∷ ProgramIndicator ∷ UserRole ∷ User ∷ UserGroup ∷ [])) }
+    ensures { IfOk result (λ all. all ≡ lists ++ map (ids_in parts.now)
+        (Indicator ∷ ValidationRule ∷ TrackedEntityType ∷ TrackedEntityAttribute ∷ Program ∷ ProgramStage ∷ ProgramIndicator ∷ UserRole ∷ User ∷ UserGroup ∷
+        [])) }
 {
     let lists = add_indicators(lists, parts)?;
     let lists = add_programs(lists, parts)?;

@@ -6,7 +6,8 @@ use Rattle.std.proofs.lemmas.List.{drop_more}
 use Rattle.meta_links.specs.Reference.{Reference, is_known, first_unknown, each}
 use Rattle.meta_links.specs.Told.{after}
 
-unknown_append : (ids : List (List (List ℕ))) (front rest : List Reference) → first_unknown ids (front ++ rest) ≡ option_or (first_unknown ids front) (first_unknown ids rest)
+unknown_append : (ids : List (List (List ℕ))) (front rest : List Reference)
+    → first_unknown ids (front ++ rest) ≡ option_or (first_unknown ids front) (first_unknown ids rest)
 unfolding first_unknown
 unknown_append ids [] rest = refl
 unknown_append ids (reference ∷ front) rest =
@@ -28,7 +29,8 @@ unfolding after first_unknown
 after_none ids met = or_none met
 
 -- first the front, then the rest
-pub after_append : (ids : List (List (List ℕ))) (met : Option (List ℕ × List ℕ)) (front rest : List Reference) → after ids met (front ++ rest) ≡ after ids (after ids met front) rest
+pub after_append : (ids : List (List (List ℕ))) (met : Option (List ℕ × List ℕ)) (front rest : List Reference)
+    → after ids met (front ++ rest) ≡ after ids (after ids met front) rest
 unfolding after
 after_append ids met front rest = ap (option_or met) (unknown_append ids front rest) ∙ or_twice met (first_unknown ids front) (first_unknown ids rest)
 
@@ -38,7 +40,8 @@ unfolding after
 after_nothing ids references = refl
 
 -- the entries of a list from a place on: the first of them, and the others
-pub each_more : {X : Type 0} (ids : List (List (List ℕ))) (has : ℕ → X → List Reference) (place : ℕ) (xs : List X) (i : ℕ) (x : X) (whole met new : Option (List ℕ × List ℕ))
+pub each_more : {X : Type 0} (ids : List (List (List ℕ))) (has : ℕ → X
+    → List Reference) (place : ℕ) (xs : List X) (i : ℕ) (x : X) (whole met new : Option (List ℕ × List ℕ))
     → i < length xs → x ≡ get_or xs i x → whole ≡ after ids met (each has place (drop i xs)) → new ≡ after ids met (has place x)
     → whole ≡ after ids new (each has (place + 1) (drop (i + 1) xs))
 each_more {X = X} ids has place xs i x whole met new within is so_far more =

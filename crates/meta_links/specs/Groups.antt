@@ -4,8 +4,15 @@ use Rattle.std.specs.List.{flat_map}
 use Rattle.meta_parts.specs.declared.parts.MetaParts.{MetaParts}
 use Rattle.meta_parts.specs.declared.held.Links.{Links}
 use Rattle.meta_links.specs.Reference.{Reference}
-use Rattle.meta_links.specs.Table.{unit_references, unit_group_references, category_option_references, category_references, category_combo_references, option_combo_references, element_references, approval_level_references, workflow_references, data_set_references, constant_references, indicator_type_references, indicator_references, rule_references, entity_type_references, attribute_references, program_references, stage_references, program_indicator_references, role_references, user_references, user_group_references}
-use Rattle.meta_links.specs.Held.{unit_held, unit_group_held, category_option_held, category_held, category_combo_held, option_combo_held, element_held, approval_level_held, workflow_held, data_set_held, constant_held, indicator_type_held, indicator_held, rule_held, entity_type_held, attribute_held, program_held, stage_held, program_indicator_held, role_held, user_held, user_group_held, built_in_combo, built_in_option_combo}
+use Rattle.meta_links.specs.Table.{unit_references, unit_group_references, category_option_references, category_references, category_combo_references}
+use Rattle.meta_links.specs.Table.{option_combo_references, element_references, approval_level_references, workflow_references, data_set_references}
+use Rattle.meta_links.specs.Table.{constant_references, indicator_type_references, indicator_references, rule_references, entity_type_references}
+use Rattle.meta_links.specs.Table.{attribute_references, program_references, stage_references, program_indicator_references, role_references}
+use Rattle.meta_links.specs.Table.{user_references, user_group_references}
+use Rattle.meta_links.specs.Held.{unit_held, unit_group_held, category_option_held, category_held, category_combo_held, option_combo_held, element_held}
+use Rattle.meta_links.specs.Held.{approval_level_held, workflow_held, data_set_held, constant_held, indicator_type_held, indicator_held, rule_held}
+use Rattle.meta_links.specs.Held.{entity_type_held, attribute_held, program_held, stage_held, program_indicator_held, role_held, user_held, user_group_held}
+use Rattle.meta_links.specs.Held.{built_in_combo, built_in_option_combo}
 use Rattle.meta_links.specs.declared.groups.UnitLinks.{UnitLinks}
 use Rattle.meta_links.specs.declared.groups.ComboLinks.{ComboLinks}
 use Rattle.meta_links.specs.declared.groups.SetLinks.{SetLinks}
@@ -14,7 +21,9 @@ use Rattle.meta_links.specs.declared.groups.ProgramLinks.{ProgramLinks}
 use Rattle.meta_links.specs.declared.groups.UserLinks.{UserLinks}
 
 unfoldable pub units_references : MetaParts → List Reference
-units_references parts = flat_map unit_references parts.organisation_units ++ flat_map unit_group_references parts.organisation_unit_groups ++ flat_map category_option_references parts.category_options ++ flat_map category_references parts.categories
+units_references parts =
+    flat_map unit_references parts.organisation_units ++ flat_map unit_group_references parts.organisation_unit_groups
+    ++ flat_map category_option_references parts.category_options ++ flat_map category_references parts.categories
 
 unfoldable pub units_held : List (List (List ℕ)) → MetaParts → UnitLinks
 units_held ids parts = record {
@@ -25,7 +34,9 @@ units_held ids parts = record {
 }
 
 unfoldable pub combos_references : MetaParts → List Reference
-combos_references parts = flat_map category_combo_references parts.category_combos ++ flat_map option_combo_references parts.category_option_combos ++ flat_map element_references parts.data_elements ++ flat_map approval_level_references parts.data_approval_levels
+combos_references parts =
+    flat_map category_combo_references parts.category_combos ++ flat_map option_combo_references parts.category_option_combos
+    ++ flat_map element_references parts.data_elements ++ flat_map approval_level_references parts.data_approval_levels
 
 unfoldable pub combos_held : List (List (List ℕ)) → MetaParts → ComboLinks
 combos_held ids parts = record {
@@ -36,7 +47,9 @@ combos_held ids parts = record {
 }
 
 unfoldable pub sets_references : MetaParts → List Reference
-sets_references parts = flat_map workflow_references parts.data_approval_workflows ++ flat_map data_set_references parts.data_sets ++ flat_map constant_references parts.constants ++ flat_map indicator_type_references parts.indicator_types
+sets_references parts =
+    flat_map workflow_references parts.data_approval_workflows ++ flat_map data_set_references parts.data_sets ++ flat_map constant_references parts.constants
+    ++ flat_map indicator_type_references parts.indicator_types
 
 unfoldable pub sets_held : List (List (List ℕ)) → MetaParts → SetLinks
 sets_held ids parts = record {
@@ -47,7 +60,9 @@ sets_held ids parts = record {
 }
 
 unfoldable pub rules_references : MetaParts → List Reference
-rules_references parts = flat_map indicator_references parts.indicators ++ flat_map rule_references parts.validation_rules ++ flat_map entity_type_references parts.tracked_entity_types ++ flat_map attribute_references parts.tracked_entity_attributes
+rules_references parts =
+    flat_map indicator_references parts.indicators ++ flat_map rule_references parts.validation_rules
+    ++ flat_map entity_type_references parts.tracked_entity_types ++ flat_map attribute_references parts.tracked_entity_attributes
 
 unfoldable pub rules_held : List (List (List ℕ)) → MetaParts → RuleLinks
 rules_held ids parts = record {
@@ -58,7 +73,9 @@ rules_held ids parts = record {
 }
 
 unfoldable pub programs_references : MetaParts → List Reference
-programs_references parts = flat_map program_references parts.programs ++ flat_map stage_references parts.program_stages ++ flat_map program_indicator_references parts.program_indicators
+programs_references parts =
+    flat_map program_references parts.programs ++ flat_map stage_references parts.program_stages
+    ++ flat_map program_indicator_references parts.program_indicators
 
 unfoldable pub programs_held : List (List (List ℕ)) → MetaParts → ProgramLinks
 programs_held ids parts = record {

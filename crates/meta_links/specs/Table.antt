@@ -48,7 +48,8 @@ unfoldable pub unit_references : RawUnit → List Reference
 unit_references unit = optional (field_path kind.OrganisationUnit unit.place (codes "parent")) kind.OrganisationUnit unit.parent
 
 unfoldable pub unit_group_references : RawUnitGroup → List Reference
-unit_group_references unit_group = several (field_path kind.OrganisationUnitGroup unit_group.place (codes "organisationUnits")) kind.OrganisationUnit unit_group.organisation_units
+unit_group_references unit_group =
+    several (field_path kind.OrganisationUnitGroup unit_group.place (codes "organisationUnits")) kind.OrganisationUnit unit_group.organisation_units
 
 unfoldable pub category_option_references : RawCategoryOption → List Reference
 category_option_references category_option = sharing_references kind.CategoryOption category_option.place category_option.sharing
@@ -57,7 +58,8 @@ unfoldable pub category_references : RawCategory → List Reference
 category_references category = several (field_path kind.Category category.place (codes "categoryOptions")) kind.CategoryOption category.category_options
 
 unfoldable pub category_combo_references : RawCategoryCombo → List Reference
-category_combo_references category_combo = several (field_path kind.CategoryCombo category_combo.place (codes "categories")) kind.Category category_combo.categories
+category_combo_references category_combo =
+    several (field_path kind.CategoryCombo category_combo.place (codes "categories")) kind.Category category_combo.categories
 
 unfoldable pub option_combo_references : RawOptionCombo → List Reference
 option_combo_references option_combo =
@@ -115,13 +117,15 @@ attribute_references attribute = []
 unfoldable pub program_references : RawProgram → List Reference
 program_references program =
     optional (field_path kind.Program program.place (codes "trackedEntityType")) kind.TrackedEntityType program.tracked_entity_type
-    ++ several_in (field_path kind.Program program.place (codes "programTrackedEntityAttributes")) (codes "trackedEntityAttribute") kind.TrackedEntityAttribute program.program_tracked_entity_attributes
+    ++ several_in (field_path kind.Program program.place (codes "programTrackedEntityAttributes")) (codes "trackedEntityAttribute") kind.TrackedEntityAttribute
+    program.program_tracked_entity_attributes
     ++ sharing_references kind.Program program.place program.sharing
 
 unfoldable pub stage_references : RawStage → List Reference
 stage_references stage =
     one (field_path kind.ProgramStage stage.place (codes "program")) kind.Program stage.program
-    ++ several_in (field_path kind.ProgramStage stage.place (codes "programStageDataElements")) (codes "dataElement") kind.DataElement stage.program_stage_data_elements
+    ++ several_in (field_path kind.ProgramStage stage.place (codes "programStageDataElements")) (codes "dataElement") kind.DataElement
+    stage.program_stage_data_elements
 
 unfoldable pub program_indicator_references : RawProgramIndicator → List Reference
 program_indicator_references program_indicator =

@@ -6,7 +6,7 @@ ghost use Rattle.meta_links.specs.Table.{set_element, set_elements};
 ghost use Rattle.meta_links.specs.Told.{after};
 ghost use Rattle.meta_parts.specs.declared.kind.Kind.TheVariants as kind;
 
-use crate::path::{Field, entry_path, field_path, inner_path, key_path};
+use crate::path::{Field, Inner, entry_path, field_path, inner_path, key_path};
 use crate::unknown::Unknown;
 use dh_base::items::Items;
 use dh_base::memory::Memory;
@@ -51,7 +51,8 @@ fn entry(
     uid: Uid,
 ) -> Result<u32, Memory>
     ensures number { IfOk result (λ number. number ≡ number_of ids.now kind uid) }
-    ensures told { OnOk result (unknown.new ≡ after ids.now unknown.old (one (step (field_path field.entry.kind field.entry.place field.entry.name.now) (decimal place)) kind uid)) }
+    ensures told { OnOk result (unknown.new ≡ after ids.now unknown.old
+        (one (step (field_path field.entry.kind field.entry.place field.entry.name.now) (decimal place)) kind uid)) }
 {
     match ids.find(kind, uid) {
         Some(number) => Ok(number),
@@ -70,20 +71,20 @@ fn inner(
     alloc: Global,
     ids: &Ids,
     unknown: &mut Unknown,
-    field: Field<'_>,
-    place: usize,
-    name: &str,
+    inner: Inner<'_>,
     kind: Kind,
     uid: Uid,
 ) -> Result<u32, Memory>
     ensures number { IfOk result (λ number. number ≡ number_of ids.now kind uid) }
-    ensures told { OnOk result (unknown.new ≡ after ids.now unknown.old (one (step (step (field_path field.entry.kind field.entry.place field.entry.name.now) (decimal place)) name.now) kind uid)) }
+    ensures told { OnOk result (unknown.new ≡ after ids.now unknown.old (one
+        (step (step (field_path inner.entry.field.kind inner.entry.field.place inner.entry.field.name.now) (decimal inner.entry.place)) inner.entry.name.now)
+        kind uid)) }
 {
     match ids.find(kind, uid) {
         Some(number) => Ok(number),
         None => {
             if !unknown.is_met() {
-                unknown.meet(uid, inner_path(alloc, field, place, name)?);
+                unknown.meet(uid, inner_path(alloc, inner)?);
             }
             Ok(0)
         }
@@ -102,7 +103,8 @@ pub fn keyed(
     uid: Uid,
 ) -> Result<u32, Memory>
     ensures number { IfOk result (λ number. number ≡ number_of ids.now kind uid) }
-    ensures told { OnOk result (unknown.new ≡ after ids.now unknown.old (one (step (field_path field.entry.kind field.entry.place field.entry.name.now) key.now) kind uid)) }
+    ensures told { OnOk result (unknown.new ≡ after ids.now unknown.old
+        (one (step (field_path field.entry.kind field.entry.place field.entry.name.now) key.now) kind uid)) }
 {
     match ids.find(kind, uid) {
         Some(number) => Ok(number),
@@ -126,7 +128,8 @@ pub fn optional(
     uid: Option<Uid>,
 ) -> Result<Option<u32>, Memory>
     ensures number { IfOk result (λ number. number ≡ option_map (number_of ids.now kind) uid) }
-    ensures told { OnOk result (unknown.new ≡ after ids.now unknown.old (optional (field_path field.entry.kind field.entry.place field.entry.name.now) kind uid)) }
+    ensures told { OnOk result (unknown.new ≡ after ids.now unknown.old
+        (optional (field_path field.entry.kind field.entry.place field.entry.name.now) kind uid)) }
 {
     match uid {
         None => Ok(None),
@@ -145,7 +148,8 @@ fn several_of(
     uids: &[Uid],
 ) -> Result<Items<u32>, Memory>
     ensures numbers { IfOk result (λ numbers. numbers ≡ map (number_of ids.now kind) uids.now) }
-    ensures told { OnOk result (unknown.new ≡ after ids.now unknown.old (several (field_path field.entry.kind field.entry.place field.entry.name.now) kind uids.now)) }
+    ensures told { OnOk result (unknown.new ≡ after ids.now unknown.old
+        (several (field_path field.entry.kind field.entry.place field.entry.name.now) kind uids.now)) }
 {
     let mut numbers = Vec::new(alloc);
     let mut place = 0;
@@ -168,12 +172,14 @@ fn several_in_of(
     uids: &[Uid],
 ) -> Result<Items<u32>, Memory>
     ensures numbers { IfOk result (λ numbers. numbers ≡ map (number_of ids.now kind) uids.now) }
-    ensures told { OnOk result (unknown.new ≡ after ids.now unknown.old (several_in (field_path field.entry.kind field.entry.place field.entry.name.now) name.now kind uids.now)) }
+    ensures told { OnOk result (unknown.new ≡ after ids.now unknown.old
+        (several_in (field_path field.entry.kind field.entry.place field.entry.name.now) name.now kind uids.now)) }
 {
     let mut numbers = Vec::new(alloc);
     let mut place = 0;
     for uid in uids {
-        numbers.push(inner(alloc, ids, unknown, field, place, name, kind, *uid)?)?;
+        let at = Inner { field, place, name };
+        numbers.push(inner(alloc, ids, unknown, at, kind, *uid)?)?;
         place += 1;
     }
     Ok(Items::from(numbers))
@@ -189,21 +195,19 @@ fn set_combo(
     place: usize,
     combo: Option<Uid>,
 ) -> Result<(), Memory>
-    ensures { OnOk result (unknown.new ≡ after ids.now unknown.old (optional (step (step (field_path field.entry.kind field.entry.place field.entry.name.now) (decimal place)) (codes "categoryCombo")) kind.CategoryCombo combo)) }
+    ensures { OnOk result (unknown.new ≡ after ids.now unknown.old
+        (optional (step (step (field_path field.entry.kind field.entry.place field.entry.name.now) (decimal place)) (codes "categoryCombo")) kind.CategoryCombo
+        combo)) }
 {
     match combo {
         None => Ok(()),
         Some(combo) => {
-            inner(
-                alloc,
-                ids,
-                unknown,
+            let at = Inner {
                 field,
                 place,
-                "categoryCombo",
-                Kind::CategoryCombo,
-                combo,
-            )?;
+                name: "categoryCombo",
+            };
+            inner(alloc, ids, unknown, at, Kind::CategoryCombo, combo)?;
             Ok(())
         }
     }
@@ -220,11 +224,15 @@ fn set_element(
     element: &(Uid, Option<Uid>),
 ) -> Result<u32, Memory>
     ensures number { IfOk result (λ number. number ≡ number_of ids.now kind.DataElement element.now.0) }
-    ensures told { OnOk result (unknown.new ≡ after ids.now unknown.old (set_element (field_path field.entry.kind field.entry.place field.entry.name.now) place element.now)) }
+    ensures told { OnOk result (unknown.new ≡ after ids.now unknown.old
+        (set_element (field_path field.entry.kind field.entry.place field.entry.name.now) place element.now)) }
 {
-    let name = "dataElement";
-    let kind = Kind::DataElement;
-    let number = inner(alloc, ids, unknown, field, place, name, kind, element.0)?;
+    let at = Inner {
+        field,
+        place,
+        name: "dataElement",
+    };
+    let number = inner(alloc, ids, unknown, at, Kind::DataElement, element.0)?;
     set_combo(alloc, ids, unknown, field, place, element.1)?;
     Ok(number)
 }
@@ -239,7 +247,8 @@ fn set_elements_of(
     elements: &[(Uid, Option<Uid>)],
 ) -> Result<Items<u32>, Memory>
     ensures numbers { IfOk result (λ numbers. numbers ≡ map (λ element. number_of ids.now kind.DataElement element.0) elements.now) }
-    ensures told { OnOk result (unknown.new ≡ after ids.now unknown.old (set_elements (field_path field.entry.kind field.entry.place field.entry.name.now) elements.now)) }
+    ensures told { OnOk result (unknown.new ≡ after ids.now unknown.old
+        (set_elements (field_path field.entry.kind field.entry.place field.entry.name.now) elements.now)) }
 {
     let mut numbers = Vec::new(alloc);
     let mut place = 0;
@@ -260,7 +269,8 @@ pub fn several(
     uids: &Items<Uid>,
 ) -> Result<Items<u32>, Memory>
     ensures numbers { IfOk result (λ numbers. numbers ≡ map (number_of ids.now kind) uids.now) }
-    ensures told { OnOk result (unknown.new ≡ after ids.now unknown.old (several (field_path field.entry.kind field.entry.place field.entry.name.now) kind uids.now)) }
+    ensures told { OnOk result (unknown.new ≡ after ids.now unknown.old
+        (several (field_path field.entry.kind field.entry.place field.entry.name.now) kind uids.now)) }
 {
     several_of(alloc, ids, unknown, field, kind, uids.as_slice())
 }
@@ -276,7 +286,8 @@ pub fn several_in(
     uids: &Items<Uid>,
 ) -> Result<Items<u32>, Memory>
     ensures numbers { IfOk result (λ numbers. numbers ≡ map (number_of ids.now kind) uids.now) }
-    ensures told { OnOk result (unknown.new ≡ after ids.now unknown.old (several_in (field_path field.entry.kind field.entry.place field.entry.name.now) name.now kind uids.now)) }
+    ensures told { OnOk result (unknown.new ≡ after ids.now unknown.old
+        (several_in (field_path field.entry.kind field.entry.place field.entry.name.now) name.now kind uids.now)) }
 {
     several_in_of(alloc, ids, unknown, field, name, kind, uids.as_slice())
 }
@@ -290,7 +301,8 @@ pub fn set_elements(
     elements: &Items<(Uid, Option<Uid>)>,
 ) -> Result<Items<u32>, Memory>
     ensures numbers { IfOk result (λ numbers. numbers ≡ map (λ element. number_of ids.now kind.DataElement element.0) elements.now) }
-    ensures told { OnOk result (unknown.new ≡ after ids.now unknown.old (set_elements (field_path field.entry.kind field.entry.place field.entry.name.now) elements.now)) }
+    ensures told { OnOk result (unknown.new ≡ after ids.now unknown.old
+        (set_elements (field_path field.entry.kind field.entry.place field.entry.name.now) elements.now)) }
 {
     set_elements_of(alloc, ids, unknown, field, elements.as_slice())
 }

@@ -2,7 +2,8 @@ ghost use Rattle.std.specs.Prelude.{◌≡◌, ◌∷◌, IfOk, OnOk, map};
 ghost use Rattle.std.specs.List.{flat_map};
 ghost use Rattle.meta_links.specs.Held.{built_in_combo, built_in_option_combo, category_combo_held, option_combo_held};
 ghost use Rattle.meta_links.specs.Table.{category_combo_references, option_combo_references};
-ghost use Rattle.meta_links.specs.Groups.{units_references, units_held, combos_references, combos_held, sets_references, sets_held, rules_references, rules_held, programs_references, programs_held, users_references, users_held};
+ghost use Rattle.meta_links.specs.Groups.{units_references, units_held, combos_references, combos_held, sets_references, sets_held, rules_references};
+ghost use Rattle.meta_links.specs.Groups.{rules_held, programs_references, programs_held, users_references, users_held};
 ghost use Rattle.meta_links.specs.Told.{after};
 
 use crate::built_in::{built_in_combo, built_in_option_combo};

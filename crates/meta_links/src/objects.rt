@@ -1,6 +1,13 @@
 ghost use Rattle.std.specs.Prelude.{IfOk, OnOk};
-ghost use Rattle.meta_links.specs.Table.{unit_references, unit_group_references, category_option_references, category_references, category_combo_references, option_combo_references, element_references, approval_level_references, workflow_references, data_set_references, constant_references, indicator_type_references, indicator_references, rule_references, entity_type_references, attribute_references, program_references, stage_references, program_indicator_references, role_references, user_references, user_group_references};
-ghost use Rattle.meta_links.specs.Held.{unit_held, unit_group_held, category_option_held, category_held, category_combo_held, option_combo_held, element_held, approval_level_held, workflow_held, data_set_held, constant_held, indicator_type_held, indicator_held, rule_held, entity_type_held, attribute_held, program_held, stage_held, program_indicator_held, role_held, user_held, user_group_held};
+ghost use Rattle.meta_links.specs.Table.{unit_references, unit_group_references, category_option_references, category_references, category_combo_references};
+ghost use Rattle.meta_links.specs.Table.{option_combo_references, element_references, approval_level_references, workflow_references, data_set_references};
+ghost use Rattle.meta_links.specs.Table.{constant_references, indicator_type_references, indicator_references, rule_references, entity_type_references};
+ghost use Rattle.meta_links.specs.Table.{attribute_references, program_references, stage_references, program_indicator_references, role_references};
+ghost use Rattle.meta_links.specs.Table.{user_references, user_group_references};
+ghost use Rattle.meta_links.specs.Held.{unit_held, unit_group_held, category_option_held, category_held, category_combo_held, option_combo_held};
+ghost use Rattle.meta_links.specs.Held.{element_held, approval_level_held, workflow_held, data_set_held, constant_held, indicator_type_held, indicator_held};
+ghost use Rattle.meta_links.specs.Held.{rule_held, entity_type_held, attribute_held, program_held, stage_held, program_indicator_held, role_held, user_held};
+ghost use Rattle.meta_links.specs.Held.{user_group_held};
 
 use crate::copies::{copies_of, copy_of};
 use crate::fields::{one, optional, set_elements, several, several_in};

@@ -14,6 +14,15 @@ pub struct Field<'a> {
     pub name: &'a str,
 }
 
+/// A field of an entry of a list in a field: the list's field, the entry's place, and the name of its
+/// field.
+#[derive(Clone, Copy)]
+pub struct Inner<'a> {
+    pub field: Field<'a>,
+    pub place: usize,
+    pub name: &'a str,
+}
+
 /// The path of a field.
 pub fn field_path(alloc: Global, field: Field<'_>) -> Result<Vec<u8>, AllocError>
     ensures { IfOk result (λ path. path.items ≡ field_path field.entry.kind field.entry.place field.entry.name.now) }
@@ -49,16 +58,13 @@ pub fn entry_path(alloc: Global, field: Field<'_>, place: usize) -> Result<Vec<u
 }
 
 /// The path of a field of an entry of a list in a field.
-pub fn inner_path(
-    alloc: Global,
-    field: Field<'_>,
-    place: usize,
-    name: &str,
-) -> Result<Vec<u8>, AllocError>
-    ensures { IfOk result (λ path. path.items ≡ step (step (field_path field.entry.kind field.entry.place field.entry.name.now) (decimal place)) name.now) }
+pub fn inner_path(alloc: Global, inner: Inner<'_>) -> Result<Vec<u8>, AllocError>
+    ensures { IfOk result (λ path. path.items ≡ step
+        (step (field_path inner.entry.field.kind inner.entry.field.place inner.entry.field.name.now) (decimal inner.entry.place))
+        inner.entry.name.now) }
 {
-    let path = entry_path(alloc, field, place)?;
-    longer(path, name.as_bytes())
+    let path = entry_path(alloc, inner.field, inner.place)?;
+    longer(path, inner.name.as_bytes())
 }
 
 /// The path of an entry under a key in a field.

@@ -58,7 +58,8 @@ fn entries_of(
     listed: &[(Items<u8>, Uid, Access)],
 ) -> Result<Items<(u32, Access)>, Memory>
     ensures held { IfOk result (λ held. held ≡ shared_with ids.now kind listed.now) }
-    ensures told { OnOk result (unknown.new ≡ after ids.now unknown.old (entries (field_path field.entry.kind field.entry.place field.entry.name.now) kind listed.now)) }
+    ensures told { OnOk result (unknown.new ≡ after ids.now unknown.old
+        (entries (field_path field.entry.kind field.entry.place field.entry.name.now) kind listed.now)) }
 {
     let mut all = Vec::new(alloc);
     for entry in listed {
@@ -77,7 +78,8 @@ fn entries(
     listed: &Items<(Items<u8>, Uid, Access)>,
 ) -> Result<Items<(u32, Access)>, Memory>
     ensures held { IfOk result (λ held. held ≡ shared_with ids.now kind listed.now) }
-    ensures told { OnOk result (unknown.new ≡ after ids.now unknown.old (entries (field_path field.entry.kind field.entry.place field.entry.name.now) kind listed.now)) }
+    ensures told { OnOk result (unknown.new ≡ after ids.now unknown.old
+        (entries (field_path field.entry.kind field.entry.place field.entry.name.now) kind listed.now)) }
 {
     entries_of(alloc, ids, unknown, field, kind, listed.as_slice())
 }

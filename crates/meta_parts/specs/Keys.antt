@@ -2,7 +2,10 @@
 use Rattle.std.specs.Prelude.{ℕ, List}
 use lib.Chars.{codes}
 use Rattle.meta_parts.specs.declared.kind.Kind.{Kind}
-use Rattle.meta_parts.specs.declared.kind.Kind.TheVariants.{OrganisationUnit, OrganisationUnitGroup, CategoryOption, Category, CategoryCombo, CategoryOptionCombo, DataElement, ApprovalLevel, Workflow, DataSet, Constant, IndicatorType, Indicator, ValidationRule, TrackedEntityType, TrackedEntityAttribute, Program, ProgramStage, ProgramIndicator, UserRole, User, UserGroup}
+use Rattle.meta_parts.specs.declared.kind.Kind.TheVariants.{OrganisationUnit, OrganisationUnitGroup, CategoryOption, Category, CategoryCombo}
+use Rattle.meta_parts.specs.declared.kind.Kind.TheVariants.{CategoryOptionCombo, DataElement, ApprovalLevel, Workflow, DataSet, Constant, IndicatorType}
+use Rattle.meta_parts.specs.declared.kind.Kind.TheVariants.{Indicator, ValidationRule, TrackedEntityType, TrackedEntityAttribute, Program, ProgramStage}
+use Rattle.meta_parts.specs.declared.kind.Kind.TheVariants.{ProgramIndicator, UserRole, User, UserGroup}
 
 -- the key under which the objects of a kind stand
 unfoldable pub key_of : Kind → List ℕ

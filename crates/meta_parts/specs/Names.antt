@@ -30,7 +30,10 @@ value_type_name value_type.Text = codes "TEXT"
 
 -- the value type of that name
 unfoldable pub value_type_named : List ℕ → Option ValueType
-value_type_named name = find (λ each. bytes_eq (value_type_name each) name) (value_type.Number ∷ value_type.Integer ∷ value_type.IntegerPositive ∷ value_type.IntegerNegative ∷ value_type.IntegerZeroOrPositive ∷ value_type.Percentage ∷ value_type.UnitInterval ∷ value_type.Boolean ∷ value_type.TrueOnly ∷ value_type.Date ∷ value_type.Text ∷ [])
+value_type_named name =
+    find (λ each. bytes_eq (value_type_name each) name)
+    (value_type.Number ∷ value_type.Integer ∷ value_type.IntegerPositive ∷ value_type.IntegerNegative ∷ value_type.IntegerZeroOrPositive ∷ value_type.Percentage
+    ∷ value_type.UnitInterval ∷ value_type.Boolean ∷ value_type.TrueOnly ∷ value_type.Date ∷ value_type.Text ∷ [])
 
 -- the name of the operator
 abbrev pub operator_name : Operator → List ℕ
@@ -45,7 +48,10 @@ operator_name operator.ExclusivePair = codes "exclusive_pair"
 
 -- the operator of that name
 unfoldable pub operator_named : List ℕ → Option Operator
-operator_named name = find (λ each. bytes_eq (operator_name each) name) (operator.EqualTo ∷ operator.NotEqualTo ∷ operator.GreaterThan ∷ operator.GreaterThanOrEqualTo ∷ operator.LessThan ∷ operator.LessThanOrEqualTo ∷ operator.CompulsoryPair ∷ operator.ExclusivePair ∷ [])
+operator_named name =
+    find (λ each. bytes_eq (operator_name each) name)
+    (operator.EqualTo ∷ operator.NotEqualTo ∷ operator.GreaterThan ∷ operator.GreaterThanOrEqualTo ∷ operator.LessThan ∷ operator.LessThanOrEqualTo ∷
+    operator.CompulsoryPair ∷ operator.ExclusivePair ∷ [])
 
 -- the name of the program type
 abbrev pub program_type_name : ProgramType → List ℕ
@@ -81,7 +87,10 @@ aggregation_name aggregation.None = codes "NONE"
 
 -- the aggregation type of that name
 unfoldable pub aggregation_named : List ℕ → Option AggType
-aggregation_named name = find (λ each. bytes_eq (aggregation_name each) name) (aggregation.Sum ∷ aggregation.Average ∷ aggregation.AverageSumOrgUnit ∷ aggregation.Last ∷ aggregation.First ∷ aggregation.LastAverageOrgUnit ∷ aggregation.FirstAverageOrgUnit ∷ aggregation.Count ∷ aggregation.Min ∷ aggregation.Max ∷ aggregation.None ∷ [])
+aggregation_named name =
+    find (λ each. bytes_eq (aggregation_name each) name)
+    (aggregation.Sum ∷ aggregation.Average ∷ aggregation.AverageSumOrgUnit ∷ aggregation.Last ∷ aggregation.First ∷ aggregation.LastAverageOrgUnit ∷
+    aggregation.FirstAverageOrgUnit ∷ aggregation.Count ∷ aggregation.Min ∷ aggregation.Max ∷ aggregation.None ∷ [])
 
 -- the name of the missing-value strategy
 abbrev pub strategy_name : Strategy → List ℕ

@@ -1,7 +1,8 @@
 //! The names of values in a metadata file.
 
 ghost use Rattle.std.specs.Prelude.{◌≡◌};
-ghost use Rattle.meta_parts.specs.Names.{value_type_name, value_type_named, operator_name, operator_named, program_type_name, program_type_named, analytics_type_name, analytics_type_named, aggregation_name, aggregation_named, strategy_name, strategy_named};
+ghost use Rattle.meta_parts.specs.Names.{value_type_name, value_type_named, operator_name, operator_named, program_type_name, program_type_named};
+ghost use Rattle.meta_parts.specs.Names.{analytics_type_name, analytics_type_named, aggregation_name, aggregation_named, strategy_name, strategy_named};
 
 use dh_base::plain::{AggType, Strategy};
 

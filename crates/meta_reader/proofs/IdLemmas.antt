@@ -1,5 +1,6 @@
 -- The identifiers and the numbers of objects.
-use Rattle.std.proofs.Common.{◌≡◌, ◌∙◌, ℕ, zero, suc, ◌+◌, ◌<◌, ◌≤◌, ◌^◌, Bool, true, false, cond, List, [], ◌∷◌, ◌++◌, ◌||◌, length, length-append, map, get_or, Option, Some, None, option_map, refl, sym, ap, subst, arith, inl, inr}
+use Rattle.std.proofs.Common.{◌≡◌, ◌∙◌, ℕ, zero, suc, ◌+◌, ◌<◌, ◌≤◌, ◌^◌, Bool, true, false, cond, List, [], ◌∷◌, ◌++◌, ◌||◌, length, length-append, map}
+use Rattle.std.proofs.Common.{get_or, Option, Some, None, option_map, refl, sym, ap, subst, arith, inl, inr}
 use Rattle.std.specs.Prelude.{slice_get, slice_index_or, nat_lt, ℤ}
 use Rattle.std.specs.List.{flat_map, list_any, find}
 use Rattle.std.specs.Option.{option_or, option_map_or}
@@ -19,7 +20,10 @@ use Rattle.meta_parts.specs.declared.raw.RawOptionCombo.{RawOptionCombo}
 use Rattle.meta_ids.specs.Ids.{ids_of, ids_in, ids_at, kinds, joined, all_ids, repeated, user_of_repeated, twice_of}
 use Rattle.meta_links.specs.Reference.{Reference, one, several, number_of, field_path}
 use Rattle.meta_links.specs.Table.{option_combo_references, references_in, token_references, references}
-use Rattle.meta_links.specs.Held.{numbers_of, unit_held, unit_group_held, category_option_held, category_held, category_combo_held, option_combo_held, element_held, approval_level_held, workflow_held, data_set_held, constant_held, indicator_type_held, indicator_held, rule_held, entity_type_held, attribute_held, program_held, stage_held, program_indicator_held, role_held, user_held, user_group_held, built_in_combo, built_in_option_combo, links_of}
+use Rattle.meta_links.specs.Held.{numbers_of, unit_held, unit_group_held, category_option_held, category_held, category_combo_held, option_combo_held}
+use Rattle.meta_links.specs.Held.{element_held, approval_level_held, workflow_held, data_set_held, constant_held, indicator_type_held, indicator_held}
+use Rattle.meta_links.specs.Held.{rule_held, entity_type_held, attribute_held, program_held, stage_held, program_indicator_held, role_held, user_held}
+use Rattle.meta_links.specs.Held.{user_group_held, built_in_combo, built_in_option_combo, links_of}
 use lib.Chars.{codes}
 use Rattle.meta_rules.specs.Trees.{tree_rows}
 use Rattle.meta_rules.specs.Categories.{option_combo_rows}
@@ -52,14 +56,19 @@ map_made f g IsMade same (a ∷ xs) (b ∷ bs) (c ∷ cs) made =
     ap (λ y. y ∷ map f xs) (sym (same a b c made.0)) ∙ ap (λ ys. g c ∷ ys) (map_made f g IsMade same xs bs cs made.1)
 
 -- the identifiers of the objects are those of the file
-pub have_ids : (parts : MetaParts) (made : Expressions) → HaveExpressions parts (unread_of (links_in parts)) made → HaveIds (records_of parts (links_in parts) made) (ids_of parts)
-unfolding ids_of links_of unit_held unit_group_held category_option_held category_held category_combo_held option_combo_held element_held approval_level_held workflow_held data_set_held constant_held indicator_type_held indicator_held rule_held entity_type_held attribute_held program_held stage_held program_indicator_held role_held user_held user_group_held built_in_combo built_in_option_combo
+pub have_ids : (parts : MetaParts) (made : Expressions) → HaveExpressions parts (unread_of (links_in parts)) made
+    → HaveIds (records_of parts (links_in parts) made) (ids_of parts)
+unfolding ids_of links_of unit_held unit_group_held category_option_held category_held category_combo_held option_combo_held element_held approval_level_held
+    workflow_held data_set_held constant_held indicator_type_held indicator_held rule_held entity_type_held attribute_held program_held stage_held
+    program_indicator_held role_held user_held user_group_held built_in_combo built_in_option_combo
 have_ids parts made read kind.OrganisationUnit = map_held _ _ (unit_held (ids_of parts)) (λ a. refl) parts.organisation_units
 have_ids parts made read kind.OrganisationUnitGroup = map_held _ _ (unit_group_held (ids_of parts)) (λ a. refl) parts.organisation_unit_groups
 have_ids parts made read kind.CategoryOption = map_held _ _ (category_option_held (ids_of parts)) (λ a. refl) parts.category_options
 have_ids parts made read kind.Category = map_held _ _ (category_held (ids_of parts)) (λ a. refl) parts.categories
-have_ids parts made read kind.CategoryCombo = ap (λ ids. built_in_combo.id ∷ ids) (map_held _ _ (category_combo_held (ids_of parts)) (λ a. refl) parts.category_combos)
-have_ids parts made read kind.CategoryOptionCombo = ap (λ ids. built_in_option_combo.id ∷ ids) (map_held _ _ (option_combo_held (ids_of parts)) (λ a. refl) parts.category_option_combos)
+have_ids parts made read kind.CategoryCombo =
+    ap (λ ids. built_in_combo.id ∷ ids) (map_held _ _ (category_combo_held (ids_of parts)) (λ a. refl) parts.category_combos)
+have_ids parts made read kind.CategoryOptionCombo =
+    ap (λ ids. built_in_option_combo.id ∷ ids) (map_held _ _ (option_combo_held (ids_of parts)) (λ a. refl) parts.category_option_combos)
 have_ids parts made read kind.DataElement = map_held _ _ (element_held (ids_of parts)) (λ a. refl) parts.data_elements
 have_ids parts made read kind.ApprovalLevel = map_held _ _ (approval_level_held (ids_of parts)) (λ a. refl) parts.data_approval_levels
 have_ids parts made read kind.Workflow = map_held _ _ (workflow_held (ids_of parts)) (λ a. refl) parts.data_approval_workflows
@@ -87,7 +96,8 @@ find_none test (y ∷ xs) zero x none at =
     let same : y ≡ x = cc in
     ap test (sym same) ∙ elim (test y) as (λ b. cond b (Some y) (find test xs) ≡ None → b ≡ false) [ true ↦ λ some. absurd (cc) | false ↦ λ rest. refl ] none
 find_none test (y ∷ xs) (suc n) x none at =
-    find_none test xs n x (elim (test y) as (λ b. cond b (Some y) (find test xs) ≡ None → find test xs ≡ None) [ true ↦ λ some. absurd (cc) | false ↦ λ rest. rest ] none) at
+    find_none test xs n x (elim (test y) as (λ b. cond b (Some y) (find test xs) ≡ None
+    → find test xs ≡ None) [ true ↦ λ some. absurd (cc) | false ↦ λ rest. rest ] none) at
 
 at_most : (most n : ℕ) → nat_lt most n ≡ false → n ≤ most
 at_most most n none =
@@ -99,28 +109,85 @@ few_of most count raw none within small = let below = at_most most raw none in o
 -- where no limit is passed there are fewer than 2^32 objects of each kind
 pub are_few : (parts : MetaParts) (positions : List (List ℤ)) (r : Records) → HaveIds r (ids_of parts) → first_passed parts positions ≡ None → AreFew r
 unfolding first_passed ids_of
-are_few parts positions r have none kind.OrganisationUnit = few_of _ (count_of r kind.OrganisationUnit) (length parts.organisation_units) (find_none (passes parts positions) limits 0 (limit.Objects kind.OrganisationUnit) none refl) (let same = counts (ids_of parts) r have kind.OrganisationUnit in let own = length-map parts.organisation_units (λ o. o.id) in omega arith) (omega arith)
-are_few parts positions r have none kind.OrganisationUnitGroup = few_of _ (count_of r kind.OrganisationUnitGroup) (length parts.organisation_unit_groups) (find_none (passes parts positions) limits 1 (limit.Objects kind.OrganisationUnitGroup) none refl) (let same = counts (ids_of parts) r have kind.OrganisationUnitGroup in let own = length-map parts.organisation_unit_groups (λ o. o.id) in omega arith) (omega arith)
-are_few parts positions r have none kind.CategoryOption = few_of _ (count_of r kind.CategoryOption) (length parts.category_options) (find_none (passes parts positions) limits 2 (limit.Objects kind.CategoryOption) none refl) (let same = counts (ids_of parts) r have kind.CategoryOption in let own = length-map parts.category_options (λ o. o.id) in omega arith) (omega arith)
-are_few parts positions r have none kind.Category = few_of _ (count_of r kind.Category) (length parts.categories) (find_none (passes parts positions) limits 3 (limit.Objects kind.Category) none refl) (let same = counts (ids_of parts) r have kind.Category in let own = length-map parts.categories (λ o. o.id) in omega arith) (omega arith)
-are_few parts positions r have none kind.CategoryCombo = few_of _ (count_of r kind.CategoryCombo) (length parts.category_combos) (find_none (passes parts positions) limits 4 (limit.Objects kind.CategoryCombo) none refl) (let same = counts (ids_of parts) r have kind.CategoryCombo in let own = length-map parts.category_combos (λ o. o.id) in omega arith) (omega arith)
-are_few parts positions r have none kind.CategoryOptionCombo = few_of _ (count_of r kind.CategoryOptionCombo) (length parts.category_option_combos) (find_none (passes parts positions) limits 5 (limit.Objects kind.CategoryOptionCombo) none refl) (let same = counts (ids_of parts) r have kind.CategoryOptionCombo in let own = length-map parts.category_option_combos (λ o. o.id) in omega arith) (omega arith)
-are_few parts positions r have none kind.DataElement = few_of _ (count_of r kind.DataElement) (length parts.data_elements) (find_none (passes parts positions) limits 6 (limit.Objects kind.DataElement) none refl) (let same = counts (ids_of parts) r have kind.DataElement in let own = length-map parts.data_elements (λ o. o.id) in omega arith) (omega arith)
-are_few parts positions r have none kind.ApprovalLevel = few_of _ (count_of r kind.ApprovalLevel) (length parts.data_approval_levels) (find_none (passes parts positions) limits 7 (limit.Objects kind.ApprovalLevel) none refl) (let same = counts (ids_of parts) r have kind.ApprovalLevel in let own = length-map parts.data_approval_levels (λ o. o.id) in omega arith) (omega arith)
-are_few parts positions r have none kind.Workflow = few_of _ (count_of r kind.Workflow) (length parts.data_approval_workflows) (find_none (passes parts positions) limits 8 (limit.Objects kind.Workflow) none refl) (let same = counts (ids_of parts) r have kind.Workflow in let own = length-map parts.data_approval_workflows (λ o. o.id) in omega arith) (omega arith)
-are_few parts positions r have none kind.DataSet = few_of _ (count_of r kind.DataSet) (length parts.data_sets) (find_none (passes parts positions) limits 10 (limit.Objects kind.DataSet) none refl) (let same = counts (ids_of parts) r have kind.DataSet in let own = length-map parts.data_sets (λ o. o.id) in omega arith) (omega arith)
-are_few parts positions r have none kind.Constant = few_of _ (count_of r kind.Constant) (length parts.constants) (find_none (passes parts positions) limits 11 (limit.Objects kind.Constant) none refl) (let same = counts (ids_of parts) r have kind.Constant in let own = length-map parts.constants (λ o. o.id) in omega arith) (omega arith)
-are_few parts positions r have none kind.IndicatorType = few_of _ (count_of r kind.IndicatorType) (length parts.indicator_types) (find_none (passes parts positions) limits 12 (limit.Objects kind.IndicatorType) none refl) (let same = counts (ids_of parts) r have kind.IndicatorType in let own = length-map parts.indicator_types (λ o. o.id) in omega arith) (omega arith)
-are_few parts positions r have none kind.Indicator = few_of _ (count_of r kind.Indicator) (length parts.indicators) (find_none (passes parts positions) limits 13 (limit.Objects kind.Indicator) none refl) (let same = counts (ids_of parts) r have kind.Indicator in let own = length-map parts.indicators (λ o. o.id) in omega arith) (omega arith)
-are_few parts positions r have none kind.ValidationRule = few_of _ (count_of r kind.ValidationRule) (length parts.validation_rules) (find_none (passes parts positions) limits 14 (limit.Objects kind.ValidationRule) none refl) (let same = counts (ids_of parts) r have kind.ValidationRule in let own = length-map parts.validation_rules (λ o. o.id) in omega arith) (omega arith)
-are_few parts positions r have none kind.TrackedEntityType = few_of _ (count_of r kind.TrackedEntityType) (length parts.tracked_entity_types) (find_none (passes parts positions) limits 15 (limit.Objects kind.TrackedEntityType) none refl) (let same = counts (ids_of parts) r have kind.TrackedEntityType in let own = length-map parts.tracked_entity_types (λ o. o.id) in omega arith) (omega arith)
-are_few parts positions r have none kind.TrackedEntityAttribute = few_of _ (count_of r kind.TrackedEntityAttribute) (length parts.tracked_entity_attributes) (find_none (passes parts positions) limits 16 (limit.Objects kind.TrackedEntityAttribute) none refl) (let same = counts (ids_of parts) r have kind.TrackedEntityAttribute in let own = length-map parts.tracked_entity_attributes (λ o. o.id) in omega arith) (omega arith)
-are_few parts positions r have none kind.Program = few_of _ (count_of r kind.Program) (length parts.programs) (find_none (passes parts positions) limits 17 (limit.Objects kind.Program) none refl) (let same = counts (ids_of parts) r have kind.Program in let own = length-map parts.programs (λ o. o.id) in omega arith) (omega arith)
-are_few parts positions r have none kind.ProgramStage = few_of _ (count_of r kind.ProgramStage) (length parts.program_stages) (find_none (passes parts positions) limits 18 (limit.Objects kind.ProgramStage) none refl) (let same = counts (ids_of parts) r have kind.ProgramStage in let own = length-map parts.program_stages (λ o. o.id) in omega arith) (omega arith)
-are_few parts positions r have none kind.ProgramIndicator = few_of _ (count_of r kind.ProgramIndicator) (length parts.program_indicators) (find_none (passes parts positions) limits 19 (limit.Objects kind.ProgramIndicator) none refl) (let same = counts (ids_of parts) r have kind.ProgramIndicator in let own = length-map parts.program_indicators (λ o. o.id) in omega arith) (omega arith)
-are_few parts positions r have none kind.UserRole = few_of _ (count_of r kind.UserRole) (length parts.user_roles) (find_none (passes parts positions) limits 20 (limit.Objects kind.UserRole) none refl) (let same = counts (ids_of parts) r have kind.UserRole in let own = length-map parts.user_roles (λ o. o.id) in omega arith) (omega arith)
-are_few parts positions r have none kind.User = few_of _ (count_of r kind.User) (length parts.users) (find_none (passes parts positions) limits 21 (limit.Objects kind.User) none refl) (let same = counts (ids_of parts) r have kind.User in let own = length-map parts.users (λ o. o.id) in omega arith) (omega arith)
-are_few parts positions r have none kind.UserGroup = few_of _ (count_of r kind.UserGroup) (length parts.user_groups) (find_none (passes parts positions) limits 22 (limit.Objects kind.UserGroup) none refl) (let same = counts (ids_of parts) r have kind.UserGroup in let own = length-map parts.user_groups (λ o. o.id) in omega arith) (omega arith)
+are_few parts positions r have none kind.OrganisationUnit =
+    few_of _ (count_of r kind.OrganisationUnit) (length parts.organisation_units)
+    (find_none (passes parts positions) limits 0 (limit.Objects kind.OrganisationUnit) none refl) (let same =
+    counts (ids_of parts) r have kind.OrganisationUnit in let own = length-map parts.organisation_units (λ o. o.id) in omega arith) (omega arith)
+are_few parts positions r have none kind.OrganisationUnitGroup =
+    few_of _ (count_of r kind.OrganisationUnitGroup) (length parts.organisation_unit_groups)
+    (find_none (passes parts positions) limits 1 (limit.Objects kind.OrganisationUnitGroup) none refl) (let same =
+    counts (ids_of parts) r have kind.OrganisationUnitGroup in let own = length-map parts.organisation_unit_groups (λ o. o.id) in omega arith) (omega arith)
+are_few parts positions r have none kind.CategoryOption =
+    few_of _ (count_of r kind.CategoryOption) (length parts.category_options)
+    (find_none (passes parts positions) limits 2 (limit.Objects kind.CategoryOption) none refl) (let same =
+    counts (ids_of parts) r have kind.CategoryOption in let own = length-map parts.category_options (λ o. o.id) in omega arith) (omega arith)
+are_few parts positions r have none kind.Category =
+    few_of _ (count_of r kind.Category) (length parts.categories) (find_none (passes parts positions) limits 3 (limit.Objects kind.Category) none refl)
+    (let same = counts (ids_of parts) r have kind.Category in let own = length-map parts.categories (λ o. o.id) in omega arith) (omega arith)
+are_few parts positions r have none kind.CategoryCombo =
+    few_of _ (count_of r kind.CategoryCombo) (length parts.category_combos)
+    (find_none (passes parts positions) limits 4 (limit.Objects kind.CategoryCombo) none refl) (let same =
+    counts (ids_of parts) r have kind.CategoryCombo in let own = length-map parts.category_combos (λ o. o.id) in omega arith) (omega arith)
+are_few parts positions r have none kind.CategoryOptionCombo =
+    few_of _ (count_of r kind.CategoryOptionCombo) (length parts.category_option_combos)
+    (find_none (passes parts positions) limits 5 (limit.Objects kind.CategoryOptionCombo) none refl) (let same =
+    counts (ids_of parts) r have kind.CategoryOptionCombo in let own = length-map parts.category_option_combos (λ o. o.id) in omega arith) (omega arith)
+are_few parts positions r have none kind.DataElement =
+    few_of _ (count_of r kind.DataElement) (length parts.data_elements) (find_none (passes parts positions) limits 6 (limit.Objects kind.DataElement) none refl)
+    (let same = counts (ids_of parts) r have kind.DataElement in let own = length-map parts.data_elements (λ o. o.id) in omega arith) (omega arith)
+are_few parts positions r have none kind.ApprovalLevel =
+    few_of _ (count_of r kind.ApprovalLevel) (length parts.data_approval_levels)
+    (find_none (passes parts positions) limits 7 (limit.Objects kind.ApprovalLevel) none refl) (let same =
+    counts (ids_of parts) r have kind.ApprovalLevel in let own = length-map parts.data_approval_levels (λ o. o.id) in omega arith) (omega arith)
+are_few parts positions r have none kind.Workflow =
+    few_of _ (count_of r kind.Workflow) (length parts.data_approval_workflows)
+    (find_none (passes parts positions) limits 8 (limit.Objects kind.Workflow) none refl) (let same = counts (ids_of parts) r have kind.Workflow in let own =
+    length-map parts.data_approval_workflows (λ o. o.id) in omega arith) (omega arith)
+are_few parts positions r have none kind.DataSet =
+    few_of _ (count_of r kind.DataSet) (length parts.data_sets) (find_none (passes parts positions) limits 10 (limit.Objects kind.DataSet) none refl)
+    (let same = counts (ids_of parts) r have kind.DataSet in let own = length-map parts.data_sets (λ o. o.id) in omega arith) (omega arith)
+are_few parts positions r have none kind.Constant =
+    few_of _ (count_of r kind.Constant) (length parts.constants) (find_none (passes parts positions) limits 11 (limit.Objects kind.Constant) none refl)
+    (let same = counts (ids_of parts) r have kind.Constant in let own = length-map parts.constants (λ o. o.id) in omega arith) (omega arith)
+are_few parts positions r have none kind.IndicatorType =
+    few_of _ (count_of r kind.IndicatorType) (length parts.indicator_types)
+    (find_none (passes parts positions) limits 12 (limit.Objects kind.IndicatorType) none refl) (let same =
+    counts (ids_of parts) r have kind.IndicatorType in let own = length-map parts.indicator_types (λ o. o.id) in omega arith) (omega arith)
+are_few parts positions r have none kind.Indicator =
+    few_of _ (count_of r kind.Indicator) (length parts.indicators) (find_none (passes parts positions) limits 13 (limit.Objects kind.Indicator) none refl)
+    (let same = counts (ids_of parts) r have kind.Indicator in let own = length-map parts.indicators (λ o. o.id) in omega arith) (omega arith)
+are_few parts positions r have none kind.ValidationRule =
+    few_of _ (count_of r kind.ValidationRule) (length parts.validation_rules)
+    (find_none (passes parts positions) limits 14 (limit.Objects kind.ValidationRule) none refl) (let same =
+    counts (ids_of parts) r have kind.ValidationRule in let own = length-map parts.validation_rules (λ o. o.id) in omega arith) (omega arith)
+are_few parts positions r have none kind.TrackedEntityType =
+    few_of _ (count_of r kind.TrackedEntityType) (length parts.tracked_entity_types)
+    (find_none (passes parts positions) limits 15 (limit.Objects kind.TrackedEntityType) none refl) (let same =
+    counts (ids_of parts) r have kind.TrackedEntityType in let own = length-map parts.tracked_entity_types (λ o. o.id) in omega arith) (omega arith)
+are_few parts positions r have none kind.TrackedEntityAttribute =
+    few_of _ (count_of r kind.TrackedEntityAttribute) (length parts.tracked_entity_attributes)
+    (find_none (passes parts positions) limits 16 (limit.Objects kind.TrackedEntityAttribute) none refl) (let same =
+    counts (ids_of parts) r have kind.TrackedEntityAttribute in let own = length-map parts.tracked_entity_attributes (λ o. o.id) in omega arith) (omega arith)
+are_few parts positions r have none kind.Program =
+    few_of _ (count_of r kind.Program) (length parts.programs) (find_none (passes parts positions) limits 17 (limit.Objects kind.Program) none refl) (let same =
+    counts (ids_of parts) r have kind.Program in let own = length-map parts.programs (λ o. o.id) in omega arith) (omega arith)
+are_few parts positions r have none kind.ProgramStage =
+    few_of _ (count_of r kind.ProgramStage) (length parts.program_stages)
+    (find_none (passes parts positions) limits 18 (limit.Objects kind.ProgramStage) none refl) (let same =
+    counts (ids_of parts) r have kind.ProgramStage in let own = length-map parts.program_stages (λ o. o.id) in omega arith) (omega arith)
+are_few parts positions r have none kind.ProgramIndicator =
+    few_of _ (count_of r kind.ProgramIndicator) (length parts.program_indicators)
+    (find_none (passes parts positions) limits 19 (limit.Objects kind.ProgramIndicator) none refl) (let same =
+    counts (ids_of parts) r have kind.ProgramIndicator in let own = length-map parts.program_indicators (λ o. o.id) in omega arith) (omega arith)
+are_few parts positions r have none kind.UserRole =
+    few_of _ (count_of r kind.UserRole) (length parts.user_roles) (find_none (passes parts positions) limits 20 (limit.Objects kind.UserRole) none refl)
+    (let same = counts (ids_of parts) r have kind.UserRole in let own = length-map parts.user_roles (λ o. o.id) in omega arith) (omega arith)
+are_few parts positions r have none kind.User =
+    few_of _ (count_of r kind.User) (length parts.users) (find_none (passes parts positions) limits 21 (limit.Objects kind.User) none refl) (let same =
+    counts (ids_of parts) r have kind.User in let own = length-map parts.users (λ o. o.id) in omega arith) (omega arith)
+are_few parts positions r have none kind.UserGroup =
+    few_of _ (count_of r kind.UserGroup) (length parts.user_groups) (find_none (passes parts positions) limits 22 (limit.Objects kind.UserGroup) none refl)
+    (let same = counts (ids_of parts) r have kind.UserGroup in let own = length-map parts.user_groups (λ o. o.id) in omega arith) (omega arith)
 
 list_any_none : (test : List ℤ → Bool) (xs : List (List ℤ)) → list_any test xs ≡ false → Each (λ x. test x ≡ false) xs
 list_any_none test [] none = none_each (λ x. test x ≡ false)
@@ -138,7 +205,8 @@ few_positions parts positions none n own at =
 
 -- identifiers of which none is told twice have no repeat
 none_repeats : (ids : List (List ℕ)) → repeated ids ≡ None → repeat_of ids ≡ None
-none_repeats ids none = elim (repeat_of ids) as (λ o. option_map (λ place. get_or ids place []) o ≡ None → o ≡ None) [ None ↦ λ is. refl | Some place ↦ λ is. absurd (cc) ] none
+none_repeats ids none =
+    elim (repeat_of ids) as (λ o. option_map (λ place. get_or ids place []) o ≡ None → o ≡ None) [ None ↦ λ is. refl | Some place ↦ λ is. absurd (cc) ] none
 
 or_first : (x y : Option (List ℕ)) → option_or x y ≡ None → x ≡ None
 or_first None y none = refl
@@ -160,7 +228,11 @@ pub own_ids : (ids : Ids) (parts : MetaParts) → twice_of parts ≡ None → Ha
 unfolding twice_of all_ids ids_of links_of
 own_ids ids parts none =
     let own : List (List ℕ) = map (λ (unit : RawUnit). unit.id) parts.organisation_units in
-    let others : List (List ℕ) = flat_map (λ of_kind. of_kind) (map (ids_in parts) (kind.OrganisationUnitGroup ∷ kind.CategoryOption ∷ kind.Category ∷ kind.CategoryCombo ∷ kind.CategoryOptionCombo ∷ kind.DataElement ∷ kind.ApprovalLevel ∷ kind.Workflow ∷ kind.DataSet ∷ kind.Constant ∷ kind.IndicatorType ∷ kind.Indicator ∷ kind.ValidationRule ∷ kind.TrackedEntityType ∷ kind.TrackedEntityAttribute ∷ kind.Program ∷ kind.ProgramStage ∷ kind.ProgramIndicator ∷ kind.UserRole ∷ kind.User ∷ kind.UserGroup ∷ [])) in
+    let others : List (List ℕ) =
+    flat_map (λ of_kind. of_kind) (map (ids_in parts)
+    (kind.OrganisationUnitGroup ∷ kind.CategoryOption ∷ kind.Category ∷ kind.CategoryCombo ∷ kind.CategoryOptionCombo ∷ kind.DataElement ∷
+    kind.ApprovalLevel ∷ kind.Workflow ∷ kind.DataSet ∷ kind.Constant ∷ kind.IndicatorType ∷ kind.Indicator ∷ kind.ValidationRule ∷ kind.TrackedEntityType ∷
+    kind.TrackedEntityAttribute ∷ kind.Program ∷ kind.ProgramStage ∷ kind.ProgramIndicator ∷ kind.UserRole ∷ kind.User ∷ kind.UserGroup ∷ [])) in
     let all : repeat_of (own ++ others) ≡ None = none_repeats (own ++ others) (or_first (repeated (own ++ others)) (user_of_repeated parts.api_tokens) none) in
     let number = row_count ids parts.organisation_units in
     let long = length-append own others in
@@ -169,34 +241,45 @@ own_ids ids parts none =
           (let left_within : x < length own = omega arith in
           let right_within : y < length own = omega arith in
           repeat_of-differ (own ++ others) all x y (omega arith) (omega arith)
-          (get_or-append own others [] x left_within ∙ sym (unit_id ids parts.organisation_units x) ∙ same ∙ unit_id ids parts.organisation_units y ∙ sym (get_or-append own others [] y right_within)));
+          (get_or-append own others [] x left_within ∙ sym (unit_id ids parts.organisation_units x) ∙ same ∙ unit_id ids parts.organisation_units y
+          ∙ sym (get_or-append own others [] y right_within)));
     }
 
-combo_at : (end : ℕ) (row : ℕ × List ℕ) (rows : List (ℕ × List ℕ)) → row.0 < end → CombosBelow end rows → (k : ℕ) → k < length (row ∷ rows) → (slice_index_or (row ∷ rows) k (0, [])).0 < end
+combo_at : (end : ℕ) (row : ℕ × List ℕ) (rows : List (ℕ × List ℕ)) → row.0 < end → CombosBelow end rows → (k : ℕ) → k < length (row ∷ rows)
+    → (slice_index_or (row ∷ rows) k (0, [])).0 < end
 combo_at end row rows first rest zero within = first
 combo_at end row rows first rest (suc k) within = rest.below k (omega arith)
 
 cons_combo : (end : ℕ) (row : ℕ × List ℕ) (rows : List (ℕ × List ℕ)) → row.0 < end → CombosBelow end rows → CombosBelow end (row ∷ rows)
 cons_combo end row rows first rest = record { below = combo_at end row rows first rest }
 
-combos_from : (ids : Ids) (raws : List RawOptionCombo) → Known ids (flat_map option_combo_references raws) → CombosBelow (length (ids_at ids kind.CategoryCombo)) (option_combo_rows (map (option_combo_held ids) raws))
+combos_from : (ids : Ids) (raws : List RawOptionCombo) → Known ids (flat_map option_combo_references raws)
+    → CombosBelow (length (ids_at ids kind.CategoryCombo)) (option_combo_rows (map (option_combo_held ids) raws))
 unfolding option_combo_references option_combo_held
 combos_from ids [] known = record { below = λ k within. absurd (omega arith) }
 combos_from ids (raw ∷ raws) known =
     let both = known_parts ids (option_combo_references raw) (flat_map option_combo_references raws) known in
-    let own = known_parts ids (one (field_path kind.CategoryOptionCombo raw.place (codes "categoryCombo")) kind.CategoryCombo raw.category_combo) (several (field_path kind.CategoryOptionCombo raw.place (codes "categoryOptions")) kind.CategoryOption raw.category_options) both.0 in
-    cons_combo (length (ids_at ids kind.CategoryCombo)) (number_of ids kind.CategoryCombo raw.category_combo, numbers_of ids kind.CategoryOption raw.category_options) (option_combo_rows (map (option_combo_held ids) raws))
+    let own =
+    known_parts ids (one (field_path kind.CategoryOptionCombo raw.place (codes "categoryCombo")) kind.CategoryCombo raw.category_combo)
+    (several (field_path kind.CategoryOptionCombo raw.place (codes "categoryOptions")) kind.CategoryOption raw.category_options) both.0 in
+    cons_combo (length (ids_at ids kind.CategoryCombo)) (
+      number_of ids kind.CategoryCombo raw.category_combo,
+      numbers_of ids kind.CategoryOption raw.category_options,
+    ) (option_combo_rows (map (option_combo_held ids) raws))
     (one_below ids _ kind.CategoryCombo raw.category_combo own.0) (combos_from ids raws both.1)
 
 -- where references are known the option combinations name combinations
-pub combos_below : (parts : MetaParts) → Known (ids_of parts) (references parts) → CombosBelow (length (links_in parts).category_combos) (option_combo_rows (links_in parts).category_option_combos)
+pub combos_below : (parts : MetaParts) → Known (ids_of parts) (references parts)
+    → CombosBelow (length (links_in parts).category_combos) (option_combo_rows (links_in parts).category_option_combos)
 unfolding references links_of built_in_option_combo ids_of
 combos_below parts known =
     let ids : Ids = ids_of parts in
     let both = known_parts ids (flat_map (references_in parts) kinds) (token_references parts.api_tokens) known in
-    let own : Known ids (flat_map option_combo_references parts.category_option_combos) = known_at ids (references_in parts) kinds 5 kind.CategoryOptionCombo both.0 refl in
+    let own : Known ids (flat_map option_combo_references parts.category_option_combos) =
+    known_at ids (references_in parts) kinds 5 kind.CategoryOptionCombo both.0 refl in
     let held = length-map parts.category_combos (category_combo_held ids) in
     let named = length-map parts.category_combos (λ o. o.id) in
     let same : length (ids_at ids kind.CategoryCombo) ≡ length (links_in parts).category_combos = omega arith in
     cons_combo (length (links_in parts).category_combos) (0, []) (option_combo_rows (map (option_combo_held ids) parts.category_option_combos)) (omega arith)
-    (subst (λ n. CombosBelow n (option_combo_rows (map (option_combo_held ids) parts.category_option_combos))) same (combos_from ids parts.category_option_combos own))
+    (subst (λ n. CombosBelow n (option_combo_rows (map (option_combo_held ids) parts.category_option_combos))) same
+    (combos_from ids parts.category_option_combos own))

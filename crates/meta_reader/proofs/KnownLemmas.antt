@@ -1,5 +1,6 @@
 -- References that are known are the numbers of objects.
-use Rattle.std.proofs.Common.{◌≡◌, ◌∙◌, ℕ, zero, suc, ◌+◌, ◌<◌, Bool, true, false, cond, List, [], ◌∷◌, ◌++◌, length, map, Option, Some, None, is_some, option_map, refl, sym, ap, subst, arith}
+use Rattle.std.proofs.Common.{◌≡◌, ◌∙◌, ℕ, zero, suc, ◌+◌, ◌<◌, Bool, true, false, cond, List, [], ◌∷◌, ◌++◌, length, map, Option, Some, None, is_some}
+use Rattle.std.proofs.Common.{option_map, refl, sym, ap, subst, arith}
 use Rattle.std.specs.Prelude.{slice_get, slice_index_or}
 use Rattle.std.specs.Fmt.{decimal}
 use Rattle.std.specs.Option.{unwrap_or}
@@ -41,18 +42,20 @@ pub known_parts : (ids : Ids) (front rest : List Reference) → Known ids (front
 known_parts ids [] rest known = (known_none ids, known)
 known_parts ids (reference ∷ front) rest known =
     let here = known_first ids reference (front ++ rest) known in
-    let behind = known_parts ids front rest here.1 in
-    (known_more ids reference front here.0 behind.0, behind.1)
+    let beyond = known_parts ids front rest here.1 in
+    (known_more ids reference front here.0 beyond.0, beyond.1)
 
 found_below : (ids : List (List ℕ)) (uid : List ℕ) (o : Option ℕ) → place_of ids uid ≡ o → is_some o ≡ true → unwrap_or o 0 < length ids
 found_below ids uid None at is = absurd (cc)
 found_below ids uid (Some place) at is = place_of-below ids uid place at
 
 -- the number of a known reference is below the number of identifiers of its kind
-pub one_below : (ids : Ids) (path : List ℕ) (of_kind : Kind) (uid : List ℕ) → Known ids (one path of_kind uid) → number_of ids of_kind uid < length (ids_at ids of_kind)
+pub one_below : (ids : Ids) (path : List ℕ) (of_kind : Kind) (uid : List ℕ) → Known ids (one path of_kind uid)
+    → number_of ids of_kind uid < length (ids_at ids of_kind)
 unfolding one number_of
 one_below ids path of_kind uid known =
-    found_below (ids_at ids of_kind) uid (place_of (ids_at ids of_kind) uid) refl (known_first ids (record { kind = of_kind; uid = uid; path = path }) [] known).0
+    found_below (ids_at ids of_kind) uid (place_of (ids_at ids of_kind) uid) refl
+    (known_first ids (record { kind = of_kind; uid = uid; path = path }) [] known).0
 
 pub optional_below : (ids : Ids) (path : List ℕ) (of_kind : Kind) (uid : Option (List ℕ)) → Known ids (optional path of_kind uid)
     → IsBelow (length (ids_at ids of_kind)) (option_map (number_of ids of_kind) uid)
@@ -92,7 +95,8 @@ several_in_below ids path name of_kind uids known =
     each_below ids (length (ids_at ids of_kind)) (λ place uid. one (step (step path (decimal place)) name) of_kind uid) (number_of ids of_kind) 0 uids
     (λ at uid known_one. one_below ids (step (step path (decimal at)) name) of_kind uid known_one) known
 
-entries_from : (ids : Ids) (path : List ℕ) (of_kind : Kind) (shared : List (List ℕ × List ℕ × Access)) → Known ids (flat_map (λ entry. one (step path entry.0) of_kind entry.1) shared)
+entries_from : (ids : Ids) (path : List ℕ) (of_kind : Kind) (shared : List (List ℕ × List ℕ × Access))
+    → Known ids (flat_map (λ entry. one (step path entry.0) of_kind entry.1) shared)
     → AreBelow (length (ids_at ids of_kind)) (map (λ entry. entry.0) (shared_with ids of_kind shared))
 entries_from ids path of_kind [] known = none_below (length (ids_at ids of_kind))
 entries_from ids path of_kind (entry ∷ shared) known =
@@ -122,7 +126,8 @@ all_held ids has held Holds (x ∷ xs) holds known =
     cons_each Holds (held x) (map held xs) (holds x both.0) (all_held ids has held Holds xs holds both.1)
 
 -- of a list of lists of references
-pub known_at : {K : Type 0} (ids : Ids) (has : K → List Reference) (ks : List K) (n : ℕ) (k : K) → Known ids (flat_map has ks) → slice_get ks n ≡ Some k → Known ids (has k)
+pub known_at : {K : Type 0} (ids : Ids) (has : K → List Reference) (ks : List K) (n : ℕ) (k : K) → Known ids (flat_map has ks) → slice_get ks n ≡ Some k
+    → Known ids (has k)
 known_at ids has [] n k known at = absurd (cc)
 known_at {K = K} ids has (other ∷ ks) zero k known at =
     let same : other ≡ k = cc in

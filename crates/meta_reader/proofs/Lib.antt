@@ -6,3 +6,4 @@ pub mod FaultLemmas
 pub mod ReadyLemmas
 pub mod RecordLemmas
 pub mod ReadLemmas
+pub mod ValueLemmas

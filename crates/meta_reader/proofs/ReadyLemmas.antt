@@ -39,19 +39,29 @@ have_of parts r is = subst (λ (x : Records). HaveIds x (ids_of parts)) (sym is.
 pub linked_of : (parts : MetaParts) (r : Records) → IsMetadata parts r → Known (ids_of parts) (references parts) → IsLinked r
 linked_of parts r is known =
     subst (λ (x : Records). IsLinked x) (sym is.others)
-    (linked (ids_of parts) parts (expressions_in r) (counts (ids_of parts) (records_of parts (links_in parts) (expressions_in r)) (have_ids parts (expressions_in r) is.made)) known is.made)
+    (linked (ids_of parts) parts (expressions_in r)
+    (counts (ids_of parts) (records_of parts (links_in parts) (expressions_in r)) (have_ids parts (expressions_in r) is.made)) known is.made)
 
-pub rules_of : (parts : MetaParts) (r : Records) (held : Held) → IsMetadata parts r → IsHeld (links_in parts) held → first_passed parts held.positions.items ≡ None → HaveRules r held
+pub rules_of : (parts : MetaParts) (r : Records) (held : Held) → IsMetadata parts r → IsHeld (links_in parts) held
+    → first_passed parts held.positions.items ≡ None → HaveRules r held
 rules_of parts r held is ruled none =
     subst (λ (x : Records). HaveRules x held) (sym is.others)
-    (record { tree = ruled.tree; combos = ruled.combos; workflows = ruled.approvals.workflows; positions = ruled.approvals.positions; few_positions = few_positions parts held.positions.items none })
+    (record {
+      tree = ruled.tree;
+      combos = ruled.combos;
+      workflows = ruled.approvals.workflows;
+      positions = ruled.approvals.positions;
+      few_positions =
+          few_positions parts held.positions.items none;
+    })
 
 no_limit : (a : Option MetaFault) (b : Option LimitFault) → option_or a (option_map passed b) ≡ None → b ≡ None
 no_limit None None none = refl
 no_limit None (Some limit) none = absurd (cc)
 no_limit (Some fault) b none = absurd (cc)
 
-unfit_is : (parts : MetaParts) (r : Records) → IsMetadata parts r → stages_broken (ids_of parts) r.program_stages r.program_indicators ≡ stages_unfit (ids_of parts) parts (links_in parts)
+unfit_is : (parts : MetaParts) (r : Records) → IsMetadata parts r
+    → stages_broken (ids_of parts) r.program_stages r.program_indicators ≡ stages_unfit (ids_of parts) parts (links_in parts)
 unfolding stages_unfit links_of
 unfit_is parts r is =
     ap (λ stages. stages_broken (ids_of parts) stages r.program_indicators) (ap (λ (x : Records). x.program_stages) is.others)
@@ -59,28 +69,39 @@ unfit_is parts r is =
 
 -- the faults that are seen late, by what was made and by the file
 pub late_is : (parts : MetaParts) (r : Records) (held : Held) → IsMetadata parts r → IsHeld (links_in parts) held
-    → option_or (option_map broken (stages_broken (ids_of parts) r.program_stages r.program_indicators)) (option_map passed (first_passed parts held.positions.items)) ≡ late_fault (ids_of parts) parts (links_in parts)
+    → option_or (option_map broken (stages_broken (ids_of parts) r.program_stages r.program_indicators))
+    (option_map passed (first_passed parts held.positions.items)) ≡ late_fault (ids_of parts) parts (links_in parts)
 unfolding stage_fault limit_fault
 late_is parts r held is ruled =
     ap (λ o. option_or (option_map broken o) (option_map passed (first_passed parts held.positions.items))) (unfit_is parts r is)
-    ∙ ap (λ (ps : List (List ℤ)). option_or (option_map broken (stages_unfit (ids_of parts) parts (links_in parts))) (option_map passed (first_passed parts ps))) ruled.approvals.positions
+    ∙ ap (λ (ps : List (List ℤ)). option_or (option_map broken (stages_unfit (ids_of parts) parts (links_in parts)))
+    (option_map passed (first_passed parts ps))) ruled.approvals.positions
 
 -- a fault that is seen late is met
-pub late_met : (parts : MetaParts) (ids : Ids) (r : Records) (held : Held) (met : Option MetaFault) (found : MetaFault) → ids ≡ ids_of parts → IsMetadata parts r → IsHeld (links_in parts) held
-    → met ≡ option_or (option_map broken (stages_broken ids r.program_stages r.program_indicators)) (option_map passed (first_passed parts held.positions.items)) → met ≡ Some found
+pub late_met : (parts : MetaParts) (ids : Ids) (r : Records) (held : Held) (met : Option MetaFault) (found : MetaFault) → ids ≡ ids_of parts
+    → IsMetadata parts r → IsHeld (links_in parts) held
+    → met ≡ option_or (option_map broken (stages_broken ids r.program_stages r.program_indicators))
+    (option_map passed (first_passed parts held.positions.items)) → met ≡ Some found
     → IsMet (late_fault (ids_of parts) parts (links_in parts)) found
 late_met parts ids r held met found same is ruled late some =
     met_some (late_fault (ids_of parts) parts (links_in parts)) found
-    (sym (late ∙ ap (λ (x : Ids). option_or (option_map broken (stages_broken x r.program_stages r.program_indicators)) (option_map passed (first_passed parts held.positions.items))) same ∙ late_is parts r held is ruled) ∙ some)
+    (sym (late
+    ∙ ap (λ (x : Ids). option_or (option_map broken (stages_broken x r.program_stages r.program_indicators))
+    (option_map passed (first_passed parts held.positions.items))) same ∙ late_is parts r held is ruled) ∙ some)
 
 -- and where none is, the records are in order
-pub ready : (parts : MetaParts) (ids : Ids) (r : Records) (held : Held) (met : Option MetaFault) → ids ≡ ids_of parts → Known (ids_of parts) (references parts) → IsMetadata parts r → IsHeld (links_in parts) held
-    → met ≡ option_or (option_map broken (stages_broken ids r.program_stages r.program_indicators)) (option_map passed (first_passed parts held.positions.items)) → met ≡ None
+pub ready : (parts : MetaParts) (ids : Ids) (r : Records) (held : Held) (met : Option MetaFault) → ids ≡ ids_of parts → Known (ids_of parts) (references parts)
+    → IsMetadata parts r → IsHeld (links_in parts) held
+    → met ≡ option_or (option_map broken (stages_broken ids r.program_stages r.program_indicators))
+    (option_map passed (first_passed parts held.positions.items)) → met ≡ None
     → (late_fault (ids_of parts) parts (links_in parts) ≡ None) × AreFew r × IsLinked r × HaveIds r ids × HaveRules r held
 ready parts ids r held met same known is ruled late none =
-    let all = late ∙ ap (λ (x : Ids). option_or (option_map broken (stages_broken x r.program_stages r.program_indicators)) (option_map passed (first_passed parts held.positions.items))) same in
+    let all = late
+    ∙ ap (λ (x : Ids). option_or (option_map broken (stages_broken x r.program_stages r.program_indicators))
+    (option_map passed (first_passed parts held.positions.items))) same in
     let fits : first_passed parts held.positions.items ≡ None =
-    no_limit (option_map broken (stages_broken (ids_of parts) r.program_stages r.program_indicators)) (first_passed parts held.positions.items) (sym all ∙ none) in (
+    no_limit (option_map broken (stages_broken (ids_of parts) r.program_stages r.program_indicators)) (first_passed parts held.positions.items) (sym all
+    ∙ none) in (
       sym (late_is parts r held is ruled) ∙ sym all ∙ none,
       are_few parts held.positions.items r (have_of parts r is) fits,
       linked_of parts r is known,
@@ -89,12 +110,15 @@ ready parts ids r held met same known is ruled late none =
     )
 
 -- the answer of what comes after is the answer where nothing was met before
-pub then_unless : {X : Type 0} (a b : Option MetaFault) (Is : X → Type 0) (result : Result X MetaFault) → a ≡ None → Unless b Is result → Unless (option_or a b) Is result
+pub then_unless : {X : Type 0} (a b : Option MetaFault) (Is : X → Type 0) (result : Result X MetaFault) → a ≡ None → Unless b Is result
+    → Unless (option_or a b) Is result
 then_unless a b Is (Ok x) none is = (none_of a b none is.0, is.1)
 then_unless a b Is (Err found) none is = met_then a b found none is
 
 -- two answers, where nothing was met before the second one
-pub unless_both : {A B : Type 0} (a b : Option MetaFault) (Is : A → Type 0) (Other : B → Type 0) (first : A) (second : Result B MetaFault) (result : Result (A × B) MetaFault) → a ≡ None → Is first → Unless b Other second → result ≡ paired first second
+pub unless_both : {A B : Type 0} (a b : Option MetaFault) (Is : A → Type 0) (Other : B
+    → Type 0) (first : A) (second : Result B MetaFault) (result : Result (A × B) MetaFault) → a ≡ None → Is first → Unless b Other second
+    → result ≡ paired first second
     → Unless (option_or a b) (λ pair. Is pair.0 × Other pair.1) result
 unless_both a b Is Other first (Ok second) result none is other made =
     subst (λ r. Unless (option_or a b) (λ pair. Is pair.0 × Other pair.1) r) (sym made) (none_of a b none other.0, (is, other.1))
@@ -102,8 +126,10 @@ unless_both a b Is Other first (Err found) result none is other made =
     subst (λ r. Unless (option_or a b) (λ pair. Is pair.0 × Other pair.1) r) (sym made) (met_then a b found none other)
 
 -- what linked objects need so that they can be tried
-pub linked_ready : (parts : MetaParts) (ids : Ids) (links : Links) → ids ≡ ids_of parts → twice_of parts ≡ None → first_unknown ids (references parts) ≡ None → links ≡ links_of ids parts
-    → (length parts.indicators ≡ length links.indicators) × (length parts.validation_rules ≡ length links.validation_rules) × (length parts.program_indicators ≡ length links.program_indicators)
+pub linked_ready : (parts : MetaParts) (ids : Ids) (links : Links) → ids ≡ ids_of parts → twice_of parts ≡ None → first_unknown ids (references parts) ≡ None
+    → links ≡ links_of ids parts
+    → (length parts.indicators ≡ length links.indicators) × (length parts.validation_rules ≡ length links.validation_rules)
+    × (length parts.program_indicators ≡ length links.program_indicators)
     × HasOwnIds (tree_rows links.organisation_units) × CombosBelow (length links.category_combos) (option_combo_rows links.category_option_combos)
 unfolding links_of
 linked_ready parts ids links same differ known is =

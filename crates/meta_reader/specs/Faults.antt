@@ -18,7 +18,7 @@ use Rattle.meta_exprs.specs.All.{expressions_unread}
 use Rattle.meta_reader.specs.declared.fault.MetaFault.{MetaFault}
 use Rattle.meta_reader.specs.declared.fault.MetaFault.TheVariants as fault
 use Rattle.meta_reader.specs.declared.fault.Which.TheVariants as which
-use Rattle.meta_reader.specs.Records.{links_in, IsMetadata}
+use Rattle.meta_reader.specs.Records.{links_in, IsMetadata, records_in}
 use Rattle.meta_reader.specs.Stages.{stages_unfit}
 
 abbrev pub twice : List ℕ → MetaFault
@@ -100,3 +100,17 @@ paired first (Err fault) = Err fault
 -- the metadata of what a file says, exactly where it has no fault; else the first fault, or that memory ran out
 abbrev pub Builds : MetaParts → Result Records MetaFault → Type 0
 Builds parts result = Unless (fault_of parts) (IsMetadata parts) result
+
+abbrev pub unless_fault : Option MetaFault → Records → Result Records MetaFault
+unless_fault None records = Ok records
+unless_fault (Some fault) records = Err fault
+
+-- The metadata of what a file says: its objects, each reference a number and each text an expression, with its tokens and
+-- whether an approval has to be accepted; or the first fault.
+unfoldable pub metadata_of : MetaParts → Result Records MetaFault
+metadata_of parts = unless_fault (fault_of parts) (records_in parts)
+
+-- what was meant is answered, unless memory ran out
+abbrev pub Answers : Result Records MetaFault → Result Records MetaFault → Type 0
+Answers (Err fault.Memory) meant = ⊤
+Answers result meant = meant ≡ result

@@ -8,6 +8,7 @@ use Rattle.meta_parts.specs.declared.parts.MetaParts.{MetaParts}
 use Rattle.meta_forms.specs.Parts.{parts_of}
 use Rattle.meta_reader.specs.declared.file_fault.FileFault.{FileFault}
 use Rattle.meta_reader.specs.declared.file_fault.FileFault.TheVariants as fault
+use Rattle.dh_base.specs.declared.limits.TheConstants.{MOST_INPUT_BYTES}
 
 -- data that isn't in the form of the file is at fault
 abbrev pub or_shape : Formed MetaParts → Result MetaParts FileFault
@@ -19,7 +20,7 @@ shaped_of json = or_shape (parts_of json)
 
 -- the most bytes of a file
 abbrev pub most_bytes : ℕ
-most_bytes = 67108864
+most_bytes = MOST_INPUT_BYTES
 
 -- what the bytes of a file say, or its first fault
 unfoldable pub file_of : List ℕ → Result MetaParts FileFault

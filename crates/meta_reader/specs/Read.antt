@@ -1,5 +1,5 @@
 -- Reading a metadata file.
-use Rattle.std.specs.Prelude.{Result, Ok, Err, Some}
+use Rattle.std.specs.Prelude.{ℕ, List, Result, Ok, Err, Some}
 use Rattle.meta_parts.specs.declared.parts.MetaParts.{MetaParts}
 use Rattle.meta_parts.specs.declared.held.Records.{Records}
 use Rattle.meta_reader.specs.declared.file_fault.FileFault.{FileFault}
@@ -7,7 +7,8 @@ use Rattle.meta_reader.specs.declared.file_fault.FileFault.TheVariants as file
 use Rattle.meta_reader.specs.declared.fault.MetaFault.{MetaFault}
 use Rattle.meta_reader.specs.declared.fault.MetaFault.TheVariants as fault
 use Rattle.meta_reader.specs.declared.fault.Which.TheVariants as which
-use Rattle.meta_reader.specs.Faults.{Builds, IsMet}
+use Rattle.meta_reader.specs.Faults.{Builds, IsMet, metadata_of}
+use Rattle.meta_reader.specs.File.{file_of}
 
 -- a fault of a file's length, syntax or form
 abbrev pub told : FileFault → MetaFault
@@ -25,3 +26,11 @@ Refuses meant (Err found) = IsMet (Some meant) found
 abbrev pub Reads : Result MetaParts FileFault → Result Records MetaFault → Type 0
 Reads (Ok parts) result = Builds parts result
 Reads (Err found) result = Refuses (told found) result
+
+abbrev pub metadata_from : Result MetaParts FileFault → Result Records MetaFault
+metadata_from (Ok parts) = metadata_of parts
+metadata_from (Err found) = Err (told found)
+
+-- the metadata that the bytes of a file are, or the first fault: of its length, its syntax, its form, and then of what it says
+unfoldable pub metadata_of_bytes : List ℕ → Result Records MetaFault
+metadata_of_bytes bytes = metadata_from (file_of bytes)

@@ -5,7 +5,7 @@ use Rattle.meta_parts.specs.declared.held.Links.{Links}
 use Rattle.meta_parts.specs.declared.held.Records.{Records}
 use Rattle.meta_exprs.specs.declared.all.Unread.{Unread}
 use Rattle.meta_exprs.specs.declared.all.Expressions.{Expressions}
-use Rattle.meta_exprs.specs.All.{HaveExpressions}
+use Rattle.meta_exprs.specs.All.{HaveExpressions, expressions_of}
 use Rattle.meta_ids.specs.Ids.{ids_of}
 use Rattle.meta_links.specs.Held.{links_of}
 
@@ -67,3 +67,7 @@ links_in parts = links_of (ids_of parts) parts
 -- whether an approval has to be accepted
 abbrev pub IsMetadata : MetaParts → Records → Type 0
 IsMetadata parts r = AreRecords parts (links_in parts) r
+
+-- the objects of a file, with their expressions
+abbrev pub records_in : MetaParts → Records
+records_in parts = records_of parts (links_in parts) (expressions_of parts (unread_of (links_in parts)))

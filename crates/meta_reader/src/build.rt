@@ -7,7 +7,7 @@ ghost use Rattle.meta_links.specs.Held.{links_of};
 ghost use Rattle.meta_links.specs.Reference.{first_unknown};
 ghost use Rattle.meta_links.specs.Table.{references};
 ghost use Rattle.meta_rules.specs.Held.{IsHeld};
-ghost use Rattle.meta_reader.specs.Faults.{unknown_fault, late_fault, linked_fault, Unless, Builds};
+ghost use Rattle.meta_reader.specs.Faults.{unknown_fault, late_fault, linked_fault, Unless, Builds, metadata_of, Answers};
 ghost use Rattle.meta_reader.specs.Records.{links_in, IsMetadata};
 
 use crate::fault::MetaFault;
@@ -63,7 +63,8 @@ fn joined(alloc: Global, ids: Ids, parts: &MetaParts, links: Links) -> Result<Me
 fn numbered_parts(alloc: Global, ids: Ids, parts: &MetaParts) -> Result<Metadata, MetaFault>
     requires ids { ids ≡ ids_of parts.now }
     requires differ { twice_of parts.now ≡ None }
-    ensures { Unless (option_or (unknown_fault (ids_of parts.now) parts.now) (linked_fault (ids_of parts.now) parts.now (links_in parts.now))) (IsMetadata parts.now) result }
+    ensures { Unless (option_or (unknown_fault (ids_of parts.now) parts.now) (linked_fault (ids_of parts.now) parts.now (links_in parts.now)))
+        (IsMetadata parts.now) result }
 {
     match linked(alloc, &ids, parts) {
         Ok(links) => joined(alloc, ids, parts, links),
@@ -82,12 +83,19 @@ fn build_of(alloc: Global, parts: &MetaParts) -> Result<Metadata, MetaFault>
     numbered_parts(alloc, ids, parts)
 }
 
-/// The metadata of what a file says, or its first fault: an identifier or a token that stands twice, a
-/// reference to nothing, an expression, a rule, a limit.
-pub fn build(alloc: Global, parts: MetaParts) -> Result<Metadata, MetaFault>
+pub(crate) fn of_parts(alloc: Global, parts: MetaParts) -> Result<Metadata, MetaFault>
     ensures { Builds parts result }
 {
     let made = build_of(alloc, &parts);
     drop(parts);
     made
+}
+
+/// The metadata of what a file says, or its first fault: an identifier or a token that stands twice, a
+/// reference to nothing, an expression, a rule, a limit.
+#[tactic(auto, using(crate::proofs::ValueLemmas::build_answers))]
+pub fn build(alloc: Global, parts: MetaParts) -> Result<Metadata, MetaFault>
+    ensures value { Answers result (metadata_of parts) }
+{
+    of_parts(alloc, parts)
 }

@@ -4,6 +4,7 @@ ghost use Rattle.json_read.specs.Views.{data_of};
 ghost use Rattle.meta_reader.specs.File.{shaped_of, file_of, GivesFile};
 
 use crate::file_fault::FileFault;
+use dh_base::limits::MOST_INPUT_BYTES;
 use json::{Scratch, Value};
 use json_read::fault::FormFault;
 use json_read::read::read;
@@ -12,7 +13,7 @@ use meta_parts::parts::MetaParts;
 use std::alloc::Global;
 
 /// The most bytes of a file.
-pub const MOST_BYTES: usize = 67_108_864;
+pub const MOST_BYTES: usize = MOST_INPUT_BYTES;
 
 fn shaped(alloc: Global, value: &Value<'_>) -> Result<MetaParts, FileFault>
     ensures { GivesFile (shaped_of (data_of value.now)) result }

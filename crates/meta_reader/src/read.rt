@@ -2,9 +2,10 @@
 
 ghost use Rattle.std.specs.Prelude.{◌≡◌};
 ghost use Rattle.meta_reader.specs.File.{file_of};
-ghost use Rattle.meta_reader.specs.Read.{told, Reads};
+ghost use Rattle.meta_reader.specs.Faults.{Answers};
+ghost use Rattle.meta_reader.specs.Read.{told, Reads, metadata_of_bytes};
 
-use crate::build::build;
+use crate::build::of_parts;
 use crate::fault::{MetaFault, Which};
 use crate::file::read_file;
 use crate::file_fault::FileFault;
@@ -25,14 +26,21 @@ fn told(fault: FileFault) -> MetaFault
     }
 }
 
-/// The metadata that the bytes of a file are, or the first fault: of its length, its syntax, its form, and then
-/// of what it says.
 #[tactic(auto, using(crate::proofs::ReadLemmas::no_memory))]
-pub fn read(alloc: Global, bytes: &[u8]) -> Result<Metadata, MetaFault>
+fn of_bytes(alloc: Global, bytes: &[u8]) -> Result<Metadata, MetaFault>
     ensures { Reads (file_of bytes.now) result }
 {
     match read_file(alloc, bytes) {
-        Ok(parts) => build(alloc, parts),
+        Ok(parts) => of_parts(alloc, parts),
         Err(fault) => Err(told(fault)),
     }
+}
+
+/// The metadata that the bytes of a file are, or the first fault: of its length, its syntax, its form, and then
+/// of what it says.
+#[tactic(auto, using(crate::proofs::ValueLemmas::read_answers))]
+pub fn read(alloc: Global, bytes: &[u8]) -> Result<Metadata, MetaFault>
+    ensures value { Answers result (metadata_of_bytes bytes.now) }
+{
+    of_bytes(alloc, bytes)
 }

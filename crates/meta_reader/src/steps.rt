@@ -80,7 +80,8 @@ pub(crate) fn numbered(alloc: Global, parts: &MetaParts) -> Result<Ids, MetaFaul
 /// The objects of a file with their references, where each names an object.
 #[tactic(auto, unfolding(crate::specs::Faults::unknown_fault))]
 pub(crate) fn linked(alloc: Global, ids: &Ids, parts: &MetaParts) -> Result<Links, MetaFault>
-    ensures { Unless (unknown_fault ids.now parts.now) (λ links. (links ≡ links_of ids.now parts.now) × (first_unknown ids.now (references parts.now) ≡ None)) result }
+    ensures { Unless (unknown_fault ids.now parts.now) (λ links. (links ≡ links_of ids.now parts.now)
+        × (first_unknown ids.now (references parts.now) ≡ None)) result }
 {
     match link(alloc, ids, parts) {
         Ok(links) => Ok(links),
@@ -242,7 +243,8 @@ pub(crate) fn tried(
     requires program_indicators { length parts.now.program_indicators ≡ length links.program_indicators }
     requires own_ids { HasOwnIds (tree_rows links.organisation_units) }
     requires in_range { CombosBelow (length links.category_combos) (option_combo_rows links.category_option_combos) }
-    ensures { Unless (option_or (unread_fault ids.now parts.now) (rule_fault parts.now links)) (λ pair. AreRecords parts.now links pair.0 × IsHeld links pair.1) result }
+    ensures { Unless (option_or (unread_fault ids.now parts.now) (rule_fault parts.now links)) (λ pair. AreRecords parts.now links pair.0
+        × IsHeld links pair.1) result }
 {
     let held = ruled(alloc, parts, &links);
     match with_expressions(alloc, ids, parts, links) {
@@ -285,7 +287,8 @@ pub(crate) fn late(
     records: &Records,
     held: &Held,
 ) -> Option<MetaFault>
-    ensures { result ≡ option_or (option_map broken (stages_broken ids.now records.now.program_stages records.now.program_indicators)) (option_map passed (first_passed parts.now held.now.positions.items)) }
+    ensures { result ≡ option_or (option_map broken (stages_broken ids.now records.now.program_stages records.now.program_indicators))
+        (option_map passed (first_passed parts.now held.now.positions.items)) }
 {
     match unfit(ids, records) {
         Some(fault) => Some(fault),

@@ -1,5 +1,6 @@
 -- What is kept of an element's workflows.
-use Rattle.std.proofs.Common.{◌≡◌, ℕ, suc, ◌+◌, ◌<◌, Bool, true, false, not, cond, ◌==◌, ◌||◌, List, [], ◌∷◌, ◌++◌, map, length, get_or, take, set, Option, Some, None, refl, sym, ap, ◌∙◌, subst, inl, inr, arith, get_or-set_same, get_or-set_other, append_assoc}
+use Rattle.std.proofs.Common.{◌≡◌, ℕ, suc, ◌+◌, ◌<◌, Bool, true, false, not, cond, ◌==◌, ◌||◌, List, [], ◌∷◌, ◌++◌, map, length, get_or, take, set, Option}
+use Rattle.std.proofs.Common.{Some, None, refl, sym, ap, ◌∙◌, subst, inl, inr, arith, get_or-set_same, get_or-set_other, append_assoc}
 use Rattle.std.specs.Prelude.{slice_get}
 use Rattle.std.specs.List.{list_any}
 use Rattle.std.proofs.lemmas.Bool.{cases_eq, eq-eqb, ne_eqb}
@@ -35,7 +36,8 @@ append-none [] = refl
 append-none (x ∷ xs) = ap (λ l. x ∷ l) (append-none xs)
 
 -- one data set more
-workflows_by-more : (sets : List DataSet) (i : ℕ) (d : DataSet) (e : ℕ) → i < length sets → workflows_by (take (i + 1) sets) e ≡ workflows_by (take i sets) e ++ workflow_by e (get_or sets i d)
+workflows_by-more : (sets : List DataSet) (i : ℕ) (d : DataSet) (e : ℕ) → i < length sets
+    → workflows_by (take (i + 1) sets) e ≡ workflows_by (take i sets) e ++ workflow_by e (get_or sets i d)
 workflows_by-more sets i d e within =
     ap (λ l. workflows_by l e) (take_more sets i d within) ∙ workflows_by-append (take i sets) (get_or sets i d ∷ []) e
     ∙ ap (λ l. workflows_by (take i sets) e ++ l) (append-none (workflow_by e (get_or sets i d)))
@@ -68,12 +70,14 @@ TakesEntries-more old mid new elements i w x within at inside is so_far = record
             ∙ get_or-set_same mid x (met (seen_at mid x) w) Nothing (omega arith) ∙ ap (λ n. met (seen_at mid n) w) (sym same) in
             new_here ∙ ap (λ s. met s w) (so_far.each e below)
             ∙ here (list_any (λ o. o == e) (take i elements)) (seen_at old e)
-            ∙ sym (ap (λ b. cond b (met (seen_at old e) w) (seen_at old e)) (more ∙ ap (λ b. list_any (λ o. o == e) (take i elements) || b) hit ∙ or-true (list_any (λ o. o == e) (take i elements))))
+            ∙ sym (ap (λ b. cond b (met (seen_at old e) w) (seen_at old e)) (more ∙ ap (λ b. list_any (λ o. o == e) (take i elements) || b) hit
+            ∙ or-true (list_any (λ o. o == e) (take i elements))))
         | inr other ↦
             let miss : (x == e) ≡ false = ne_eqb x e (λ q. other (sym q)) in
             ap (λ l. seen_at l e) is ∙ get_or-set_other mid x e (met (seen_at mid x) w) Nothing other
             ∙ so_far.each e below
-            ∙ sym (ap (λ b. cond b (met (seen_at old e) w) (seen_at old e)) (more ∙ ap (λ b. list_any (λ o. o == e) (take i elements) || b) miss ∙ or-false (list_any (λ o. o == e) (take i elements))))
+            ∙ sym (ap (λ b. cond b (met (seen_at old e) w) (seen_at old e)) (more ∙ ap (λ b. list_any (λ o. o == e) (take i elements) || b) miss
+            ∙ or-false (list_any (λ o. o == e) (take i elements))))
       ];
 }
   where
@@ -136,7 +140,8 @@ one-told [] single = refl
 one-told (w ∷ ws) single = ap one_seen (all_met-one w ws ∙ ap (λ b. cond b Several (One w)) single)
 
 -- the search over what was seen is the search over the elements
-pub torn-seen : (sets : List DataSet) (count : ℕ) (seen : List Seen) → HaveSeen sets count seen → first_below (several_at seen) (length seen) ≡ first_below (is_torn sets) count
+pub torn-seen : (sets : List DataSet) (count : ℕ) (seen : List Seen) → HaveSeen sets count seen
+    → first_below (several_at seen) (length seen) ≡ first_below (is_torn sets) count
 torn-seen sets count seen have =
     ap (first_below (several_at seen)) have.same_length
     ∙ first_below-agree (several_at seen) (is_torn sets) count (λ e below. ap is_several (have.each e below) ∙ several-told (workflows_by sets e))

@@ -1,68 +1,51 @@
 -- Sessions over a metadata file, by what reading it came to.
-use Rattle.std.proofs.Common.{◌≡◌, ◌≢◌, ◌<◌, ℕ, ℤ, true, List, length, nat_lt, cond, Option, None, Some, Result, Ok, Err, refl, ap, subst, arith}
+use Rattle.std.proofs.Common.{◌≡◌, ◌≢◌, ◌<◌, ℕ, ℤ, true, List, length, nat_lt, cond, Option, None, Some, Ok, Err, refl, ap, subst, arith}
 use Rattle.std.specs.Option.{option_map_or}
 use Rattle.std.specs.Io.KnownBytes.{Keeps}
-use Rattle.meta_parts.specs.declared.parts.MetaParts.{MetaParts}
 use Rattle.meta_parts.specs.declared.held.Records.{Records}
 use Rattle.json_read.specs.Bytes.{document_of}
 use Rattle.meta_reader.specs.File.{most_bytes, file_of, shaped_of}
-use Rattle.meta_reader.specs.declared.file_fault.FileFault.{FileFault}
 use Rattle.meta_reader.specs.declared.file_fault.FileFault.TheVariants as file
-use Rattle.meta_reader.specs.Faults.{fault_of, IsMet}
-use Rattle.meta_reader.specs.Records.{IsMetadata}
+use Rattle.meta_reader.specs.Faults.{Answers}
 use Rattle.meta_reader.specs.declared.fault.MetaFault.{MetaFault}
 use Rattle.meta_reader.specs.declared.fault.MetaFault.TheVariants as fault
 use Rattle.meta_reader.specs.declared.fault.Which.TheVariants.{Bytes}
-use Rattle.meta_reader.specs.Read.{told, Reads}
+use Rattle.meta_reader.specs.Read.{metadata_from, metadata_of_bytes}
 use Rattle.request_session.specs.declared.ended.Ended.{Ended}
 use Rattle.request_session.specs.declared.ended.Ended.TheVariants.{ReadFault}
-use Rattle.offline_session.specs.OverFile.{fault_in, file_fault, IsFileOf, OverMetadata, SessionOver, SessionOverAll, Refuses, RefusesLong}
+use Rattle.offline_session.specs.OverFile.{OverMetadata, SessionOver, SessionOverAll, Refuses, RefusesLong}
 use Rattle.offline_session.specs.declared.over_file.SessionEnd.{SessionEnd}
 use Rattle.offline_session.specs.declared.over_file.SessionEnd.TheVariants as end
 use Rattle.offline_session.proofs.ServeLemmas.{served_over}
 
 -- ---- what reading the file came to
 
-read-ok : (found : Result MetaParts FileFault) (meta : Records) → Reads found (Ok meta) → (fault_in found ≡ None) × (parts : MetaParts) × (found ≡ Ok parts) × IsMetadata parts meta
-read-ok (Ok parts) meta is = (is.0, parts, refl, is.1)
-read-ok (Err found) meta is = absurd is
-
--- the file is read, so these are its metadata
-pub is_file : (bytes : List ℕ) (meta : Records) → Reads (file_of bytes) (Ok meta) → IsFileOf bytes meta
-is_file bytes meta reads = read-ok (file_of bytes) meta reads
-
-met : (meant : Option MetaFault) (found : MetaFault) → found ≢ fault.Memory → IsMet meant found → meant ≡ Some found
-met meant fault.Memory other is = absurd (other refl)
-met meant fault.NotJson other is = is
-met meant (fault.Shape path) other is = is
-met meant (fault.Unknown uid path) other is = is
-met meant (fault.Twice uid) other is = is
-met meant (fault.Expr uid at) other is = is
-met meant (fault.Rule uid rule) other is = is
-met meant (fault.Limit limit) other is = is
-
-read-err : (meant : Result MetaParts FileFault) (found : MetaFault) → found ≢ fault.Memory → Reads meant (Err found) → fault_in meant ≡ Some found
-read-err (Ok parts) found other is = met (fault_of parts) found other is
-read-err (Err unread) found other is = met (Some (told unread)) found other is
-
 -- the file has this fault
-pub is_fault : (bytes : List ℕ) (found : MetaFault) → found ≢ fault.Memory → Reads (file_of bytes) (Err found) → file_fault bytes ≡ Some found
-is_fault bytes found other reads = read-err (file_of bytes) found other reads
+pub is_fault : (bytes : List ℕ) (found : MetaFault) → found ≢ fault.Memory → Answers (Err found) (metadata_of_bytes bytes) → metadata_of_bytes bytes ≡ Err found
+is_fault bytes fault.Memory other is = absurd (other refl)
+is_fault bytes fault.NotJson other is = is
+is_fault bytes (fault.Shape path) other is = is
+is_fault bytes (fault.Unknown uid path) other is = is
+is_fault bytes (fault.Twice uid) other is = is
+is_fault bytes (fault.Expr uid at) other is = is
+is_fault bytes (fault.Rule uid rule) other is = is
+is_fault bytes (fault.Limit limit) other is = is
 
 lt-test : (m n : ℕ) → m < n → nat_lt m n ≡ true
 lt-test m n less = grind arith
 
 -- a file of more than the most bytes has that fault
-pub long_fault : (bytes : List ℕ) → most_bytes < length bytes → file_fault bytes ≡ Some (fault.Limit Bytes)
-unfolding file_of
+pub long_fault : (bytes : List ℕ) → most_bytes < length bytes → metadata_of_bytes bytes ≡ Err (fault.Limit Bytes)
+unfolding metadata_of_bytes file_of
 long_fault bytes long =
-    ap (λ b. fault_in (cond b (Err file.TooLong) (option_map_or shaped_of (document_of bytes) (Err file.NotJson)))) (lt-test most_bytes (length bytes) long)
+    ap (λ b. metadata_from (cond b (Err file.TooLong) (option_map_or shaped_of (document_of bytes) (Err file.NotJson))))
+    (lt-test most_bytes (length bytes) long)
 
 -- ---- what the session came to
 
 -- the metadata are refused
 pub refused_over : (shows : ℤ → Type 0) (bytes : List ℕ) (left left' written written' : Option (List ℕ)) (found : MetaFault) (how : SessionEnd)
-    → file_fault bytes ≡ Some found → left' ≡ left → Refuses found written written' how → SessionOver shows bytes left left' written written' how
+    → metadata_of_bytes bytes ≡ Err found → left' ≡ left → Refuses found written written' how → SessionOver shows bytes left left' written written' how
 refused_over shows bytes left left' written written' found end.Refused is same refuses = ((found, is, refuses), same)
 refused_over shows bytes left left' written written' found end.Unwritten is same refuses = ((found, is, refuses), same)
 refused_over shows bytes left left' written written' found (end.Ended how) is same refuses = absurd refuses
@@ -89,10 +72,10 @@ over_told shows bytes left left' written written' end.Memory input told other ov
 
 -- the metadata are taken
 pub taken_over : (shows : ℤ → Type 0) (bytes : List ℕ) (meta : Records) (left left' written written' : Option (List ℕ)) (how : SessionEnd)
-    → Reads (file_of bytes) (Ok meta) → OverMetadata shows meta left left' written written' how → SessionOver shows bytes left left' written written' how
+    → metadata_of_bytes bytes ≡ Ok meta → OverMetadata shows meta left left' written written' how → SessionOver shows bytes left left' written written' how
 taken_over shows bytes meta left left' written written' end.Refused reads over = absurd over
 taken_over shows bytes meta left left' written written' end.Unwritten reads over = absurd over
-taken_over shows bytes meta left left' written written' (end.Ended how) reads over = (meta, is_file bytes meta reads, over)
+taken_over shows bytes meta left left' written written' (end.Ended how) reads over = (meta, reads, over)
 taken_over shows bytes meta left left' written written' end.Memory reads over = over
 
 -- what stays is kept

@@ -37,14 +37,17 @@ carries engine clock count shows lent never old new request keep text sure step 
 -- a run of a machine whose store never fails is one of the session's steps
 pub ran_session : {M K C : Type 0} (engine : M → Seen) (clock : M → C) (count : K → ℕ) (shows : C → ℤ → Type 0) (lent : C) → NeverFails count
     → (most : ℕ) (left left' written written' : Option (List ℕ)) (old new : M) (how : Ended) → clock old ≡ lent → (engine old).faults ≡ 0
-    → Ran (λ o request keep text n. MachineStep count shows (clock o) (clock n) (engine o) request keep text (engine n)) most left left' written written' old new how
+    → Ran (λ o request keep text n. MachineStep count shows (clock o) (clock n) (engine o) request keep text (engine n)) most left left' written written' old
+    new how
     → Ran (SessionStep (shows lent)) most left left' written written' (engine old) (engine new) how
 ran_session engine clock count shows lent never most left left' written written' old new how lent_is none ran =
-    (ran_along engine (is_sure engine clock lent) (machine_step engine clock count shows) (SessionStep (shows lent)) (carries engine clock count shows lent never)
+    (ran_along engine (is_sure engine clock lent) (machine_step engine clock count shows) (SessionStep (shows lent))
+    (carries engine clock count shows lent never)
     most left left' written written' old new how (lent_is, none) ran).0
 
 -- the run began in the start state, and by this clock
-pub from_start : {C : Type 0} (shows : C → ℤ → Type 0) (lent clock : C) (begun : Seen) (left left' written written' : Option (List ℕ)) (meta : Records) (how : Ended)
+pub from_start : {C : Type 0} (shows : C → ℤ
+    → Type 0) (lent clock : C) (begun : Seen) (left left' written written' : Option (List ℕ)) (meta : Records) (how : Ended)
     → lent ≡ clock → begun ≡ started meta
     → (new : Seen) × Ran (SessionStep (shows lent)) most_requests left left' written written' begun new how
     → Served (shows clock) left left' written written' meta how
@@ -55,7 +58,8 @@ from_start shows lent clock begun left left' written written' meta how clock_is 
 )
 
 -- over an input that is told
-pub served_over : (shows : ℤ → Type 0) (bytes : List ℕ) (left left' written written' : Option (List ℕ)) (meta : Records) (how : Ended) → left ≡ Some bytes → how ≢ ReadFault
+pub served_over : (shows : ℤ → Type 0) (bytes : List ℕ) (left left' written written' : Option (List ℕ)) (meta : Records) (how : Ended) → left ≡ Some bytes
+    → how ≢ ReadFault
     → Served shows left left' written written' meta how → ServedOver shows bytes written written' meta how
 served_over shows bytes left left' written written' meta how told other served =
     (served.0, over_all (SessionStep shows) most_requests bytes left left' written written' (started meta) served.0 how told other served.1)
@@ -63,5 +67,6 @@ served_over shows bytes left left' written written' meta how told other served =
 pub result_over : (shows : ℤ → Type 0) (left left' written written' : Option (List ℕ)) (meta : Records) (result : Result Ended Memory)
     → IfOk result (Served shows left left' written written' meta)
     → IfOk result (λ how. (bytes : List ℕ) → left ≡ Some bytes → how ≢ ReadFault → ServedOver shows bytes written written' meta how)
-result_over shows left left' written written' meta (Ok how) served = λ bytes told other. served_over shows bytes left left' written written' meta how told other served
+result_over shows left left' written written' meta (Ok how) served =
+    λ bytes told other. served_over shows bytes left left' written written' meta how told other served
 result_over shows left left' written written' meta (Err wanting) served = tt

@@ -1,41 +1,24 @@
 -- A session over the bytes of a metadata file.
-use Rattle.std.specs.Prelude.{◌≡◌, ◌++◌, ◌∷◌, [], ℕ, ℤ, List, Option, None, Some, Result, Ok, Err, codes}
+use Rattle.std.specs.Prelude.{◌≡◌, ◌++◌, ◌∷◌, [], ℕ, ℤ, List, Option, Ok, Err, codes}
 use Rattle.std.specs.Io.KnownBytes.{Appends, Keeps}
-use Rattle.meta_parts.specs.declared.parts.MetaParts.{MetaParts}
 use Rattle.meta_parts.specs.declared.held.Records.{Records}
-use Rattle.meta_reader.specs.File.{file_of}
-use Rattle.meta_reader.specs.declared.file_fault.FileFault.{FileFault}
-use Rattle.meta_reader.specs.Faults.{fault_of}
-use Rattle.meta_reader.specs.Records.{IsMetadata}
 use Rattle.meta_reader.specs.declared.fault.MetaFault.{MetaFault}
 use Rattle.meta_reader.specs.declared.fault.MetaFault.TheVariants as fault
 use Rattle.meta_reader.specs.declared.fault.Which.TheVariants as which
 use Rattle.meta_reader.specs.Line.{line_of}
-use Rattle.meta_reader.specs.Read.{told}
+use Rattle.meta_reader.specs.Read.{metadata_of_bytes}
 use Rattle.request_session.specs.Session.{AppendsFront}
 use Rattle.offline_session.specs.Serving.{Served, ServedOver}
 use Rattle.offline_session.specs.declared.over_file.SessionEnd.{SessionEnd}
 use Rattle.offline_session.specs.declared.over_file.SessionEnd.TheVariants as end
 
-abbrev pub fault_in : Result MetaParts FileFault → Option MetaFault
-fault_in (Ok parts) = fault_of parts
-fault_in (Err found) = Some (told found)
-
--- the first fault of a metadata file: of its length, its syntax, its form, or of what it says
-abbrev pub file_fault : List ℕ → Option MetaFault
-file_fault bytes = fault_in (file_of bytes)
-
--- these are the metadata of a file, which has no fault
-abbrev pub IsFileOf : List ℕ → Records → Type 0
-IsFileOf bytes meta = (file_fault bytes ≡ None) × (parts : MetaParts) × (file_of bytes ≡ Ok parts) × IsMetadata parts meta
-
 -- the line that tells why the metadata are refused
 unfoldable pub refusal_line : MetaFault → List ℕ
 refusal_line found = codes "dhis: metadata: " ++ line_of found ++ 10 ∷ []
 
--- the line of the first fault is written so
+-- the line of the file's first fault is written so
 abbrev pub IsRefused : List ℕ → (List ℕ → Type 0) → Type 0
-IsRefused bytes Writes = (found : MetaFault) × (file_fault bytes ≡ Some found) × Writes (refusal_line found)
+IsRefused bytes Writes = (found : MetaFault) × (metadata_of_bytes bytes ≡ Err found) × Writes (refusal_line found)
 
 -- A session over a metadata file: the file is refused before the input is read, or the session is held over its
 -- metadata. If memory runs out before it begins nothing is read or written.
@@ -43,7 +26,7 @@ abbrev pub SessionOver : (ℤ → Type 0) → List ℕ → Option (List ℕ) →
 SessionOver shows bytes left left' written written' end.Refused = IsRefused bytes (Appends written written') × (left' ≡ left)
 SessionOver shows bytes left left' written written' end.Unwritten = IsRefused bytes (AppendsFront written written') × (left' ≡ left)
 SessionOver shows bytes left left' written written' (end.Ended how) =
-    (meta : Records) × IsFileOf bytes meta × Served shows left left' written written' meta how
+    (meta : Records) × (metadata_of_bytes bytes ≡ Ok meta) × Served shows left left' written written' meta how
 SessionOver shows bytes left left' written written' end.Memory = Keeps written written' × (left' ≡ left)
 
 -- the same over all the bytes of the input
@@ -51,7 +34,7 @@ abbrev pub SessionOverAll : (ℤ → Type 0) → List ℕ → List ℕ → Optio
 SessionOverAll shows bytes input written written' end.Refused = IsRefused bytes (Appends written written')
 SessionOverAll shows bytes input written written' end.Unwritten = IsRefused bytes (AppendsFront written written')
 SessionOverAll shows bytes input written written' (end.Ended how) =
-    (meta : Records) × IsFileOf bytes meta × ServedOver shows input written written' meta how
+    (meta : Records) × (metadata_of_bytes bytes ≡ Ok meta) × ServedOver shows input written written' meta how
 SessionOverAll shows bytes input written written' end.Memory = Keeps written written'
 
 -- what refusing the metadata comes to

@@ -118,7 +118,8 @@ pub fn session_over<S: Source, O: Sink, C: Clock>(
     clock: &C,
 ) -> SessionEnd
     ensures over { SessionOver (C.shows clock.now) file.now (S.left input.old) (S.left input.new) (O.written output.old) (O.written output.new) result }
-    ensures told { (bytes : List ℕ) → S.left input.old ≡ Some bytes → result ≢ end.Ended ReadFault → SessionOverAll (C.shows clock.now) file.now bytes (O.written output.old) (O.written output.new) result }
+    ensures told { (bytes : List ℕ) → S.left input.old ≡ Some bytes → result ≢ end.Ended ReadFault
+        → SessionOverAll (C.shows clock.now) file.now bytes (O.written output.old) (O.written output.new) result }
     ensures read_fault { result ≡ end.Ended ReadFault → Rose (S.source_faults input.old) (S.source_faults input.new) }
     ensures write_fault { result ≡ end.Ended WriteFault → Rose (O.sink_faults output.old) (O.sink_faults output.new) }
     ensures unwritten { result ≡ end.Unwritten → Rose (O.sink_faults output.old) (O.sink_faults output.new) }

@@ -25,7 +25,8 @@ fn answer_all<S: Source, O: Sink, C: Clock>(
     output: &mut O,
 ) -> Ended
     requires { machine.old.engine.faults ≡ 0 }
-    ensures ran { (new : Seen) × Ran (SessionStep (C.shows machine.old.clock.now)) most_requests (S.left input.old) (S.left input.new) (O.written output.old) (O.written output.new) machine.old.engine new result }
+    ensures ran { (new : Seen) × Ran (SessionStep (C.shows machine.old.clock.now)) most_requests (S.left input.old) (S.left input.new) (O.written output.old)
+        (O.written output.new) machine.old.engine new result }
     ensures read_fault { result ≡ ReadFault → Rose (S.source_faults input.old) (S.source_faults input.new) }
     ensures write_fault { result ≡ WriteFault → Rose (O.sink_faults output.old) (O.sink_faults output.new) }
     ensures input { S.source_faults input.old ≤ S.source_faults input.new }
@@ -65,7 +66,8 @@ pub fn serve_session<S: Source, O: Sink, C: Clock>(
     clock: &C,
 ) -> Result<Ended, Memory>
     ensures ran { IfOk result (Served (C.shows clock.now) (S.left input.old) (S.left input.new) (O.written output.old) (O.written output.new) meta) }
-    ensures told { IfOk result (λ how. (bytes : List ℕ) → S.left input.old ≡ Some bytes → how ≢ ReadFault → ServedOver (C.shows clock.now) bytes (O.written output.old) (O.written output.new) meta how) }
+    ensures told { IfOk result (λ how. (bytes : List ℕ) → S.left input.old ≡ Some bytes → how ≢ ReadFault
+        → ServedOver (C.shows clock.now) bytes (O.written output.old) (O.written output.new) meta how) }
     ensures read_fault { IfOk result (λ how. how ≡ ReadFault → Rose (S.source_faults input.old) (S.source_faults input.new)) }
     ensures write_fault { IfOk result (λ how. how ≡ WriteFault → Rose (O.sink_faults output.old) (O.sink_faults output.new)) }
     ensures unread { OnErr result (S.left input.new ≡ S.left input.old) }

@@ -9,7 +9,8 @@ use Rattle.std.proofs.lemmas.Cmp.{nat_list_cmp_total, lists_total, tied_itself}
 use Rattle.std.proofs.lemmas.Map.Lookups.{exact_bytes}
 use Rattle.std.proofs.lemmas.List.{map-append, same_from_push}
 use Rattle.org_tree.specs.Units.{UnitRow, id_at, is_under, trail_of, is_before, IsTree}
-use Rattle.org_tree.proofs.WayLemmas.{way_to, way_to-child, way_to-root, way_to-last, trail_of-way, tree_induction, front-from_under, under-from_front, under-itself}
+use Rattle.org_tree.proofs.WayLemmas.{way_to, way_to-child, way_to-root, way_to-last, trail_of-way, tree_induction, front-from_under, under-from_front}
+use Rattle.org_tree.proofs.WayLemmas.{under-itself}
 
 abbrev pub by_id : List UnitRow → ℕ → ℕ → Ordering
 by_id us a b = slice_cmp nat_cmp (id_at us a) (id_at us b)
@@ -42,7 +43,8 @@ lt-then Less rest ne = refl
 lt-then Equal rest ne = absurd (ne refl)
 lt-then Greater rest ne = refl
 
-ahead-ids : (us : List UnitRow) → IsTree us → (ways bs : List ℕ) → AreUnits us ways → AreUnits us bs → is_lt (slice_cmp (slice_cmp nat_cmp) (map (id_at us) ways) (map (id_at us) bs)) ≡ ahead us ways bs
+ahead-ids : (us : List UnitRow) → IsTree us → (ways bs : List ℕ) → AreUnits us ways → AreUnits us bs
+    → is_lt (slice_cmp (slice_cmp nat_cmp) (map (id_at us) ways) (map (id_at us) bs)) ≡ ahead us ways bs
 ahead-ids us t [] [] all others = refl
 ahead-ids us t [] (b ∷ bs) all others = refl
 ahead-ids us t (a ∷ rest) [] all others = refl
@@ -131,7 +133,8 @@ under-not_before us t z y h under =
     is_before-ahead us t z y h front.0 ∙ ap (λ w. ahead us w (way_to us y)) front.1.1 ∙ ahead-front us (way_to us y) front.1.0
 
 -- a unit outside y's subtree comes before one in it exactly where it comes before y
-pub before-in_subtree : (us : List UnitRow) → IsTree us → (z x y : ℕ) → z < length us → x < length us → is_under us x y ≡ true → is_under us z y ≡ false → is_before us z x ≡ is_before us z y
+pub before-in_subtree : (us : List UnitRow) → IsTree us → (z x y : ℕ) → z < length us → x < length us → is_under us x y ≡ true → is_under us z y ≡ false
+    → is_before us z x ≡ is_before us z y
 before-in_subtree us t z x y h i under not_under =
     let front = front-from_under us t x y i under in
     is_before-ahead us t z x h i ∙ ap (ahead us (way_to us z)) front.1.1
@@ -139,8 +142,9 @@ before-in_subtree us t z x y h i under not_under =
     ∙ sym (is_before-ahead us t z y h front.0)
 
 -- and comes after one in it exactly where it comes after y
-pub behind-subtree : (us : List UnitRow) → IsTree us → (z x y : ℕ) → z < length us → x < length us → is_under us x y ≡ true → is_under us z y ≡ false → is_before us x z ≡ is_before us y z
-behind-subtree us t z x y h i under not_under =
+pub beyond-subtree : (us : List UnitRow) → IsTree us → (z x y : ℕ) → z < length us → x < length us → is_under us x y ≡ true → is_under us z y ≡ false
+    → is_before us x z ≡ is_before us y z
+beyond-subtree us t z x y h i under not_under =
     let front = front-from_under us t x y i under in
     is_before-ahead us t x z i h ∙ ap (λ w. ahead us w (way_to us z)) front.1.1
     ∙ ahead-below_left us (way_to us z) (way_to us y) front.1.0 (front-not_under us z y front.0 not_under)
@@ -174,9 +178,12 @@ exact_trails (a ∷ rest) (b ∷ bs) e = by_head (slice_cmp nat_cmp a b) (slice_
     by_head Greater more head tail e = absurd (cc)
 
 -- of two different units one comes before the other
-pub before-total : (us : List UnitRow) → IsTree us → (x y : ℕ) → x < length us → y < length us → (x ≡ y) ⊎ ((is_before us x y ≡ true) ⊎ (is_before us y x ≡ true))
+pub before-total : (us : List UnitRow) → IsTree us → (x y : ℕ) → x < length us → y < length us
+    → (x ≡ y) ⊎ ((is_before us x y ≡ true) ⊎ (is_before us y x ≡ true))
 unfolding is_before
-before-total us t x y h i = by_order (slice_cmp (slice_cmp nat_cmp) (trail_of us x) (trail_of us y)) (slice_cmp (slice_cmp nat_cmp) (trail_of us y) (trail_of us x)) (trails_total.antisymm (trail_of us y) (trail_of us x)) (λ tie. same_unit (exact_trails (trail_of us x) (trail_of us y) tie))
+before-total us t x y h i =
+    by_order (slice_cmp (slice_cmp nat_cmp) (trail_of us x) (trail_of us y)) (slice_cmp (slice_cmp nat_cmp) (trail_of us y) (trail_of us x))
+    (trails_total.antisymm (trail_of us y) (trail_of us x)) (λ tie. same_unit (exact_trails (trail_of us x) (trail_of us y) tie))
   where
     same_unit : trail_of us x ≡ trail_of us y → x ≡ y
     same_unit e =

@@ -1,5 +1,6 @@
 -- Going up from a unit: parents that end do so within as many steps as there are units.
-use Rattle.std.proofs.Common.{add-one, zero-add, ◌≡◌, ◌⊎◌, ℕ, zero, suc, ◌+◌, ◌<◌, ◌≤◌, Bool, true, false, List, length, Option, Some, None, refl, sym, ap, ◌∙◌, subst, inl, inr, arith}
+use Rattle.std.proofs.Common.{add-one, zero-add, ◌≡◌, ◌⊎◌, ℕ, zero, suc, ◌+◌, ◌<◌, ◌≤◌, Bool, true, false, List, length, Option, Some, None, refl, sym, ap}
+use Rattle.std.proofs.Common.{◌∙◌, subst, inl, inr, arith}
 use Rattle.std.specs.Prelude.{option_and_then, is_none}
 use Rattle.std.proofs.lemmas.Bool.{cases_eq, false≢true}
 use Rattle.org_tree.specs.Units.{UnitRow, parent_of, climb}
@@ -46,7 +47,8 @@ none_at : ℕ → List UnitRow → ℕ → Bool
 none_at steps us z = is_none (climb steps us z)
 
 -- where a unit has exactly so many above it, as many units end within one step more
-ends_exactly : (us : List UnitRow) → ((x p : ℕ) → parent_of us x ≡ Some p → p < length us) → (steps x y : ℕ) → x < length us → climb steps us x ≡ Some y → climb (suc steps) us x ≡ None → suc steps ≤ count_below (none_at (suc steps) us) (length us)
+ends_exactly : (us : List UnitRow) → ((x p : ℕ) → parent_of us x ≡ Some p → p < length us) → (steps x y : ℕ) → x < length us → climb steps us x ≡ Some y
+    → climb (suc steps) us x ≡ None → suc steps ≤ count_below (none_at (suc steps) us) (length us)
 unfolding none_at
 ends_exactly us in_range zero x y h there ends =
     let one : count_below (λ _. false) (length us) < count_below (none_at 1 us) (length us) =
@@ -58,7 +60,8 @@ ends_exactly us in_range (suc steps) x y h there ends =
       | inl up ↦
           let p = up.0 in
           let below : suc steps ≤ count_below (none_at (suc steps) us) (length us) =
-          ends_exactly us in_range steps p y (in_range x p up.1) (sym (climb-child steps us x p up.1) ∙ there) (sym (climb-child (suc steps) us x p up.1) ∙ ends) in
+          ends_exactly us in_range steps p y (in_range x p up.1) (sym (climb-child steps us x p up.1) ∙ there) (sym (climb-child (suc steps) us x p up.1)
+          ∙ ends) in
           let one : count_below (none_at (suc steps) us) (length us) < count_below (none_at (suc (suc steps)) us) (length us) =
           count_below-lt (none_at (suc steps) us) (none_at (suc (suc steps)) us) (length us) x
           (λ k l e. ap (is_none {T = ℕ}) (climb-once_more (suc steps) us k (none_from (climb (suc steps) us k) e)))
@@ -71,7 +74,8 @@ ends_exactly us in_range (suc steps) x y h there ends =
     none_from (Some v) e = absurd (false≢true e)
 
 -- parents that end do so within as many steps as there are units
-pub climb-ends : (us : List UnitRow) → ((x p : ℕ) → parent_of us x ≡ Some p → p < length us) → (steps x : ℕ) → x < length us → climb steps us x ≡ None → climb (length us) us x ≡ None
+pub climb-ends : (us : List UnitRow) → ((x p : ℕ) → parent_of us x ≡ Some p → p < length us) → (steps x : ℕ) → x < length us → climb steps us x ≡ None
+    → climb (length us) us x ≡ None
 climb-ends us in_range zero x h ends = absurd (let e = climb-zero us x in cc)
 climb-ends us in_range (suc steps) x h ends =
     elim (some_or_none (climb steps us x)) [

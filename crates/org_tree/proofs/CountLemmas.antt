@@ -1,5 +1,6 @@
 -- Counts of the numbers below a bound that pass a test, and the first that passes.
-use Rattle.std.proofs.Common.{add-one, ◌≡◌, ◌⊎◌, ℕ, zero, suc, ◌+◌, ◌<◌, ◌≤◌, Bool, true, false, cond, ◌==◌, ◌||◌, Some, None, refl, sym, ap, subst, inl, inr, arith}
+use Rattle.std.proofs.Common.{add-one, ◌≡◌, ◌⊎◌, ℕ, zero, suc, ◌+◌, ◌<◌, ◌≤◌, Bool, true, false, cond, ◌==◌, ◌||◌, Some, None, refl, sym, ap, subst, inl}
+use Rattle.std.proofs.Common.{inr, arith}
 use Rattle.std.proofs.lemmas.Bool.{cases_Bool, cases_eq, eq-eqb, ne_eqb, false≢true}
 use Rattle.org_tree.specs.Count.{count_below, or_else, first_below}
 
@@ -32,7 +33,8 @@ count_below-more p q (suc n) more =
     step false false a b h i = omega arith
 
 -- and more where it passes one that the other does not
-pub count_below-lt : (p q : ℕ → Bool) (n j : ℕ) → ((k : ℕ) → k < n → p k ≡ true → q k ≡ true) → j < n → p j ≡ false → q j ≡ true → count_below p n < count_below q n
+pub count_below-lt : (p q : ℕ → Bool) (n j : ℕ) → ((k : ℕ) → k < n → p k ≡ true → q k ≡ true) → j < n → p j ≡ false → q j ≡ true
+    → count_below p n < count_below q n
 count_below-lt p q zero j more in_range off on = absurd (omega arith)
 count_below-lt p q (suc n) j more in_range off on =
     elim (cases_eq j n) [
@@ -53,7 +55,8 @@ count_below-lt p q (suc n) j more in_range off on =
     step false false a b h i = omega arith
 
 -- what passes one of two tests that never pass together
-pub count_below-or : (p q : ℕ → Bool) (n : ℕ) → ((k : ℕ) → k < n → p k ≡ true → q k ≡ false) → count_below (λ k. p k || q k) n ≡ count_below p n + count_below q n
+pub count_below-or : (p q : ℕ → Bool) (n : ℕ) → ((k : ℕ) → k < n → p k ≡ true → q k ≡ false)
+    → count_below (λ k. p k || q k) n ≡ count_below p n + count_below q n
 count_below-or p q zero apart = refl
 count_below-or p q (suc n) apart =
     let before : count_below (λ k. p k || q k) n ≡ count_below p n + count_below q n = count_below-or p q n (λ k h. apart k (omega arith)) in
@@ -94,15 +97,23 @@ pub record IsFirst (p : ℕ → Bool) (n k : ℕ) : Type 0 where
   pub passes : p k ≡ true
   pub none_before : (j : ℕ) → j < k → p j ≡ false
 
-pub first_below_tells : (p : ℕ → Bool) (n : ℕ) → ((k : ℕ) × (first_below p n ≡ Some k) × IsFirst p n k) ⊎ ((first_below p n ≡ None) × ((j : ℕ) → j < n → p j ≡ false))
+pub first_below_tells : (p : ℕ → Bool) (n : ℕ)
+    → ((k : ℕ) × (first_below p n ≡ Some k) × IsFirst p n k) ⊎ ((first_below p n ≡ None) × ((j : ℕ) → j < n → p j ≡ false))
 first_below_tells p zero = inr (refl, λ j h. absurd (omega arith))
 first_below_tells p (suc n) =
     elim (first_below_tells p n) [
-      | inl found ↦ inl (found.0, ap (λ o. or_else o (cond (p n) (Some n) None)) found.1, record { below = omega (arith, found.2.below); passes = found.2.passes; none_before = found.2.none_before })
+      | inl found ↦ inl (
+        found.0,
+        ap (λ o. or_else o (cond (p n) (Some n) None)) found.1,
+        record { below = omega (arith, found.2.below); passes = found.2.passes; none_before = found.2.none_before },
+      )
       | inr none ↦
           elim (cases_Bool (p n)) [
             | inl on ↦ inl (n, rw (none.0, on) refl, record { below = omega arith; passes = on; none_before = none.1 })
-            | inr off ↦ inr (rw (none.0, off) refl, λ j h. elim (cases_eq j n) [ inl here ↦ subst (λ (v : ℕ). p v ≡ false) (sym here) off | inr other ↦ none.1 j (omega arith) ])
+            | inr off ↦ inr (
+              rw (none.0, off) refl,
+              λ j h. elim (cases_eq j n) [ inl here ↦ subst (λ (v : ℕ). p v ≡ false) (sym here) off | inr other ↦ none.1 j (omega arith) ],
+            )
           ]
     ]
 

@@ -8,7 +8,8 @@ use Rattle.org_tree.specs.declared.fault.TreeFault.{TreeFault}
 use Rattle.org_tree.specs.declared.fault.TreeFault.TheVariants.{NoParent, NoRoot, TwoRoots, Loop, TooDeep, Memory}
 use Rattle.org_tree.specs.Count.{count_below, or_else, first_below}
 use Rattle.org_tree.specs.Units.{UnitRow, parent_of, climb, HasParents, HasOwnIds, IsTree}
-use Rattle.org_tree.specs.Faults.{has_bad_parent, is_root, is_second_root, never_ends, is_too_deep, root_fault, shape_fault, depth_fault, tree_fault, NeverReaches}
+use Rattle.org_tree.specs.Faults.{has_bad_parent, is_root, is_second_root, never_ends, is_too_deep, root_fault, shape_fault, depth_fault, tree_fault}
+use Rattle.org_tree.specs.Faults.{NeverReaches}
 use Rattle.org_tree.specs.Levels.{AreLevels}
 use Rattle.org_tree.proofs.CountLemmas.{first_below_tells, count_below-lt}
 use Rattle.org_tree.proofs.ClimbLemmas.{some_or_none, climb-ends, climb-more}
@@ -38,10 +39,13 @@ map_none : {T U : Type 0} (f : T → U) (o : Option T) → option_map f o ≡ No
 map_none f None e = refl
 map_none f (Some v) e = absurd (cc)
 
-pub shape_parts : (us : List UnitRow) → shape_fault us ≡ None → (first_below (has_bad_parent us) (length us) ≡ None) × (first_below (is_second_root us) (length us) ≡ None)
+pub shape_parts : (us : List UnitRow) → shape_fault us ≡ None
+    → (first_below (has_bad_parent us) (length us) ≡ None) × (first_below (is_second_root us) (length us) ≡ None)
 shape_parts us e =
     let split = first_none (option_map NoParent (first_below (has_bad_parent us) (length us))) (root_fault us) e in
-    let roots = first_none (cond (is_none (first_below (is_root us) (length us))) (Some NoRoot) None) (option_map TwoRoots (first_below (is_second_root us) (length us))) split.1 in
+    let roots =
+    first_none (cond (is_none (first_below (is_root us) (length us))) (Some NoRoot) None)
+    (option_map TwoRoots (first_below (is_second_root us) (length us))) split.1 in
     (map_none NoParent (first_below (has_bad_parent us) (length us)) split.0, map_none TwoRoots (first_below (is_second_root us) (length us)) roots.1)
 
 pub HasParents-from_none : (us : List UnitRow) → first_below (has_bad_parent us) (length us) ≡ None → HasParents us
@@ -58,7 +62,8 @@ HasParents-from_none us none = record { in_range = inside }
         ]
 
 -- two roots are one
-one_root_of : (us : List UnitRow) → first_below (is_second_root us) (length us) ≡ None → (x y : ℕ) → x < length us → y < length us → parent_of us x ≡ None → parent_of us y ≡ None → x ≡ y
+one_root_of : (us : List UnitRow) → first_below (is_second_root us) (length us) ≡ None → (x y : ℕ) → x < length us → y < length us → parent_of us x ≡ None
+    → parent_of us y ≡ None → x ≡ y
 one_root_of us none x y h i top_x top_y =
     elim (cases_order x y) [
       | inl same ↦ same
@@ -73,7 +78,8 @@ one_root_of us none x y h i top_x top_y =
     two a b h top_a top_b first =
         let root_a : is_root us a ≡ true = ap (is_none {T = ℕ}) top_a in
         let root_b : is_root us b ≡ true = ap (is_none {T = ℕ}) top_b in
-        let some : count_below (λ _. false) b < count_below (is_root us) b = count_below-lt (λ _. false) (is_root us) b a (λ k l e. absurd (false≢true e)) first refl root_a in
+        let some : count_below (λ _. false) b < count_below (is_root us) b =
+        count_below-lt (λ _. false) (is_root us) b a (λ k l e. absurd (false≢true e)) first refl root_a in
         let counted : nat_lt 0 (count_below (is_root us) b) ≡ true = lt-ltb 0 (count_below (is_root us) b) (omega arith) in
         false≢true (sym (none_passes (is_second_root us) (length us) none b h) ∙ and_from (is_root us b) (nat_lt 0 (count_below (is_root us) b)) root_b counted)
 
@@ -81,7 +87,9 @@ one_root_of us none x y h i top_x top_y =
 not_empty : (us : List UnitRow) → shape_fault us ≡ None → 0 < length us
 not_empty us e =
     let split = first_none (option_map NoParent (first_below (has_bad_parent us) (length us))) (root_fault us) e in
-    let roots = first_none (cond (is_none (first_below (is_root us) (length us))) (Some NoRoot) None) (option_map TwoRoots (first_below (is_second_root us) (length us))) split.1 in
+    let roots =
+    first_none (cond (is_none (first_below (is_root us) (length us))) (Some NoRoot) None)
+    (option_map TwoRoots (first_below (is_second_root us) (length us))) split.1 in
     elim (first_below_tells (is_root us) (length us)) [
       | inl found ↦ (let l = found.2.below in omega arith)
       | inr none ↦ absurd (let f = none.0 in let g = ap (λ o. cond (is_none o) (Some NoRoot) None) none.0 in let r = roots.0 in cc)
@@ -112,7 +120,8 @@ shape_is_no_loop : (us : List UnitRow) (node : ℕ) → ¬ (shape_fault us ≡ S
 shape_is_no_loop us node e =
     by_parts (first_below (has_bad_parent us) (length us)) (first_below (is_root us) (length us)) (first_below (is_second_root us) (length us)) e
   where
-    by_parts : (bad root second : Option ℕ) → or_else (option_map NoParent bad) (or_else (cond (is_none root) (Some NoRoot) None) (option_map TwoRoots second)) ≡ Some (Loop node) → ⊥
+    by_parts : (bad root second : Option ℕ)
+        → or_else (option_map NoParent bad) (or_else (cond (is_none root) (Some NoRoot) None) (option_map TwoRoots second)) ≡ Some (Loop node) → ⊥
     by_parts (Some x) root second e = cc
     by_parts None None second e = cc
     by_parts None (Some r) (Some x) e = cc
@@ -131,7 +140,8 @@ pub leads_on_for_ever : (us : List UnitRow) (node : ℕ) → tree_fault us ≡ S
 unfolding tree_fault
 leads_on_for_ever us node e steps =
     elim (some_or_none (shape_fault us)) [
-      | inl shape ↦ absurd (shape_is_no_loop us node (shape.1 ∙ (let f = ap (λ o. or_else o (depth_fault us)) shape.1 in let g : Some shape.0 ≡ Some (Loop node) = sym f ∙ e in g)))
+      | inl shape ↦ absurd (shape_is_no_loop us node (shape.1
+          ∙ (let f = ap (λ o. or_else o (depth_fault us)) shape.1 in let g : Some shape.0 ≡ Some (Loop node) = sym f ∙ e in g)))
       | inr shape ↦
           let depth : depth_fault us ≡ Some (Loop node) = sym (ap (λ o. or_else o (depth_fault us)) shape) ∙ e in
           let first : first_below (never_ends us) (length us) ≡ Some node = depth_loop us node depth in

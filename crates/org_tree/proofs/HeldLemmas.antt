@@ -22,15 +22,20 @@ size_read us sizes x v are h read =
     read ∙ get_or_default sizes x v 0 (let e = are.same_length in omega arith) ∙ are.each x h
 
 -- the interval test, once the first half is settled
-pub under_inside : (us : List UnitRow) → IsTree us → (x y order first size : ℕ) → x < length us → y < length us → order ≡ order_of us x → first ≡ order_of us y → size ≡ size_of us y → first ≤ order → nat_lt order (first + size) ≡ is_under us x y
+pub under_inside : (us : List UnitRow) → IsTree us → (x y order first size : ℕ) → x < length us → y < length us → order ≡ order_of us x → first ≡ order_of us y
+    → size ≡ size_of us y → first ≤ order → nat_lt order (first + size) ≡ is_under us x y
 under_inside us t x y order first size h i o f s le =
-    ap (λ (v : ℕ). nat_lt v (first + size)) o ∙ ap (λ (v : ℕ). nat_lt (order_of us x) (v + size)) f ∙ ap (λ (v : ℕ). nat_lt (order_of us x) (order_of us y + v)) s
-    ∙ sym (under-interval us t x y h i ∙ ap (λ b. b && nat_lt (order_of us x) (order_of us y + size_of us y)) (le-leb (order_of us y) (order_of us x) (omega arith)))
+    ap (λ (v : ℕ). nat_lt v (first + size)) o ∙ ap (λ (v : ℕ). nat_lt (order_of us x) (v + size)) f
+    ∙ ap (λ (v : ℕ). nat_lt (order_of us x) (order_of us y + v)) s
+    ∙ sym (under-interval us t x y h i
+    ∙ ap (λ b. b && nat_lt (order_of us x) (order_of us y + size_of us y)) (le-leb (order_of us y) (order_of us x) (omega arith)))
 
-pub under_left : (us : List UnitRow) → IsTree us → (x y order first : ℕ) → x < length us → y < length us → order ≡ order_of us x → first ≡ order_of us y → order < first → nat_le first order ≡ is_under us x y
+pub under_left : (us : List UnitRow) → IsTree us → (x y order first : ℕ) → x < length us → y < length us → order ≡ order_of us x → first ≡ order_of us y
+    → order < first → nat_le first order ≡ is_under us x y
 under_left us t x y order first h i o f lt =
     lt-leb first order lt
-    ∙ sym (under-interval us t x y h i ∙ ap (λ b. b && nat_lt (order_of us x) (order_of us y + size_of us y)) (lt-leb (order_of us y) (order_of us x) (omega arith)))
+    ∙ sym (under-interval us t x y h i
+    ∙ ap (λ b. b && nat_lt (order_of us x) (order_of us y + size_of us y)) (lt-leb (order_of us y) (order_of us x) (omega arith)))
 
 -- the ancestor at a level, by the level that a tree keeps
 pub ancestor-low : (us : List UnitRow) (x level from : ℕ) → from ≡ level_of us x → from < level → ancestor_of us x level ≡ None
@@ -45,7 +50,9 @@ ancestor-high us x level from is high =
     ∙ ap (λ (v : ℕ). climb (v - level) us x) (sym is)
 
 -- all that a tree keeps, from what was worked out for the units
-pub IsHeld-from : (tree : Inside) (us : List UnitRow) → units_of tree ≡ us → IsTree us → AreLevels us tree.levels.items → AreOrders us tree.orders.items → AreSizes us tree.sizes.items → IsWalk us tree.walk.items → InFamilies us tree.kin.items → AreSpans us tree.kin.items (length us) tree.spans.items → IsHeld tree
+pub IsHeld-from : (tree : Inside) (us : List UnitRow) → units_of tree ≡ us → IsTree us → AreLevels us tree.levels.items → AreOrders us tree.orders.items
+    → AreSizes us tree.sizes.items → IsWalk us tree.walk.items → InFamilies us tree.kin.items → AreSpans us tree.kin.items (length us) tree.spans.items
+    → IsHeld tree
 IsHeld-from tree us same t levels orders sizes walk kin spans =
     record {
       is_tree = subst (λ (v : List UnitRow). IsTree v) (sym same) t;
@@ -60,5 +67,6 @@ IsHeld-from tree us same t levels orders sizes walk kin spans =
       spans = subst (λ (v : List UnitRow). AreSpans v tree.kin.items (length v) tree.spans.items) (sym same) spans;
     }
 
-pub level_read : (us : List UnitRow) (levels : List ℕ) (x v : ℕ) → length levels ≡ length us → ((x : ℕ) → x < length us → slice_index levels x ≡ level_of us x) → x < length us → v ≡ get_or levels x v → v ≡ level_of us x
+pub level_read : (us : List UnitRow) (levels : List ℕ) (x v : ℕ) → length levels ≡ length us → ((x : ℕ) → x < length us → slice_index levels x ≡ level_of us x)
+    → x < length us → v ≡ get_or levels x v → v ≡ level_of us x
 level_read us levels x v len each h read = read ∙ get_or_default levels x v 0 (omega arith) ∙ each x h

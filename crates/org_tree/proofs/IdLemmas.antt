@@ -32,7 +32,8 @@ ascend Less back turned low apart = refl
 ascend Equal back turned low apart = absurd (false≢true (sym apart))
 ascend Greater back turned low apart = absurd (false≢true (sym low ∙ ap is_lt turned))
 
-pub HasOwnIds-from_neighbours : (us : List UnitRow) (sorted : List (List ℕ)) → IsPermutation (ids_of us) sorted → IsSorted id_cmp sorted → NeighboursDiffer sorted → HasOwnIds us
+pub HasOwnIds-from_neighbours : (us : List UnitRow) (sorted : List (List ℕ)) → IsPermutation (ids_of us) sorted → IsSorted id_cmp sorted
+    → NeighboursDiffer sorted → HasOwnIds us
 HasOwnIds-from_neighbours us sorted moved up apart = record { differ = λ x y h i same. by_order x y h i same (cases_order x y) }
   where
     strict : IsStrictlySortedBy id_cmp sorted
@@ -50,9 +51,11 @@ HasOwnIds-from_neighbours us sorted moved up apart = record { differ = λ x y h 
     two : (a b : ℕ) → a < b → b < length us → id_at us a ≡ id_at us b → ⊥
     two a b l h same =
         let len : length (ids_of us) ≡ length us = length-map us (λ (u : UnitRow). u.0) in
-        let other : eq_by_cmp id_cmp (get_or (ids_of us) a []) (get_or (ids_of us) b []) ≡ false = apart_from_distinct (eq_by_cmp id_cmp) (ids_of us) a b [] distinct l (omega arith) in
+        let other : eq_by_cmp id_cmp (get_or (ids_of us) a []) (get_or (ids_of us) b []) ≡ false =
+        apart_from_distinct (eq_by_cmp id_cmp) (ids_of us) a b [] distinct l (omega arith) in
         let equal : get_or (ids_of us) a [] ≡ get_or (ids_of us) b [] = id_of_place us a (omega arith) ∙ same ∙ sym (id_of_place us b h) in
-        false≢true (sym other ∙ ap (λ v. eq_by_cmp id_cmp v (get_or (ids_of us) b [])) equal ∙ ap is_eq (tied_itself nat_list_cmp_total (get_or (ids_of us) b [])))
+        false≢true (sym other ∙ ap (λ v. eq_by_cmp id_cmp v (get_or (ids_of us) b [])) equal
+        ∙ ap is_eq (tied_itself nat_list_cmp_total (get_or (ids_of us) b [])))
 
     by_order : (x y : ℕ) → x < length us → y < length us → id_at us x ≡ id_at us y → (x ≡ y) ⊎ ((x < y) ⊎ (y < x)) → x ≡ y
     by_order x y h i same (inl e) = e
@@ -63,10 +66,13 @@ pub not_own_from_neighbours : (us : List UnitRow) (sorted : List (List ℕ)) →
 not_own_from_neighbours us sorted moved meet own =
     let distinct : IsDistinct (eq_by_cmp id_cmp) (ids_of us) =
     IsDistinct-from_apart (eq_by_cmp id_cmp) (ids_of us) (λ i j d l h. apart i j d l h) in
-    let moved_distinct : IsDistinct (eq_by_cmp id_cmp) sorted = IsDistinct-IsPermutation (eq_by_cmp id_cmp) (eq_by_cmp_equiv nat_list_cmp_total).symm (ids_of us) sorted moved distinct in
+    let moved_distinct : IsDistinct (eq_by_cmp id_cmp) sorted =
+    IsDistinct-IsPermutation (eq_by_cmp id_cmp) (eq_by_cmp_equiv nat_list_cmp_total).symm (ids_of us) sorted moved distinct in
     let k = meet.place in
-    let other : eq_by_cmp id_cmp (get_or sorted k []) (get_or sorted (k + 1) []) ≡ false = apart_from_distinct (eq_by_cmp id_cmp) sorted k (k + 1) [] moved_distinct (omega arith) meet.inside in
-    false≢true (sym other ∙ ap (λ v. eq_by_cmp id_cmp v (get_or sorted (k + 1) [])) meet.same ∙ ap is_eq (tied_itself nat_list_cmp_total (get_or sorted (k + 1) [])))
+    let other : eq_by_cmp id_cmp (get_or sorted k []) (get_or sorted (k + 1) []) ≡ false =
+    apart_from_distinct (eq_by_cmp id_cmp) sorted k (k + 1) [] moved_distinct (omega arith) meet.inside in
+    false≢true (sym other ∙ ap (λ v. eq_by_cmp id_cmp v (get_or sorted (k + 1) [])) meet.same
+    ∙ ap is_eq (tied_itself nat_list_cmp_total (get_or sorted (k + 1) [])))
   where
     apart : (i j : ℕ) (d : List ℕ) → i < j → j < length (ids_of us) → eq_by_cmp id_cmp (get_or (ids_of us) i d) (get_or (ids_of us) j d) ≡ false
     apart i j d l h =
@@ -76,7 +82,8 @@ not_own_from_neighbours us sorted moved meet own =
         (let same : get_or (ids_of us) i d ≡ get_or (ids_of us) j d = exact_bytes (get_or (ids_of us) i d) (get_or (ids_of us) j d) tie in
         let i_in : i < length (ids_of us) = omega arith in
         let ids : id_at us i ≡ id_at us j =
-        sym (id_of_place us i (omega arith)) ∙ sym (get_or_default (ids_of us) i d [] i_in) ∙ same ∙ get_or_default (ids_of us) j d [] h ∙ id_of_place us j (omega arith) in
+        sym (id_of_place us i (omega arith)) ∙ sym (get_or_default (ids_of us) i d [] i_in) ∙ same ∙ get_or_default (ids_of us) j d [] h
+        ∙ id_of_place us j (omega arith) in
         let e : i ≡ j = own.differ i j (omega arith) (omega arith) ids in
         omega arith))
       where
@@ -86,11 +93,13 @@ not_own_from_neighbours us sorted moved meet own =
         not_equal Greater apart = refl
 
 -- a test of neighbours tells whether the identifiers differ
-pub own_ids_tell : (us : List UnitRow) (sorted : List (List ℕ)) (b : Bool) → IsPermutation (ids_of us) sorted → IsSorted id_cmp sorted → MatchBool b (NeighboursDiffer sorted) (NeighboursMeet sorted) → IsTrue b ↔ HasOwnIds us
+pub own_ids_tell : (us : List UnitRow) (sorted : List (List ℕ)) (b : Bool) → IsPermutation (ids_of us) sorted → IsSorted id_cmp sorted
+    → MatchBool b (NeighboursDiffer sorted) (NeighboursMeet sorted) → IsTrue b ↔ HasOwnIds us
 own_ids_tell us sorted true moved up tells = (λ yes. HasOwnIds-from_neighbours us sorted moved up tells, λ own. refl)
 own_ids_tell us sorted false moved up tells = (λ wrong. absurd (false≢true wrong), λ own. absurd (not_own_from_neighbours us sorted moved tells own))
 
-pub meet_at : (ids : List (List ℕ)) (i : ℕ) (a b : List ℕ) → 1 ≤ i → i < length ids → a ≡ get_or ids (i - 1) a → b ≡ get_or ids i b → bytes_eq a b ≡ true → NeighboursMeet ids
+pub meet_at : (ids : List (List ℕ)) (i : ℕ) (a b : List ℕ) → 1 ≤ i → i < length ids → a ≡ get_or ids (i - 1) a → b ≡ get_or ids i b → bytes_eq a b ≡ true
+    → NeighboursMeet ids
 meet_at ids i a b pos h read_a read_b equal = record {
   place = i - 1;
   inside = omega arith;

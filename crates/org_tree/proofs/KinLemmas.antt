@@ -45,7 +45,8 @@ kin_total us =
 -- what it means to stand before
 abbrev pub StandsBefore : List UnitRow → ℕ → ℕ → Type 0
 StandsBefore us a b =
-    (level_of us a < level_of us b) ⊎ ((level_of us a ≡ level_of us b) × ((family_of us a < family_of us b) ⊎ ((family_of us a ≡ family_of us b) × (by_id us a b ≡ Less))))
+    (level_of us a < level_of us b) ⊎ ((level_of us a ≡ level_of us b)
+    × ((family_of us a < family_of us b) ⊎ ((family_of us a ≡ family_of us b) × (by_id us a b ≡ Less))))
 
 then_less : (m n : ℕ) (rest : Ordering) → ordering_then (nat_cmp m n) rest ≡ Less → (m < n) ⊎ ((m ≡ n) × (rest ≡ Less))
 then_less m n rest e =
@@ -77,12 +78,15 @@ less_from_lt : (m n : ℕ) → m < n → nat_cmp m n ≡ Less
 less_from_lt m n h = rw (lt-ltb m n h) refl
 
 pub Less-from_level : (us : List UnitRow) (a b : ℕ) → level_of us a < level_of us b → kin_cmp us a b ≡ Less
-Less-from_level us a b h = ap (λ o. ordering_then o (ordering_then (nat_cmp (family_of us a) (family_of us b)) (by_id us a b))) (less_from_lt (level_of us a) (level_of us b) h)
+Less-from_level us a b h =
+    ap (λ o. ordering_then o (ordering_then (nat_cmp (family_of us a) (family_of us b)) (by_id us a b))) (less_from_lt (level_of us a) (level_of us b) h)
 
-pub Less-from_elder : (us : List UnitRow) (a b : ℕ) → level_of us a ≡ level_of us b → family_of us a ≡ family_of us b → is_elder us a b ≡ true → kin_cmp us a b ≡ Less
+pub Less-from_elder : (us : List UnitRow) (a b : ℕ) → level_of us a ≡ level_of us b → family_of us a ≡ family_of us b → is_elder us a b ≡ true
+    → kin_cmp us a b ≡ Less
 Less-from_elder us a b level family elder =
     let level_tie : nat_cmp (level_of us a) (level_of us b) ≡ Equal = ap (nat_cmp (level_of us a)) (sym level) ∙ tied_itself nat_cmp_total (level_of us a) in
-    let family_tie : nat_cmp (family_of us a) (family_of us b) ≡ Equal = ap (nat_cmp (family_of us a)) (sym family) ∙ tied_itself nat_cmp_total (family_of us a) in
+    let family_tie : nat_cmp (family_of us a) (family_of us b) ≡ Equal = ap (nat_cmp (family_of us a)) (sym family)
+    ∙ tied_itself nat_cmp_total (family_of us a) in
     ap (λ o. ordering_then o (ordering_then (nat_cmp (family_of us a) (family_of us b)) (by_id us a b))) level_tie
     ∙ ap (λ o. ordering_then o (by_id us a b)) family_tie ∙ less_from (by_id us a b) elder
   where
@@ -92,7 +96,8 @@ Less-from_elder us a b level family elder =
     less_from Greater e = absurd (false≢true e)
 
 -- what stands between two of one family is of that family
-pub same_family_between : (us : List UnitRow) (a b c : ℕ) → kin_cmp us a b ≡ Less → kin_cmp us b c ≡ Less → level_of us a ≡ level_of us c → family_of us a ≡ family_of us c → (level_of us b ≡ level_of us c) × (family_of us b ≡ family_of us c)
+pub same_family_between : (us : List UnitRow) (a b c : ℕ) → kin_cmp us a b ≡ Less → kin_cmp us b c ≡ Less → level_of us a ≡ level_of us c
+    → family_of us a ≡ family_of us c → (level_of us b ≡ level_of us c) × (family_of us b ≡ family_of us c)
 same_family_between us a b c first then level family =
     elim (StandsBefore-from_Less us a b first) [
       | inl low ↦ elim (StandsBefore-from_Less us b c then) [ inl l ↦ absurd (omega arith) | inr r ↦ absurd (let e = r.0 in omega arith) ]
@@ -110,11 +115,13 @@ same_family_between us a b c first then level family =
     ]
 
 -- siblings have one level and one family, and the other way round
-pub sibling_keys : (us : List UnitRow) → IsTree us → (a b p : ℕ) → a < length us → b < length us → parent_of us a ≡ Some p → parent_of us b ≡ Some p → (level_of us a ≡ level_of us b) × (family_of us a ≡ family_of us b)
+pub sibling_keys : (us : List UnitRow) → IsTree us → (a b p : ℕ) → a < length us → b < length us → parent_of us a ≡ Some p → parent_of us b ≡ Some p
+    → (level_of us a ≡ level_of us b) × (family_of us a ≡ family_of us b)
 sibling_keys us t a b p h i up_a up_b =
     (level_of-child us t a p h up_a ∙ sym (level_of-child us t b p i up_b), ap (λ o. unwrap_or o 0) (up_a ∙ sym up_b))
 
-pub parent_from_keys : (us : List UnitRow) → IsTree us → (a b p : ℕ) → a < length us → b < length us → parent_of us b ≡ Some p → level_of us a ≡ level_of us b → family_of us a ≡ family_of us b → parent_of us a ≡ Some p
+pub parent_from_keys : (us : List UnitRow) → IsTree us → (a b p : ℕ) → a < length us → b < length us → parent_of us b ≡ Some p → level_of us a ≡ level_of us b
+    → family_of us a ≡ family_of us b → parent_of us a ≡ Some p
 parent_from_keys us t a b p h i up level family =
     elim (some_or_none (parent_of us a)) [
       | inl up_a ↦
@@ -129,12 +136,14 @@ parent_from_keys us t a b p h i up level family =
     ]
 
 -- who is less stands before
-pub sooner : (us : List UnitRow) (kin : List ℕ) → InFamilies us kin → (i j : ℕ) → i < length us → j < length us → kin_cmp us (get_or kin i 0) (get_or kin j 0) ≡ Less → i < j
+pub sooner : (us : List UnitRow) (kin : List ℕ) → InFamilies us kin → (i j : ℕ) → i < length us → j < length us
+    → kin_cmp us (get_or kin i 0) (get_or kin j 0) ≡ Less → i < j
 sooner us kin fam i j h l less =
     elim (cases_order i j) [
       | inl same ↦
           absurd
-          (let tie : kin_cmp us (get_or kin i 0) (get_or kin j 0) ≡ Equal = ap (λ (v : ℕ). kin_cmp us (get_or kin i 0) (get_or kin v 0)) (sym same) ∙ tied_itself (kin_total us) (get_or kin i 0) in
+          (let tie : kin_cmp us (get_or kin i 0) (get_or kin j 0) ≡ Equal = ap (λ (v : ℕ). kin_cmp us (get_or kin i 0) (get_or kin v 0)) (sym same)
+          ∙ tied_itself (kin_total us) (get_or kin i 0) in
           let e : Less ≡ Equal = sym less ∙ tie in cc)
       | inr apart ↦
           elim apart [
@@ -142,13 +151,15 @@ sooner us kin fam i j h l less =
             | inr above ↦
                 absurd
                 (let back : kin_cmp us (get_or kin j 0) (get_or kin i 0) ≡ Less = fam.sorted j i above h in
-                let turned : kin_cmp us (get_or kin i 0) (get_or kin j 0) ≡ Greater = (kin_total us).antisymm (get_or kin i 0) (get_or kin j 0) ∙ ap ordering_reverse back in
+                let turned : kin_cmp us (get_or kin i 0) (get_or kin j 0) ≡ Greater = (kin_total us).antisymm (get_or kin i 0) (get_or kin j 0)
+                ∙ ap ordering_reverse back in
                 let e : Less ≡ Greater = sym less ∙ turned in cc)
           ]
     ]
 
 -- a parent stands before its child
-pub parent_sooner : (us : List UnitRow) (kin : List ℕ) → IsTree us → InFamilies us kin → (i p : ℕ) → i < length us → parent_of us (get_or kin i 0) ≡ Some p → (j : ℕ) × ((j < i) × (get_or kin j 0 ≡ p))
+pub parent_sooner : (us : List UnitRow) (kin : List ℕ) → IsTree us → InFamilies us kin → (i p : ℕ) → i < length us → parent_of us (get_or kin i 0) ≡ Some p
+    → (j : ℕ) × ((j < i) × (get_or kin j 0 ≡ p))
 parent_sooner us kin t fam i p h up =
     let c = get_or kin i 0 in
     let at = fam.found p (t.parent_in_range c p up) in
@@ -157,7 +168,9 @@ parent_sooner us kin t fam i p h up =
     (at.0, (sooner us kin fam at.0 i at.1.0 h less, at.1.1))
 
 -- an elder sibling stands before, and if not right before then before who stands there
-elder_sooner : (us : List UnitRow) (kin : List ℕ) → IsTree us → InFamilies us kin → (i p v : ℕ) → i < length us → v < length us → parent_of us (get_or kin i 0) ≡ Some p → parent_of us v ≡ Some p → is_elder us v (get_or kin i 0) ≡ true → (0 < i) × ((v ≡ get_or kin (i - 1) 0) ⊎ (kin_cmp us v (get_or kin (i - 1) 0) ≡ Less))
+elder_sooner : (us : List UnitRow) (kin : List ℕ) → IsTree us → InFamilies us kin → (i p v : ℕ) → i < length us → v < length us
+    → parent_of us (get_or kin i 0) ≡ Some p → parent_of us v ≡ Some p → is_elder us v (get_or kin i 0) ≡ true
+    → (0 < i) × ((v ≡ get_or kin (i - 1) 0) ⊎ (kin_cmp us v (get_or kin (i - 1) 0) ≡ Less))
 elder_sooner us kin t fam i p v h l up up_v elder =
     let c = get_or kin i 0 in
     let at = fam.found v l in
@@ -173,7 +186,9 @@ elder_sooner us kin t fam i p v h l up up_v elder =
     )
 
 -- the place of a unit right after a sibling in the list
-pub order-behind_sibling : (us : List UnitRow) (kin : List ℕ) → IsTree us → InFamilies us kin → (i p : ℕ) → i < length us → 0 < i → parent_of us (get_or kin i 0) ≡ Some p → parent_of us (get_or kin (i - 1) 0) ≡ Some p → order_of us (get_or kin i 0) ≡ order_of us (get_or kin (i - 1) 0) + size_of us (get_or kin (i - 1) 0)
+pub order-behind_sibling : (us : List UnitRow) (kin : List ℕ) → IsTree us → InFamilies us kin → (i p : ℕ) → i < length us → 0 < i
+    → parent_of us (get_or kin i 0) ≡ Some p → parent_of us (get_or kin (i - 1) 0) ≡ Some p
+    → order_of us (get_or kin i 0) ≡ order_of us (get_or kin (i - 1) 0) + size_of us (get_or kin (i - 1) 0)
 order-behind_sibling us kin t fam i p h pos up_c up_s =
     let c = get_or kin i 0 in
     let s = get_or kin (i - 1) 0 in
@@ -198,7 +213,8 @@ order-behind_sibling us kin t fam i p h pos up_c up_s =
         ]
 
 -- and of one that stands after none
-pub order-behind_parent : (us : List UnitRow) (kin : List ℕ) → IsTree us → InFamilies us kin → (i p : ℕ) → i < length us → parent_of us (get_or kin i 0) ≡ Some p → (0 < i → parent_of us (get_or kin (i - 1) 0) ≡ Some p → ⊥) → order_of us (get_or kin i 0) ≡ order_of us p + 1
+pub order-behind_parent : (us : List UnitRow) (kin : List ℕ) → IsTree us → InFamilies us kin → (i p : ℕ) → i < length us
+    → parent_of us (get_or kin i 0) ≡ Some p → (0 < i → parent_of us (get_or kin (i - 1) 0) ≡ Some p → ⊥) → order_of us (get_or kin i 0) ≡ order_of us p + 1
 order-behind_parent us kin t fam i p h up none_before =
     let c = get_or kin i 0 in
     order-first_child us t c p (fam.in_range i h) up

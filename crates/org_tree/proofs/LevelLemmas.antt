@@ -1,5 +1,6 @@
 -- Levels and loops as a build finds them.
-use Rattle.std.proofs.Common.{◌≡◌, ℕ, zero, suc, ◌+◌, ◌*◌, ◌<◌, ◌≤◌, false, List, [], ◌∷◌, ◌++◌, length, get_or, Option, Some, None, sym, ap, ◌∙◌, subst, inl, inr, arith, add-one}
+use Rattle.std.proofs.Common.{◌≡◌, ℕ, zero, suc, ◌+◌, ◌*◌, ◌<◌, ◌≤◌, false, List, [], ◌∷◌, ◌++◌, length, get_or, Option, Some, None, sym, ap, ◌∙◌, subst}
+use Rattle.std.proofs.Common.{inl, inr, arith, add-one}
 use Rattle.std.specs.Prelude.{option_and_then, is_some}
 use Rattle.std.proofs.lemmas.Bool.{cases_eq, cases_lt}
 use Rattle.std.proofs.lemmas.List.{get_or_append_left, get_or_push, length_push}
@@ -13,7 +14,8 @@ use Rattle.org_tree.proofs.RowLemmas.{jump-read}
 use Rattle.org_tree.proofs.ClimbLemmas.{some_or_none, climb-zero, climb-child, climb-root, climb-add, climb-upper, climb-ends, climb-more}
 
 -- a list of jumps that grows: each place so far has its value
-pub jump-push : (jumps : List (Option ℕ)) (v : Option ℕ) (i : ℕ) (f : ℕ → Option ℕ) → length jumps ≡ i → ((x : ℕ) → x < i → jump jumps x ≡ f x) → v ≡ f i → (x : ℕ) → x < i + 1 → jump (jumps ++ v ∷ []) x ≡ f x
+pub jump-push : (jumps : List (Option ℕ)) (v : Option ℕ) (i : ℕ) (f : ℕ → Option ℕ) → length jumps ≡ i → ((x : ℕ) → x < i → jump jumps x ≡ f x) → v ≡ f i
+    → (x : ℕ) → x < i + 1 → jump (jumps ++ v ∷ []) x ≡ f x
 jump-push jumps v i f len each here x h =
     let longer : length (jumps ++ v ∷ []) ≡ length jumps + 1 = length_push jumps v in
     let inside : x < length (jumps ++ v ∷ []) = omega arith in
@@ -55,7 +57,8 @@ StaysInside-from_Climbs us ps steps jumps climbs = record { in_range = inside }
           | inr past ↦ absurd (let c = ap (option_and_then (λ (v : Option ℕ). v)) (slice_get_past jumps x past) in cc)
         ]
 
-pub Climbs-twice : (us : List UnitRow) → HasParents us → (steps : ℕ) (jumps double : List (Option ℕ)) → Climbs us steps jumps → IsTwice jumps double → Climbs us (steps * 2) double
+pub Climbs-twice : (us : List UnitRow) → HasParents us → (steps : ℕ) (jumps double : List (Option ℕ)) → Climbs us steps jumps → IsTwice jumps double
+    → Climbs us (steps * 2) double
 Climbs-twice us ps steps jumps double climbs two = record { same_length = two.same_length ∙ climbs.same_length; each = each }
   where
     each : (x : ℕ) → x < length us → jump double x ≡ climb (steps * 2) us x
@@ -74,7 +77,8 @@ Climbs-twice us ps steps jumps double climbs two = record { same_length = two.sa
         ]
 
 -- who leads on after so many steps leads on for ever
-pub endless-from_Climbs : (us : List UnitRow) → HasParents us → (steps : ℕ) (jumps : List (Option ℕ)) → Climbs us steps jumps → length us ≤ steps → first_below (leads_on jumps) (length jumps) ≡ first_below (never_ends us) (length us)
+pub endless-from_Climbs : (us : List UnitRow) → HasParents us → (steps : ℕ) (jumps : List (Option ℕ)) → Climbs us steps jumps → length us ≤ steps
+    → first_below (leads_on jumps) (length jumps) ≡ first_below (never_ends us) (length us)
 endless-from_Climbs us ps steps jumps climbs far =
     ap (first_below (leads_on jumps)) climbs.same_length ∙ first_below-agree (leads_on jumps) (never_ends us) (length us) same
   where
@@ -91,7 +95,8 @@ endless-from_Climbs us ps steps jumps climbs far =
         ]
 
 -- a list of numbers that grows: what holds of each so far
-pub each_push : (P : ℕ → ℕ → Type 0) (xs : List ℕ) (v i : ℕ) → length xs ≡ i → ((x : ℕ) → x < i → P x (get_or xs x 0)) → P i v → (x : ℕ) → x < i + 1 → P x (get_or (xs ++ v ∷ []) x 0)
+pub each_push : (P : ℕ → ℕ → Type 0) (xs : List ℕ) (v i : ℕ) → length xs ≡ i → ((x : ℕ) → x < i → P x (get_or xs x 0)) → P i v → (x : ℕ) → x < i + 1
+    → P x (get_or (xs ++ v ∷ []) x 0)
 each_push P xs v i len each here x h =
     elim (cases_eq x i) [
       | inl last ↦

@@ -1,10 +1,12 @@
 -- Places in the walk: a subtree is an interval, and how a child's place follows from its parent's and from
 -- those of the children before it.
-use Rattle.std.proofs.Common.{◌≡◌, ◌⊎◌, ℕ, ◌+◌, ◌<◌, ◌≤◌, Bool, true, false, cond, ◌==◌, ◌&&◌, ◌||◌, List, [], ◌∷◌, ◌++◌, length, Some, None, Ordering, refl, sym, ap, ◌∙◌, subst, inl, inr, arith, append_assoc}
+use Rattle.std.proofs.Common.{◌≡◌, ◌⊎◌, ℕ, ◌+◌, ◌<◌, ◌≤◌, Bool, true, false, cond, ◌==◌, ◌&&◌, ◌||◌, List, [], ◌∷◌, ◌++◌, length, Some, None, Ordering, refl}
+use Rattle.std.proofs.Common.{sym, ap, ◌∙◌, subst, inl, inr, arith, append_assoc}
 use Rattle.std.specs.Prelude.{nat_le, nat_lt}
 use Rattle.std.specs.declared.cmp.Ordering.TheVariants.{Less, Equal, Greater}
 use Rattle.std.specs.Ordering.{is_lt, ordering_reverse}
-use Rattle.std.proofs.lemmas.Bool.{and_parts, and_from, and_left, and_right, or_right, cases_eq, cases_Bool, false≢true, eq-eqb, ne_eqb, eqb-true, or_cases, le-leb, lt-leb, lt-ltb, le-ltb}
+use Rattle.std.proofs.lemmas.Bool.{and_parts, and_from, and_left, and_right, or_right, cases_eq, cases_Bool, false≢true, eq-eqb, ne_eqb, eqb-true, or_cases}
+use Rattle.std.proofs.lemmas.Bool.{le-leb, lt-leb, lt-ltb, le-ltb}
 use Rattle.std.specs.Cmp.{both_ways}
 use Rattle.std.proofs.lemmas.Cmp.{nat_list_cmp_total}
 use Rattle.std.proofs.lemmas.List.{append-nil, append_cancel_left}
@@ -12,7 +14,8 @@ use Rattle.org_tree.specs.Count.{count_below}
 use Rattle.org_tree.specs.Units.{UnitRow, id_at, parent_of, is_under, is_before, order_of, size_of, IsTree}
 use Rattle.org_tree.proofs.CountLemmas.{count_below-agree, count_below-le, count_below-more, count_below-lt, count_below-or, count_below-none, count_below-one}
 use Rattle.org_tree.proofs.WayLemmas.{way_to, way_to-child, tree_induction, front-from_under, under-from_front, under-itself, is_under-child, is_under-root}
-use Rattle.org_tree.proofs.BeforeLemmas.{by_id, ahead, is_before-ahead, under-not_before, before-in_subtree, behind-subtree, before-trans, before-not_itself, before-total}
+use Rattle.org_tree.proofs.BeforeLemmas.{by_id, ahead, is_before-ahead, under-not_before, before-in_subtree, beyond-subtree, before-trans, before-not_itself}
+use Rattle.org_tree.proofs.BeforeLemmas.{before-total}
 
 pub under-trans : (us : List UnitRow) → IsTree us → (x y z : ℕ) → x < length us → is_under us x y ≡ true → is_under us y z ≡ true → is_under us x z ≡ true
 under-trans us t x y z h first then =
@@ -46,13 +49,15 @@ order-differs us t x y h i same =
     ]
 
 -- a unit's place is its place among what comes before y and what is under y
-order-under : (us : List UnitRow) → IsTree us → (x y : ℕ) → x < length us → y < length us → is_under us x y ≡ true → (order_of us y ≤ order_of us x) × (order_of us x < order_of us y + size_of us y)
+order-under : (us : List UnitRow) → IsTree us → (x y : ℕ) → x < length us → y < length us → is_under us x y ≡ true
+    → (order_of us y ≤ order_of us x) × (order_of us x < order_of us y + size_of us y)
 unfolding order_of size_of
 order-under us t x y h i under =
     let inside : ℕ → Bool = λ z. is_under us z y && is_before us z x in
     let split : count_below (λ z. is_before us z x) (length us) ≡ count_below (λ z. is_before us z y || inside z) (length us) =
     count_below-agree (λ z. is_before us z x) (λ z. is_before us z y || inside z) (length us)
-    (λ z l. by_under (is_under us z y) (is_before us z y) (is_before us z x) (λ e. under-not_before us t z y l e) (λ e. before-in_subtree us t z x y l h under e)) in
+    (λ z l. by_under (is_under us z y) (is_before us z y) (is_before us z x) (λ e. under-not_before us t z y l e) (λ e.
+    before-in_subtree us t z x y l h under e)) in
     let sum : count_below (λ z. is_before us z y || inside z) (length us) ≡ count_below (λ z. is_before us z y) (length us) + count_below inside (length us) =
     count_below-or (λ z. is_before us z y) inside (length us)
     (λ z l e. apart (is_under us z y) (is_before us z y) (is_before us z x) (λ u. under-not_before us t z y l u) e) in
@@ -75,21 +80,24 @@ order-under us t x y h i under =
     and_false true = refl
     and_false false = refl
 
-behind_all : (us : List UnitRow) → IsTree us → (x y : ℕ) → x < length us → y < length us → is_under us x y ≡ false → is_before us y x ≡ true → order_of us y + size_of us y ≤ order_of us x
+behind_all : (us : List UnitRow) → IsTree us → (x y : ℕ) → x < length us → y < length us → is_under us x y ≡ false → is_before us y x ≡ true
+    → order_of us y + size_of us y ≤ order_of us x
 unfolding order_of size_of
 behind_all us t x y h i not_under second =
-    let sum : count_below (λ z. is_before us z y || is_under us z y) (length us) ≡ count_below (λ z. is_before us z y) (length us) + count_below (λ z. is_under us z y) (length us) =
+    let sum : count_below (λ z. is_before us z y || is_under us z y) (length us)
+    ≡ count_below (λ z. is_before us z y) (length us) + count_below (λ z. is_under us z y) (length us) =
     count_below-or (λ z. is_before us z y) (λ z. is_under us z y) (length us)
     (λ z l e. elim (cases_Bool (is_under us z y)) [ inl u ↦ absurd (false≢true (sym (under-not_before us t z y l u) ∙ e)) | inr u ↦ u ]) in
     let more : count_below (λ z. is_before us z y || is_under us z y) (length us) ≤ count_below (λ z. is_before us z x) (length us) =
     count_below-more (λ z. is_before us z y || is_under us z y) (λ z. is_before us z x) (length us)
     (λ z l e. elim (or_cases (is_before us z y) (is_under us z y) e) [
       | inl before ↦ before-trans us z y x before second
-      | inr u ↦ behind-subtree us t x z y h l u not_under ∙ second
+      | inr u ↦ beyond-subtree us t x z y h l u not_under ∙ second
     ]) in
     omega arith
 
-pub order-outside : (us : List UnitRow) → IsTree us → (x y : ℕ) → x < length us → y < length us → is_under us x y ≡ false → (order_of us x < order_of us y) ⊎ (order_of us y + size_of us y ≤ order_of us x)
+pub order-outside : (us : List UnitRow) → IsTree us → (x y : ℕ) → x < length us → y < length us → is_under us x y ≡ false
+    → (order_of us x < order_of us y) ⊎ (order_of us y + size_of us y ≤ order_of us x)
 order-outside us t x y h i not_under =
     elim (before-total us t x y h i) [
       | inl same ↦ absurd (false≢true (sym not_under ∙ subst (λ (v : ℕ). is_under us x v ≡ true) same (under-itself us x h)))
@@ -101,7 +109,8 @@ order-outside us t x y h i not_under =
     ]
 
 -- x is under y exactly where its place lies in y's interval
-pub under-interval : (us : List UnitRow) → IsTree us → (x y : ℕ) → x < length us → y < length us → is_under us x y ≡ (nat_le (order_of us y) (order_of us x) && nat_lt (order_of us x) (order_of us y + size_of us y))
+pub under-interval : (us : List UnitRow) → IsTree us → (x y : ℕ) → x < length us → y < length us
+    → is_under us x y ≡ (nat_le (order_of us y) (order_of us x) && nat_lt (order_of us x) (order_of us y + size_of us y))
 under-interval us t x y h i =
     elim (cases_Bool (is_under us x y)) [
       | inl under ↦
@@ -128,9 +137,11 @@ order-root us t r h top =
     count_below-none (λ z. is_before us z r) (length us) (λ z l. under-not_before us t z r l (under-root us t r z h top l))
 
 -- whoever is below p is under one child of p, and its way goes through it
-pub child_on_way : (us : List UnitRow) → IsTree us → (z p : ℕ) → z < length us → is_under us z p ≡ true → ¬ (z ≡ p) → (s : ℕ) × ((s < length us) × ((parent_of us s ≡ Some p) × ((rest : List ℕ) × (way_to us z ≡ way_to us p ++ s ∷ rest))))
+pub child_on_way : (us : List UnitRow) → IsTree us → (z p : ℕ) → z < length us → is_under us z p ≡ true → ¬ (z ≡ p)
+    → (s : ℕ) × ((s < length us) × ((parent_of us s ≡ Some p) × ((rest : List ℕ) × (way_to us z ≡ way_to us p ++ s ∷ rest))))
 child_on_way us t z p h under =
-    tree_induction us t (λ z. is_under us z p ≡ true → ¬ (z ≡ p) → (s : ℕ) × ((s < length us) × ((parent_of us s ≡ Some p) × ((rest : List ℕ) × (way_to us z ≡ way_to us p ++ s ∷ rest)))))
+    tree_induction us t (λ z. is_under us z p ≡ true → ¬ (z ≡ p)
+    → (s : ℕ) × ((s < length us) × ((parent_of us s ≡ Some p) × ((rest : List ℕ) × (way_to us z ≡ way_to us p ++ s ∷ rest)))))
     (λ z h top under apart. absurd (apart (eqb-true z p (sym (is_under-root us z p h top) ∙ under))))
     (λ z q h in_range up above under apart.
     elim (or_cases (z == p) (is_under us q p) (sym (is_under-child us t z q p h up) ∙ under)) [
@@ -139,8 +150,20 @@ child_on_way us t z p h under =
           elim (cases_eq q p) [
             | inl at_p ↦ (z, (h, (up ∙ ap Some at_p, ([], way_to-child us t z q h up ∙ ap (λ (v : ℕ). way_to us v ++ z ∷ []) at_p))))
             | inr below ↦
-                let more = above higher below in
-                (more.0, (more.1.0, (more.1.1.0, (more.1.1.1.0 ++ z ∷ [], way_to-child us t z q h up ∙ ap (λ w. w ++ z ∷ []) more.1.1.1.1 ∙ append_assoc (way_to us p) (more.0 ∷ more.1.1.1.0) (z ∷ [])))))
+                let more = above higher below in (
+                  more.0,
+                  (
+                    more.1.0,
+                    (
+                      more.1.1.0,
+                      (
+                        more.1.1.1.0 ++ z ∷ [],
+                        way_to-child us t z q h up ∙ ap (λ w. w ++ z ∷ []) more.1.1.1.1
+                            ∙ append_assoc (way_to us p) (more.0 ∷ more.1.1.1.0) (z ∷ []),
+                      ),
+                    ),
+                  ),
+                )
           ]
     ])
     z h under
@@ -170,14 +193,16 @@ ahead-at : (us : List UnitRow) (v : ℕ) (rest : List ℕ) (c : ℕ) → ahead u
 ahead-at us v rest c = refl
 
 -- below p, before its child c: at a unit whose way goes through the child v
-pub before-child : (us : List UnitRow) → IsTree us → (z p v c : ℕ) (rest : List ℕ) → z < length us → c < length us → parent_of us c ≡ Some p → way_to us z ≡ way_to us p ++ v ∷ rest → is_before us z c ≡ cond (v == c) false (is_elder us v c)
+pub before-child : (us : List UnitRow) → IsTree us → (z p v c : ℕ) (rest : List ℕ) → z < length us → c < length us → parent_of us c ≡ Some p
+    → way_to us z ≡ way_to us p ++ v ∷ rest → is_before us z c ≡ cond (v == c) false (is_elder us v c)
 before-child us t z p v c rest h i up through =
     is_before-ahead us t z c h i ∙ ap (λ w. ahead us w (way_to us c)) through
     ∙ ap (ahead us (way_to us p ++ v ∷ rest)) (way_to-child us t c p i up)
     ∙ ahead-common us (way_to us p) (v ∷ rest) (c ∷ []) ∙ ahead-at us v rest c
 
 -- the first child comes right after its parent
-pub order-first_child : (us : List UnitRow) → IsTree us → (c p : ℕ) → c < length us → parent_of us c ≡ Some p → ((v : ℕ) → v < length us → parent_of us v ≡ Some p → is_elder us v c ≡ false) → order_of us c ≡ order_of us p + 1
+pub order-first_child : (us : List UnitRow) → IsTree us → (c p : ℕ) → c < length us → parent_of us c ≡ Some p
+    → ((v : ℕ) → v < length us → parent_of us v ≡ Some p → is_elder us v c ≡ false) → order_of us c ≡ order_of us p + 1
 unfolding order_of
 order-first_child us t c p h up no_elder =
     let in_range : p < length us = t.parent_in_range c p up in
@@ -201,7 +226,8 @@ order-first_child us t c p h up no_elder =
                 ∙ sym (ap (λ b. is_before us z p || b) missed ∙ or_none (is_before us z p))
           ]
     ]) in
-    let sum : count_below (λ z. is_before us z p || (z == p)) (length us) ≡ count_below (λ z. is_before us z p) (length us) + count_below (λ z. z == p) (length us) =
+    let sum : count_below (λ z. is_before us z p || (z == p)) (length us)
+    ≡ count_below (λ z. is_before us z p) (length us) + count_below (λ z. z == p) (length us) =
     count_below-or (λ z. is_before us z p) (λ z. z == p) (length us)
     (λ z l e. ne_eqb z p (λ same. false≢true (sym (before-not_itself us t p in_range) ∙ subst (λ (v : ℕ). is_before us v p ≡ true) same e))) in
     let one : count_below (λ z. z == p) (length us) ≡ 1 = count_below-one p (length us) in_range in
@@ -235,12 +261,14 @@ pub elder-not_itself : (us : List UnitRow) (a : ℕ) → is_elder us a a ≡ fal
 elder-not_itself us a = elim (cases_Bool (is_elder us a a)) [ inl e ↦ elder-not_back us a a e | inr e ↦ e ]
 
 -- of a unit whose way goes through the child v, whether it is under the child s
-pub under-child : (us : List UnitRow) → IsTree us → (z p v s : ℕ) (rest : List ℕ) → z < length us → s < length us → parent_of us s ≡ Some p → way_to us z ≡ way_to us p ++ v ∷ rest → is_under us z s ≡ (v == s)
+pub under-child : (us : List UnitRow) → IsTree us → (z p v s : ℕ) (rest : List ℕ) → z < length us → s < length us → parent_of us s ≡ Some p
+    → way_to us z ≡ way_to us p ++ v ∷ rest → is_under us z s ≡ (v == s)
 under-child us t z p v s rest h i up through =
     elim (cases_eq v s) [
       | inl same ↦
           let here : way_to us z ≡ way_to us s ++ rest =
-          through ∙ ap (λ (u : ℕ). way_to us p ++ u ∷ rest) same ∙ sym (ap (λ w. w ++ rest) (way_to-child us t s p i up) ∙ append_assoc (way_to us p) (s ∷ []) rest) in
+          through ∙ ap (λ (u : ℕ). way_to us p ++ u ∷ rest) same
+          ∙ sym (ap (λ w. w ++ rest) (way_to-child us t s p i up) ∙ append_assoc (way_to us p) (s ∷ []) rest) in
           under-from_front us z s rest i here ∙ sym (eq-eqb v s same)
       | inr other ↦
           elim (cases_Bool (is_under us z s)) [
@@ -255,7 +283,9 @@ under-child us t z p v s rest h i up through =
     ]
 
 -- the next child comes right after the subtree of the one before it
-pub order-next_child : (us : List UnitRow) → IsTree us → (c s p : ℕ) → c < length us → s < length us → parent_of us c ≡ Some p → parent_of us s ≡ Some p → is_elder us s c ≡ true → ((v : ℕ) → v < length us → parent_of us v ≡ Some p → is_elder us v c ≡ true → (v ≡ s) ⊎ (is_elder us v s ≡ true)) → order_of us c ≡ order_of us s + size_of us s
+pub order-next_child : (us : List UnitRow) → IsTree us → (c s p : ℕ) → c < length us → s < length us → parent_of us c ≡ Some p → parent_of us s ≡ Some p
+    → is_elder us s c ≡ true → ((v : ℕ) → v < length us → parent_of us v ≡ Some p → is_elder us v c ≡ true → (v ≡ s) ⊎ (is_elder us v s ≡ true))
+    → order_of us c ≡ order_of us s + size_of us s
 unfolding order_of size_of
 order-next_child us t c s p h i up_c up_s elder nearest =
     let split : count_below (λ z. is_before us z c) (length us) ≡ count_below (λ z. is_before us z s || is_under us z s) (length us) =
@@ -275,10 +305,12 @@ order-next_child us t c s p h i up_c up_s elder nearest =
                 let v = child.0 in
                 before-child us t z p v c child.1.1.1.0 l h up_c child.1.1.1.1
                 ∙ through v child.1.0 child.1.1.0
-                ∙ sym (ap (λ b. b || is_under us z s) (before-child us t z p v s child.1.1.1.0 l i up_s child.1.1.1.1) ∙ ap (λ b. cond (v == s) false (is_elder us v s) || b) (under-child us t z p v s child.1.1.1.0 l i up_s child.1.1.1.1))
+                ∙ sym (ap (λ b. b || is_under us z s) (before-child us t z p v s child.1.1.1.0 l i up_s child.1.1.1.1)
+                ∙ ap (λ b. cond (v == s) false (is_elder us v s) || b) (under-child us t z p v s child.1.1.1.0 l i up_s child.1.1.1.1))
           ]
     ]) in
-    let sum : count_below (λ z. is_before us z s || is_under us z s) (length us) ≡ count_below (λ z. is_before us z s) (length us) + count_below (λ z. is_under us z s) (length us) =
+    let sum : count_below (λ z. is_before us z s || is_under us z s) (length us)
+    ≡ count_below (λ z. is_before us z s) (length us) + count_below (λ z. is_under us z s) (length us) =
     count_below-or (λ z. is_before us z s) (λ z. is_under us z s) (length us)
     (λ z l e. elim (cases_Bool (is_under us z s)) [ inl u ↦ absurd (false≢true (sym (under-not_before us t z s l u) ∙ e)) | inr u ↦ u ]) in
     split ∙ sum
@@ -326,8 +358,10 @@ order-next_child us t c s p h i up_c up_s elder nearest =
 pub order-end : (us : List UnitRow) → IsTree us → (x : ℕ) → x < length us → order_of us x + size_of us x ≤ length us
 unfolding order_of size_of
 order-end us t x h =
-    let sum : count_below (λ z. is_before us z x || is_under us z x) (length us) ≡ count_below (λ z. is_before us z x) (length us) + count_below (λ z. is_under us z x) (length us) =
+    let sum : count_below (λ z. is_before us z x || is_under us z x) (length us)
+    ≡ count_below (λ z. is_before us z x) (length us) + count_below (λ z. is_under us z x) (length us) =
     count_below-or (λ z. is_before us z x) (λ z. is_under us z x) (length us)
     (λ z l e. elim (cases_Bool (is_under us z x)) [ inl u ↦ absurd (false≢true (sym (under-not_before us t z x l u) ∙ e)) | inr u ↦ u ]) in
-    let most : count_below (λ z. is_before us z x || is_under us z x) (length us) ≤ length us = count_below-le (λ z. is_before us z x || is_under us z x) (length us) in
+    let most : count_below (λ z. is_before us z x || is_under us z x) (length us) ≤ length us =
+    count_below-le (λ z. is_before us z x || is_under us z x) (length us) in
     omega arith

@@ -1,5 +1,6 @@
 -- A sort of the rows puts the units into families.
-use Rattle.std.proofs.Common.{◌≡◌, ℕ, zero, suc, ◌+◌, ◌<◌, false, ◌==◌, List, [], ◌∷◌, ◌++◌, map, length, get_or, Ordering, refl, sym, ap, ◌∙◌, subst, inl, inr, arith, length-append}
+use Rattle.std.proofs.Common.{◌≡◌, ℕ, zero, suc, ◌+◌, ◌<◌, false, ◌==◌, List, [], ◌∷◌, ◌++◌, map, length, get_or, Ordering, refl, sym, ap, ◌∙◌, subst, inl}
+use Rattle.std.proofs.Common.{inr, arith, length-append}
 use Rattle.std.specs.Prelude.{IsPermutation, Contains, All}
 use Rattle.std.specs.declared.cmp.Ordering.TheVariants.{Less, Equal, Greater}
 use Rattle.std.specs.Cmp.{IsTotalOrder}
@@ -56,7 +57,8 @@ unfolding IsDistinct
 numbers-distinct zero = tt
 numbers-distinct (suc n) =
     distinct_push (numbers n) n (numbers-distinct n)
-    (below-recursion (λ y. (y == n) ≡ false) (numbers n) (λ k d h. ne_eqb (get_or (numbers n) k d) n (λ e. (let l : get_or (numbers n) k d < n = numbers-below n k d h in omega arith))))
+    (below-recursion (λ y. (y == n) ≡ false) (numbers n) (λ k d h.
+    ne_eqb (get_or (numbers n) k d) n (λ e. (let l : get_or (numbers n) k d < n = numbers-below n k d h in omega arith))))
 
 places-rows : (us : List UnitRow) (xs : List ℕ) → map (λ (row : Kin). row.place) (map (kin_row us) xs) ≡ xs
 places-rows us [] = refl
@@ -74,7 +76,8 @@ row_total =
     (then_total (on_total (λ (row : Kin). row.family) nat_cmp_total)
     (then_total (on_total (λ (row : Kin). row.id) nat_list_cmp_total) (on_total (λ (row : Kin). row.place) nat_cmp_total)))
 
-less_further : (level family id place : Ordering) → ordering_then level (ordering_then family id) ≡ Less → ordering_then level (ordering_then family (ordering_then id place)) ≡ Less
+less_further : (level family id place : Ordering) → ordering_then level (ordering_then family id) ≡ Less
+    → ordering_then level (ordering_then family (ordering_then id place)) ≡ Less
 less_further Less family id place e = refl
 less_further Equal Less id place e = refl
 less_further Equal Equal Less place e = refl
@@ -91,20 +94,25 @@ equal_inside Equal Greater id e = absurd (cc)
 equal_inside Greater family id e = absurd (cc)
 
 -- sorted rows are strictly sorted as units, since no unit stands twice
-kin_less : (us : List UnitRow) → IsTree us → (a b : ℕ) → a < length us → b < length us → ¬ (a ≡ b) → is_lt (row_cmp (kin_row us b) (kin_row us a)) ≡ false → kin_cmp us a b ≡ Less
+kin_less : (us : List UnitRow) → IsTree us → (a b : ℕ) → a < length us → b < length us → ¬ (a ≡ b) → is_lt (row_cmp (kin_row us b) (kin_row us a)) ≡ false
+    → kin_cmp us a b ≡ Less
 kin_less us t a b h i apart not_less = by_order (kin_cmp us a b) refl
   where
     by_order : (o : Ordering) → kin_cmp us a b ≡ o → kin_cmp us a b ≡ Less
     by_order Less e = e
     by_order Equal e =
-        absurd (apart (t.ids_differ a b h i (exact_bytes (id_at us a) (id_at us b) (equal_inside (nat_cmp (level_of us a) (level_of us b)) (nat_cmp (family_of us a) (family_of us b)) (slice_cmp nat_cmp (id_at us a) (id_at us b)) e))))
+        absurd (apart (t.ids_differ a b h i (exact_bytes (id_at us a) (id_at us b)
+        (equal_inside (nat_cmp (level_of us a) (level_of us b)) (nat_cmp (family_of us a) (family_of us b)) (slice_cmp nat_cmp (id_at us a) (id_at us b))
+        e))))
     by_order Greater e =
         let back : kin_cmp us b a ≡ Less = (kin_total us).antisymm b a ∙ ap ordering_reverse e in
         let less : row_cmp (kin_row us b) (kin_row us a) ≡ Less =
-        less_further (nat_cmp (level_of us b) (level_of us a)) (nat_cmp (family_of us b) (family_of us a)) (slice_cmp nat_cmp (id_at us b) (id_at us a)) (nat_cmp b a) back in
+        less_further (nat_cmp (level_of us b) (level_of us a)) (nat_cmp (family_of us b) (family_of us a)) (slice_cmp nat_cmp (id_at us b) (id_at us a))
+        (nat_cmp b a) back in
         absurd (false≢true (sym not_less ∙ ap is_lt less))
 
-pub InFamilies-from_sort : (us : List UnitRow) → IsTree us → (rows sorted : List Kin) → rows ≡ map (kin_row us) (numbers (length us)) → IsPermutation rows sorted → IsSortedBy (λ a b. is_lt (row_cmp a b)) sorted → InFamilies us (map (λ (row : Kin). row.place) sorted)
+pub InFamilies-from_sort : (us : List UnitRow) → IsTree us → (rows sorted : List Kin) → rows ≡ map (kin_row us) (numbers (length us))
+    → IsPermutation rows sorted → IsSortedBy (λ a b. is_lt (row_cmp a b)) sorted → InFamilies us (map (λ (row : Kin). row.place) sorted)
 InFamilies-from_sort us t rows sorted made moved up =
     let n = length us in
     let kin : List ℕ = map (λ (row : Kin). row.place) sorted in
@@ -113,7 +121,8 @@ InFamilies-from_sort us t rows sorted made moved up =
     subst (λ (v : List ℕ). IsPermutation v kin) whole (IsPermutation-map (λ (row : Kin). row.place) rows sorted moved) in
     let len : length kin ≡ n = length_permutation (numbers n) kin moved_places ∙ length-numbers n in
     let below : All (λ v. v < n) kin = All-permutation (λ v. v < n) (numbers n) kin moved_places (numbers-below n) in
-    let distinct : IsDistinct (λ a b. a == b) kin = IsDistinct-IsPermutation (λ a b. a == b) nat_eq_equiv.symm (numbers n) kin moved_places (numbers-distinct n) in
+    let distinct : IsDistinct (λ a b. a == b) kin =
+    IsDistinct-IsPermutation (λ a b. a == b) nat_eq_equiv.symm (numbers n) kin moved_places (numbers-distinct n) in
     let own : All (λ (row : Kin). row ≡ kin_row us row.place) sorted =
     All-permutation (λ (row : Kin). row ≡ kin_row us row.place) rows sorted moved
     (subst (λ (v : List Kin). All (λ (row : Kin). row ≡ kin_row us row.place) v) (sym made)

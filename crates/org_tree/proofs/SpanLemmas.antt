@@ -1,5 +1,6 @@
 -- The part of the list by families where a unit's children stand.
-use Rattle.std.proofs.Common.{◌≡◌, ℕ, ◌+◌, ◌-◌, ◌<◌, true, cond, ◌==◌, List, length, get_or, take, drop, set, Some, None, sym, ap, ◌∙◌, subst, inl, inr, arith, get_or-set_same, get_or-set_other}
+use Rattle.std.proofs.Common.{◌≡◌, ℕ, ◌+◌, ◌-◌, ◌<◌, true, cond, ◌==◌, List, length, get_or, take, drop, set, Some, None, sym, ap, ◌∙◌, subst, inl, inr}
+use Rattle.std.proofs.Common.{arith, get_or-set_same, get_or-set_other}
 use Rattle.std.specs.Prelude.{Contains, option_and_then}
 use Rattle.std.specs.Ordering.{nat_cmp, is_lt}
 use Rattle.std.proofs.lemmas.Bool.{cases_eq, cases_lt, eq-eqb, ne_eqb}
@@ -18,7 +19,8 @@ span-none us kin x = record {
   outside = λ i h up. absurd (omega arith);
 }
 
-pub span-other : (us : List UnitRow) (kin : List ℕ) (i x first end : ℕ) → ¬ (parent_of us (get_or kin i 0) ≡ Some x) → Spans us kin i x first end → Spans us kin (i + 1) x first end
+pub span-other : (us : List UnitRow) (kin : List ℕ) (i x first end : ℕ) → ¬ (parent_of us (get_or kin i 0) ≡ Some x) → Spans us kin i x first end
+    → Spans us kin (i + 1) x first end
 span-other us kin i x first end other span = record {
   end_in_range = let e = span.end_in_range in omega arith;
   first_in_range = span.first_in_range;
@@ -30,7 +32,8 @@ span-other us kin i x first end other span = record {
       ];
 }
 
-pub span-first : (us : List UnitRow) (kin : List ℕ) (i x first end : ℕ) → parent_of us (get_or kin i 0) ≡ Some x → first ≡ end → Spans us kin i x first end → Spans us kin (i + 1) x i (i + 1)
+pub span-first : (us : List UnitRow) (kin : List ℕ) (i x first end : ℕ) → parent_of us (get_or kin i 0) ≡ Some x → first ≡ end → Spans us kin i x first end
+    → Spans us kin (i + 1) x i (i + 1)
 span-first us kin i x first end up empty span = record {
   end_in_range = omega arith;
   first_in_range = omega arith;
@@ -42,7 +45,8 @@ span-first us kin i x first end up empty span = record {
       ];
 }
 
-pub span-more : (us : List UnitRow) (kin : List ℕ) → IsTree us → InFamilies us kin → (i x first end : ℕ) → i < length us → parent_of us (get_or kin i 0) ≡ Some x → ¬ (first ≡ end) → Spans us kin i x first end → Spans us kin (i + 1) x first (i + 1)
+pub span-more : (us : List UnitRow) (kin : List ℕ) → IsTree us → InFamilies us kin → (i x first end : ℕ) → i < length us
+    → parent_of us (get_or kin i 0) ≡ Some x → ¬ (first ≡ end) → Spans us kin i x first end → Spans us kin (i + 1) x first (i + 1)
 span-more us kin t fam i x first end h up some span = record {
   end_in_range = omega arith;
   first_in_range = let e = span.first_in_range in let f = span.end_in_range in omega arith;
@@ -76,7 +80,10 @@ span-more us kin t fam i x first end h up some span = record {
         ]
 
 -- the spans when the next unit of the list is a child of the unit above
-pub AreSpans-more : (us : List UnitRow) (kin : List ℕ) (spans : List (ℕ × ℕ)) (i above : ℕ) (span : ℕ × ℕ) → IsTree us → InFamilies us kin → i < length us → above < length us → parent_of us (get_or kin i 0) ≡ Some above → span.1 ≡ i + 1 → span.0 ≡ cond ((get_or spans above (0, 0)).0 == (get_or spans above (0, 0)).1) i (get_or spans above (0, 0)).0 → AreSpans us kin i spans → AreSpans us kin (i + 1) (set spans above span)
+pub AreSpans-more : (us : List UnitRow) (kin : List ℕ) (spans : List (ℕ × ℕ)) (i above : ℕ) (span : ℕ × ℕ) → IsTree us → InFamilies us kin → i < length us
+    → above < length us → parent_of us (get_or kin i 0) ≡ Some above → span.1 ≡ i + 1
+    → span.0 ≡ cond ((get_or spans above (0, 0)).0 == (get_or spans above (0, 0)).1) i (get_or spans above (0, 0)).0 → AreSpans us kin i spans
+    → AreSpans us kin (i + 1) (set spans above span)
 AreSpans-more us kin spans i above span t fam h inside up end first so_far = record {
   same_length = length-set spans above span ∙ so_far.same_length;
   each = λ x l.
@@ -104,18 +111,21 @@ AreSpans-more us kin spans i above span t fam h inside up end first so_far = rec
           | inr some ↦
               let at : span.0 ≡ (get_or spans above (0, 0)).0 = first ∙ ap (λ b. cond b i (get_or spans above (0, 0)).0) (ne_eqb _ _ some) in
               subst (λ (v : ℕ). Spans us kin (i + 1) above v span.1) (sym at)
-              (subst (λ (v : ℕ). Spans us kin (i + 1) above (get_or spans above (0, 0)).0 v) (sym end) (span-more us kin t fam i above _ _ h up some (so_far.each above inside)))
+              (subst (λ (v : ℕ). Spans us kin (i + 1) above (get_or spans above (0, 0)).0 v) (sym end)
+              (span-more us kin t fam i above _ _ h up some (so_far.each above inside)))
         ]
 
 -- and when it has no parent
-pub AreSpans-same : (us : List UnitRow) (kin : List ℕ) (spans : List (ℕ × ℕ)) (i : ℕ) → parent_of us (get_or kin i 0) ≡ None → AreSpans us kin i spans → AreSpans us kin (i + 1) spans
+pub AreSpans-same : (us : List UnitRow) (kin : List ℕ) (spans : List (ℕ × ℕ)) (i : ℕ) → parent_of us (get_or kin i 0) ≡ None → AreSpans us kin i spans
+    → AreSpans us kin (i + 1) spans
 AreSpans-same us kin spans i top so_far = record {
   same_length = so_far.same_length;
   each = λ x l. span-other us kin i x _ _ (λ up. (let e : None ≡ Some x = sym top ∙ up in cc)) (so_far.each x l);
 }
 
 -- what stands in a unit's span are its children
-pub children_in_span : (us : List UnitRow) (kin : List ℕ) → IsTree us → InFamilies us kin → (x first end : ℕ) → Spans us kin (length us) x first end → AreChildren us x (take (end - first) (drop first kin))
+pub children_in_span : (us : List UnitRow) (kin : List ℕ) → IsTree us → InFamilies us kin → (x first end : ℕ) → Spans us kin (length us) x first end
+    → AreChildren us x (take (end - first) (drop first kin))
 children_in_span us kin t fam x first end span = record {
   members = λ z. (child z, member z);
   ascending = λ i j l h.

@@ -1,5 +1,6 @@
 -- Steps of the loops that count subtrees and number the walk.
-use Rattle.std.proofs.Common.{◌≡◌, ℕ, zero, suc, ◌+◌, ◌-◌, ◌<◌, ◌≤◌, Bool, true, false, cond, ◌==◌, ◌||◌, List, [], ◌∷◌, length, get_or, set, Some, refl, sym, ap, ◌∙◌, subst, inl, inr, arith, add-one, get_or-set_same, get_or-set_other}
+use Rattle.std.proofs.Common.{◌≡◌, ℕ, zero, suc, ◌+◌, ◌-◌, ◌<◌, ◌≤◌, Bool, true, false, cond, ◌==◌, ◌||◌, List, [], ◌∷◌, length, get_or, set, Some, refl}
+use Rattle.std.proofs.Common.{sym, ap, ◌∙◌, subst, inl, inr, arith, add-one, get_or-set_same, get_or-set_other}
 use Rattle.std.specs.Prelude.{◌^◌}
 use Rattle.std.specs.Option.{option_map_or}
 use Rattle.std.specs.List.{IsDistinct, AllByRecursion, list_any}
@@ -63,7 +64,8 @@ added_at xs i y h =
     ]
 
 -- the next unit of the list by families gets its place
-pub OrdersSoFar-more : (us : List UnitRow) (kin orders : List ℕ) (i order : ℕ) → InFamilies us kin → i < length us → OrdersSoFar us kin i orders → order ≡ order_of us (get_or kin i 0) → OrdersSoFar us kin (i + 1) (set orders (get_or kin i 0) order)
+pub OrdersSoFar-more : (us : List UnitRow) (kin orders : List ℕ) (i order : ℕ) → InFamilies us kin → i < length us → OrdersSoFar us kin i orders
+    → order ≡ order_of us (get_or kin i 0) → OrdersSoFar us kin (i + 1) (set orders (get_or kin i 0) order)
 OrdersSoFar-more us kin orders i order fam h so_far right = record {
   same_length = length-set orders (get_or kin i 0) order ∙ so_far.same_length;
   each = λ j l.
@@ -78,7 +80,8 @@ OrdersSoFar-more us kin orders i order fam h so_far right = record {
       ];
 }
 
-pub AreOrders-from_all : (us : List UnitRow) (kin orders : List ℕ) (i : ℕ) → InFamilies us kin → length us ≤ i → OrdersSoFar us kin i orders → AreOrders us orders
+pub AreOrders-from_all : (us : List UnitRow) (kin orders : List ℕ) (i : ℕ) → InFamilies us kin → length us ≤ i → OrdersSoFar us kin i orders
+    → AreOrders us orders
 AreOrders-from_all us kin orders i fam all so_far = record {
   same_length = so_far.same_length;
   each = λ x h.
@@ -91,7 +94,8 @@ pub record WalkSoFar (us : List UnitRow) (done : ℕ) (walk : List ℕ) : Type 0
   pub same_length : length walk ≡ length us
   pub each : (x : ℕ) → x < done → get_or walk (order_of us x) 0 ≡ x
 
-pub WalkSoFar-more : (us : List UnitRow) (walk : List ℕ) (x order : ℕ) → IsTree us → x < length us → order ≡ order_of us x → WalkSoFar us x walk → WalkSoFar us (x + 1) (set walk order x)
+pub WalkSoFar-more : (us : List UnitRow) (walk : List ℕ) (x order : ℕ) → IsTree us → x < length us → order ≡ order_of us x → WalkSoFar us x walk
+    → WalkSoFar us (x + 1) (set walk order x)
 WalkSoFar-more us walk x order t h right so_far = record {
   same_length = length-set walk order x ∙ so_far.same_length;
   each = λ y l.
@@ -164,7 +168,9 @@ IsWalk-from_all us walk done t all so_far = record {
     reads x order h is = ap (λ (v : ℕ). get_or walk v 0) (sym is) ∙ so_far.each x (omega arith)
 
 -- one unit of a line is counted
-pub line_more : (us : List UnitRow) (sizes : List ℕ) (total : ℕ → ℕ) (here : ℕ) → IsTree us → here < length us → length sizes ≡ length us → ((y : ℕ) → y < length us → get_or sizes y 0 + ahead_of us (Some here) y ≡ total y) → (y : ℕ) → y < length us → get_or (set sizes here (get_or sizes here 0 + 1)) y 0 + ahead_of us (parent_of us here) y ≡ total y
+pub line_more : (us : List UnitRow) (sizes : List ℕ) (total : ℕ → ℕ) (here : ℕ) → IsTree us → here < length us → length sizes ≡ length us
+    → ((y : ℕ) → y < length us → get_or sizes y 0 + ahead_of us (Some here) y ≡ total y) → (y : ℕ) → y < length us
+    → get_or (set sizes here (get_or sizes here 0 + 1)) y 0 + ahead_of us (parent_of us here) y ≡ total y
 line_more us sizes total here t h len each y l =
     let added : get_or (set sizes here (get_or sizes here 0 + 1)) y 0 ≡ get_or sizes y 0 + cond (here == y) 1 0 = added_at sizes here y (omega arith) in
     let split : ahead_of us (Some here) y ≡ cond (here == y) 1 0 + ahead_of us (parent_of us here) y = ahead-step us t here y h in
@@ -172,7 +178,9 @@ line_more us sizes total here t h len each y l =
     omega arith
 
 -- a count of a unit that is still to be counted is not yet whole
-pub line_fits : (us : List UnitRow) (sizes : List ℕ) (unit here : ℕ) → IsTree us → here < length us → unit < length us → ((y : ℕ) → y < length us → get_or sizes y 0 + ahead_of us (Some here) y ≡ count_below (λ z. is_under us z y) (unit + 1)) → get_or sizes here 0 + 1 < 2 ^ 32
+pub line_fits : (us : List UnitRow) (sizes : List ℕ) (unit here : ℕ) → IsTree us → here < length us → unit < length us
+    → ((y : ℕ) → y < length us → get_or sizes y 0 + ahead_of us (Some here) y ≡ count_below (λ z. is_under us z y) (unit + 1))
+    → get_or sizes here 0 + 1 < 2 ^ 32
 line_fits us sizes unit here t h i each =
     let one : ahead_of us (Some here) here ≡ 1 = ap (λ b. cond b 1 0) (under-itself us here h) in
     let whole = each here h in
@@ -194,7 +202,9 @@ level_falls us t x h =
     ]
 
 -- the place of a unit that stands after a sibling in the list by families
-pub order_after_sibling : (us : List UnitRow) (kin orders sizes : List ℕ) (i p s : ℕ) → IsTree us → InFamilies us kin → AreSizes us sizes → OrdersSoFar us kin i orders → i < length us → parent_of us (get_or kin i 0) ≡ Some p → 0 < i → s ≡ get_or kin (i - 1) 0 → is_child us s p ≡ true → get_or orders s 0 + get_or sizes s 0 ≡ order_of us (get_or kin i 0)
+pub order_after_sibling : (us : List UnitRow) (kin orders sizes : List ℕ) (i p s : ℕ) → IsTree us → InFamilies us kin → AreSizes us sizes
+    → OrdersSoFar us kin i orders → i < length us → parent_of us (get_or kin i 0) ≡ Some p → 0 < i → s ≡ get_or kin (i - 1) 0 → is_child us s p ≡ true
+    → get_or orders s 0 + get_or sizes s 0 ≡ order_of us (get_or kin i 0)
 order_after_sibling us kin orders sizes i p s t fam sized so_far h up pos at child =
     let before = get_or kin (i - 1) 0 in
     let up_s : parent_of us before ≡ Some p = is_child-true us before p (subst (λ (v : ℕ). is_child us v p ≡ true) at child) in
@@ -204,7 +214,8 @@ order_after_sibling us kin orders sizes i p s t fam sized so_far h up pos at chi
     subst (λ (v : ℕ). get_or orders v 0 + get_or sizes v 0 ≡ order_of us (get_or kin i 0)) (sym at) (omega arith)
 
 -- and of one that stands after none
-pub order_after_parent : (us : List UnitRow) (kin orders : List ℕ) (i p : ℕ) → IsTree us → InFamilies us kin → OrdersSoFar us kin i orders → i < length us → parent_of us (get_or kin i 0) ≡ Some p → (0 < i → is_child us (get_or kin (i - 1) 0) p ≡ false) → get_or orders p 0 + 1 ≡ order_of us (get_or kin i 0)
+pub order_after_parent : (us : List UnitRow) (kin orders : List ℕ) (i p : ℕ) → IsTree us → InFamilies us kin → OrdersSoFar us kin i orders → i < length us
+    → parent_of us (get_or kin i 0) ≡ Some p → (0 < i → is_child us (get_or kin (i - 1) 0) p ≡ false) → get_or orders p 0 + 1 ≡ order_of us (get_or kin i 0)
 order_after_parent us kin orders i p t fam so_far h up none_before =
     let at = parent_sooner us kin t fam i p h up in
     let order : get_or orders p 0 ≡ order_of us p = subst (λ (v : ℕ). get_or orders v 0 ≡ order_of us v) at.1.1 (so_far.each at.0 at.1.0) in

@@ -1,5 +1,6 @@
 -- The way from the root down to a unit, as places: who is under whom, levels and trails, read off it.
-use Rattle.std.proofs.Common.{◌≡◌, ℕ, zero, suc, ◌+◌, ◌<◌, ◌≤◌, Bool, true, false, ◌==◌, ◌||◌, List, [], ◌∷◌, ◌++◌, map, length, Option, Some, None, refl, sym, ap, ◌∙◌, subst, inl, inr, arith, length-append, append_assoc}
+use Rattle.std.proofs.Common.{◌≡◌, ℕ, zero, suc, ◌+◌, ◌<◌, ◌≤◌, Bool, true, false, ◌==◌, ◌||◌, List, [], ◌∷◌, ◌++◌, map, length, Option, Some, None, refl}
+use Rattle.std.proofs.Common.{sym, ap, ◌∙◌, subst, inl, inr, arith, length-append, append_assoc}
 use Rattle.std.specs.Option.{option_map_or}
 use Rattle.std.specs.List.{list_any}
 use Rattle.std.proofs.lemmas.Bool.{eq-eqb, eqb-true, or_cases}
@@ -86,7 +87,9 @@ under_within-among zero us x y = refl
 under_within-among (suc most) us x y =
     by_parent (λ p. under_within-among most us p y) (parent_of us x)
   where
-    by_parent : ((p : ℕ) → under_within most us p y ≡ among y (way_within most us p)) → (o : Option ℕ) → ((x == y) || option_map_or (λ p. under_within most us p y) o false) ≡ list_any (λ v. v == y) (option_map_or (λ p. way_within most us p) o [] ++ x ∷ [])
+    by_parent : ((p : ℕ) → under_within most us p y ≡ among y (way_within most us p)) → (o : Option ℕ)
+        → ((x == y) || option_map_or (λ p. under_within most us p y) o false)
+        ≡ list_any (λ v. v == y) (option_map_or (λ p. way_within most us p) o [] ++ x ∷ [])
     by_parent above None = refl
     by_parent above (Some p) =
         let split : list_any (λ v. v == y) (way_within most us p ++ x ∷ []) ≡ (list_any (λ v. v == y) (way_within most us p) || ((x == y) || false)) =
@@ -103,7 +106,8 @@ unfolding trail_within way_within
 trail_within-way zero us x = refl
 trail_within-way (suc most) us x = by_parent (λ p. trail_within-way most us p) (parent_of us x)
   where
-    by_parent : ((p : ℕ) → trail_within most us p ≡ map (id_at us) (way_within most us p)) → (o : Option ℕ) → (option_map_or (λ p. trail_within most us p) o [] ++ id_at us x ∷ []) ≡ map (id_at us) (option_map_or (λ p. way_within most us p) o [] ++ x ∷ [])
+    by_parent : ((p : ℕ) → trail_within most us p ≡ map (id_at us) (way_within most us p)) → (o : Option ℕ)
+        → (option_map_or (λ p. trail_within most us p) o [] ++ id_at us x ∷ []) ≡ map (id_at us) (option_map_or (λ p. way_within most us p) o [] ++ x ∷ [])
     by_parent above None = refl
     by_parent above (Some p) =
         ap (λ w. w ++ id_at us x ∷ []) (above p)
@@ -118,7 +122,8 @@ unfolding level_within way_within
 level_within-way zero us x = refl
 level_within-way (suc most) us x = by_parent (λ p. level_within-way most us p) (parent_of us x)
   where
-    by_parent : ((p : ℕ) → level_within most us p ≡ length (way_within most us p)) → (o : Option ℕ) → (option_map_or (λ p. level_within most us p) o 0 + 1) ≡ length (option_map_or (λ p. way_within most us p) o [] ++ x ∷ [])
+    by_parent : ((p : ℕ) → level_within most us p ≡ length (way_within most us p)) → (o : Option ℕ)
+        → (option_map_or (λ p. level_within most us p) o 0 + 1) ≡ length (option_map_or (λ p. way_within most us p) o [] ++ x ∷ [])
     by_parent above None = refl
     by_parent above (Some p) =
         ap (λ w. w + 1) (above p) ∙ sym (length-append (way_within most us p) (x ∷ []))
@@ -168,7 +173,8 @@ pub level_of-root : (us : List UnitRow) (x : ℕ) → x < length us → parent_o
 level_of-root us x h top = level_of-way us x ∙ ap length (way_to-root us x h top)
 
 -- a fact of a unit from the same fact of its parent, down from the root
-pub tree_induction : (us : List UnitRow) → IsTree us → (P : ℕ → Type 0) → ((x : ℕ) → x < length us → parent_of us x ≡ None → P x) → ((x p : ℕ) → x < length us → p < length us → parent_of us x ≡ Some p → P p → P x) → (x : ℕ) → x < length us → P x
+pub tree_induction : (us : List UnitRow) → IsTree us → (P : ℕ → Type 0) → ((x : ℕ) → x < length us → parent_of us x ≡ None → P x)
+    → ((x p : ℕ) → x < length us → p < length us → parent_of us x ≡ Some p → P p → P x) → (x : ℕ) → x < length us → P x
 tree_induction us t P at_root at_child x h = down 12 x h (t.twelve_levels x h)
   where
     down : (steps x : ℕ) → x < length us → climb steps us x ≡ None → P x
@@ -182,7 +188,8 @@ tree_induction us t P at_root at_child x h = down 12 x h (t.twelve_levels x h)
         ]
 
 -- who is under y has y's way as a prefix of its own
-pub front-from_under : (us : List UnitRow) → IsTree us → (z y : ℕ) → z < length us → is_under us z y ≡ true → (y < length us) × ((rest : List ℕ) × (way_to us z ≡ way_to us y ++ rest))
+pub front-from_under : (us : List UnitRow) → IsTree us → (z y : ℕ) → z < length us → is_under us z y ≡ true
+    → (y < length us) × ((rest : List ℕ) × (way_to us z ≡ way_to us y ++ rest))
 front-from_under us t z y h =
     tree_induction us t (λ z. is_under us z y ≡ true → (y < length us) × ((rest : List ℕ) × (way_to us z ≡ way_to us y ++ rest)))
     (λ z h top under.

@@ -37,4 +37,5 @@ pub record AreSpans (us : List UnitRow) (kin : List ℕ) (upto : ℕ) (spans : L
 -- a unit's children, ascending by the bytes of their UIDs
 pub record AreChildren (us : List UnitRow) (x : ℕ) (children : List ℕ) : Type 0 where
   pub members : (z : ℕ) → Contains children z ↔ (parent_of us z ≡ Some x)
-  pub ascending : (i j : ℕ) → i < j → j < length children → is_lt (slice_cmp nat_cmp (id_at us (slice_index children i)) (id_at us (slice_index children j))) ≡ true
+  pub ascending : (i j : ℕ) → i < j → j < length children
+      → is_lt (slice_cmp nat_cmp (id_at us (slice_index children i)) (id_at us (slice_index children j))) ≡ true

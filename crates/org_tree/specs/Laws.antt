@@ -10,7 +10,8 @@ pub record IsBehindParent (us : List UnitRow) (x : ℕ) : Type 0 where
 
 -- and each sibling with a smaller UID, with all under it
 pub record IsBehindElders (us : List UnitRow) (x : ℕ) : Type 0 where
-  pub elder_first : (z p : ℕ) → z < length us → parent_of us z ≡ Some p → parent_of us x ≡ Some p → is_lt (slice_cmp nat_cmp (id_at us z) (id_at us x)) ≡ true → order_of us z + size_of us z ≤ order_of us x
+  pub elder_first : (z p : ℕ) → z < length us → parent_of us z ≡ Some p → parent_of us x ≡ Some p → is_lt (slice_cmp nat_cmp (id_at us z) (id_at us x)) ≡ true
+      → order_of us z + size_of us z ≤ order_of us x
 
 -- the units whose places lie from the first up to the end are exactly those under y
 pub record HasInterval (us : List UnitRow) (y first end : ℕ) : Type 0 where

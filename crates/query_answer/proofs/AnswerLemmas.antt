@@ -1,5 +1,6 @@
 -- From the rows that were written to the answer.
-use Rattle.std.proofs.Common.{◌≡◌, ℕ, ◌+◌, ◌<◌, Bool, true, false, List, [], ◌∷◌, length, map, Option, Some, None, Ok, Err, Vec, Global, refl, sym, subst, ◌∙◌, arith, suc, true≢false, zero-add}
+use Rattle.std.proofs.Common.{◌≡◌, ℕ, ◌+◌, ◌<◌, Bool, true, false, List, [], ◌∷◌, length, map, Option, Some, None, Ok, Err, Vec, Global, refl, sym, subst}
+use Rattle.std.proofs.Common.{◌∙◌, arith, suc, true≢false, zero-add}
 use Rattle.std.proofs.lemmas.Bool.{and_parts}
 use Rattle.std.specs.List.{flat_map, list_all, All, AllByRecursion}
 use Rattle.std.specs.Option.{option_map}

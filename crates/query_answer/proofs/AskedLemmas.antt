@@ -1,12 +1,16 @@
 -- What a dx item that can be answered names.
-use Rattle.std.proofs.Common.{◌≡◌, ◌<◌, Bool, true, false, length, Option, Some, None, sym, ap, ◌∙◌, refl, slice_get}
+use Rattle.std.proofs.Common.{◌≡◌, ◌<◌, ℕ, zero, suc, List, [], ◌∷◌, get_or, subst, arith, Bool, true, false, length, Option, Some, None}
+use Rattle.std.proofs.Common.{sym, ap, ◌∙◌, refl, slice_get}
 use Rattle.std.proofs.lemmas.Bool.{ltb-true}
+use Rattle.std.proofs.lemmas.List.{length-map, get_or-map}
 use Rattle.std.proofs.lemmas.Option.{slice_get_within}
 use Rattle.std.specs.Option.{option_map_or}
+use Rattle.dh_metadata.specs.Linked.{AreBelow}
 use Rattle.dh_base.specs.declared.plain.Rate.{Rate}
 use Rattle.meta_parts.specs.declared.held.Records.{Records}
 use Rattle.query_forms.specs.declared.plain.Dx.{Dx}
 use Rattle.query_forms.specs.declared.plain.DxKind.TheVariants as dx_kind
+use Rattle.query_answer.specs.Rows.{Slot, alone, slots}
 use Rattle.query_answer.specs.Asked.{can_answer_kind, can_answer_dx}
 
 passes : {X : Type 0} (test : X → Bool) (found : Option X) → option_map_or test found false ≡ true → (x : X) × (found ≡ Some x)
@@ -30,3 +34,21 @@ no_program r dx is = ap (λ k. can_answer_kind r dx.number k) is
 pub no_rate : (r : Records) (dx : Dx) (rate : Rate) → dx.kind ≡ dx_kind.Rate rate → can_answer_dx r dx ≡ false
 unfolding can_answer_dx
 no_rate r dx rate is = ap (λ k. can_answer_kind r dx.number k) is
+
+at_one : (end x k d : ℕ) → x < end → k < 1 → get_or (x ∷ []) k d < end
+at_one end x zero d is within = is
+at_one end x (suc k) d is within = absurd (omega arith)
+
+one_below : (end x : ℕ) → x < end → AreBelow end (x ∷ [])
+one_below end x is = record { each = λ k d within. at_one end x k d is within }
+
+-- one part of units that are there
+pub units_there : (end : ℕ) (filter : Bool) (items : List ℕ) (place : ℕ) (part : Slot ℕ) → AreBelow end items → place < length (slots filter items)
+    → part ≡ get_or (slots filter items) place part → AreBelow end part.items
+units_there end true items zero part below within is = subst (λ (p : Slot ℕ). AreBelow end p.items) (sym is) below
+units_there end true items (suc place) part below within is = absurd (omega arith)
+units_there end false items place part below within is =
+    let at : place < length items = rw (length-map items alone) at within in
+    let x = get_or items place 0 in
+    let one : part ≡ alone x = is ∙ get_or-map alone items place 0 part at in
+    subst (λ (p : Slot ℕ). AreBelow end p.items) (sym one) (one_below end x (below.each place 0 at))

@@ -21,7 +21,8 @@ use Rattle.query_forms.specs.declared.plain.Query.{Query}
 use Rattle.answer_body.specs.declared.rows.AnswerRow.{AnswerRow}
 use Rattle.answer_body.specs.Body.{body_of}
 use Rattle.query_answer.specs.Cells.{of_option, element_cell, indicator_cell, cell_by, cell_value, is_wide}
-use Rattle.query_answer.specs.Rows.{Slot, row_with, period_slots, unit_slots, unit_is_wide, unit_rows, period_is_wide, period_rows, dx_is_wide, dx_rows, rows_from}
+use Rattle.query_answer.specs.Rows.{Slot, row_with, period_slots, unit_slots, unit_is_wide, unit_rows, period_is_wide, period_rows, dx_is_wide, dx_rows}
+use Rattle.query_answer.specs.Rows.{rows_from}
 use Rattle.query_answer.specs.Answer.{wide_dx, answer_with, answer_of}
 
 element_same : (r : Records) (one other : SeenRecords) (element : ℕ) (part : Option ℕ) (periods : List PeriodName) (units : List ℕ) → SameSeen one other

@@ -1,5 +1,5 @@
 -- The rows of an answer, in the order of dx, then periods, then units.
-use Rattle.std.specs.Prelude.{◌≡◌, ℕ, ◌+◌, Bool, true, false, List, [], ◌∷◌, ◌++◌, map, flat_map, Option, Some, None}
+use Rattle.std.specs.Prelude.{ℕ, ◌+◌, Bool, true, false, List, [], ◌∷◌, ◌++◌, map, flat_map, Option, Some, None}
 use Rattle.std.specs.List.{list_any}
 use Rattle.dh_periods.specs.declared.name.PeriodName.{PeriodName}
 use Rattle.meta_parts.specs.declared.held.Records.{Records}
@@ -15,6 +15,9 @@ use Rattle.query_answer.specs.Cells.{cell_value, is_wide, value_text}
 pub record Slot (T : Type 0) : Type 0 where
   pub label : Option T
   pub items : List T
+
+abbrev pub slot_of : {T : Type 0} → Option T → List T → Slot T
+slot_of label items = record { label = label; items = items }
 
 -- all together and without a label where they are a filter, and else each alone
 abbrev pub alone : {T : Type 0} → T → Slot T
@@ -64,8 +67,3 @@ dx_rows r shown query place dx = flat_map (period_rows r shown place dx (unit_sl
 abbrev pub rows_from : Records → SeenRecords → Query → ℕ → List Dx → List AnswerRow
 rows_from r shown query place [] = []
 rows_from r shown query place (dx ∷ more) = dx_rows r shown query place dx ++ rows_from r shown query (place + 1) more
-
--- what came of some cells: whether one of them is too wide, and if not, their rows after those that were there
-pub record Wrote {X : Type 0} (test : X → Bool) (rows_of : X → List AnswerRow) (cells : List X) (old new : List AnswerRow) (wide : Bool) : Type 0 where
-  pub tells : wide ≡ list_any test cells
-  pub rows : wide ≡ false → new ≡ old ++ flat_map rows_of cells

@@ -11,6 +11,7 @@ ghost use Rattle.query_answer.specs.Asked.{can_answer_dx};
 ghost use Rattle.query_answer.specs.Cells.{of_option, element_cell, indicator_cell, cell_value, places_of, decimals_of, value_text};
 ghost use Rattle.query_answer.specs.Plans.{IsPlan};
 
+use crate::asking::Asking;
 use cell_values::{days, element_value, item_value};
 use dh_base::frac::Frac;
 use dh_base::items::Items;
@@ -22,7 +23,6 @@ use expr_lang::Item;
 use indicator_values::{CellValue, Sides, indicator_value, sides_of};
 use meta_parts::records::Indicator;
 use query_forms::{Dx, DxKind};
-use seen_rows::Seer;
 use std::alloc::Global;
 use table_rows::RowStore;
 
@@ -60,22 +60,30 @@ fn from_option(value: Option<Frac>) -> CellValue
 #[tactic(auto, unfolding(crate::specs::Cells::element_cell))]
 fn element_cell<S: RowStore>(
     alloc: Global,
-    meta: &Metadata,
-    store: &S,
-    seer: &Seer,
+    asking: &Asking<'_, S>,
     element: u32,
     part: Option<u32>,
     periods: &[Period],
     units: &[u32],
 ) -> Result<CellValue, Memory>
-    requires seer { IsSeer meta.now seer.now }
-    requires element { element < length meta.now.data_elements }
+    requires seer { IsSeer asking.now.meta.now asking.now.seer.now }
+    requires element { element < length asking.now.meta.now.data_elements }
     requires periods { 0 < length periods.now }
-    requires units { AreBelow (length meta.now.organisation_units) units.now }
-    ensures { IfOk result (λ cell. cell ≡ element_cell meta.now (seen meta.now seer.now.user (S.rows store.now)) element part periods.now units.now) }
+    requires units { AreBelow (length asking.now.meta.now.organisation_units) units.now }
+    ensures { IfOk result (λ cell. cell ≡ element_cell asking.now.meta.now
+        (seen asking.now.meta.now asking.now.seer.now.user (S.rows asking.now.store.now)) element part periods.now units.now) }
 {
     let value = element_value(
-        alloc, meta, store, seer, element, part, None, periods, units, false,
+        alloc,
+        asking.meta,
+        asking.store,
+        asking.seer,
+        element,
+        part,
+        None,
+        periods,
+        units,
+        false,
     )?;
     Ok(from_option(value))
 }
@@ -83,21 +91,31 @@ fn element_cell<S: RowStore>(
 /// The values of items, in their order.
 fn item_values<S: RowStore>(
     alloc: Global,
-    meta: &Metadata,
-    store: &S,
-    seer: &Seer,
+    asking: &Asking<'_, S>,
     items: &[Item],
     periods: &[Period],
     units: &[u32],
 ) -> Result<Vec<Option<Frac>>, Memory>
-    requires seer { IsSeer meta.now seer.now }
+    requires seer { IsSeer asking.now.meta.now asking.now.seer.now }
     requires periods { 0 < length periods.now }
-    requires units { AreBelow (length meta.now.organisation_units) units.now }
-    ensures { IfOk result (λ values. values.items ≡ map (λ item. item_value_of meta.now (seen_of meta.now seer.now.user (contents_of (S.rows store.now) (S.events store.now) (S.regs store.now))) item periods.now units.now false) items.now) }
+    requires units { AreBelow (length asking.now.meta.now.organisation_units) units.now }
+    ensures { IfOk result (λ values. values.items ≡ map (λ item. item_value_of asking.now.meta.now
+        (seen_of asking.now.meta.now asking.now.seer.now.user
+        (contents_of (S.rows asking.now.store.now) (S.events asking.now.store.now) (S.regs asking.now.store.now)))
+        item periods.now units.now false) items.now) }
 {
     let mut values = Vec::new(alloc);
     for item in items {
-        let value = item_value(alloc, meta, store, seer, item, periods, units, false)?;
+        let value = item_value(
+            alloc,
+            asking.meta,
+            asking.store,
+            asking.seer,
+            item,
+            periods,
+            units,
+            false,
+        )?;
         values.push(value)?;
     }
     Ok(values)
@@ -106,24 +124,25 @@ fn item_values<S: RowStore>(
 #[tactic(auto, unfolding(crate::specs::Cells::indicator_cell))]
 fn indicator_cell<S: RowStore>(
     alloc: Global,
-    meta: &Metadata,
-    store: &S,
-    seer: &Seer,
+    asking: &Asking<'_, S>,
     indicator: &Indicator,
     sides: &Sides,
     periods: &[Period],
     units: &[u32],
 ) -> Result<CellValue, Memory>
-    requires seer { IsSeer meta.now seer.now }
-    requires sides { AreSides meta.now indicator.now sides.now }
+    requires seer { IsSeer asking.now.meta.now asking.now.seer.now }
+    requires sides { AreSides asking.now.meta.now indicator.now sides.now }
     requires periods { 0 < length periods.now }
-    requires units { AreBelow (length meta.now.organisation_units) units.now }
-    ensures { IfOk result (λ cell. cell ≡ indicator_cell meta.now (seen_of meta.now seer.now.user (contents_of (S.rows store.now) (S.events store.now) (S.regs store.now))) indicator.now periods.now units.now) }
+    requires units { AreBelow (length asking.now.meta.now.organisation_units) units.now }
+    ensures { IfOk result (λ cell. cell ≡ indicator_cell asking.now.meta.now
+        (seen_of asking.now.meta.now asking.now.seer.now.user
+        (contents_of (S.rows asking.now.store.now) (S.events asking.now.store.now) (S.regs asking.now.store.now)))
+        indicator.now periods.now units.now) }
 {
     let numerator = indicator.numerator.items();
-    let over = item_values(alloc, meta, store, seer, numerator, periods, units)?;
+    let over = item_values(alloc, asking, numerator, periods, units)?;
     let denominator = indicator.denominator.items();
-    let under = item_values(alloc, meta, store, seer, denominator, periods, units)?;
+    let under = item_values(alloc, asking, denominator, periods, units)?;
     let days = days(alloc, periods)?;
     indicator_value(alloc, sides, days, over.as_slice(), under.as_slice())
 }
@@ -132,26 +151,27 @@ fn indicator_cell<S: RowStore>(
 #[tactic(auto, unfolding(crate::specs::Cells::cell_value, seen_rows::specs::Seen::seen_of))]
 pub fn cell_value<S: RowStore>(
     alloc: Global,
-    meta: &Metadata,
-    store: &S,
-    seer: &Seer,
+    asking: &Asking<'_, S>,
     dx: &Dx,
     plan: &Plan,
     periods: &[Period],
     units: &[u32],
 ) -> Result<CellValue, Memory>
-    requires seer { IsSeer meta.now seer.now }
-    requires dx { can_answer_dx meta.now dx.now ≡ true }
-    requires plan { IsPlan meta.now dx.now plan.now }
+    requires seer { IsSeer asking.now.meta.now asking.now.seer.now }
+    requires dx { can_answer_dx asking.now.meta.now dx.now ≡ true }
+    requires plan { IsPlan asking.now.meta.now dx.now plan.now }
     requires periods { 0 < length periods.now }
-    requires units { AreBelow (length meta.now.organisation_units) units.now }
-    ensures { IfOk result (λ cell. cell ≡ cell_value meta.now (seen_of meta.now seer.now.user (contents_of (S.rows store.now) (S.events store.now) (S.regs store.now))) dx.now periods.now units.now) }
+    requires units { AreBelow (length asking.now.meta.now.organisation_units) units.now }
+    ensures { IfOk result (λ cell. cell ≡ cell_value asking.now.meta.now
+        (seen_of asking.now.meta.now asking.now.seer.now.user
+        (contents_of (S.rows asking.now.store.now) (S.events asking.now.store.now) (S.regs asking.now.store.now)))
+        dx.now periods.now units.now) }
 {
     match plan {
-        Plan::Element => element_cell(alloc, meta, store, seer, dx.number, dx.part, periods, units),
+        Plan::Element => element_cell(alloc, asking, dx.number, dx.part, periods, units),
         Plan::Indicator(sides) => {
-            let indicator = meta.indicator(dx.number);
-            indicator_cell(alloc, meta, store, seer, indicator, sides, periods, units)
+            let indicator = asking.meta.indicator(dx.number);
+            indicator_cell(alloc, asking, indicator, sides, periods, units)
         }
     }
 }

@@ -2,7 +2,9 @@
 #![tactic(auto)]
 
 mod asked;
+mod asking;
 mod cells;
+mod parts;
 mod rows;
 mod whole;
 

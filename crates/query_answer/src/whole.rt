@@ -7,6 +7,7 @@ ghost use Rattle.seen_rows.specs.Seen.{seen_of, contents_of, SameSeen};
 ghost use Rattle.query_answer.specs.Asked.{CanAnswer};
 ghost use Rattle.query_answer.specs.Answer.{answer_of, Answers};
 
+use crate::asking::Asking;
 use crate::rows::write_rows;
 use answer_body::body;
 use dh_base::items::Items;
@@ -47,11 +48,20 @@ pub fn answer<S: RowStore>(
 ) -> Result<Vec<u8>, AnswerFault>
     requires seer { IsSeer meta.now seer.now }
     requires query { CanAnswer meta.now query.now }
-    ensures answer { Answers result (answer_of meta.now query.now (seen_of meta.now seer.now.user (contents_of (S.rows store.now) (S.events store.now) (S.regs store.now)))) }
-    ensures unseen { (held : Contents) → SameSeen (seen_of meta.now seer.now.user (contents_of (S.rows store.now) (S.events store.now) (S.regs store.now))) (seen_of meta.now seer.now.user held) → Answers result (answer_of meta.now query.now (seen_of meta.now seer.now.user held)) }
+    ensures answer { Answers result (answer_of meta.now query.now
+        (seen_of meta.now seer.now.user (contents_of (S.rows store.now) (S.events store.now) (S.regs store.now)))) }
+    ensures unseen { (held : Contents)
+        → SameSeen (seen_of meta.now seer.now.user (contents_of (S.rows store.now) (S.events store.now) (S.regs store.now)))
+        (seen_of meta.now seer.now.user held) → Answers result (answer_of meta.now query.now (seen_of meta.now seer.now.user held)) }
 {
+    let asking = Asking {
+        meta,
+        store,
+        seer,
+        query,
+    };
     let mut rows = Vec::new(alloc);
-    match write_rows(alloc, meta, store, seer, query, &mut rows)? {
+    match write_rows(alloc, &asking, &mut rows)? {
         Some(id) => Err(AnswerFault::Wide { id }),
         None => Ok(body(alloc, meta, query, rows.as_slice())?),
     }

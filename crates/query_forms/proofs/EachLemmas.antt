@@ -7,10 +7,10 @@ use Rattle.dh_periods.specs.Keys.{same_period}
 use Rattle.query_forms.specs.Once.{once_from}
 use Rattle.query_forms.specs.Items.{each, period_form, periods_from}
 
-behind : {T : Type 0} (done : List T) (item : T) (more : Option (List T))
+beyond : {T : Type 0} (done : List T) (item : T) (more : Option (List T))
     → option_map (λ xs. done ++ xs) (option_map (λ xs. item ∷ xs) more) ≡ option_map (λ xs. (done ++ item ∷ []) ++ xs) more
-behind done item (Some xs) = ap Some (sym (append_assoc done (item ∷ []) xs))
-behind done item None = refl
+beyond done item (Some xs) = ap Some (sym (append_assoc done (item ∷ []) xs))
+beyond done item None = refl
 
 -- what is left after an item of a text is put to those before
 pub each_more : {T : Type 0} (form : List ℕ → Option T) (done new : List T) (texts : List (List ℕ)) (i : ℕ) (text : List ℕ) (item : T) (whole : Option (List T))
@@ -21,7 +21,7 @@ each_more {T = T} form done new texts i text item whole within is read put so_fa
     so_far ∙ ap (λ l. option_map (λ xs. done ++ xs) (each form l)) (drop_more texts i text within)
     ∙ ap (λ (t : List ℕ). option_map (λ xs. done ++ xs) (each form (t ∷ left))) (sym is)
     ∙ ap (λ (o : Option T). option_map (λ xs. done ++ xs) (option_and_then (λ x. option_map (λ xs. x ∷ xs) (each form left)) o)) read
-    ∙ behind done item (each form left) ∙ ap (λ (ys : List T). option_map (λ xs. ys ++ xs) (each form left)) (sym put)
+    ∙ beyond done item (each form left) ∙ ap (λ (ys : List T). option_map (λ xs. ys ++ xs) (each form left)) (sym put)
 
 -- what is left after the periods of a text are put to those before
 pub periods_more : (day : ℤ) (kept new found : List PeriodName) (texts : List (List ℕ)) (i : ℕ) (text : List ℕ) (whole : Option (List PeriodName))

@@ -1,5 +1,6 @@
 -- A query as its text says it, before any metadata is asked.
-use Rattle.std.specs.Prelude.{ℕ, ℤ, ◌+◌, Bool, true, false, not, ◌&&◌, ◌||◌, ◌==◌, if◌then◌else◌, List, [], ◌∷◌, map, take, drop, position, bytes_eq, codes, Option, None, Some, option_map, option_and_then, Result, Ok, Err}
+use Rattle.std.specs.Prelude.{ℕ, ℤ, ◌+◌, Bool, true, false, not, ◌&&◌, ◌||◌, ◌==◌, if◌then◌else◌, List, [], ◌∷◌, map, take, drop, position, bytes_eq, codes}
+use Rattle.std.specs.Prelude.{Option, None, Some, option_map, option_and_then, Result, Ok, Err}
 use Rattle.std.specs.List.{list_any}
 use Rattle.std.specs.Option.{option_map_or}
 use Rattle.std.specs.Str.Lossy.{utf8_lossy}
@@ -71,7 +72,8 @@ with_dx draft value =
 unfoldable pub with_periods : ℤ → Draft → Bool → List ℕ → Result Draft Refusal
 with_periods day draft filter value =
     or_refuse code.F10 value
-    (option_map (λ items. record draft { periods = Some (record { items = items; filter = filter }) }) (option_and_then (period_items day) (fresh draft.periods value)))
+    (option_map (λ items. record draft { periods = Some (record { items = items; filter = filter }) })
+    (option_and_then (period_items day) (fresh draft.periods value)))
 
 unfoldable pub with_units : Draft → Bool → List ℕ → Result Draft Refusal
 with_units draft filter value =

@@ -1,5 +1,6 @@
 -- The forms of the items of dimensions.
-use Rattle.std.specs.Prelude.{ℕ, ℤ, nat_le, nat_lt, ◌&&◌, ◌==◌, if◌then◌else◌, List, [], ◌∷◌, length, take, drop, slice_index, bytes_eq, codes, Option, None, Some, option_map, option_and_then}
+use Rattle.std.specs.Prelude.{ℕ, ℤ, nat_le, nat_lt, ◌&&◌, ◌==◌, if◌then◌else◌, List, [], ◌∷◌, length, take, drop, slice_index, bytes_eq, codes, Option, None}
+use Rattle.std.specs.Prelude.{Some, option_map, option_and_then}
 use Rattle.dh_base.specs.Uid.{uid_of}
 use Rattle.dh_base.specs.declared.plain.Rate.{Rate}
 use Rattle.dh_base.specs.declared.plain.Rate.TheVariants as rate

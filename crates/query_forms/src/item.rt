@@ -1,6 +1,7 @@
 //! The items of dimensions.
 ghost use Rattle.std.specs.Prelude.{◌≡◌, ◌≤◌, ◌^◌, ◌<◌, ℕ, List, length, take, drop, option_map};
-ghost use Rattle.query_forms.specs.Items.{rate_named, part_form, pair_form, dx_form, level_number, group_form, single_form, group_or_unit, named_unit, unit_form};
+ghost use Rattle.query_forms.specs.Items.{rate_named, part_form, pair_form, dx_form, level_number, group_form, single_form, group_or_unit, named_unit};
+ghost use Rattle.query_forms.specs.Items.{unit_form};
 ghost use Rattle.dh_periods.specs.Texts.{number_of_one, number_of_two};
 
 use dh_base::items::Items;

@@ -1,9 +1,12 @@
 //! The pairs of a query's text.
-ghost use Rattle.std.specs.Prelude.{◌≡◌, [], true, false, not, bytes_eq, codes, pos, neg_ℤ, ◌≤ℤ◌, ◌<◌, IfOk, IfSome, length, position, option_map, option_and_then};
+ghost use Rattle.std.specs.Prelude.{◌≡◌, [], true, false, not, bytes_eq, codes, pos, neg_ℤ, ◌≤ℤ◌, ◌<◌, IfOk, IfSome, length, position, option_map};
+ghost use Rattle.std.specs.Prelude.{option_and_then};
 ghost use Rattle.std.specs.Option.{option_copied};
 ghost use Rattle.query_forms.specs.Given.{Gives, Becomes, IsFault, refusal};
 ghost use Rattle.query_forms.specs.Items.{dx_items, unit_items, period_items};
-ghost use Rattle.query_forms.specs.Form.{data_parameters, scheme_parameters, layout_parameters, is_listed, is_colon, pairs_of, decoded, is_unsupported, head_of, tail_of, fresh, with_dx, with_periods, with_units, with_dimension, with_pair, with_pairs, nothing, whole, form_of};
+ghost use Rattle.query_forms.specs.Form.{data_parameters, scheme_parameters, layout_parameters, is_listed, is_colon, pairs_of, decoded, is_unsupported};
+ghost use Rattle.query_forms.specs.Form.{head_of, tail_of, fresh, with_dx, with_periods, with_units, with_dimension, with_pair, with_pairs, nothing, whole};
+ghost use Rattle.query_forms.specs.Form.{form_of};
 
 use crate::Axis;
 use crate::dimension::{dx_items, unit_items};

@@ -1,5 +1,6 @@
 -- What holds of every query that is read.
-use Rattle.std.proofs.Common.{◌≡◌, ℕ, ℤ, ◌<◌, Bool, true, false, cond, List, [], ◌∷◌, length, nat_lt, Option, None, Some, IfSome, option_map, option_and_then, Result, Ok, Err, IfOk, refl, subst, arith, ◌==◌}
+use Rattle.std.proofs.Common.{◌≡◌, ℕ, ℤ, ◌<◌, Bool, true, false, cond, List, [], ◌∷◌, length, nat_lt, Option, None, Some, IfSome, option_map}
+use Rattle.std.proofs.Common.{option_and_then, Result, Ok, Err, IfOk, refl, subst, arith, ◌==◌}
 use Rattle.std.specs.List.{AllByRecursion}
 use Rattle.std.specs.Option.{option_or}
 use Rattle.std.specs.Fmt.{decimal}
@@ -31,9 +32,10 @@ use Rattle.query_lang.specs.Choice.{chosen_units}
 use Rattle.query_lang.proofs.RangeLemmas.{chosen_in}
 use Rattle.query_lang.specs.declared.named.Found.{Found}
 use Rattle.query_lang.specs.Each.{each_of}
-use Rattle.query_lang.specs.Named.{readable, alone, object_named, combo_named, is_combo_of, operand_named, named, offered, is_over_enrollments, dx_from, dx_of, first_unbuilt}
+use Rattle.query_lang.specs.Named.{readable, alone, object_named, combo_named, is_combo_of, operand_named, named, offered, is_over_enrollments, dx_from}
+use Rattle.query_lang.specs.Named.{dx_of, first_unbuilt}
 use Rattle.query_lang.specs.Units.{part_of, members_of, units_of}
-use Rattle.query_lang.specs.Query.{unless_there, cells_of, within, assembled, query_from, query_of}
+use Rattle.query_lang.specs.Query.{unless_there, cells_of, within, assembled, named_in, query_from, query_of}
 use Rattle.query_lang.specs.Askable.{IsFormed, IsForm, kind_of, IsSeen, IsAsked, IsAskable}
 use Rattle.query_lang.proofs.FormLaws.{bound, form_law}
 use Rattle.query_lang.proofs.TextLaws.{form_utf8}
@@ -46,7 +48,8 @@ passed end test None below = tt
 passed end test (Some n) below =
     elim (test n) as (λ b. test n ≡ b → IfSome (cond b (Some n) None) (λ n. (n < end) × (test n ≡ true))) [ true ↦ λ is. (below, is) | false ↦ λ is. tt ] refl
 
-readable_law : (r : Records) (user : ℕ) (kind : Kind) (id : List ℕ) → IfSome (readable r user kind id) (λ n. (n < count_of r kind) × (may_of r user Read kind n ≡ true))
+readable_law : (r : Records) (user : ℕ) (kind : Kind) (id : List ℕ)
+    → IfSome (readable r user kind id) (λ n. (n < count_of r kind) × (may_of r user Read kind n ≡ true))
 unfolding readable
 readable_law r user kind id = passed (count_of r kind) (may_of r user Read kind) (find_of r kind id) (found_below r kind id)
 
@@ -68,7 +71,8 @@ object_law r user id =
 
 combo_law : (r : Records) (n : ℕ) (id : List ℕ) → IfSome (combo_named r n id) (λ part. (part < length r.category_option_combos) × (is_combo_of r n part ≡ true))
 unfolding combo_named
-combo_law r n id = passed (count_of r kind.CategoryOptionCombo) (is_combo_of r n) (find_of r kind.CategoryOptionCombo id) (found_below r kind.CategoryOptionCombo id)
+combo_law r n id =
+    passed (count_of r kind.CategoryOptionCombo) (is_combo_of r n) (find_of r kind.CategoryOptionCombo id) (found_below r kind.CategoryOptionCombo id)
 
 parted : (r : Records) (user n : ℕ) (test : ℕ → Bool) (o : Option ℕ) → (n < length r.data_elements) × (may_of r user Read kind.DataElement n ≡ true)
     → IfSome o (λ part. (part < length r.category_option_combos) × (test part ≡ true))
@@ -76,8 +80,10 @@ parted : (r : Records) (user n : ℕ) (test : ℕ → Bool) (o : Option ℕ) →
 parted r user n test None seen below = tt
 parted r user n test (Some part) seen below = record { in_range = seen.0; readable = seen.1; part = below.0 }
 
-operand_by : (r : Records) (user : ℕ) (combo : List ℕ) (o : Option ℕ) → IfSome o (λ n. (n < length r.data_elements) × (may_of r user Read kind.DataElement n ≡ true))
-    → IfSome (option_and_then (λ n. option_map (λ part. let found : Found = record { kind = dx.Element; number = n; part = Some part } in found) (combo_named r n combo)) o) (IsSeen r user)
+operand_by : (r : Records) (user : ℕ) (combo : List ℕ) (o : Option ℕ)
+    → IfSome o (λ n. (n < length r.data_elements) × (may_of r user Read kind.DataElement n ≡ true))
+    → IfSome (option_and_then (λ n. option_map (λ part. let found : Found =
+    record { kind = dx.Element; number = n; part = Some part } in found) (combo_named r n combo)) o) (IsSeen r user)
 operand_by r user combo None seen = tt
 operand_by r user combo (Some n) seen = parted r user n (is_combo_of r n) (combo_named r n combo) seen (combo_law r n combo)
 
@@ -94,7 +100,8 @@ offered_law : (r : Records) (user : ℕ) (text : List ℕ) (f : DxForm) (o : Opt
     → IfOk (and_then (or_refuse code.F14 text o) (offered r text)) (IsAsked r user)
 offered_law r user text f None formed is seen = tt
 offered_law r user text f (Some n) formed is seen =
-    elim (is_over_enrollments r n.kind n.number) as (λ b. IfOk (let d : Result Dx Refusal = cond b (Err (refusal code.F17 text)) (Ok (dx_from n text)) in d) (IsAsked r user)) [
+    elim (is_over_enrollments r n.kind n.number) as (λ b.
+    IfOk (let d : Result Dx Refusal = cond b (Err (refusal code.F17 text)) (Ok (dx_from n text)) in d) (IsAsked r user)) [
       | true ↦ tt
       | false ↦ record { form = f; text = formed; named = is; seen = seen; utf8 = form_utf8 text f formed }
     ]
@@ -107,7 +114,8 @@ each_law : {A B : Type 0} (P : A → Type 0) (Q : B → Type 0) (f : A → Resul
     → (xs : List A) → AllByRecursion P xs → IfOk (each_of f xs) (AllByRecursion Q)
 each_law P Q f one [] all = tt
 each_law P Q f one (x ∷ xs) all =
-    bound Q (AllByRecursion Q) (f x) _ (one x all.0) (λ y ok. bound (AllByRecursion Q) (AllByRecursion Q) (each_of f xs) _ (each_law P Q f one xs all.1) (λ ys oks. (ok, oks)))
+    bound Q (AllByRecursion Q) (f x) _ (one x all.0) (λ y ok.
+    bound (AllByRecursion Q) (AllByRecursion Q) (each_of f xs) _ (each_law P Q f one xs all.1) (λ ys oks. (ok, oks)))
 
 units_in : (r : Records) (user : ℕ) (parts : List Part) → AreIn (length r.organisation_units) (units_of r user parts)
 unfolding units_of
@@ -124,7 +132,9 @@ within_law : (r : Records) (user most : ℕ) (query : Query) → 0 < length quer
 unfolding within
 within_law r user most query periods units asked built =
     elim (length query.units.items == 0) as (λ b. (length query.units.items == 0) ≡ b
-    → IfOk (let q : Result Query Refusal = cond b (Err (refusal code.F13 [])) (cond (nat_lt most (cells_of query)) (Err (refusal code.F16 (decimal (cells_of query)))) (Ok query)) in q) (IsAskable r user)) [
+    → IfOk (let q : Result Query Refusal =
+    cond b (Err (refusal code.F13 [])) (cond (nat_lt most (cells_of query)) (Err (refusal code.F16 (decimal (cells_of query)))) (Ok query)) in q)
+    (IsAskable r user)) [
       | true ↦ λ none. tt
       | false ↦ λ some. elim (nat_lt most (cells_of query)) as (λ b.
           IfOk (let q : Result Query Refusal = cond b (Err (refusal code.F16 (decimal (cells_of query)))) (Ok query) in q) (IsAskable r user)) [
@@ -133,7 +143,8 @@ within_law r user most query periods units asked built =
           ]
     ] refl
 
-unless_law : {A : Type 0} (P : A → Type 0) (c : Code) (o : Option (List ℕ)) (next : Result A Refusal) → (o ≡ None → IfOk next P) → IfOk (unless_there c o next) P
+unless_law : {A : Type 0} (P : A → Type 0) (c : Code) (o : Option (List ℕ)) (next : Result A Refusal) → (o ≡ None → IfOk next P)
+    → IfOk (unless_there c o next) P
 unless_law P c None next ok = ok refl
 unless_law P c (Some detail) next ok = tt
 
@@ -141,13 +152,24 @@ ok_always : {A : Type 0} (r : Result A Refusal) → IfOk r (λ _. Unit {0})
 ok_always (Ok x) = tt
 ok_always (Err e) = tt
 
+-- what is named may be asked
+abbrev AreAsked : Records → ℕ → List Dx × List ℕ → Type 0
+AreAsked r user found =
+    (AllByRecursion (IsAsked r user) found.0) × (AreIn (length r.organisation_units) found.1) × (first_unbuilt r found.0 ≡ None)
+
+named_in_law : (r : Records) (user : ℕ) (f : Form) → IsForm f → IfOk (named_in r user f) (AreAsked r user)
+unfolding named_in
+named_in_law r user f is =
+    bound (AllByRecursion (IsAsked r user)) (AreAsked r user) (each_of (dx_of r user) f.dx) _
+    (each_law IsFormed (IsAsked r user) (dx_of r user) (dx_law r user) f.dx is.dx) (λ dx asked.
+    bound (λ _. Unit {0}) (AreAsked r user) (each_of (part_of r user) f.units.items) _ (ok_always _) (λ parts _.
+    unless_law (AreAsked r user) code.F9 (first_unbuilt r dx) (Ok (dx, units_of r user parts)) (λ built. (asked, units_in r user parts, built))))
+
 from_law : (r : Records) (user cells : ℕ) (f : Form) → IsForm f → IfOk (query_from r user cells f) (IsAskable r user)
 unfolding query_from
 from_law r user cells f is =
-    bound (AllByRecursion (IsAsked r user)) (IsAskable r user) (each_of (dx_of r user) f.dx) _ (each_law IsFormed (IsAsked r user) (dx_of r user) (dx_law r user) f.dx is.dx) (λ dx asked.
-    bound (λ _. Unit {0}) (IsAskable r user) (each_of (part_of r user) f.units.items) _ (ok_always _) (λ parts _.
-    unless_law (IsAskable r user) code.F9 (first_unbuilt r dx) (within cells (assembled r user f dx parts))
-    (λ built. within_law r user cells (assembled r user f dx parts) is.periods (units_in r user parts) asked built)))
+    bound (AreAsked r user) (IsAskable r user) (named_in r user f) _ (named_in_law r user f is) (λ found asked.
+    within_law r user cells (assembled f found.0 found.1) is.periods asked.1 asked.0 asked.2)
 
 -- a query that is read may be answered
 pub query_law : (r : Records) (user : ℕ) (day : ℤ) (cells : ℕ) (text : List ℕ) → IfOk (query_of r user day cells text) (IsAskable r user)
@@ -155,7 +177,8 @@ unfolding query_of
 query_law r user day cells text = bound IsForm (IsAskable r user) (form_of day text) (query_from r user cells) (form_law day text) (from_law r user cells)
 
 -- the same of the query that was read
-pub read_law : (r : Records) (user : ℕ) (day : ℤ) (cells : ℕ) (text : List ℕ) (query : Query) → query_of r user day cells text ≡ Ok query → IsAskable r user query
+pub read_law : (r : Records) (user : ℕ) (day : ℤ) (cells : ℕ) (text : List ℕ) (query : Query) → query_of r user day cells text ≡ Ok query
+    → IsAskable r user query
 read_law r user day cells text query is =
     let P : Result Query Refusal → Type 0 = λ q. IfOk q (IsAskable r user) in
     subst P is (query_law r user day cells text)

@@ -1,5 +1,6 @@
 -- What holds of a query's form.
-use Rattle.std.proofs.Common.{◌≡◌, ℕ, ℤ, ◌<◌, Bool, true, false, not, ◌&&◌, cond, List, [], ◌∷◌, length, bytes_eq, codes, Option, None, Some, IfSome, option_map, option_and_then, Result, Ok, Err, IfOk, refl}
+use Rattle.std.proofs.Common.{◌≡◌, ℕ, ℤ, ◌<◌, Bool, true, false, not, ◌&&◌, cond, List, [], ◌∷◌, length, bytes_eq, codes, Option, None, Some, IfSome}
+use Rattle.std.proofs.Common.{option_map, option_and_then, Result, Ok, Err, IfOk, refl}
 use Rattle.std.specs.List.{AllByRecursion}
 use Rattle.dh_base.specs.declared.codes.Code.{Code}
 use Rattle.dh_base.specs.declared.codes.Code.TheVariants as code
@@ -13,7 +14,8 @@ use Rattle.query_forms.specs.declared.form.Draft.{Draft}
 use Rattle.query_forms.specs.declared.form.Form.{Form}
 use Rattle.query_forms.specs.Given.{and_then, or_refuse}
 use Rattle.query_forms.specs.Items.{dx_form, dx_item, each, dx_items, period_items, item_texts}
-use Rattle.query_forms.specs.Form.{is_unsupported, head_of, fresh, with_dx, with_periods, with_units, with_dimension, with_pair, with_pairs, nothing, whole, form_of, pairs_of}
+use Rattle.query_forms.specs.Form.{is_unsupported, head_of, fresh, with_dx, with_periods, with_units, with_dimension, with_pair, with_pairs, nothing, whole}
+use Rattle.query_forms.specs.Form.{form_of, pairs_of}
 use Rattle.query_lang.specs.Askable.{IsFormed, IsForm}
 use Rattle.query_lang.proofs.PeriodLaws.{IsFilled, periods_filled}
 
@@ -28,7 +30,8 @@ each_all : {T : Type 0} (P : T → Type 0) (form : List ℕ → Option T) → ((
 each_all P form one [] = tt
 each_all P form one (text ∷ texts) = joined P (form text) (each form texts) (one text) (each_all P form one texts)
 
-formed : (text : List ℕ) (o : Option DxForm) → dx_form text ≡ o → IfSome (option_map (λ (form : DxForm). let item : DxItem = record { form = form; text = text } in item) o) IsFormed
+formed : (text : List ℕ) (o : Option DxForm) → dx_form text ≡ o
+    → IfSome (option_map (λ (form : DxForm). let item : DxItem = record { form = form; text = text } in item) o) IsFormed
 formed text None is = tt
 formed text (Some form) is = is
 
@@ -54,16 +57,19 @@ unfolding with_dx
 dx_law draft value is = dx_put draft code.F10 value _ is (after (AllByRecursion IsFormed) dx_items items_formed (fresh draft.dx value))
 
 periods_put : (draft : Draft) (filter : Bool) (c : Code) (value : List ℕ) (o : Option (List PeriodName)) → IsDraft draft → IfSome o IsFilled
-    → IfOk (or_refuse c value (option_map (λ items. let next : Draft = record draft { periods = Some (record { items = items; filter = filter }) } in next) o)) IsDraft
+    → IfOk (or_refuse c value (option_map (λ items. let next : Draft = record draft { periods = Some (record { items = items; filter = filter }) } in next) o))
+    IsDraft
 periods_put draft filter c value None is some = tt
 periods_put draft filter c value (Some items) is some = record { dx = is.dx; periods = some }
 
 periods_law : (day : ℤ) (draft : Draft) (filter : Bool) (value : List ℕ) → IsDraft draft → IfOk (with_periods day draft filter value) IsDraft
 unfolding with_periods
-periods_law day draft filter value is = periods_put draft filter code.F10 value _ is (after IsFilled (period_items day) (periods_filled day) (fresh draft.periods value))
+periods_law day draft filter value is =
+    periods_put draft filter code.F10 value _ is (after IsFilled (period_items day) (periods_filled day) (fresh draft.periods value))
 
 units_put : (draft : Draft) (filter : Bool) (c : Code) (value : List ℕ) (o : Option (List UnitItem)) → IsDraft draft
-    → IfOk (or_refuse c value (option_map (λ items. let next : Draft = record draft { units = Some (record { items = items; filter = filter }) } in next) o)) IsDraft
+    → IfOk (or_refuse c value (option_map (λ items. let next : Draft = record draft { units = Some (record { items = items; filter = filter }) } in next) o))
+    IsDraft
 units_put draft filter c value None is = tt
 units_put draft filter c value (Some items) is = record { dx = is.dx; periods = is.periods }
 
@@ -90,14 +96,16 @@ pair_law day draft name value is =
     (pick IsDraft (bytes_eq name (codes "filter")) _ _ (dimension_law day draft true value is)
     (pick IsDraft (bytes_eq name (codes "skipMeta")) _ _ (record { dx = is.dx; periods = is.periods }) is)))
 
-pub bound : {A B : Type 0} (P : A → Type 0) (Q : B → Type 0) (r : Result A Refusal) (next : A → Result B Refusal) → IfOk r P → ((x : A) → P x → IfOk (next x) Q) → IfOk (and_then r next) Q
+pub bound : {A B : Type 0} (P : A → Type 0) (Q : B → Type 0) (r : Result A Refusal) (next : A → Result B Refusal) → IfOk r P → ((x : A) → P x → IfOk (next x) Q)
+    → IfOk (and_then r next) Q
 bound P Q (Ok x) next one all = all x one
 bound P Q (Err e) next one all = tt
 
 pairs_law : (day : ℤ) (draft : Draft) (pairs : List (List ℕ × List ℕ)) → IsDraft draft → IfOk (with_pairs day draft pairs) IsDraft
 pairs_law day draft [] is = is
 pairs_law day draft (pair ∷ pairs) is =
-    bound IsDraft IsDraft (with_pair day draft pair.0 pair.1) (λ next. with_pairs day next pairs) (pair_law day draft pair.0 pair.1 is) (λ next ok. pairs_law day next pairs ok)
+    bound IsDraft IsDraft (with_pair day draft pair.0 pair.1) (λ next. with_pairs day next pairs) (pair_law day draft pair.0 pair.1 is) (λ next ok.
+    pairs_law day next pairs ok)
 
 parts_law : (dx : Option (List DxItem)) (periods : Option (Axis PeriodName)) (units : Option (Axis UnitItem)) (meta : Bool)
     → IfSome dx (AllByRecursion IsFormed) → IfSome periods (λ axis. 0 < length axis.items)
@@ -115,4 +123,5 @@ whole_law draft is = parts_law draft.dx draft.periods draft.units draft.meta is.
 -- the form of a text has a period, and its items have their forms
 pub form_law : (day : ℤ) (text : List ℕ) → IfOk (form_of day text) IsForm
 unfolding form_of
-form_law day text = bound IsDraft IsForm (with_pairs day nothing (pairs_of text)) whole (pairs_law day nothing (pairs_of text) (record { dx = tt; periods = tt })) whole_law
+form_law day text =
+    bound IsDraft IsForm (with_pairs day nothing (pairs_of text)) whole (pairs_law day nothing (pairs_of text) (record { dx = tt; periods = tt })) whole_law

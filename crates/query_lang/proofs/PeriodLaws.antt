@@ -1,5 +1,6 @@
 -- A query that asks for periods has one.
-use Rattle.std.proofs.Common.{ℕ, ℤ, zero, suc, ◌+◌, ◌<◌, Bool, true, false, cond, List, [], ◌∷◌, ◌++◌, length, Option, None, Some, IfSome, option_map, option_and_then, arith, ◌==◌, bytes_eq, codes}
+use Rattle.std.proofs.Common.{ℕ, ℤ, zero, suc, ◌+◌, ◌<◌, Bool, true, false, cond, List, [], ◌∷◌, ◌++◌, length, Option, None, Some, IfSome, option_map}
+use Rattle.std.proofs.Common.{option_and_then, arith, ◌==◌, bytes_eq, codes}
 use Rattle.std.specs.List.{list_any}
 use Rattle.std.proofs.lemmas.List.{length-append}
 use Rattle.dh_periods.specs.declared.kind.PeriodType.{PeriodType}
@@ -54,12 +55,17 @@ single_filled n name =
 several_filled : (n : ℕ) (name : List ℕ) → Long (λ s. IsFilled (periods_on n s)) (several_named name)
 several_filled n name =
     pick (λ s. IsFilled (periods_on n s)) (bytes_eq name (codes "LAST_3_MONTHS")) _ _ (leaf (λ s. IsFilled (periods_on n s)) _ (run_filled _ _ 3 (omega arith)))
-    (pick (λ s. IsFilled (periods_on n s)) (bytes_eq name (codes "LAST_6_MONTHS")) _ _ (leaf (λ s. IsFilled (periods_on n s)) _ (run_filled _ _ 6 (omega arith)))
-    (pick (λ s. IsFilled (periods_on n s)) (bytes_eq name (codes "LAST_12_MONTHS")) _ _ (leaf (λ s. IsFilled (periods_on n s)) _ (run_filled _ _ 12 (omega arith)))
-    (pick (λ s. IsFilled (periods_on n s)) (bytes_eq name (codes "LAST_4_QUARTERS")) _ _ (leaf (λ s. IsFilled (periods_on n s)) _ (run_filled _ _ 4 (omega arith)))
+    (pick (λ s. IsFilled (periods_on n s)) (bytes_eq name (codes "LAST_6_MONTHS")) _ _
+    (leaf (λ s. IsFilled (periods_on n s)) _ (run_filled _ _ 6 (omega arith)))
+    (pick (λ s. IsFilled (periods_on n s)) (bytes_eq name (codes "LAST_12_MONTHS")) _ _
+    (leaf (λ s. IsFilled (periods_on n s)) _ (run_filled _ _ 12 (omega arith)))
+    (pick (λ s. IsFilled (periods_on n s)) (bytes_eq name (codes "LAST_4_QUARTERS")) _ _
+    (leaf (λ s. IsFilled (periods_on n s)) _ (run_filled _ _ 4 (omega arith)))
     (pick (λ s. IsFilled (periods_on n s)) (bytes_eq name (codes "LAST_5_YEARS")) _ _ (leaf (λ s. IsFilled (periods_on n s)) _ (run_filled _ _ 5 (omega arith)))
-    (pick (λ s. IsFilled (periods_on n s)) (bytes_eq name (codes "MONTHS_THIS_YEAR")) _ _ (leaf (λ s. IsFilled (periods_on n s)) _ (run_filled _ _ 12 (omega arith)))
-    (pick (λ s. IsFilled (periods_on n s)) (bytes_eq name (codes "QUARTERS_THIS_YEAR")) _ _ (leaf (λ s. IsFilled (periods_on n s)) _ (run_filled _ _ 4 (omega arith)))
+    (pick (λ s. IsFilled (periods_on n s)) (bytes_eq name (codes "MONTHS_THIS_YEAR")) _ _
+    (leaf (λ s. IsFilled (periods_on n s)) _ (run_filled _ _ 12 (omega arith)))
+    (pick (λ s. IsFilled (periods_on n s)) (bytes_eq name (codes "QUARTERS_THIS_YEAR")) _ _
+    (leaf (λ s. IsFilled (periods_on n s)) _ (run_filled _ _ 4 (omega arith)))
     (no_one (λ s. IsFilled (periods_on n s)))))))))
 
 named_filled : (n : ℕ) (name : List ℕ) → Long (λ s. IsFilled (periods_on n s)) (relative_named name)

@@ -1,5 +1,6 @@
 -- All units that are chosen are units of the tree.
-use Rattle.std.proofs.Common.{◌≡◌, ℕ, zero, suc, ◌<◌, ◌==◌, Bool, true, false, cond, List, [], ◌∷◌, ◌++◌, length, Option, refl, sym, subst, inl, inr, arith, nat_eq, nat_lt}
+use Rattle.std.proofs.Common.{◌≡◌, ℕ, zero, suc, ◌<◌, ◌==◌, Bool, true, false, cond, List, [], ◌∷◌, ◌++◌, length, Option, refl, sym, subst, inl, inr, arith}
+use Rattle.std.proofs.Common.{nat_eq, nat_lt}
 use Rattle.std.specs.List.{list_any, flat_map}
 use Rattle.std.specs.Option.{option_to_list}
 use Rattle.std.proofs.lemmas.Bool.{ltb-true}
@@ -53,7 +54,8 @@ part_in us views (part.Group g) = none_in (length us)
 
 flat_in : (us : List UnitRow) (views : List ℕ) (parts : List Part) → AreIn (length us) (flat_map (part_units us views) parts)
 flat_in us views [] = none_in (length us)
-flat_in us views (p ∷ parts) = All-append (λ n. n < length us) (part_units us views p) (flat_map (part_units us views) parts) (part_in us views p) (flat_in us views parts)
+flat_in us views (p ∷ parts) =
+    All-append (λ n. n < length us) (part_units us views p) (flat_map (part_units us views) parts) (part_in us views p) (flat_in us views parts)
 
 pub parts_in : (us : List UnitRow) (views : List ℕ) (parts : List Part) → AreIn (length us) (parts_units us views parts)
 unfolding parts_units

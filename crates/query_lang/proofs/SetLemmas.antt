@@ -10,6 +10,8 @@ choice_or false true = refl
 choice_or false false = refl
 
 -- a number more
-pub has-more : (numbers : List ℕ) (x n : ℕ) (old new : Bool) (same : Bool) → same ≡ nat_eq n x → old ≡ has numbers n → new ≡ cond same true old → new ≡ has (numbers ++ x ∷ []) n
+pub has-more : (numbers : List ℕ) (x n : ℕ) (old new : Bool) (same : Bool) → same ≡ nat_eq n x → old ≡ has numbers n → new ≡ cond same true old
+    → new ≡ has (numbers ++ x ∷ []) n
 has-more numbers x n old new same is known put =
-    put ∙ ap (λ b. cond same true b) known ∙ ap (λ b. cond b true (has numbers n)) is ∙ choice_or (nat_eq n x) (has numbers n) ∙ sym (list_any-append (nat_eq n) numbers (x ∷ []))
+    put ∙ ap (λ b. cond same true b) known ∙ ap (λ b. cond b true (has numbers n)) is ∙ choice_or (nat_eq n x) (has numbers n)
+    ∙ sym (list_any-append (nat_eq n) numbers (x ∷ []))

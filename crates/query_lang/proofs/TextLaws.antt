@@ -1,5 +1,6 @@
 -- The text of an item of the dimension `dx` is ASCII.
-use Rattle.std.proofs.Common.{◌≡◌, ◌∙◌, ℕ, zero, suc, ◌<◌, Bool, true, false, cond, ◌&&◌, ◌==◌, nat_lt, List, [], ◌∷◌, ◌++◌, length, take, drop, slice_index, bytes_eq, codes, Option, None, Some, IfSome, option_map, option_and_then, refl, sym, ap, subst, arith, drop-cons}
+use Rattle.std.proofs.Common.{◌≡◌, ◌∙◌, ℕ, zero, suc, ◌<◌, Bool, true, false, cond, ◌&&◌, ◌==◌, nat_lt, List, [], ◌∷◌, ◌++◌, length, take, drop, slice_index}
+use Rattle.std.proofs.Common.{bytes_eq, codes, Option, None, Some, IfSome, option_map, option_and_then, refl, sym, ap, subst, arith, drop-cons}
 use Rattle.std.specs.List.{list_all}
 use Rattle.std.specs.Str.{IsAscii, IsUtf8}
 use Rattle.std.specs.Char.{is_ascii_alphanumeric}
@@ -55,7 +56,8 @@ rate_ascii name =
     (pick name (codes "REPORTING_RATE_ON_TIME") _ _ _ refl refl tt))))
 
 combo_ascii : (id rest : List ℕ) (b : Bool) → is_uid rest ≡ b
-    → IfSome (option_map (λ combo. let form : DxForm = dx.Operand id combo in form) (let o : Option (List ℕ) = cond b (Some rest) None in o)) (λ _. IsAscii rest)
+    → IfSome (option_map (λ combo. let form : DxForm = dx.Operand id combo in form) (let o : Option (List ℕ) = cond b (Some rest) None in o)) (λ _.
+    IsAscii rest)
 combo_ascii id rest true is = uid_ascii rest is
 combo_ascii id rest false is = tt
 
@@ -80,12 +82,15 @@ joined text long point front rest =
 front_ascii : (text : List ℕ) → 11 < length text → slice_index text 11 ≡ 46 → (b : Bool) → is_uid (take 11 text) ≡ b
     → IfSome (option_and_then (λ id. part_form id (drop 12 text)) (let o : Option (List ℕ) = cond b (Some (take 11 text)) None in o)) (λ _. IsAscii text)
 front_ascii text long point true is =
-    lifted (IsAscii (drop 12 text)) (IsAscii text) (part_form (take 11 text) (drop 12 text)) (joined text long point (uid_ascii (take 11 text) is)) (part_ascii (take 11 text) (drop 12 text))
+    lifted (IsAscii (drop 12 text)) (IsAscii text) (part_form (take 11 text) (drop 12 text)) (joined text long point (uid_ascii (take 11 text) is))
+    (part_ascii (take 11 text) (drop 12 text))
 front_ascii text long point false is = tt
 
 pair_by : (text : List ℕ) (b : Bool) → (nat_lt 11 (length text) && slice_index text 11 == 46) ≡ b
     → IfSome (cond b (option_and_then (λ id. part_form id (drop 12 text)) (uid_of (take 11 text))) None) (λ _. IsAscii text)
-pair_by text true is = front_ascii text (ltb-true 11 (length text) (left _ _ is)) (eqb-true (slice_index text 11) 46 (right (nat_lt 11 (length text)) _ is)) (is_uid (take 11 text)) refl
+pair_by text true is =
+    front_ascii text (ltb-true 11 (length text) (left _ _ is)) (eqb-true (slice_index text 11) 46 (right (nat_lt 11 (length text)) _ is))
+    (is_uid (take 11 text)) refl
 pair_by text false is = tt
 
 pair_ascii : (text : List ℕ) → IfSome (pair_form text) (λ _. IsAscii text)

@@ -8,5 +8,5 @@ each_of f [] = Ok []
 each_of f (x ∷ xs) = and_then (f x) (λ y. and_then (each_of f xs) (λ ys. Ok (y ∷ ys)))
 
 -- others stand before these
-abbrev pub behind : {B : Type 0} → List B → Result (List B) Refusal → Result (List B) Refusal
-behind done rest = and_then rest (λ more. Ok (done ++ more))
+abbrev pub beyond : {B : Type 0} → List B → Result (List B) Refusal → Result (List B) Refusal
+beyond done rest = and_then rest (λ more. Ok (done ++ more))

@@ -10,7 +10,6 @@ use Rattle.query_forms.specs.declared.plain.Dx.{Dx}
 use Rattle.query_forms.specs.declared.plain.Query.{Query}
 use Rattle.query_forms.specs.declared.plain.QueryFault.{QueryFault}
 use Rattle.query_forms.specs.declared.plain.QueryFault.TheVariants as fault
-use Rattle.query_lang.specs.declared.part.Part.{Part}
 use Rattle.query_forms.specs.declared.form.Form.{Form}
 use Rattle.query_forms.specs.Form.{form_of}
 use Rattle.query_forms.specs.Given.{and_then, refusal}
@@ -37,23 +36,24 @@ within most query =
     if length query.units.items == 0 then Err (refusal code.F13 [])
     else (if nat_lt most (cells_of query) then Err (refusal code.F16 (decimal (cells_of query))) else Ok query)
 
-abbrev pub assembled : Records → ℕ → Form → List Dx → List Part → Query
-assembled r user form dx parts = record {
+abbrev pub assembled : Form → List Dx → List ℕ → Query
+assembled form dx units = record {
   dx = dx;
   periods = form.periods;
-  units = record { items = units_of r user parts; filter = form.units.filter };
+  units = record { items = units; filter = form.units.filter };
   meta = form.meta;
 }
 
-abbrev pub built_within : Records → ℕ → ℕ → Form → List Dx → List Part → Result Query Refusal
-built_within r user cells form dx parts = unless_there code.F9 (first_unbuilt r dx) (within cells (assembled r user form dx parts))
+-- what the items of a form name, and the units that they choose: the first refusal of an item, or the first item that isn't computed yet
+unfoldable pub named_in : Records → ℕ → Form → Result (List Dx × List ℕ) Refusal
+named_in r user form =
+    and_then (each_of (dx_of r user) form.dx) (λ dx.
+    and_then (each_of (part_of r user) form.units.items) (λ parts.
+    unless_there code.F9 (first_unbuilt r dx) (Ok (dx, units_of r user parts))))
 
 -- a query's form against metadata
 unfoldable pub query_from : Records → ℕ → ℕ → Form → Result Query Refusal
-query_from r user cells form =
-    and_then (each_of (dx_of r user) form.dx) (λ dx.
-    and_then (each_of (part_of r user) form.units.items) (λ parts.
-    built_within r user cells form dx parts))
+query_from r user cells form = and_then (named_in r user form) (λ found. within cells (assembled form found.0 found.1))
 
 -- the query of a text, for a user on a day, with at most so many cells, or the first refusal
 unfoldable pub query_of : Records → ℕ → ℤ → ℕ → List ℕ → Result Query Refusal

@@ -1,5 +1,5 @@
 //! The number of a query's cells.
-ghost use Rattle.std.specs.Prelude.{◌≡◌, ◌<◌, ◌^◌, IfSome, IfOk, decimal};
+ghost use Rattle.std.specs.Prelude.{◌≡◌, ◌<◌, ◌^◌, None, Ok, Err, IfSome, IfOk, decimal};
 ghost use Rattle.query_forms.specs.Given.{Gives};
 ghost use Rattle.query_lang.specs.Query.{axis_count, cells_of, within};
 
@@ -34,20 +34,36 @@ fn decimal(alloc: Global, number: u128) -> Result<Vec<u8>, Memory>
     Ok(format!(in alloc; "{number}")?.into_bytes())
 }
 
-/// A query with units and at most so many cells.
+// Why the query is refused, if it has no units or too many cells.
 #[tactic(auto, unfolding(crate::specs::Query::within))]
+fn excess(alloc: Global, query: &Query, most: u64) -> Option<TextFault>
+    ensures none { result ≡ None → within most query.now ≡ Ok query.now }
+    ensures some { IfSome result (λ fault. Gives (within most query.now) (Err fault)) }
+{
+    if query.units.items.len() == 0 {
+        return Some(refused(alloc, Code::F13, b""));
+    }
+    let Some(count) = cells_of(query) else {
+        return Some(TextFault::Memory);
+    };
+    if u128::from(most) < count {
+        let Ok(text) = decimal(alloc, count) else {
+            return Some(TextFault::Memory);
+        };
+        return Some(refused(alloc, Code::F16, &text));
+    }
+    None
+}
+
+/// A query with units and at most so many cells.
 pub(crate) fn within(alloc: Global, query: Query, most: u64) -> Result<Query, TextFault>
     ensures { Gives (within most query) result }
 {
-    if query.units.items.len() == 0 {
-        return Err(refused(alloc, Code::F13, b""));
+    match excess(alloc, &query, most) {
+        None => Ok(query),
+        Some(fault) => {
+            drop(query);
+            Err(fault)
+        }
     }
-    let Some(count) = cells_of(&query) else {
-        return Err(TextFault::Memory);
-    };
-    if u128::from(most) < count {
-        let text = decimal(alloc, count)?;
-        return Err(refused(alloc, Code::F16, &text));
-    }
-    Ok(query)
 }

@@ -80,45 +80,47 @@ fn fits_group(grouped: bool, members: &[u32], seen: &HashSet<u32>, unit: u32) ->
     !grouped || seen.contains(&unit)
 }
 
+/// Which units are left: those under a bound, at a level if one is named, in a group if one is named.
+#[derive(Clone, Copy)]
+struct Narrowing<'a> {
+    bounds: &'a [u32],
+    levels: &'a [u8],
+    /// Whether a group is named.
+    grouped: bool,
+    members: &'a [u32],
+}
+
 #[tactic(auto, unfolding(crate::specs::Choice::is_chosen))]
 fn is_chosen(
     tree: &Tree,
-    bounds: &[u32],
+    narrowing: &Narrowing<'_>,
     ranges: &ViewRanges,
-    levels: &[u8],
-    grouped: bool,
-    members: &[u32],
     seen: &HashSet<u32>,
     unit: u32,
 ) -> bool
-    requires covers { Covers tree.now bounds.now ranges.now }
-    requires seen { Knows seen.now members.now }
+    requires covers { Covers tree.now narrowing.now.bounds.now ranges.now }
+    requires seen { Knows seen.now narrowing.now.members.now }
     requires unit { unit < length tree.now }
-    ensures { result ≡ is_chosen tree.now bounds.now levels.now grouped members.now unit }
+    ensures { result ≡ is_chosen tree.now narrowing.now.bounds.now narrowing.now.levels.now narrowing.now.grouped narrowing.now.members.now unit }
 {
-    is_covered(tree, ranges, bounds, unit)
-        && fits_level(tree, levels, unit)
-        && fits_group(grouped, members, seen, unit)
+    is_covered(tree, ranges, narrowing.bounds, unit)
+        && fits_level(tree, narrowing.levels, unit)
+        && fits_group(narrowing.grouped, narrowing.members, seen, unit)
 }
 
 #[tactic(auto, unfolding(crate::specs::Walk::walk_of))]
-fn chosen_among(
-    alloc: Global,
-    tree: &Tree,
-    bounds: &[u32],
-    levels: &[u8],
-    grouped: bool,
-    members: &[u32],
-) -> Result<Vec<u32>, Memory>
-    requires { AreIn (length tree.now) bounds.now }
-    ensures { IfOk result (λ units. units.items ≡ filter (is_chosen tree.now bounds.now levels.now grouped members.now) (walk_of tree.now)) }
+fn chosen_among(alloc: Global, tree: &Tree, narrowing: &Narrowing<'_>) -> Result<Vec<u32>, Memory>
+    requires { AreIn (length tree.now) narrowing.now.bounds.now }
+    ensures { IfOk result (λ units. units.items ≡ filter
+        (is_chosen tree.now narrowing.now.bounds.now narrowing.now.levels.now narrowing.now.grouped narrowing.now.members.now)
+        (walk_of tree.now)) }
 {
-    let ranges = ranges_under(alloc, tree, bounds)?;
-    let seen = set_of(alloc, members)?;
+    let ranges = ranges_under(alloc, tree, narrowing.bounds)?;
+    let seen = set_of(alloc, narrowing.members)?;
     let mut found = Vec::new(alloc);
     for order in 0..tree.count() {
         let unit = tree.unit_at(order);
-        let passes = is_chosen(tree, bounds, &ranges, levels, grouped, members, &seen, unit);
+        let passes = is_chosen(tree, narrowing, &ranges, &seen, unit);
         push_if(&mut found, unit, passes)?;
     }
     Ok(found)
@@ -137,7 +139,13 @@ fn narrowed_units(
 {
     let bounds = bounds_of(alloc, tree, views, parts)?;
     let levels = levels_of(alloc, parts)?;
-    chosen_among(alloc, tree, &bounds, &levels, names_group(parts), members)
+    let narrowing = Narrowing {
+        bounds: &bounds,
+        levels: &levels,
+        grouped: names_group(parts),
+        members,
+    };
+    chosen_among(alloc, tree, &narrowing)
 }
 
 /// The units of a query, where the groups that it names have these members.

@@ -4,7 +4,8 @@ ghost use Rattle.dh_metadata.specs.Linked.{IsBelow};
 ghost use Rattle.dh_metadata.specs.Objects.{count_of, is_shared};
 ghost use Rattle.query_forms.specs.Given.{Gives};
 ghost use Rattle.query_lang.specs.Each.{each_of};
-ghost use Rattle.query_lang.specs.Named.{readable, alone, object_named, is_combo_of, combo_named, operand_named, named, is_enrollment_type, is_enrollment, is_over_enrollments, dx_of};
+ghost use Rattle.query_lang.specs.Named.{readable, alone, object_named, is_combo_of, combo_named, operand_named, named, is_enrollment_type, is_enrollment};
+ghost use Rattle.query_lang.specs.Named.{is_over_enrollments, dx_of};
 
 use dh_base::codes::Code;
 use dh_base::items::Items;

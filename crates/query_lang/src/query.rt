@@ -2,7 +2,9 @@
 ghost use Rattle.std.specs.Prelude.{◌≡◌, ◌<◌, length, pos, neg_ℤ, ◌≤ℤ◌, MatchResult, IfOk, Ok, Err};
 ghost use Rattle.query_lang.specs.Askable.{IsAskable};
 ghost use Rattle.query_forms.specs.Given.{Gives};
-ghost use Rattle.query_lang.specs.Query.{built_within, query_from, query_of, IsFaultOf};
+ghost use Rattle.query_lang.specs.Each.{each_of};
+ghost use Rattle.query_lang.specs.Units.{part_of};
+ghost use Rattle.query_lang.specs.Query.{named_in, assembled, query_from, query_of, IsFaultOf};
 
 use crate::cells::within;
 use crate::named::each_dx;
@@ -14,36 +16,57 @@ use dh_base::items::Items;
 use dh_metadata::metadata::Metadata;
 use query_forms::fault::{TextFault, refused};
 use query_forms::form::Form;
+use query_forms::item::UnitItem;
 use query_forms::text::form_of;
 use query_forms::{Axis, Dx, Query, QueryFault};
 use std::alloc::Global;
 
-fn built_within(
+fn parts_of(
     alloc: Global,
     meta: &Metadata,
     user: u32,
-    cells: u64,
-    form: Form,
-    dx: Items<Dx>,
-    parts: &[Part],
-) -> Result<Query, TextFault>
+    items: &[UnitItem],
+) -> Result<Items<Part>, TextFault>
     requires { user < length meta.now.users }
-    ensures { Gives (built_within meta.now user cells form dx parts.now) result }
+    ensures { Gives (each_of (part_of meta.now user) items.now) result }
 {
+    let view = view_of(alloc, meta, user)?;
+    each_part(alloc, meta, user, &view, items)
+}
+
+// What the items of a form name, and the units that they choose. The form is only lent: it isn't held
+// here while something is refused.
+#[tactic(auto, unfolding(crate::specs::Query::named_in))]
+fn named_in(
+    alloc: Global,
+    meta: &Metadata,
+    user: u32,
+    form: &Form,
+) -> Result<(Items<Dx>, Items<u32>), TextFault>
+    requires { user < length meta.now.users }
+    ensures { Gives (named_in meta.now user form.now) result }
+{
+    let dx = each_dx(alloc, meta, user, form.dx.as_slice())?;
+    let parts = parts_of(alloc, meta, user, form.units.items.as_slice())?;
     if let Some(text) = first_unbuilt(meta, dx.as_slice()) {
         return Err(refused(alloc, Code::F9, text));
     }
-    let items = units_of(alloc, meta, user, parts)?;
-    let query = Query {
+    let units = units_of(alloc, meta, user, parts.as_slice())?;
+    Ok((dx, units))
+}
+
+fn assembled(form: Form, dx: Items<Dx>, units: Items<u32>) -> Query
+    ensures { result ≡ assembled form dx units }
+{
+    Query {
         dx,
         periods: form.periods,
         units: Axis {
-            items,
+            items: units,
             filter: form.units.filter,
         },
         meta: form.meta,
-    };
-    within(alloc, query, cells)
+    }
 }
 
 #[tactic(auto, unfolding(crate::specs::Query::query_from))]
@@ -57,10 +80,8 @@ fn query_from(
     requires { user < length meta.now.users }
     ensures { Gives (query_from meta.now user cells form) result }
 {
-    let dx = each_dx(alloc, meta, user, form.dx.as_slice())?;
-    let view = view_of(alloc, meta, user)?;
-    let parts = each_part(alloc, meta, user, &view, form.units.items.as_slice())?;
-    built_within(alloc, meta, user, cells, form, dx, parts.as_slice())
+    let (dx, units) = named_in(alloc, meta, user, &form)?;
+    within(alloc, assembled(form, dx, units), cells)
 }
 
 #[tactic(auto, unfolding(crate::specs::Query::query_of))]

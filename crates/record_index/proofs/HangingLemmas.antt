@@ -1,5 +1,6 @@
 -- Identifiers that hang on another, found among those noted under it.
-use Rattle.std.proofs.Common.{◌≡◌, ◌∙◌, ◌+◌, ◌<◌, ℕ, Bool, true, false, cond, List, [], ◌∷◌, ◌++◌, ◌||◌, Option, Some, None, length, take, get_or, refl, sym, ap}
+use Rattle.std.proofs.Common.{◌≡◌, ◌∙◌, ◌+◌, ◌<◌, ℕ, Bool, true, false, cond, List, [], ◌∷◌, ◌++◌, ◌||◌, Option, Some, None, length, take, get_or, refl, sym}
+use Rattle.std.proofs.Common.{ap}
 use Rattle.std.proofs.lemmas.List.{take_more}
 use Rattle.std.specs.List.{filter, list_any, dedup, dedup_from}
 use Rattle.std.specs.HashMap.{HashMap}
@@ -31,10 +32,12 @@ any-dedup_from : (id : List ℕ) (y : List ℕ) (xs : List (List ℕ))
 any-dedup_from id y [] = refl
 any-dedup_from id y (x ∷ xs) =
     elim (same_id x y) as (λ b. same_id x y ≡ b
-    → list_any (λ other. same_id id other) (cond b (dedup_from same_id y xs) (y ∷ dedup_from same_id x xs)) ≡ (same_id id y || (same_id id x || list_any (λ other. same_id id other) xs))) [
+    → list_any (λ other. same_id id other) (cond b (dedup_from same_id y xs) (y ∷ dedup_from same_id x xs))
+    ≡ (same_id id y || (same_id id x || list_any (λ other. same_id id other) xs))) [
       | true ↦ λ same.
           let equal : x ≡ y = same_text x y (sym same) in
-          any-dedup_from id y xs ∙ either-again (same_id id y) _ ∙ ap (λ z. same_id id y || (same_id id z || list_any (λ other. same_id id other) xs)) (sym equal)
+          any-dedup_from id y xs ∙ either-again (same_id id y) _
+          ∙ ap (λ z. same_id id y || (same_id id z || list_any (λ other. same_id id other) xs)) (sym equal)
       | false ↦ λ apart. ap (λ r. same_id id y || r) (any-dedup_from id x xs)
     ] refl
 
@@ -49,7 +52,8 @@ pub any-filter : (test : List ℕ → Bool) (id : List ℕ) (xs : List (List ℕ
 any-filter test id [] = elim (test id) as (λ b. false ≡ cond b false false) [ true ↦ refl | false ↦ refl ]
 any-filter test id (x ∷ xs) =
     elim (same_id id x) as (λ b. same_id id x ≡ b
-    → list_any (λ other. same_id id other) (cond (test x) (x ∷ filter test xs) (filter test xs)) ≡ cond (test id) (b || list_any (λ other. same_id id other) xs) false) [
+    → list_any (λ other. same_id id other) (cond (test x) (x ∷ filter test xs) (filter test xs))
+    ≡ cond (test id) (b || list_any (λ other. same_id id other) xs) false) [
       | true ↦ λ same.
           let equal : id ≡ x = same_text id x (sym same) in
           ap (λ t. list_any (λ other. same_id id other) (cond t (x ∷ filter test xs) (filter test xs))) (sym (ap test equal))
@@ -59,7 +63,8 @@ any-filter test id (x ∷ xs) =
             | false ↦ λ fails. any-filter test id xs ∙ ap (λ t. cond t (list_any (λ other. same_id id other) xs) false) fails
           ] refl
       | false ↦ λ apart.
-          elim (test x) as (λ t. list_any (λ other. same_id id other) (cond t (x ∷ filter test xs) (filter test xs)) ≡ cond (test id) (list_any (λ other. same_id id other) xs) false) [
+          elim (test x) as (λ t. list_any (λ other. same_id id other) (cond t (x ∷ filter test xs) (filter test xs))
+          ≡ cond (test id) (list_any (λ other. same_id id other) xs) false) [
             | true ↦ ap (λ b. b || list_any (λ other. same_id id other) (filter test xs)) apart ∙ any-filter test id xs
             | false ↦ any-filter test id xs
           ]

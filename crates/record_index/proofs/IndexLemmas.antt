@@ -54,7 +54,8 @@ linked-stays old new stays (Some parent) child linked = stays parent child linke
 
 pub ready-stays : (old new : Index) → Keeps old new → (s : Said) → IsReady old s → IsReady new s
 ready-stays old new keeps (said.Value key value) ready = keeps.values key ready
-ready-stays old new keeps (said.Event id event) ready = (keeps.events id ready.0, linked-stays old.events_of new.events_of keeps.events_of (event_parent event) id ready.1)
+ready-stays old new keeps (said.Event id event) ready =
+    (keeps.events id ready.0, linked-stays old.events_of new.events_of keeps.events_of (event_parent event) id ready.1)
 ready-stays old new keeps (said.Enrollment id enrollment) ready =
     (keeps.enrollments id ready.0, linked-stays old.enrollments_of new.enrollments_of keeps.enrollments_of (enrollment_parent enrollment) id ready.1)
 ready-stays old new keeps (said.Entity id entity) ready = keeps.entities id ready
@@ -76,7 +77,8 @@ linked-same old new keeps same linked = record {
   events = λ id. ap (λ e. is_linked new.events_of (event_parent e) id) (same.event id)
       ∙ linked-stays old.events_of new.events_of keeps.events_of (event_parent (event_held (contents old) id)) id (linked.events id);
   enrollments = λ id. ap (λ e. is_linked new.enrollments_of (enrollment_parent e) id) (same.enrollment id)
-      ∙ linked-stays old.enrollments_of new.enrollments_of keeps.enrollments_of (enrollment_parent (enrollment_held (contents old) id)) id (linked.enrollments id);
+      ∙ linked-stays old.enrollments_of new.enrollments_of keeps.enrollments_of (enrollment_parent (enrollment_held (contents old) id)) id
+      (linked.enrollments id);
 }
 
 -- ---- one thing is put
@@ -98,14 +100,15 @@ after-put old (said.Event id event) new puts = subst (λ i. IsAfter (contents ol
   approval = λ q. refl;
   registration = λ q. refl;
 })
-after-put old (said.Enrollment id enrollment) new puts = subst (λ i. IsAfter (contents old) (said.Enrollment id enrollment ∷ []) (contents i)) (sym puts.1) (record {
-  value = λ q. refl;
-  event = λ q. refl;
-  enrollment = held-put same_id None (get same_id old.enrollments) (get same_id new.enrollments) id enrollment puts.0.0;
-  entity = λ q. refl;
-  approval = λ q. refl;
-  registration = λ q. refl;
-})
+after-put old (said.Enrollment id enrollment) new puts =
+    subst (λ i. IsAfter (contents old) (said.Enrollment id enrollment ∷ []) (contents i)) (sym puts.1) (record {
+      value = λ q. refl;
+      event = λ q. refl;
+      enrollment = held-put same_id None (get same_id old.enrollments) (get same_id new.enrollments) id enrollment puts.0.0;
+      entity = λ q. refl;
+      approval = λ q. refl;
+      registration = λ q. refl;
+    })
 after-put old (said.Entity id entity) new puts = subst (λ i. IsAfter (contents old) (said.Entity id entity ∷ []) (contents i)) (sym puts.1) (record {
   value = λ q. refl;
   event = λ q. refl;
@@ -208,34 +211,52 @@ linked-one links old new id value update noted linked q =
 pub linked-put : (old : Index) (s : Said) (new : Index) → Puts old s new → IsReady old s → IsLinked old → IsLinked new
 linked-put old (said.Value key value) new puts ready linked = subst IsLinked (sym puts.1) (record { events = linked.events; enrollments = linked.enrollments })
 linked-put old (said.Event id event) new puts ready linked = subst IsLinked (sym puts.1) (record {
-  events = linked-one (λ e q. is_linked old.events_of (event_parent e) q) (event_held (contents old)) (event_held (contents (record old { events = new.events }))) id event
+  events =
+      linked-one (λ e q. is_linked old.events_of (event_parent e) q) (event_held (contents old)) (event_held (contents (record old { events = new.events }))) id
+      event
       (held-put same_id None (get same_id old.events) (get same_id new.events) id event puts.0.0) ready.1 linked.events;
   enrollments = linked.enrollments;
 })
 linked-put old (said.Enrollment id enrollment) new puts ready linked = subst IsLinked (sym puts.1) (record {
   events = linked.events;
-  enrollments = linked-one (λ e q. is_linked old.enrollments_of (enrollment_parent e) q) (enrollment_held (contents old)) (enrollment_held (contents (record old { enrollments = new.enrollments }))) id enrollment
+  enrollments =
+      linked-one (λ e q. is_linked old.enrollments_of (enrollment_parent e) q) (enrollment_held (contents old))
+      (enrollment_held (contents (record old { enrollments = new.enrollments }))) id enrollment
       (held-put same_id None (get same_id old.enrollments) (get same_id new.enrollments) id enrollment puts.0.0) ready.1 linked.enrollments;
 })
 linked-put old (said.Entity id entity) new puts ready linked = subst IsLinked (sym puts.1) (record { events = linked.events; enrollments = linked.enrollments })
 linked-put old (said.Approval key now) new puts ready linked = subst IsLinked (sym puts.1) (record { events = linked.events; enrollments = linked.enrollments })
-linked-put old (said.Registration key day) new puts ready linked = subst IsLinked (sym puts.1) (record { events = linked.events; enrollments = linked.enrollments })
+linked-put old (said.Registration key day) new puts ready linked =
+    subst IsLinked (sym puts.1) (record { events = linked.events; enrollments = linked.enrollments })
 
 -- ---- one thing less is to be said
 
-step : {V : Type 0} (rest one : Option V) (before after : V) (last : V) → after ≡ unwrap_or one before → unwrap_or (option_or rest one) before ≡ last → unwrap_or rest after ≡ last
+step : {V : Type 0} (rest one : Option V) (before after : V) (last : V) → after ≡ unwrap_or one before → unwrap_or (option_or rest one) before ≡ last
+    → unwrap_or rest after ≡ last
 step (Some v) one before after last put is = is
 step None one before after last put is = put ∙ is
 
 pub same-step : (old new : Held) (s : Said) (rest : List Said) (right : Held) (others : List Said)
     → IsAfter old (s ∷ []) new → HoldSame old (s ∷ rest) right others → HoldSame new rest right others
 same-step old new s rest right others after same = record {
-  value = λ q. step (last_said (of_value q) rest) (of_value q s) (value_held old q) (value_held new q) (unwrap_or (last_said (of_value q) others) (value_held right q)) (after.value q) (same.value q);
-  event = λ q. step (last_said (of_event q) rest) (of_event q s) (event_held old q) (event_held new q) (unwrap_or (last_said (of_event q) others) (event_held right q)) (after.event q) (same.event q);
-  enrollment = λ q. step (last_said (of_enrollment q) rest) (of_enrollment q s) (enrollment_held old q) (enrollment_held new q) (unwrap_or (last_said (of_enrollment q) others) (enrollment_held right q)) (after.enrollment q) (same.enrollment q);
-  entity = λ q. step (last_said (of_entity q) rest) (of_entity q s) (entity_held old q) (entity_held new q) (unwrap_or (last_said (of_entity q) others) (entity_held right q)) (after.entity q) (same.entity q);
-  approval = λ q. step (last_said (of_approval q) rest) (of_approval q s) (approval_held old q) (approval_held new q) (unwrap_or (last_said (of_approval q) others) (approval_held right q)) (after.approval q) (same.approval q);
-  registration = λ q. step (last_said (of_registration q) rest) (of_registration q s) (registration_held old q) (registration_held new q) (unwrap_or (last_said (of_registration q) others) (registration_held right q)) (after.registration q) (same.registration q);
+  value =
+      λ q. step (last_said (of_value q) rest) (of_value q s) (value_held old q) (value_held new q)
+      (unwrap_or (last_said (of_value q) others) (value_held right q)) (after.value q) (same.value q);
+  event =
+      λ q. step (last_said (of_event q) rest) (of_event q s) (event_held old q) (event_held new q)
+      (unwrap_or (last_said (of_event q) others) (event_held right q)) (after.event q) (same.event q);
+  enrollment =
+      λ q. step (last_said (of_enrollment q) rest) (of_enrollment q s) (enrollment_held old q) (enrollment_held new q)
+      (unwrap_or (last_said (of_enrollment q) others) (enrollment_held right q)) (after.enrollment q) (same.enrollment q);
+  entity =
+      λ q. step (last_said (of_entity q) rest) (of_entity q s) (entity_held old q) (entity_held new q)
+      (unwrap_or (last_said (of_entity q) others) (entity_held right q)) (after.entity q) (same.entity q);
+  approval =
+      λ q. step (last_said (of_approval q) rest) (of_approval q s) (approval_held old q) (approval_held new q)
+      (unwrap_or (last_said (of_approval q) others) (approval_held right q)) (after.approval q) (same.approval q);
+  registration =
+      λ q. step (last_said (of_registration q) rest) (of_registration q s) (registration_held old q) (registration_held new q)
+      (unwrap_or (last_said (of_registration q) others) (registration_held right q)) (after.registration q) (same.registration q);
 }
 
 pub same-itself : (i : Held) (xs : List Said) → HoldSame i xs i xs
@@ -248,7 +269,8 @@ same-itself i xs = record {
   registration = λ q. refl;
 }
 
-pub same-through : (a : Held) (xs : List Said) (b : Held) (ys : List Said) (c : Held) (zs : List Said) → HoldSame a xs b ys → HoldSame b ys c zs → HoldSame a xs c zs
+pub same-through : (a : Held) (xs : List Said) (b : Held) (ys : List Said) (c : Held) (zs : List Said) → HoldSame a xs b ys → HoldSame b ys c zs
+    → HoldSame a xs c zs
 same-through a xs b ys c zs one two = record {
   value = λ q. one.value q ∙ two.value q;
   event = λ q. one.event q ∙ two.event q;
@@ -270,7 +292,8 @@ pub turn : (old : Index) (waiting rest : List Said) (s : Said) (new : Index) (ri
 turn old waiting rest s new right others is puts same linked ready =
     let first : reverse waiting ≡ s ∷ reverse rest = popped waiting rest s is in
     let all : AllReady old (s ∷ reverse rest) = subst (AllReady old) first ready in (
-      same-step (contents old) (contents new) s (reverse rest) right others (after-put old s new puts) (subst (λ xs. HoldSame (contents old) xs right others) first same),
+      same-step (contents old) (contents new) s (reverse rest) right others (after-put old s new puts)
+          (subst (λ xs. HoldSame (contents old) xs right others) first same),
       linked-put old s new puts all.0 linked,
       all_ready-stays old new (keeps-put old s new puts) (reverse rest) all.1,
     )

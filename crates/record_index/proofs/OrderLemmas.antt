@@ -33,7 +33,8 @@ below-list : (x : List ℕ) (ids : List (List ℕ)) → AllByRecursion (λ y. by
 below-list x [] above = tt
 below-list x (y ∷ ys) above = both _ _ (subst (λ r. T (is_lt r)) (sym above.0) tt) (below-list x ys above.1)
 
-below-marked : (x : List ℕ) (ids : List (List ℕ)) → AllByRecursion (λ y. by_bytes x y ≡ Less) ids → T (finite.is_sorted by_bytes (marked ids)) → T (finite.is_sorted by_bytes (marked (x ∷ ids)))
+below-marked : (x : List ℕ) (ids : List (List ℕ)) → AllByRecursion (λ y. by_bytes x y ≡ Less) ids → T (finite.is_sorted by_bytes (marked ids))
+    → T (finite.is_sorted by_bytes (marked (x ∷ ids)))
 below-marked x ids above rest = both _ _ (below-list x ids above) rest
 
 sorted-marked : (ids : List (List ℕ)) → IsStrictlySortedBy by_bytes ids → T (finite.is_sorted by_bytes (marked ids))
@@ -68,10 +69,12 @@ in_order-is xs ids sorted same =
     (λ q. finite.get-from_sorted by_bytes (marked xs) q up ∙ find-marked q xs ∙ ap (λ b. cond b (Some tt) None) (same q) ∙ sym (get-marked ids q)))
 
 -- two lists with the same identifiers have the same ascending list
-pub in_order-same : (xs ids : List (List ℕ)) → ((id : List ℕ) → list_any (λ other. same_id id other) xs ≡ list_any (λ other. same_id id other) ids) → in_order xs ≡ in_order ids
+pub in_order-same : (xs ids : List (List ℕ)) → ((id : List ℕ) → list_any (λ other. same_id id other) xs ≡ list_any (λ other. same_id id other) ids)
+    → in_order xs ≡ in_order ids
 unfolding in_order
 in_order-same xs ids same =
-    ap finite.keys (finite.same_map nat_list_cmp_total antisymmetric (finite.from_entries {R = by_bytes} (marked xs)) (finite.from_entries {R = by_bytes} (marked ids))
+    ap finite.keys (finite.same_map nat_list_cmp_total antisymmetric (finite.from_entries {R = by_bytes} (marked xs))
+    (finite.from_entries {R = by_bytes} (marked ids))
     (λ q. get-marked xs q ∙ ap (λ b. cond b (Some tt) None) (same q) ∙ sym (get-marked ids q)))
 
 -- each identifier that hangs on the parent is in the list
@@ -105,7 +108,8 @@ hanging-same f g ids others parent alike left right =
 pub covers-entries : {V : Type 0} (parent_of : Option V → Option (List ℕ)) → parent_of None ≡ None → (es : List (List ℕ × Option V)) (parent : List ℕ)
     → Covers (λ id. parent_of (unwrap_or (lookup (same_id id) es) None)) parent (keys_of es)
 covers-entries parent_of none es parent id hangs =
-    elim (lookup (same_id id) es) as (λ o. lookup (same_id id) es ≡ o → hangs_on (parent_of (unwrap_or o None)) parent ≡ true → list_any (λ other. same_id id other) (keys_of es) ≡ true) [
+    elim (lookup (same_id id) es) as (λ o. lookup (same_id id) es ≡ o → hangs_on (parent_of (unwrap_or o None)) parent ≡ true
+    → list_any (λ other. same_id id other) (keys_of es) ≡ true) [
       | Some v ↦ λ is held. sym (is_some-lookup (same_id id) es) ∙ ap is_some is
       | None ↦ λ is held. absurd (let no : hangs_on (parent_of None) parent ≡ false = ap (λ p. hangs_on p parent) none in cc)
     ] refl hangs
@@ -127,11 +131,13 @@ named-said of named id one (s ∷ more) =
     ∙ sym (list_any-append (λ other. same_id id other) (option_to_list (named s)) (all_named named more))
 
 -- what was written is named
-pub covers-named : {V : Type 0} (parent_of : Option V → Option (List ℕ)) → parent_of None ≡ None → (of : List ℕ → Said → Option (Option V)) (named : Said → Option (List ℕ))
+pub covers-named : {V : Type 0} (parent_of : Option V → Option (List ℕ)) → parent_of None ≡ None
+    → (of : List ℕ → Said → Option (Option V)) (named : Said → Option (List ℕ))
     → ((id : List ℕ) (s : Said) → is_some (of id s) ≡ list_any (λ other. same_id id other) (option_to_list (named s)))
     → (xs : List Said) (parent : List ℕ) → Covers (λ id. parent_of (unwrap_or (last_said (of id) xs) None)) parent (all_named named xs)
 covers-named parent_of none of named one xs parent id hangs =
-    elim (last_said (of id) xs) as (λ o. last_said (of id) xs ≡ o → hangs_on (parent_of (unwrap_or o None)) parent ≡ true → list_any (λ other. same_id id other) (all_named named xs) ≡ true) [
+    elim (last_said (of id) xs) as (λ o. last_said (of id) xs ≡ o → hangs_on (parent_of (unwrap_or o None)) parent ≡ true
+    → list_any (λ other. same_id id other) (all_named named xs) ≡ true) [
       | Some v ↦ λ is held. sym (named-said (of id) named id (one id) xs) ∙ ap is_some is
       | None ↦ λ is held. absurd (let no : hangs_on (parent_of None) parent ≡ false = ap (λ p. hangs_on p parent) none in cc)
     ] refl hangs

@@ -64,12 +64,18 @@ registration_held held key = unwrap_or (lookup (same_reg_key key) held.registrat
 
 -- each key holds the same on the left, once `more` is said, as on the right, once `others` are said
 pub record HoldSame (left : Held) (more : List Said) (right : Held) (others : List Said) : Type 0 where
-  pub value : (key : ValueKey) → unwrap_or (last_said (of_value key) more) (value_held left key) ≡ unwrap_or (last_said (of_value key) others) (value_held right key)
+  pub value : (key : ValueKey)
+      → unwrap_or (last_said (of_value key) more) (value_held left key) ≡ unwrap_or (last_said (of_value key) others) (value_held right key)
   pub event : (id : List ℕ) → unwrap_or (last_said (of_event id) more) (event_held left id) ≡ unwrap_or (last_said (of_event id) others) (event_held right id)
-  pub enrollment : (id : List ℕ) → unwrap_or (last_said (of_enrollment id) more) (enrollment_held left id) ≡ unwrap_or (last_said (of_enrollment id) others) (enrollment_held right id)
-  pub entity : (id : List ℕ) → unwrap_or (last_said (of_entity id) more) (entity_held left id) ≡ unwrap_or (last_said (of_entity id) others) (entity_held right id)
-  pub approval : (key : ApprovalKey) → unwrap_or (last_said (of_approval key) more) (approval_held left key) ≡ unwrap_or (last_said (of_approval key) others) (approval_held right key)
-  pub registration : (key : RegKey) → unwrap_or (last_said (of_registration key) more) (registration_held left key) ≡ unwrap_or (last_said (of_registration key) others) (registration_held right key)
+  pub enrollment : (id : List ℕ)
+      → unwrap_or (last_said (of_enrollment id) more) (enrollment_held left id) ≡ unwrap_or (last_said (of_enrollment id) others) (enrollment_held right id)
+  pub entity : (id : List ℕ)
+      → unwrap_or (last_said (of_entity id) more) (entity_held left id) ≡ unwrap_or (last_said (of_entity id) others) (entity_held right id)
+  pub approval : (key : ApprovalKey)
+      → unwrap_or (last_said (of_approval key) more) (approval_held left key) ≡ unwrap_or (last_said (of_approval key) others) (approval_held right key)
+  pub registration : (key : RegKey)
+      → unwrap_or (last_said (of_registration key) more) (registration_held left key)
+      ≡ unwrap_or (last_said (of_registration key) others) (registration_held right key)
 
 -- each key holds what the last said of it is, else what it held before
 abbrev pub IsAfter : Held → List Said → Held → Type 0

@@ -28,7 +28,8 @@ pub record IsLinked (index : Index) : Type 0 where
 abbrev pub IsReady : Index → Said → Type 0
 IsReady index (said.Value key value) = is_some (get same_value_key index.values key) ≡ true
 IsReady index (said.Event id event) = (is_some (get same_id index.events id) ≡ true) × (is_linked index.events_of (event_parent event) id ≡ true)
-IsReady index (said.Enrollment id enrollment) = (is_some (get same_id index.enrollments id) ≡ true) × (is_linked index.enrollments_of (enrollment_parent enrollment) id ≡ true)
+IsReady index (said.Enrollment id enrollment) =
+    (is_some (get same_id index.enrollments id) ≡ true) × (is_linked index.enrollments_of (enrollment_parent enrollment) id ≡ true)
 IsReady index (said.Entity id entity) = is_some (get same_id index.entities id) ≡ true
 IsReady index (said.Approval key now) = is_some (get same_approval_key index.approvals key) ≡ true
 IsReady index (said.Registration key day) = is_some (get same_reg_key index.registrations key) ≡ true
@@ -52,7 +53,9 @@ pub record Keeps (old new : Index) : Type 0 where
 abbrev pub Puts : Index → Said → Index → Type 0
 Puts old (said.Value key value) new = Updates same_value_key old.values new.values key (Some value) × (new ≡ record old { values = new.values })
 Puts old (said.Event id event) new = Updates same_id old.events new.events id (Some event) × (new ≡ record old { events = new.events })
-Puts old (said.Enrollment id enrollment) new = Updates same_id old.enrollments new.enrollments id (Some enrollment) × (new ≡ record old { enrollments = new.enrollments })
+Puts old (said.Enrollment id enrollment) new =
+    Updates same_id old.enrollments new.enrollments id (Some enrollment) × (new ≡ record old { enrollments = new.enrollments })
 Puts old (said.Entity id entity) new = Updates same_id old.entities new.entities id (Some entity) × (new ≡ record old { entities = new.entities })
 Puts old (said.Approval key now) new = Updates same_approval_key old.approvals new.approvals key (Some now) × (new ≡ record old { approvals = new.approvals })
-Puts old (said.Registration key day) new = Updates same_reg_key old.registrations new.registrations key (Some day) × (new ≡ record old { registrations = new.registrations })
+Puts old (said.Registration key day) new =
+    Updates same_reg_key old.registrations new.registrations key (Some day) × (new ≡ record old { registrations = new.registrations })

@@ -11,7 +11,8 @@ held eq nothing map key = unwrap_or (get eq map key) nothing
 
 -- each key holds what it held, and is there if it was there
 abbrev pub Grows : {K V S : Type 0} → (K → K → Bool) → V → HashMap K V S → HashMap K V S → Type 0
-Grows {K} eq nothing old new = ((key : K) → held eq nothing new key ≡ held eq nothing old key) × ((key : K) → is_some (get eq old key) ≡ true → is_some (get eq new key) ≡ true)
+Grows {K} eq nothing old new =
+    ((key : K) → held eq nothing new key ≡ held eq nothing old key) × ((key : K) → is_some (get eq old key) ≡ true → is_some (get eq new key) ≡ true)
 
 -- the identifier is noted as a child of the parent
 abbrev pub is_noted : {S : Type 0} → HashMap (List ℕ) (List (List ℕ)) S → List ℕ → List ℕ → Bool

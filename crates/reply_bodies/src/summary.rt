@@ -3,7 +3,8 @@ ghost use Rattle.serde_json.specs.Data.{Data, array};
 ghost use Rattle.serde_json.specs.View.{view, items_of};
 ghost use Rattle.http.specs.StatusCode.{IsStatusCode};
 ghost use Rattle.reply_bodies.specs.Bodies.{reply_of};
-ghost use Rattle.reply_bodies.specs.Summary.{conflict_of, counts_of, response_of, summary_of, summary_status_of, is_clean, word_within, word_of, summary_response, summary_text};
+ghost use Rattle.reply_bodies.specs.Summary.{conflict_of, counts_of, response_of, summary_of, summary_status_of, is_clean, word_within, word_of};
+ghost use Rattle.reply_bodies.specs.Summary.{summary_response, summary_text};
 
 use crate::members::{with_number, with_text, with_value};
 use crate::phrase::phrase;

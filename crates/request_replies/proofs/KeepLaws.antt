@@ -16,6 +16,7 @@ use Rattle.change_requests.specs.Requests.{Asked}
 use Rattle.engine.specs.Machine.{State, Step, by_kind, staged_of, has_ticket, kind_by, kind_of}
 use Rattle.engine.specs.Machine.Act.{changed, begun}
 use Rattle.engine.specs.Seen.{Seen, Brought}
+use Rattle.engine.specs.MetaAfter.{published_meta}
 use Rattle.engine.specs.declared.machine.Staged.{Staged}
 use Rattle.engine.specs.declared.machine.Report.{Report}
 use Rattle.engine.specs.declared.machine.ChangeFault.{ChangeFault}
@@ -41,7 +42,8 @@ same-keeps old new made is = record {
 }
 
 change-keeps : (old new : Seen) (asked : Asked) (keep : Bool) (made : Option (List ℕ)) (found : Result Report ChangeFault)
-    → Step old.meta old.limits old.state (changed asked found) new.state → Brought old found new → IfOk found (λ report. made ≡ Some (report_reply keep report)) → Keeps old made new
+    → Step old.meta old.limits old.state (changed asked found) new.state → Brought old found new → IfOk found (λ report. made ≡ Some (report_reply keep report))
+    → Keeps old made new
 change-keeps old new asked keep made (Ok report) step brought sure = record {
   meta = ap (λ (s : Seen). s.meta) brought.0;
   limits = ap (λ (s : Seen). s.limits) brought.0;
@@ -62,7 +64,8 @@ change-keeps old new asked keep made (Err change.StoreFault) step brought sure =
 }
 change-keeps old new asked keep made (Err change.Memory) step brought sure = same-keeps old new made brought
 
-refused-cut : (meta : Records) (limits : Limits) (old between : State) (kind : CutKind) (fault : CutFault) → Step meta limits old (begun kind (Err fault)) between → between ≡ old
+refused-cut : (meta : Records) (limits : Limits) (old between : State) (kind : CutKind) (fault : CutFault)
+    → Step meta limits old (begun kind (Err fault)) between → between ≡ old
 refused-cut meta limits old between kind (cut.Busy ticket) step = step.1
 refused-cut meta limits old between kind (cut.UpdatesSpent limit) step = step.1
 refused-cut meta limits old between kind cut.Memory step = step
@@ -73,7 +76,8 @@ ended-by : (kind : CutKind) (full latest : Option Staged) → by_kind kind lates
 ended-by Full full latest is = (refl, is)
 ended-by Latest full latest is = (is, refl)
 
-other-is : (meta : Records) (limits : Limits) (old between : State) (kind : CutKind) (update : Staged) → Step meta limits old (begun kind (Ok update)) between → IsFree old
+other-is : (meta : Records) (limits : Limits) (old between : State) (kind : CutKind) (update : Staged) → Step meta limits old (begun kind (Ok update)) between
+    → IsFree old
     → by_kind kind between.latest between.full ≡ None
 other-is meta limits old between Full update step free = ap (λ (s : State). s.latest) step.1 ∙ free.1
 other-is meta limits old between Latest update step free = ap (λ (s : State). s.full) step.1 ∙ free.0
@@ -81,7 +85,8 @@ other-is meta limits old between Latest update step free = ap (λ (s : State). s
 same-ticket : (update : Staged) → has_ticket update.ticket (Some update) ≡ true
 same-ticket update = grind (arith, nat_tests)
 
-own-kind : (state : State) (kind : CutKind) (update : Staged) → staged_of state kind ≡ Some update → by_kind kind state.latest state.full ≡ None → kind_of state update.ticket ≡ kind
+own-kind : (state : State) (kind : CutKind) (update : Staged) → staged_of state kind ≡ Some update → by_kind kind state.latest state.full ≡ None
+    → kind_of state update.ticket ≡ kind
 own-kind state Full update is none = ap (kind_by update.ticket) is ∙ ap (λ b. if b then Full else Latest) (same-ticket update)
 own-kind state Latest update is none = ap (kind_by update.ticket) none
 
@@ -93,18 +98,22 @@ ended-free state new kind update is none full latest =
       latest ∙ ap (λ x. by_kind x state.latest None) k ∙ ended.1,
     )
 
-ends-free : (meta : Records) (limits : Limits) (old between new : State) (kind : CutKind) (keep : Bool) (found : Result Staged CutFault) (made : Option (List ℕ))
+ends-free : (meta : Records) (limits : Limits) (old between new : State) (kind : CutKind) (keep : Bool) (found : Result Staged CutFault)
+    (made : Option (List ℕ))
     → Step meta limits old (begun kind found) between → Ends meta limits kind keep found between made new → IsFree old → IsFree new
 ends-free meta limits old between new kind keep (Ok update) (Some text) step ends free =
-    ended-free between new kind update ends.0 (other-is meta limits old between kind update step free) (ap (λ (s : State). s.full) ends.1.swaps.1) (ap (λ (s : State). s.latest) ends.1.swaps.1)
+    ended-free between new kind update ends.0 (other-is meta limits old between kind update step free) (ap (λ (s : State). s.full) ends.1.swaps.1)
+    (ap (λ (s : State). s.latest) ends.1.swaps.1)
 ends-free meta limits old between new kind keep (Ok update) None step ends free =
-    ended-free between new kind update ends.0 (other-is meta limits old between kind update step free) (ap (λ (s : State). s.full) ends.1.1) (ap (λ (s : State). s.latest) ends.1.1)
+    ended-free between new kind update ends.0 (other-is meta limits old between kind update step free) (ap (λ (s : State). s.full) ends.1.1)
+    (ap (λ (s : State). s.latest) ends.1.1)
 ends-free meta limits old between new kind keep (Err fault) made step ends free =
     let is = ends.0 ∙ refused-cut meta limits old between kind fault step in
     (ap (λ (s : State). s.full) is ∙ free.0, ap (λ (s : State). s.latest) is ∙ free.1)
 
 ends-stays : (meta : Records) (limits : Limits) (old between new : State) (kind : CutKind) (keep : Bool) (found : Result Staged CutFault)
-    → Step meta limits old (begun kind found) between → Ends meta limits kind keep found between None new → (new.log ≡ old.log) × (new.published ≡ old.published)
+    → Step meta limits old (begun kind found) between → Ends meta limits kind keep found between None new
+    → (new.log ≡ old.log) × (new.published ≡ old.published)
 ends-stays meta limits old between new kind keep (Ok update) step ends = (
   ap (λ (s : State). s.log) ends.1.1 ∙ ap (λ (s : State). s.log) step.1,
   ap (λ (s : State). s.published) ends.1.1 ∙ ap (λ (s : State). s.published) step.1,
@@ -115,7 +124,8 @@ ends-stays meta limits old between new kind keep (Err fault) step ends =
 
 update-stays : (old new : Seen) (kind : CutKind) (keep : Bool) (made : Option (List ℕ)) → OwnUpdateReply old kind keep made new → made ≡ None
     → (new.state.log ≡ old.state.log) × (new.state.published ≡ old.state.published)
-update-stays old new kind keep None u none = ends-stays old.meta old.limits old.state u.between new.state kind keep u.replies.found u.replies.begins u.replies.ends
+update-stays old new kind keep None u none =
+    ends-stays old.meta old.limits old.state u.between new.state kind keep u.replies.found u.replies.begins u.replies.ends
 update-stays old new kind keep (Some text) u none = absurd (cc)
 
 update-keeps : (old new : Seen) (kind : CutKind) (keep : Bool) (made : Option (List ℕ)) → OwnUpdateReply old kind keep made new → Keeps old made new
@@ -128,12 +138,14 @@ update-keeps old new kind keep made u = record {
   published = λ none. (update-stays old new kind keep made u none).1;
 }
 
-routed-keeps : (old new : Seen) (moment : ℤ) (meant : Result Call Refusal) (keep : Bool) (made : Option (List ℕ)) → RoutedReply old moment meant keep made new → Keeps old made new
+routed-keeps : (old new : Seen) (moment : ℤ) (meant : Result Call Refusal) (keep : Bool) (made : Option (List ℕ)) → RoutedReply old moment meant keep made new
+    → Keeps old made new
 routed-keeps old new moment (Err refused) keep made reply = same-keeps old new made reply.1
 routed-keeps old new moment (Ok (call.Query user asked query)) keep made reply = same-keeps old new made reply.1
 routed-keeps old new moment (Ok (call.Update kind)) keep made reply = update-keeps old new kind keep made reply
 routed-keeps old new moment (Ok (call.Values user set)) keep made reply = change-keeps old new _ keep made reply.found reply.steps reply.brought reply.sure
 routed-keeps old new moment (Ok (call.Completion user list)) keep made reply = change-keeps old new _ keep made reply.found reply.steps reply.brought reply.sure
 
-pub reply-keeps : (old new : Seen) (moment : ℤ) (request : Request) (keep : Bool) (made : Option (List ℕ)) → ReplyAt old moment request keep made new → Keeps old made new
-reply-keeps old new moment request keep made reply = routed-keeps old new moment (routed old.meta (day_of moment) request) keep made reply
+pub reply-keeps : (old new : Seen) (moment : ℤ) (request : Request) (keep : Bool) (made : Option (List ℕ)) → ReplyAt old moment request keep made new
+    → Keeps old made new
+reply-keeps old new moment request keep made reply = routed-keeps old new moment (routed (published_meta old) (day_of moment) request) keep made reply

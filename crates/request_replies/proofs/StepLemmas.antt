@@ -10,7 +10,8 @@ use Rattle.engine.specs.Seen.{Seen, IsSound}
 use Rattle.request_replies.specs.Texts.{told}
 use Rattle.request_replies.specs.Steps.{ReplyAt, MachineStep}
 
-pub step_told : {K C : Type 0} (count : K → ℕ) (shows : C → ℤ → Type 0) (clock : C) (old new : Seen) (moment : ℤ) (request : Request) (keep : Bool) (r : Result Reply Memory)
+pub step_told : {K C : Type 0} (count : K → ℕ) (shows : C → ℤ
+    → Type 0) (clock : C) (old new : Seen) (moment : ℤ) (request : Request) (keep : Bool) (r : Result Reply Memory)
     → shows clock moment → ReplyAt old moment request keep (told r) new → (IsSound old → IsSound new) → (NeverFails count → old.faults ≡ 0 → new.faults ≡ 0)
     → IfOk r (λ reply. MachineStep count shows clock clock old request keep (text_in reply) new)
 step_told count shows clock old new moment request keep (Ok reply) shown is sound sure = record {
@@ -21,7 +22,8 @@ step_told count shows clock old new moment request keep (Ok reply) shown is soun
 }
 step_told count shows clock old new moment request keep (Err e) shown is sound sure = tt
 
-pub step_wanting : {K C : Type 0} (count : K → ℕ) (shows : C → ℤ → Type 0) (clock : C) (old new : Seen) (moment : ℤ) (request : Request) (keep : Bool) (r : Result Reply Memory)
+pub step_wanting : {K C : Type 0} (count : K → ℕ) (shows : C → ℤ
+    → Type 0) (clock : C) (old new : Seen) (moment : ℤ) (request : Request) (keep : Bool) (r : Result Reply Memory)
     → shows clock moment → ReplyAt old moment request keep (told r) new → (IsSound old → IsSound new) → (NeverFails count → old.faults ≡ 0 → new.faults ≡ 0)
     → OnErr r (MachineStep count shows clock clock old request keep (memory_reply keep) new)
 step_wanting count shows clock old new moment request keep (Ok reply) shown is sound sure = tt

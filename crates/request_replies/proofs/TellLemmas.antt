@@ -1,20 +1,22 @@
 -- What is told, by what a call answered.
 use Rattle.std.proofs.Common.{◌≡◌, ℕ, Bool, List, Option, None, Some, Result, Ok, Err, IfOk, ap, sym, subst, ◌∙◌}
-use Rattle.std.specs.Prelude.{OnErr}
+use Rattle.std.specs.Prelude.{OnErr, take}
 use Rattle.dh_base.specs.declared.memory.Memory.{Memory}
 use Rattle.dh_base.specs.declared.plain.CutKind.{CutKind}
+use Rattle.dh_changes.specs.declared.change.Change.{Change}
 use Rattle.meta_parts.specs.declared.held.Records.{Records}
 use Rattle.change_log.specs.declared.limits.Limits.{Limits}
-use Rattle.query_answer.specs.Answer.{answer_of}
 use Rattle.query_forms.specs.declared.plain.Query.{Query}
 use Rattle.request_session.specs.Replies.{text_in}
 use Rattle.request_session.specs.declared.reply.Reply.{Reply}
-use Rattle.seen_rows.specs.Seen.{seen_of}
 use Rattle.table_rows.specs.Store.{Listed, Contents, contents_in}
+use Rattle.engine.specs.MetaAfter.{meta_after}
+use Rattle.engine.specs.Tables.{tables_of}
 use Rattle.engine.specs.Machine.{State, Step}
 use Rattle.engine.specs.Machine.Act.{swapped, dropped}
 use Rattle.engine.specs.declared.machine.Report.{Report}
-use Rattle.request_replies.specs.Texts.{told, IsTold, answer_reply, report_reply, update_reply}
+use Rattle.request_replies.specs.Texts.{told, IsTold, report_reply, update_reply}
+use Rattle.request_replies.specs.Queries.{answer_by, answer_over}
 use Rattle.request_replies.specs.Updates.{EndsUpdate}
 
 pub is_told : (r : Result Reply Memory) (meant : List ℕ) → IfOk r (λ reply. text_in reply ≡ meant) → IsTold (told r) (Some meant)
@@ -24,18 +26,25 @@ is_told (Err e) meant is = tt
 pub change_told : (keep : Bool) (report : Report) (reply : Reply) → text_in reply ≡ report_reply keep report → told (Ok reply) ≡ Some (report_reply keep report)
 change_told keep report reply is = ap Some is
 
--- the answer over the rows of a store is that over what it holds
-pub answer_told : (r : Result Reply Memory) (meta : Records) (user published : ℕ) (query : Query) (keep : Bool) (listed : Listed) (contents : Contents) → contents_in listed ≡ contents
-    → IfOk r (λ reply. text_in reply ≡ answer_reply published keep (answer_of meta query (seen_of meta user (contents_in listed))))
-    → IsTold (told r) (Some (answer_reply published keep (answer_of meta query (seen_of meta user contents))))
-answer_told r meta user published query keep listed contents same is =
-    is_told r (answer_reply published keep (answer_of meta query (seen_of meta user contents)))
-    (subst (λ (c : Contents). IfOk r (λ reply. text_in reply ≡ answer_reply published keep (answer_of meta query (seen_of meta user c)))) same is)
+-- the answer over the rows of a store that stands for the published changes, with the metadata after these
+pub answer_told : (r : Result Reply Memory) (meta after : Records) (log : List Change) (user published all : ℕ) (query : Query) (keep : Bool) (listed : Listed)
+    → published ≡ all → after ≡ meta_after meta (take all log) → contents_in listed ≡ tables_of meta (take published log)
+    → IfOk r (λ reply. text_in reply ≡ answer_by after (contents_in listed) user query keep published)
+    → IsTold (told r) (Some (answer_over meta log user query keep published))
+unfolding answer_over
+answer_told r meta after log user published all query keep listed number is same told_is =
+    is_told r (answer_by (meta_after meta (take published log)) (tables_of meta (take published log)) user query keep published)
+    (subst (λ (c : Contents). IfOk r (λ reply. text_in reply ≡ answer_by (meta_after meta (take published log)) c user query keep published)) same
+    (subst (λ (m : Records). IfOk r (λ reply. text_in reply ≡ answer_by m (contents_in listed) user query keep published))
+    (is ∙ ap (λ n. meta_after meta (take n log)) (sym number)) told_is))
 
-pub ends_of : (meta : Records) (limits : Limits) (kind : CutKind) (ticket published : ℕ) (keep : Bool) (later new : State) (text : List ℕ) (r : Result Reply Memory)
+pub ends_of : (meta : Records) (limits : Limits) (kind : CutKind) (ticket published : ℕ) (keep : Bool) (later new : State) (text : List ℕ)
+    (r : Result Reply Memory)
     → text ≡ update_reply published keep kind → IfOk r (λ _. Step meta limits later (swapped ticket (Ok published)) new)
-    → IfOk r (λ reply. text_in reply ≡ text) → OnErr r (Step meta limits later (dropped ticket) new) → EndsUpdate meta limits kind ticket keep later (told r) new
-ends_of meta limits kind ticket published keep later new text (Ok reply) is swaps same drops = record { published = published; swaps = swaps; tells = same ∙ is }
+    → IfOk r (λ reply. text_in reply ≡ text) → OnErr r (Step meta limits later (dropped ticket) new)
+    → EndsUpdate meta limits kind ticket keep later (told r) new
+ends_of meta limits kind ticket published keep later new text (Ok reply) is swaps same drops =
+    record { published = published; swaps = swaps; tells = same ∙ is }
 ends_of meta limits kind ticket published keep later new text (Err e) is swaps same drops = drops
 
 pub dropped_of : (meta : Records) (limits : Limits) (kind : CutKind) (ticket : ℕ) (keep : Bool) (later new : State) (r : Result Reply Memory)

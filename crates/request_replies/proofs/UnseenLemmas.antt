@@ -19,12 +19,13 @@ use Rattle.web_routes.specs.declared.call.Call.TheVariants as call
 use Rattle.engine.specs.Machine.{Step}
 use Rattle.engine.specs.Machine.Act.{looked}
 use Rattle.engine.specs.Seen.{Seen}
+use Rattle.engine.specs.MetaAfter.{published_meta}
 use Rattle.engine.specs.declared.machine.LookFault.{LookFault}
 use Rattle.engine.specs.declared.machine.LookFault.TheVariants as look
 use Rattle.request_session.specs.Replies.{text_in}
 use Rattle.request_session.specs.declared.reply.Reply.{Reply}
 use Rattle.request_replies.specs.Texts.{told, IsTold, answer_reply, refusal_reply}
-use Rattle.request_replies.specs.Queries.{answer_over, look_text, QueryReply}
+use Rattle.request_replies.specs.Queries.{answer_by, answer_over, look_text, QueryReply}
 use Rattle.request_replies.specs.Steps.{ReplyAt, RoutedReply, ReplyStep}
 use Rattle.request_replies.specs.Unseen.{published_seen, AsksWithin, DifferInNumber, UnseenStays, UnseenReply, UnseenStep}
 
@@ -33,28 +34,33 @@ some-text : (a b : List ℕ) → Some a ≡ Some b → b ≡ a
 some-text a b is = cc
 
 shows : (machine : Seen) (user asked : ℕ) (query : Query) (keep : Bool) (text : List ℕ) (found : Result ℕ LookFault) → asked ≤ machine.state.published
-    → Step machine.meta machine.limits machine.state (looked asked found) machine.state → IsTold (Some text) (look_text machine.meta machine.state.log user query keep found)
+    → Step machine.meta machine.limits machine.state (looked asked found) machine.state
+    → IsTold (Some text) (look_text machine.meta machine.state.log user query keep found)
     → text ≡ answer_over machine.meta machine.state.log user query keep machine.state.published
 shows machine user asked query keep text (Ok published) there step tells =
-    some-text (answer_over machine.meta machine.state.log user query keep published) text tells ∙ ap (answer_over machine.meta machine.state.log user query keep) step.0.1
+    some-text (answer_over machine.meta machine.state.log user query keep published) text tells
+    ∙ ap (answer_over machine.meta machine.state.log user query keep) step.0.1
 shows machine user asked query keep text (Err (look.NotYet published)) there step tells = absurd (let less = step.0.0 in omega arith)
 shows machine user asked query keep text (Err look.Memory) there step tells = absurd (cc)
 
-of-query : (machine new : Seen) (moment : ℤ) (user asked : ℕ) (query : Query) (keep : Bool) (text : List ℕ) (meant : Result Call Refusal) → meant ≡ Ok (call.Query user asked query)
+of-query : (machine new : Seen) (moment : ℤ) (user asked : ℕ) (query : Query) (keep : Bool) (text : List ℕ) (meant : Result Call Refusal)
+    → meant ≡ Ok (call.Query user asked query)
     → RoutedReply machine moment meant keep (Some text) new → QueryReply machine user asked query keep (Some text)
 of-query machine new moment user asked query keep text meant is reply =
     (subst (λ (m : Result Call Refusal). RoutedReply machine moment m keep (Some text) new) is reply).0
 
 -- the reply is the answer over what the user sees
-answered : (machine new : Seen) (moment : ℤ) (request : Request) (user asked : ℕ) (query : Query) (keep : Bool) (text : List ℕ) → AsksWithin machine moment request user asked query
+answered : (machine new : Seen) (moment : ℤ) (request : Request) (user asked : ℕ) (query : Query) (keep : Bool) (text : List ℕ)
+    → AsksWithin machine moment request user asked query
     → ReplyAt machine moment request keep (Some text) new
-    → text ≡ answer_reply machine.state.published keep (answer_of machine.meta query (published_seen machine user))
-unfolding answer_over
+    → text ≡ answer_reply machine.state.published keep (answer_of (published_meta machine) query (published_seen machine user))
+unfolding answer_over answer_by
 answered machine new moment request user asked query keep text asks reply =
-    let q = of-query machine new moment user asked query keep text (routed machine.meta (day_of moment) request) asks.routed_is reply in
+    let q = of-query machine new moment user asked query keep text (routed (published_meta machine) (day_of moment) request) asks.routed_is reply in
     shows machine user asked query keep text q.found asks.there q.looks q.tells
 
-differ : (one other : ℕ) (keep : Bool) (answer : Result Data (List ℕ)) → DifferInNumber one other keep (answer_reply one keep answer) (answer_reply other keep answer)
+differ : (one other : ℕ) (keep : Bool) (answer : Result Data (List ℕ))
+    → DifferInNumber one other keep (answer_reply one keep answer) (answer_reply other keep answer)
 unfolding answer_reply refusal_reply
 differ one other keep (Ok body) = record { status = 200; body = compact_text body; first = refl; second = refl }
 differ one other keep (Err id) = record { status = status_of F18; body = error_text (refusal F18 id); first = refl; second = refl }
@@ -63,15 +69,15 @@ differ one other keep (Err id) = record { status = status_of F18; body = error_t
 pub unseen-stays : (one one' : Seen) (moment : ℤ) (request : Request) (keep : Bool) (text : List ℕ) → ReplyAt one moment request keep (Some text) one'
     → UnseenStays one moment request keep text
 unseen-stays one one' moment request keep text reply = λ user asked query asks other other' moment' text' alike reply'.
-    let routed_is : routed other.meta (day_of moment') request ≡ Ok (call.Query user asked query) =
-    ap (λ r. routed r (day_of moment') request) alike.meta ∙ ap (λ d. routed one.meta d request) alike.day ∙ asks.routed_is in
+    let routed_is : routed (published_meta other) (day_of moment') request ≡ Ok (call.Query user asked query) =
+    ap (λ r. routed r (day_of moment') request) alike.meta ∙ ap (λ d. routed (published_meta one) d request) alike.day ∙ asks.routed_is in
     let asks' : AsksWithin other moment' request user asked query = record { routed_is = routed_is; there = alike.there } in
     let first = answered one one' moment request user asked query keep text asks reply in
     let second = answered other other' moment' request user asked query keep text' asks' reply' in
-    let same : answer_of other.meta query (published_seen other user) ≡ answer_of one.meta query (published_seen one user) =
+    let same : answer_of (published_meta other) query (published_seen other user) ≡ answer_of (published_meta one) query (published_seen one user) =
     ap (λ r. answer_of r query (published_seen other user)) alike.meta
-    ∙ sym (answer_of-same one.meta query (published_seen one user) (published_seen other user) alike.same) in
-    let both = differ one.state.published other.state.published keep (answer_of one.meta query (published_seen one user)) in
+    ∙ sym (answer_of-same (published_meta one) query (published_seen one user) (published_seen other user) alike.same) in
+    let both = differ one.state.published other.state.published keep (answer_of (published_meta one) query (published_seen one user)) in
     record {
       status = both.status;
       body = both.body;

@@ -30,10 +30,12 @@ pub dropped_after : (old between new : Seen) (ticket : ℕ) (fault : Memory) →
     → Step between.meta between.limits between.state (dropped ticket) new.state → Step old.meta old.limits old.state (dropped ticket) new.state
 dropped_after old between new ticket fault stays step = subst (λ (s : State). Step old.meta old.limits s (dropped ticket) new.state) stays step
 
-pub begun_by : (state : State) (kind : CutKind) (ticket number : ℕ) → staged_of state kind ≡ Some (record { ticket = ticket; number = number }) → IsTrue (is_begun state ticket)
+pub begun_by : (state : State) (kind : CutKind) (ticket number : ℕ) → staged_of state kind ≡ Some (record { ticket = ticket; number = number })
+    → IsTrue (is_begun state ticket)
 begun_by state kind ticket number is = staged-is-begun state kind (update-with ticket number) is
 
-pub swap_number : (seen : Seen) (kind : CutKind) (ticket number published : ℕ) → IsSound seen → staged_of seen.state kind ≡ Some (record { ticket = ticket; number = number })
+pub swap_number : (seen : Seen) (kind : CutKind) (ticket number published : ℕ) → IsSound seen
+    → staged_of seen.state kind ≡ Some (record { ticket = ticket; number = number })
     → published ≡ max seen.state.published number → published ≡ max seen.state.published (number_of seen.state ticket)
 swap_number seen kind ticket number published sound staged is =
     is ∙ ap (max seen.state.published) (sym (number-is seen.limits seen.state kind (update-with ticket number) sound.order staged))
@@ -44,7 +46,8 @@ cut-staged meta limits old between Full update step = ap (λ (s : State). s.full
 cut-staged meta limits old between Latest update step = ap (λ (s : State). s.latest) step.1
 
 -- an update that was cut is staged
-pub cut_begins : (meta : Records) (limits : Limits) (old between : State) (kind : CutKind) (found : Result Cut CutFault) → Step meta limits old (begun kind (update_in found)) between
+pub cut_begins : (meta : Records) (limits : Limits) (old between : State) (kind : CutKind) (found : Result Cut CutFault)
+    → Step meta limits old (begun kind (update_in found)) between
     → IfOk found (λ begun. staged_of between kind ≡ Some (record { ticket = begun.ticket; number = begun.number }))
 cut_begins meta limits old between kind (Ok found) step = cut-staged meta limits old between kind (update-with found.ticket found.number) step
 cut_begins meta limits old between kind (Err fault) step = tt
@@ -54,12 +57,14 @@ pub same_twice : (old between new : Seen) → between ≡ record old { state = b
     → new ≡ record old { state = new.state }
 same_twice old between new first second = second ∙ ap (λ (s : Seen). record s { state = new.state }) first
 
-pub refused_of : (meta : Records) (limits : Limits) (kind : CutKind) (keep : Bool) (found : Result Cut CutFault) (fault : CutFault) (later : State) (text : Option (List ℕ))
+pub refused_of : (meta : Records) (limits : Limits) (kind : CutKind) (keep : Bool) (found : Result Cut CutFault) (fault : CutFault) (later : State)
+    (text : Option (List ℕ))
     → found ≡ Err fault → IsTold text (cut_text keep fault) → Ends meta limits kind keep (update_in found) later text later
 refused_of meta limits kind keep found fault later text is tells =
     subst (λ (f : Result Cut CutFault). Ends meta limits kind keep (update_in f) later text later) (sym is) (refl, tells)
 
-ends-under : (meta meta' : Records) (limits limits' : Limits) (kind : CutKind) (keep : Bool) (found : Result Staged CutFault) (later : State) (text : Option (List ℕ)) (new : State)
+ends-under : (meta meta' : Records) (limits limits' : Limits) (kind : CutKind) (keep : Bool) (found : Result Staged CutFault) (later : State)
+    (text : Option (List ℕ)) (new : State)
     → meta ≡ meta' → limits ≡ limits' → Ends meta limits kind keep found later text new → Ends meta' limits' kind keep found later text new
 ends-under meta meta' limits limits' kind keep found later text new m l ends =
     subst (λ (x : Records). Ends x limits' kind keep found later text new) m (subst (λ (x : Limits). Ends meta x kind keep found later text new) l ends)

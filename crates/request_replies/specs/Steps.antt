@@ -8,6 +8,7 @@ use Rattle.web_routes.specs.declared.call.Call.{Call}
 use Rattle.web_routes.specs.declared.call.Call.TheVariants as call
 use Rattle.change_log.specs.Log.{NeverFails}
 use Rattle.engine.specs.Seen.{Seen, IsSound}
+use Rattle.engine.specs.MetaAfter.{published_meta}
 use Rattle.change_requests.specs.declared.request.ChangeRequest.TheVariants.{Values, Completion}
 use Rattle.request_replies.specs.Texts.{text_of, IsTold, refusal_reply}
 use Rattle.request_replies.specs.Queries.{QueryReply}
@@ -26,9 +27,9 @@ abbrev pub RoutedReply : Seen → ℤ → Result Call Refusal → Bool → Optio
 RoutedReply old moment (Ok asked) keep text new = CallReply old moment asked keep text new
 RoutedReply old moment (Err refused) keep text new = IsTold text (Some (refusal_reply None keep refused)) × (new ≡ old)
 
--- the reply to a request at a moment
+-- the reply to a request at a moment; it is read with the rights and the tree that the published changes leave
 abbrev pub ReplyAt : Seen → ℤ → Request → Bool → Option (List ℕ) → Seen → Type 0
-ReplyAt old moment request keep text new = RoutedReply old moment (routed old.meta (day_of moment) request) keep text new
+ReplyAt old moment request keep text new = RoutedReply old moment (routed (published_meta old) (day_of moment) request) keep text new
 
 -- the text is the reply at a moment that the clock shows, or stands for it out of memory
 pub record ReplyStep (shows : ℤ → Type 0) (old : Seen) (request : Request) (keep : Bool) (text : List ℕ) (new : Seen) : Type 0 where
@@ -40,7 +41,8 @@ pub record ReplyStep (shows : ℤ → Type 0) (old : Seen) (request : Request) (
 
 -- A step of a machine that answers by a clock, over keepers that count their faults: its reply is one that it may give, and the clock
 -- stays; it stays sound; and with keepers that never fail the count of faults stays at 0.
-pub record MachineStep {K C : Type 0} (count : K → ℕ) (shows : C → ℤ → Type 0) (before after : C) (old : Seen) (request : Request) (keep : Bool) (text : List ℕ) (new : Seen) : Type 0 where
+pub record MachineStep {K C : Type 0} (count : K → ℕ) (shows : C → ℤ
+    → Type 0) (before after : C) (old : Seen) (request : Request) (keep : Bool) (text : List ℕ) (new : Seen) : Type 0 where
   pub replies : ReplyStep (shows before) old request keep text new
   pub clock : after ≡ before
   pub sound : IsSound old → IsSound new

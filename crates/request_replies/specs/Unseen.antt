@@ -9,21 +9,22 @@ use Rattle.web_routes.specs.declared.call.Call.TheVariants as call
 use Rattle.request_session.specs.Replies.{reply_text}
 use Rattle.engine.specs.Seen.{Seen}
 use Rattle.engine.specs.Tables.{tables_of}
+use Rattle.engine.specs.MetaAfter.{published_meta}
 use Rattle.request_replies.specs.Steps.{ReplyAt, ReplyStep}
 
 -- what a user sees of the tables that are published
 abbrev pub published_seen : Seen → ℕ → SeenRecords
-published_seen machine user = seen_of machine.meta user (tables_of machine.meta (take machine.state.published machine.state.log))
+published_seen machine user = seen_of (published_meta machine) user (tables_of machine.meta (take machine.state.published machine.state.log))
 
 -- at this moment the request is a user's query, and as many changes are published as it asks for
 pub record AsksWithin (machine : Seen) (moment : ℤ) (request : Request) (user asked : ℕ) (query : Query) : Type 0 where
-  pub routed_is : routed machine.meta (day_of moment) request ≡ Ok (call.Query user asked query)
+  pub routed_is : routed (published_meta machine) (day_of moment) request ≡ Ok (call.Query user asked query)
   pub there : asked ≤ machine.state.published
 
--- another machine of the same metadata at a moment of the same day: it too has published as many changes as are asked for, and the user
--- sees the same of what each has published, in whatever order it stands
+-- another machine at a moment of the same day: what each has published leaves the same metadata with the same rights and tree; it too has
+-- published as many changes as are asked for, and the user sees the same of what each has published, in whatever order it stands
 pub record LookAlike (one other : Seen) (moment moment' : ℤ) (user asked : ℕ) : Type 0 where
-  pub meta : other.meta ≡ one.meta
+  pub meta : published_meta other ≡ published_meta one
   pub day : day_of moment' ≡ day_of moment
   pub there : asked ≤ other.state.published
   pub same : SameSeen (published_seen one user) (published_seen other user)
@@ -40,7 +41,8 @@ pub record DifferInNumber (published published' : ℕ) (keep : Bool) (text text'
 abbrev pub UnseenStays : Seen → ℤ → Request → Bool → List ℕ → Type 0
 UnseenStays one moment request keep text =
     (user asked : ℕ) (query : Query) → AsksWithin one moment request user asked query
-    → (other other' : Seen) (moment' : ℤ) (text' : List ℕ) → LookAlike one other moment moment' user asked → ReplyAt other moment' request keep (Some text') other'
+    → (other other' : Seen) (moment' : ℤ) (text' : List ℕ) → LookAlike one other moment moment' user asked
+    → ReplyAt other moment' request keep (Some text') other'
     → DifferInNumber one.state.published other.state.published keep text text'
 
 -- the text is the reply at a moment that the clock shows, and nothing that the user doesn't see changes it

@@ -12,10 +12,11 @@ use Rattle.engine.specs.declared.machine.CutFault.{CutFault}
 use Rattle.request_replies.specs.Texts.{IsTold, cut_text, update_reply}
 
 -- the update is swapped in; the reply has the number that is then published
-pub record EndsBySwap (meta : Records) (limits : Limits) (kind : CutKind) (ticket : ℕ) (keep : Bool) (later : State) (text : List ℕ) (new : State) : Type 0 where
-  pub published : ℕ
-  pub swaps : Step meta limits later (swapped ticket (Ok published)) new
-  pub tells : text ≡ update_reply published keep kind
+pub record EndsBySwap (meta : Records) (limits : Limits) (kind : CutKind) (ticket : ℕ) (keep : Bool) (later : State) (text : List ℕ) (new : State) : Type 0
+  where
+    pub published : ℕ
+    pub swaps : Step meta limits later (swapped ticket (Ok published)) new
+    pub tells : text ≡ update_reply published keep kind
 
 -- how an update ends, from a state in which it is begun
 abbrev pub EndsUpdate : Records → Limits → CutKind → ℕ → Bool → State → Option (List ℕ) → State → Type 0
@@ -28,7 +29,8 @@ Ends meta limits kind keep (Ok update) later text new = (staged_of later kind �
 Ends meta limits kind keep (Err fault) later text new = (new ≡ later) × IsTold text (cut_text keep fault)
 
 -- the cut goes from one state to the next, and the end from a later state, in which the update is still begun, to a last one
-pub record UpdateReply (meta : Records) (limits : Limits) (kind : CutKind) (keep : Bool) (old between later : State) (text : Option (List ℕ)) (new : State) : Type 0 where
+pub record UpdateReply (meta : Records) (limits : Limits) (kind : CutKind) (keep : Bool) (old between later : State) (text : Option (List ℕ)) (new : State) :
+    Type 0 where
   pub found : Result Staged CutFault
   pub begins : Step meta limits old (begun kind found) between
   pub ends : Ends meta limits kind keep found later text new

@@ -6,5 +6,6 @@ ghost use Rattle.request_replies.specs.Steps.{ReplyAt, Keeps};
 
 /// What holds after every reply.
 pub fn replies_keep()
-    ensures { (old new : Seen) → (moment : ℤ) → (request : Request) → (keep : Bool) → (made : Option (List ℕ)) → ReplyAt old moment request keep made new → Keeps old made new }
+    ensures { (old new : Seen) → (moment : ℤ) → (request : Request) → (keep : Bool) → (made : Option (List ℕ)) → ReplyAt old moment request keep made new
+        → Keeps old made new }
 {}

@@ -3,15 +3,15 @@ ghost use Rattle.std.specs.Prelude.{◌≡◌, ◌<◌, length, take, Some, None
 ghost use Rattle.std.specs.Arc.{arc_value};
 ghost use Rattle.engine.specs.Seen.{published_in};
 ghost use Rattle.engine.specs.Tables.{tables_of};
+ghost use Rattle.engine.specs.MetaAfter.{published_meta};
 ghost use Rattle.query_answer.specs.Asked.{CanAnswer};
-ghost use Rattle.query_answer.specs.Answer.{answer_of};
 ghost use Rattle.query_lang.specs.Askable.{IsAskable};
 ghost use Rattle.query_forms.specs.Given.{refusal};
 ghost use Rattle.table_rows.specs.Store.{contents_in};
-ghost use Rattle.seen_rows.specs.Seen.{contents_of, seen_of};
+ghost use Rattle.seen_rows.specs.Seen.{contents_of};
 ghost use Rattle.request_session.specs.Replies.{text_in, reply_text};
-ghost use Rattle.request_replies.specs.Texts.{told, IsTold, answer_reply, refusal_reply};
-ghost use Rattle.request_replies.specs.Queries.{QueryReply, look_text};
+ghost use Rattle.request_replies.specs.Texts.{told, IsTold, refusal_reply};
+ghost use Rattle.request_replies.specs.Queries.{QueryReply, answer_by, look_text};
 ghost use Rattle.dh_base.specs.declared.codes.Code.TheVariants.{F18};
 
 use crate::texts::{number_reply, refusal_reply};
@@ -47,7 +47,7 @@ fn too_wide(alloc: Global, published: u64, keep: bool, id: Items<u8>) -> Result<
 }
 
 // The answer over the rows of tables that stand for so many changes.
-#[tactic(auto, unfolding(crate::specs::Texts::answer_reply))]
+#[tactic(auto, unfolding(crate::specs::Texts::answer_reply, crate::specs::Queries::answer_by))]
 fn over_rows<S: RowStore>(
     alloc: Global,
     meta: &Metadata,
@@ -59,7 +59,8 @@ fn over_rows<S: RowStore>(
 ) -> Result<Reply, Memory>
     requires user { user < length meta.now.users }
     requires query { CanAnswer meta.now query.now }
-    ensures { IfOk result (λ reply. text_in reply ≡ answer_reply published keep (answer_of meta.now query.now (seen_of meta.now user (contents_of (S.rows store.now) (S.events store.now) (S.regs store.now))))) }
+    ensures { IfOk result (λ reply. text_in reply ≡ answer_by meta.now (contents_of (S.rows store.now) (S.events store.now) (S.regs store.now)) user query.now
+        keep published) }
 {
     let seer = Seer::of(alloc, meta, user)?;
     match answer(alloc, meta, store, &seer, query) {
@@ -70,7 +71,7 @@ fn over_rows<S: RowStore>(
 }
 
 // What the look at the tables came to is told.
-#[tactic(auto, using(crate::proofs::TellLemmas::is_told, crate::proofs::TellLemmas::answer_told), unfolding(crate::specs::Queries::answer_over))]
+#[tactic(auto, using(crate::proofs::TellLemmas::is_told, crate::proofs::TellLemmas::answer_told))]
 fn tell<K: Keeper>(
     alloc: Global,
     engine: &Engine<K>,
@@ -79,15 +80,16 @@ fn tell<K: Keeper>(
     query: &Query,
     keep: bool,
 ) -> Result<Reply, Memory>
-    requires user { user < length engine.now.meta.users }
-    requires query { CanAnswer engine.now.meta query.now }
+    requires user { user < length (published_meta engine.now).users }
+    requires query { CanAnswer (published_meta engine.now) query.now }
+    requires published { IfOk found (λ view. view.published ≡ engine.now.state.published) }
     requires tables { IfOk found (λ view. contents_in (arc_value view.tables) ≡ tables_of engine.now.meta (take view.published engine.now.state.log)) }
     ensures { IsTold (told result) (look_text engine.now.meta engine.now.state.log user query.now keep (published_in found)) }
 {
     match found {
         Ok(view) => over_rows(
             alloc,
-            engine.meta(),
+            engine.published_meta(),
             user,
             &*view.tables,
             query,
@@ -109,8 +111,8 @@ pub(crate) fn reply_to_query<K: Keeper>(
     query: &Query,
     keep: bool,
 ) -> Result<Reply, Memory>
-    requires user { user < length engine.now.meta.users }
-    requires query { IsAskable engine.now.meta user query.now }
+    requires user { user < length (published_meta engine.now).users }
+    requires query { IsAskable (published_meta engine.now) user query.now }
     ensures { QueryReply engine.now user asked query.now keep (told result) }
 {
     let found = engine.look(asked);

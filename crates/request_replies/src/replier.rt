@@ -2,6 +2,7 @@
 ghost use Rattle.std.specs.Prelude.{◌≡◌};
 ghost use Rattle.change_log.specs.Log.{NeverFails};
 ghost use Rattle.engine.specs.Seen.{IsSound};
+ghost use Rattle.engine.specs.MetaAfter.{published_meta};
 ghost use Rattle.web_routes.specs.Calls.{IsSound as IsSoundCall};
 ghost use Rattle.request_replies.specs.Texts.{told};
 ghost use Rattle.request_replies.specs.Steps.{ReplyAt, CallReply};
@@ -23,6 +24,7 @@ use web_routes::call::Call;
 use web_routes::routing::route;
 
 // The reply to a call at a moment.
+#[tactic(auto, unfolding(engine::specs::MetaAfter::meta_after))]
 fn reply_to_call<K: Keeper>(
     alloc: Global,
     engine: &mut Engine<K>,
@@ -30,7 +32,7 @@ fn reply_to_call<K: Keeper>(
     call: Call,
     keep: bool,
 ) -> Result<Reply, Memory>
-    requires sound { IsSoundCall engine.old.meta call }
+    requires sound { IsSoundCall (published_meta engine.old) call }
     ensures replies { CallReply engine.old moment call keep (told result) engine.new }
     ensures sound { IsSound engine.old → IsSound engine.new }
     ensures sure { NeverFails K.keeper_faults → engine.old.faults ≡ 0 → engine.new.faults ≡ 0 }
@@ -72,7 +74,7 @@ fn reply_at<K: Keeper>(
     ensures sound { IsSound engine.old → IsSound engine.new }
     ensures sure { NeverFails K.keeper_faults → engine.old.faults ≡ 0 → engine.new.faults ≡ 0 }
 {
-    match route(alloc, request, engine.meta(), day_of(moment)) {
+    match route(alloc, request, engine.published_meta(), day_of(moment)) {
         Ok(call) => reply_to_call(alloc, engine, moment, call, keep),
         Err(RouteFault::Refused(refused)) => refusal_reply(alloc, None, keep, &refused),
         Err(RouteFault::Memory) => Err(Memory),
@@ -105,8 +107,10 @@ impl<'a, K: Keeper, C: Clock> Machine for Replier<'a, K, C> {
     ghost step = { λ old request keep text new. MachineStep K.keeper_faults C.shows old.clock.now new.clock.now old.engine request keep text new.engine };
 
     fn reply(&mut self, alloc: Global, request: &Request, keep: bool) -> Result<Reply, Memory>
-        ensures replies { IfOk result (λ reply. MachineStep K.keeper_faults C.shows self.old.clock.now self.new.clock.now self.old.engine request.now keep (text_in reply) self.new.engine) }
-        ensures memory { OnErr result (MachineStep K.keeper_faults C.shows self.old.clock.now self.new.clock.now self.old.engine request.now keep (memory_reply keep) self.new.engine) }
+        ensures replies { IfOk result (λ reply. MachineStep K.keeper_faults C.shows self.old.clock.now self.new.clock.now self.old.engine request.now keep
+            (text_in reply) self.new.engine) }
+        ensures memory { OnErr result (MachineStep K.keeper_faults C.shows self.old.clock.now self.new.clock.now self.old.engine request.now keep
+            (memory_reply keep) self.new.engine) }
         // nothing that the user doesn't see changes it
         ensures unseen { IfOk result (λ reply. UnseenReply (C.shows self.old.clock.now) self.old.engine request.now keep (text_in reply) self.new.engine) }
     {

@@ -106,7 +106,8 @@ fn finish<K: Keeper>(
 ) -> Result<Reply, Memory>
     requires staged { staged_of engine.old.state kind ≡ Some (record { ticket = ticket; number = number }) }
     requires sound { IsSound engine.old }
-    ensures ends { Ends engine.old.meta engine.old.limits kind keep (Ok (record { ticket = ticket; number = number })) engine.old.state (told result) engine.new.state }
+    ensures ends { Ends engine.old.meta engine.old.limits kind keep (Ok (record { ticket = ticket; number = number })) engine.old.state (told result)
+        engine.new.state }
     ensures same { engine.new ≡ record engine.old { state = engine.new.state } }
     ensures sound { IsSound engine.new }
 {

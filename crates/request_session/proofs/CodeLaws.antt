@@ -1,5 +1,6 @@
 -- What isn't a request is refused by one of the wire's own codes: where there is a code, it is one of them.
-use Rattle.std.proofs.Common.{◌≡◌, ℕ, ◌+◌, Bool, true, false, cond, List, [], ◌∷◌, Option, None, Some, Result, Ok, Err, length, take, drop, refl, sym, subst, nat_eq, nat_lt, nat_le}
+use Rattle.std.proofs.Common.{◌≡◌, ℕ, ◌+◌, Bool, true, false, cond, List, [], ◌∷◌, Option, None, Some, Result, Ok, Err, length, take, drop, refl, sym, subst}
+use Rattle.std.proofs.Common.{nat_eq, nat_lt, nat_le}
 use Rattle.std.specs.Prelude.{⊤}
 use Rattle.dh_base.specs.declared.codes.Code.{Code}
 use Rattle.dh_base.specs.declared.codes.Code.TheVariants.{F3, F4, F5}
@@ -13,7 +14,8 @@ use Rattle.wire_head.specs.declared.lines.Opening.TheVariants.{Nothing, Unfinish
 use Rattle.wire_head.specs.declared.plan.Plan.{Plan}
 use Rattle.wire_head.specs.declared.plan.Plan.TheVariants.{Sized, Chunked}
 use Rattle.http_wire.specs.Line.{size_step}
-use Rattle.http_wire.specs.Chunks.{content_limit, frame_limit, sized, behind_size, expect, step, Outcome, open_at, stepped, advanced, and_on, run, at_first, chunked}
+use Rattle.http_wire.specs.Chunks.{content_limit, frame_limit, sized, behind_size, expect, step, Outcome, open_at, stepped, advanced, and_on, run, at_first}
+use Rattle.http_wire.specs.Chunks.{chunked}
 use Rattle.http_wire.specs.Chunks as body
 use Rattle.http_wire.specs.declared.line.SizeStep.{SizeStep}
 use Rattle.http_wire.specs.declared.line.SizeStep.TheVariants as line
@@ -23,7 +25,8 @@ use Rattle.http_wire.specs.declared.chunks.Place.TheVariants.{Size, Content, Fee
 use Rattle.http_wire.specs.declared.chunks.Step.{Step}
 use Rattle.http_wire.specs.declared.chunks.Step.TheVariants.{Goes, Ends, Fails}
 use Rattle.http_wire.specs.declared.chunks.Chunks.{Chunks}
-use Rattle.http_wire.specs.Next.{Found, ended, cut, refused, whole, behind, Body, waiting, wrong, complete, by_chunks, body_of, with_body, behind_head, IsFoundBy, IsNext, skipped}
+use Rattle.http_wire.specs.Next.{Found, ended, cut, refused, whole, beyond, Body, waiting, wrong, complete, by_chunks, body_of, with_body, behind_head}
+use Rattle.http_wire.specs.Next.{IsFoundBy, IsNext, skipped}
 use Rattle.request_session.specs.Codes.{is_wire_code}
 
 either : {A : Type 0} (P : A → Type 0) (test : Bool) (yes_case no_case : A) → P yes_case → P no_case → P (cond test yes_case no_case)
@@ -57,7 +60,8 @@ in_expect wanted next byte good = either InStep (nat_eq byte wanted) next (Fails
 
 in_line : (byte : ℕ) (next : Step) → InStep next → InStep (cond (nat_eq byte 13) next (cond (nat_eq byte 10) (Fails F4) (Goes Trailer)))
 in_line byte next good =
-    either InStep (nat_eq byte 13) next (cond (nat_eq byte 10) (Fails F4) (Goes Trailer)) good (either InStep (nat_eq byte 10) (Fails F4) (Goes Trailer) refl tt)
+    either InStep (nat_eq byte 13) next (cond (nat_eq byte 10) (Fails F4) (Goes Trailer)) good
+    (either InStep (nat_eq byte 10) (Fails F4) (Goes Trailer) refl tt)
 
 in_step : (place : Place) (held byte : ℕ) → InStep (step place held byte)
 in_step (Size place) held byte = in_behind (size_step place byte) held
@@ -113,7 +117,8 @@ in_plan : (fields : List Field) → InSaid (plan_of fields)
 unfolding plan_of
 in_plan fields =
     either InSaid (is_badly_framed fields) (Err F4) _ refl
-    (either InSaid (is_not_plain fields (announced fields)) (Err F5) _ refl (either InSaid (is_too_long (announced fields)) (Err F3) (Ok (announced fields)) refl tt))
+    (either InSaid (is_not_plain fields (announced fields)) (Err F5) _ refl
+    (either InSaid (is_too_long (announced fields)) (Err F3) (Ok (announced fields)) refl tt))
 
 in_planned : (parts : Parts) (plan : Result Plan Code) → InSaid plan → InSaid (planned parts plan)
 in_planned parts (Ok plan) good = tt
@@ -148,7 +153,7 @@ in_head : (said : Result Head Code) (bytes : List ℕ) → InSaid said → InFou
 in_head (Err code) bytes good = good
 in_head (Ok head) bytes good = in_with head (body_of head.plan bytes) (in_body head.plan bytes)
 
-in_shifted : (count : ℕ) (found : Found) → InFound found → InFound (behind count found)
+in_shifted : (count : ℕ) (found : Found) → InFound found → InFound (beyond count found)
 in_shifted count ended good = tt
 in_shifted count cut good = tt
 in_shifted count (refused code) good = good
@@ -160,7 +165,8 @@ in_first Unfinished bytes found is = subst InFound (sym is) tt
 in_first TooLong bytes found is = subst InFound (sym is) refl
 in_first (Whole count) bytes found is =
     subst InFound (sym is.2)
-    (in_shifted count (behind_head is.0 (drop count bytes)) (in_head is.0 (drop count bytes) (in_said (nat_lt 64 (field_lines (take count bytes))) (take count bytes) is.0 is.1)))
+    (in_shifted count (behind_head is.0 (drop count bytes))
+    (in_head is.0 (drop count bytes) (in_said (nat_lt 64 (field_lines (take count bytes))) (take count bytes) is.0 is.1)))
 
 in_next : (bytes : List ℕ) (found : Found) → IsNext bytes found → InFound found
 in_next bytes found next =

@@ -25,7 +25,8 @@ given_heard before (piece ∷ pieces) =
     given_on (heard_one before piece) (heard_all before pieces) ∙ ap (λ xs. xs ++ given_by (heard_all before pieces)) (given_one before piece)
     ∙ ap (λ xs. piece ++ xs) (given_heard before pieces)
 
-each_on : (P : List ℕ → List ℕ → Type 0) (taken : List ℕ) (first second : List Heard) → EachRead P taken first → EachRead P (taken ++ given_by first) second → EachRead P taken (first ++ second)
+each_on : (P : List ℕ → List ℕ → Type 0) (taken : List ℕ) (first second : List Heard) → EachRead P taken first → EachRead P (taken ++ given_by first) second
+    → EachRead P taken (first ++ second)
 each_on P taken [] second one two = subst (λ xs. EachRead P xs second) (append-nil taken) two
 each_on P taken (read ∷ first) second one two =
     (one.0, each_on P (taken ++ read.piece) first second one.1 (subst (λ xs. EachRead P xs second) (sym (append_assoc taken read.piece (given_by first))) two))
@@ -39,7 +40,8 @@ each_heard P Open before taken held ([] ∷ pieces) to waits =
 each_heard P Open before taken held ((byte ∷ bytes) ∷ pieces) to waits = (
   subst (λ xs. P xs before) (append-nil taken) (to [] (subst Open (sym (append-nil held)) waits.0)),
   each_heard P Open before (taken ++ byte ∷ bytes) (held ++ byte ∷ bytes) pieces
-      (λ more is. subst (λ xs. P xs before) (sym (append_assoc taken (byte ∷ bytes) more)) (to ((byte ∷ bytes) ++ more) (subst Open (append_assoc held (byte ∷ bytes) more) is))) waits.1,
+      (λ more is. subst (λ xs. P xs before) (sym (append_assoc taken (byte ∷ bytes) more))
+      (to ((byte ∷ bytes) ++ more) (subst Open (append_assoc held (byte ∷ bytes) more) is))) waits.1,
 )
 
 -- ---- from turn to turn
@@ -55,7 +57,8 @@ module _ {M : Type 0} (step : M → Request → Bool → List ℕ → M → Type
 
   by_pieces : (first last next : Talk) (taken more replies held : List ℕ) (requests : List Request) (now : M) (pieces : List (List ℕ))
       → Requests taken requests held → GoesOn most requests → Replies step most 0 old requests replies now
-      → PromptSoFar step most (Some first) (Some last) old taken replies → joined pieces ≡ more → Hears (Some last) (Some next) pieces → BeforeEach IsOpen held pieces
+      → PromptSoFar step most (Some first) (Some last) old taken replies → joined pieces ≡ more → Hears (Some last) (Some next) pieces
+      → BeforeEach IsOpen held pieces
       → PromptSoFar step most (Some first) (Some next) old (taken ++ more) replies
   by_pieces first last next taken more replies held requests now pieces found goes given so cut hears waits = (
     so.0 ++ heard_all last.written pieces,
@@ -81,7 +84,8 @@ module _ {M : Type 0} (step : M → Request → Bool → List ℕ → M → Type
       by_pieces first last next taken more replies held requests now paced.pieces found goes given so paced.cut paced.hears paced.waits
 
   -- a reply was written
-  pub prompt_says : (talk heard talk' : Option Talk) (taken replies reply : List ℕ) → PromptSoFar step most talk heard old taken replies → Says heard talk' reply
+  pub prompt_says : (talk heard talk' : Option Talk) (taken replies reply : List ℕ) → PromptSoFar step most talk heard old taken replies
+      → Says heard talk' reply
       → PromptSoFar step most talk talk' old taken (replies ++ reply)
   prompt_says None heard talk' taken replies reply so says = tt
   prompt_says (Some first) None talk' taken replies reply so says = absurd so
@@ -96,7 +100,8 @@ module _ {M : Type 0} (step : M → Request → Bool → List ℕ → M → Type
   )
 
   -- the last reply was written, or a prefix of it
-  pub prompt_end : (talk heard talk' : Option Talk) (taken replies : List ℕ) → PromptSoFar step most talk heard old taken replies → Speaks heard talk' → Prompt step most talk talk' old
+  pub prompt_end : (talk heard talk' : Option Talk) (taken replies : List ℕ) → PromptSoFar step most talk heard old taken replies → Speaks heard talk'
+      → Prompt step most talk talk' old
   prompt_end None heard talk' taken replies so speaks = tt
   prompt_end (Some first) None talk' taken replies so speaks = absurd so
   prompt_end (Some first) (Some last) None taken replies so speaks = absurd speaks.1

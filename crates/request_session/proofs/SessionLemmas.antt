@@ -1,5 +1,6 @@
 -- From turn to turn, and the ends of a session.
-use Rattle.std.proofs.Common.{◌≡◌, ◌≢◌, ◌∙◌, ◌≤◌, ◌<◌, ◌+◌, ◌^◌, ◌&&◌, inl, inr, ℕ, Bool, true, false, List, [], ◌∷◌, ◌++◌, Option, None, Some, Result, Ok, Err, length, refl, sym, ap, subst, arith, append-nil, length-append, nat_lt}
+use Rattle.std.proofs.Common.{◌≡◌, ◌≢◌, ◌∙◌, ◌≤◌, ◌<◌, ◌+◌, ◌^◌, ◌&&◌, inl, inr, ℕ, Bool, true, false, List, [], ◌∷◌, ◌++◌, Option, None, Some, Result, Ok}
+use Rattle.std.proofs.Common.{Err, length, refl, sym, ap, subst, arith, append-nil, length-append, nat_lt}
 use Rattle.std.specs.List.{list_all}
 use Rattle.std.specs.Io.KnownBytes.{Consumes, Appends}
 use Rattle.std.proofs.KnownBytes.{Consumes-nil, Consumes-trans, Appends-nil, Appends-trans}
@@ -30,7 +31,8 @@ rose_later {old} {mid} {new} first (inr last) = inr last
 
 -- ---- the start
 
-pub at_start : {M : Type 0} (step : M → Request → Bool → List ℕ → M → Type 0) (most : ℕ) (left : Option (List ℕ)) (talk : Option Talk) (written : Option (List ℕ)) (held : RestSeen) (old : M)
+pub at_start : {M : Type 0} (step : M → Request → Bool → List ℕ → M
+    → Type 0) (most : ℕ) (left : Option (List ℕ)) (talk : Option Talk) (written : Option (List ℕ)) (held : RestSeen) (old : M)
     → 0 < most → held.bytes ≡ [] → held.read ≡ 0 → SoFar step most left left talk talk written written held old old 0
 at_start step most left talk written held old some none unread = record {
   taken = [];
@@ -74,8 +76,8 @@ all_and_one : (requests : List Request) (request : Request) → list_all (λ r. 
 all_and_one [] request all one = ap (λ t. t && true) one
 all_and_one (first ∷ requests) request all one =
     let here : first.keep ≡ true = and_first first.keep (list_all (λ r. r.keep) requests) all in
-    let behind : list_all (λ r. r.keep) requests ≡ true = and_second first.keep (list_all (λ r. r.keep) requests) all in
-    ap (λ t. t && list_all (λ r. r.keep) (requests ++ request ∷ [])) here ∙ all_and_one requests request behind one
+    let beyond : list_all (λ r. r.keep) requests ≡ true = and_second first.keep (list_all (λ r. r.keep) requests) all in
+    ap (λ t. t && list_all (λ r. r.keep) (requests ++ request ∷ [])) here ∙ all_and_one requests request beyond one
   where
     and_first : (a b : Bool) → (a && b) ≡ true → a ≡ true
     and_first true b is = refl
@@ -89,7 +91,8 @@ one_longer : (earlier : List Request) (request : Request) → length (earlier ++
 one_longer earlier request = let sum = length-append earlier (request ∷ []) in omega arith
 
 -- what stands when one more request was read and its reply is made
-record Grown {M : Type 0} (step : M → Request → Bool → List ℕ → M → Type 0) (most : ℕ) (left left' : Option (List ℕ)) (held : RestSeen) (old new : M) (served : ℕ) (request : Request) (replies : List ℕ) : Type 0 where
+record Grown {M : Type 0} (step : M → Request → Bool → List ℕ → M
+    → Type 0) (most : ℕ) (left left' : Option (List ℕ)) (held : RestSeen) (old new : M) (served : ℕ) (request : Request) (replies : List ℕ) : Type 0 where
   taken : List ℕ
   consumed : Consumes left left' taken
   counted : held.read ≡ length taken
@@ -103,8 +106,11 @@ abbrev how_of : Turn → Ended
 how_of (Answered keep) = end.Limit
 how_of (Stopped how) = how
 
-module _ {M : Type 0} (step : M → Request → Bool → List ℕ → M → Type 0) (most : ℕ) (left mid left' : Option (List ℕ)) (talk told talk' : Option Talk) (written middle written' : Option (List ℕ)) (held held' : RestSeen) (old now new : M) (served : ℕ) where
-  grown : {heard : Option Talk} (request : Request) (reply : List ℕ) (so : SoFar step most left mid talk told written middle held old now served) → Reads mid left' told heard held held' (Ok (Some request))
+module _ {M : Type 0} (step : M → Request → Bool → List ℕ → M
+    → Type 0) (most : ℕ) (left mid left' : Option (List ℕ)) (talk told talk' : Option Talk) (written middle written' : Option (List ℕ)) (held held' : RestSeen)
+    (old now new : M) (served : ℕ) where
+  grown : {heard : Option Talk} (request : Request) (reply : List ℕ) (so : SoFar step most left mid talk told written middle held old now served)
+      → Reads mid left' told heard held held' (Ok (Some request))
       → step now request (request.keep && nat_lt (served + 1) most) reply new
       → Grown step most left left' held' old new served request (so.replies ++ reply)
   grown request reply so reads steps = record {
@@ -117,7 +123,8 @@ module _ {M : Type 0} (step : M → Request → Bool → List ℕ → M → Type
     count = so.count;
     goes = so.goes;
     given = replies_one step most 0 old now new so.requests so.replies request reply so.given
-        (subst (λ n. step now request (request.keep && nat_lt (n + 1) most) reply new) (let same : served ≡ 0 + length so.requests = omega (arith, so.count) in same) steps);
+        (subst (λ n. step now request (request.keep && nat_lt (n + 1) most) reply new) (let same : served ≡ 0 + length so.requests =
+        omega (arith, so.count) in same) steps);
   }
 
   -- the session ends after a request
@@ -143,9 +150,11 @@ module _ {M : Type 0} (step : M → Request → Bool → List ℕ → M → Type
   }
 
   -- the session ends where no request was read
-  no_more : {heard : Option Talk} (answer : Result (Option Request) WireFault) (how : Ended) (last : List ℕ) (so : SoFar step most left mid talk told written middle held old now served) (reads : Reads mid left' told heard held held' answer)
+  no_more : {heard : Option Talk} (answer : Result (Option Request) WireFault) (how : Ended) (last : List ℕ)
+      (so : SoFar step most left mid talk told written middle held old now served) (reads : Reads mid left' told heard held held' answer)
       → held'.read ≤ 2 ^ 63 → new ≡ now
-      → EndsBy most so.requests (held.bytes ++ reads.taken) (IsSpent left' (length (so.taken ++ reads.taken))) how last → WritesUpTo how written written' (so.replies ++ last)
+      → EndsBy most so.requests (held.bytes ++ reads.taken) (IsSpent left' (length (so.taken ++ reads.taken))) how last
+      → WritesUpTo how written written' (so.replies ++ last)
       → Ran step most left left' written written' old new how
   no_more answer how last so reads bound same ends writes = record {
     taken = so.taken ++ reads.taken;
@@ -166,7 +175,8 @@ module _ {M : Type 0} (step : M → Request → Bool → List ℕ → M → Type
   }
 
   -- what is spent by the bytes read is spent by those taken
-  spent : {heard : Option Talk} (answer : Result (Option Request) WireFault) (so : SoFar step most left mid talk told written middle held old now served) (reads : Reads mid left' told heard held held' answer)
+  spent : {heard : Option Talk} (answer : Result (Option Request) WireFault) (so : SoFar step most left mid talk told written middle held old now served)
+      (reads : Reads mid left' told heard held held' answer)
       → IsSpent left' held'.read → IsSpent left' (length (so.taken ++ reads.taken))
   spent answer so reads is =
       let sum = length-append so.taken reads.taken in
@@ -186,12 +196,14 @@ module _ {M : Type 0} (step : M → Request → Bool → List ℕ → M → Type
 
   -- ---- an answer after which the session goes on, closes or has reached the limit
 
-  pub goes_on : (keep : Bool) → SoFar step most left mid talk told written middle held old now served → Turns step (nat_lt (served + 1) most) mid left' told talk' held held' middle written' now new (Answered keep)
+  pub goes_on : (keep : Bool) → SoFar step most left mid talk told written middle held old now served
+      → Turns step (nat_lt (served + 1) most) mid left' told talk' held held' middle written' now new (Answered keep)
       → served < most → served + 1 ≢ most → keep ≡ true → SoFar step most left left' talk talk' written written' held' old new (served + 1)
   unfolding grown
   goes_on keep so turn below other is = by_answer turn.answer turn.reads turn.follows
     where
-      by_answer : (answer : Result (Option Request) WireFault) → Reads mid left' told turn.heard held held' answer → Follows step (nat_lt (served + 1) most) middle written' turn.heard talk' now new answer (Answered keep)
+      by_answer : (answer : Result (Option Request) WireFault) → Reads mid left' told turn.heard held held' answer
+          → Follows step (nat_lt (served + 1) most) middle written' turn.heard talk' now new answer (Answered keep)
           → SoFar step most left left' talk talk' written written' held' old new (served + 1)
       by_answer (Ok (Some request)) reads follows =
           let g = grown request follows.0 so reads follows.1 in record {
@@ -201,20 +213,25 @@ module _ {M : Type 0} (step : M → Request → Bool → List ℕ → M → Type
             requests = g.earlier ++ request ∷ [];
             found = g.found;
             count = (let sum = one_longer g.earlier request in omega (arith, g.count));
-            goes = (all_and_one g.earlier request g.goes.0 (sym follows.3 ∙ is), (let sum = one_longer g.earlier request in omega (arith, g.count, below, other)));
+            goes =
+                (all_and_one g.earlier request g.goes.0 (sym follows.3 ∙ is), (let sum = one_longer g.earlier request in omega (arith, g.count, below, other)));
             replies = so.replies ++ follows.0;
             given = g.given;
             writes = Appends-trans written middle written' so.replies follows.0 so.writes follows.2;
-            prompt = prompt_says step most old talk turn.heard talk' (so.taken ++ reads.taken) so.replies follows.0 (heard_too (Ok (Some request)) so reads) follows.4;
+            prompt =
+                prompt_says step most old talk turn.heard talk' (so.taken ++ reads.taken) so.replies follows.0 (heard_too (Ok (Some request)) so reads)
+                follows.4;
           }
       by_answer (Ok None) reads follows = absurd (cc)
       by_answer (Err found) reads follows = absurd (cc)
 
-  pub closes : (keep : Bool) → SoFar step most left mid talk told written middle held old now served → Turns step (nat_lt (served + 1) most) mid left' told talk' held held' middle written' now new (Answered keep)
+  pub closes : (keep : Bool) → SoFar step most left mid talk told written middle held old now served
+      → Turns step (nat_lt (served + 1) most) mid left' told talk' held held' middle written' now new (Answered keep)
       → held'.read ≤ 2 ^ 63 → served < most → served + 1 ≢ most → keep ≡ false → Ran step most left left' written written' old new end.Closed
   closes keep so turn bound below other is = by_answer turn.answer turn.reads turn.follows
     where
-      by_answer : (answer : Result (Option Request) WireFault) → Reads mid left' told turn.heard held held' answer → Follows step (nat_lt (served + 1) most) middle written' turn.heard talk' now new answer (Answered keep)
+      by_answer : (answer : Result (Option Request) WireFault) → Reads mid left' told turn.heard held held' answer
+          → Follows step (nat_lt (served + 1) most) middle written' turn.heard talk' now new answer (Answered keep)
           → Ran step most left left' written written' old new end.Closed
       by_answer (Ok (Some request)) reads follows =
           let g = grown request follows.0 so reads follows.1 in
@@ -225,11 +242,13 @@ module _ {M : Type 0} (step : M → Request → Bool → List ℕ → M → Type
       by_answer (Ok None) reads follows = absurd (cc)
       by_answer (Err found) reads follows = absurd (cc)
 
-  pub at_limit : (keep : Bool) → SoFar step most left mid talk told written middle held old now served → Turns step (nat_lt (served + 1) most) mid left' told talk' held held' middle written' now new (Answered keep)
+  pub at_limit : (keep : Bool) → SoFar step most left mid talk told written middle held old now served
+      → Turns step (nat_lt (served + 1) most) mid left' told talk' held held' middle written' now new (Answered keep)
       → held'.read ≤ 2 ^ 63 → served + 1 ≡ most → Ran step most left left' written written' old new end.Limit
   at_limit keep so turn bound is = by_answer turn.answer turn.reads turn.follows
     where
-      by_answer : (answer : Result (Option Request) WireFault) → Reads mid left' told turn.heard held held' answer → Follows step (nat_lt (served + 1) most) middle written' turn.heard talk' now new answer (Answered keep)
+      by_answer : (answer : Result (Option Request) WireFault) → Reads mid left' told turn.heard held held' answer
+          → Follows step (nat_lt (served + 1) most) middle written' turn.heard talk' now new answer (Answered keep)
           → Ran step most left left' written written' old new end.Limit
       by_answer (Ok (Some request)) reads follows =
           let g = grown request follows.0 so reads follows.1 in
@@ -243,11 +262,14 @@ module _ {M : Type 0} (step : M → Request → Bool → List ℕ → M → Type
   -- ---- the end of a session
 
   -- nothing was written in the turn
-  unwritten : (so : SoFar step most left mid talk told written middle held old now served) → Appends middle written' [] → Appends written written' (so.replies ++ [])
+  unwritten : (so : SoFar step most left mid talk told written middle held old now served) → Appends middle written' []
+      → Appends written written' (so.replies ++ [])
   unwritten so none = Appends-trans written middle written' so.replies [] so.writes none
 
-  by_request : {heard : Option Talk} (request : Request) (how : Ended) (so : SoFar step most left mid talk told written middle held old now served) → Reads mid left' told heard held held' (Ok (Some request)) → held'.read ≤ 2 ^ 63
-      → Responds step (nat_lt (served + 1) most) middle written' heard talk' now new request (Stopped how) → Ran step most left left' written written' old new how
+  by_request : {heard : Option Talk} (request : Request) (how : Ended) (so : SoFar step most left mid talk told written middle held old now served)
+      → Reads mid left' told heard held held' (Ok (Some request)) → held'.read ≤ 2 ^ 63
+      → Responds step (nat_lt (served + 1) most) middle written' heard talk' now new request (Stopped how)
+      → Ran step most left left' written written' old new how
   by_request request end.Closed so reads bound follows = absurd follows
   by_request request end.Truncated so reads bound follows = absurd follows
   by_request request (end.Refused code) so reads bound follows = absurd follows
@@ -259,13 +281,15 @@ module _ {M : Type 0} (step : M → Request → Bool → List ℕ → M → Type
       (front_behind written middle written' so.replies follows.0 so.writes follows.2)
   by_request request end.Memory so reads bound follows = absurd follows
 
-  by_end : {heard : Option Talk} (how : Ended) (so : SoFar step most left mid talk told written middle held old now served) → Reads mid left' told heard held held' (Ok None) → held'.read ≤ 2 ^ 63
+  by_end : {heard : Option Talk} (how : Ended) (so : SoFar step most left mid talk told written middle held old now served)
+      → Reads mid left' told heard held held' (Ok None) → held'.read ≤ 2 ^ 63
       → how ≡ end.Closed → new ≡ now → Appends middle written' [] → Ran step most left left' written written' old new how
   by_end how so reads bound is same none =
       subst (λ h. Ran step most left left' written written' old new h) (sym is)
       (no_more (Ok None) end.Closed [] so reads bound same (refl, inr (so.goes, reads.gives.0, spent (Ok None) so reads reads.gives.2)) (unwritten so none))
 
-  by_fault : {heard : Option Talk} (found : WireFault) (how : Ended) (so : SoFar step most left mid talk told written middle held old now served) → Reads mid left' told heard held held' (Err found) → held'.read ≤ 2 ^ 63
+  by_fault : {heard : Option Talk} (found : WireFault) (how : Ended) (so : SoFar step most left mid talk told written middle held old now served)
+      → Reads mid left' told heard held held' (Err found) → held'.read ≤ 2 ^ 63
       → new ≡ now → Stops middle written' found how → Ran step most left left' written written' old new how
   by_fault (fault.Refused code) end.Closed so reads bound same stops = absurd stops
   by_fault (fault.Refused code) end.Truncated so reads bound same stops = absurd stops
@@ -281,7 +305,12 @@ module _ {M : Type 0} (step : M → Request → Bool → List ℕ → M → Type
   by_fault (fault.Refused code) end.Memory so reads bound same stops = absurd stops
   by_fault fault.Truncated end.Closed so reads bound same stops = absurd stops
   by_fault fault.Truncated end.Truncated so reads bound same stops =
-      no_more (Err fault.Truncated) end.Truncated [] so reads bound same (refl, so.goes, reads.gives.0, spent (Err fault.Truncated) so reads reads.gives.1) (unwritten so stops)
+      no_more (Err fault.Truncated) end.Truncated [] so reads bound same (
+        refl,
+        so.goes,
+        reads.gives.0,
+        spent (Err fault.Truncated) so reads reads.gives.1,
+      ) (unwritten so stops)
   by_fault fault.Truncated (end.Refused told) so reads bound same stops = absurd stops
   by_fault fault.Truncated end.Limit so reads bound same stops = absurd stops
   by_fault fault.Truncated end.ReadFault so reads bound same stops = absurd stops
@@ -291,7 +320,8 @@ module _ {M : Type 0} (step : M → Request → Bool → List ℕ → M → Type
   by_fault fault.ReadFault end.Truncated so reads bound same stops = absurd stops
   by_fault fault.ReadFault (end.Refused told) so reads bound same stops = absurd stops
   by_fault fault.ReadFault end.Limit so reads bound same stops = absurd stops
-  by_fault fault.ReadFault end.ReadFault so reads bound same stops = no_more (Err fault.ReadFault) end.ReadFault [] so reads bound same (refl, so.goes, reads.gives.0) (unwritten so stops)
+  by_fault fault.ReadFault end.ReadFault so reads bound same stops =
+      no_more (Err fault.ReadFault) end.ReadFault [] so reads bound same (refl, so.goes, reads.gives.0) (unwritten so stops)
   by_fault fault.ReadFault end.WriteFault so reads bound same stops = absurd stops
   by_fault fault.ReadFault end.Memory so reads bound same stops = absurd stops
   by_fault fault.Memory end.Closed so reads bound same stops = absurd stops
@@ -302,16 +332,19 @@ module _ {M : Type 0} (step : M → Request → Bool → List ℕ → M → Type
   by_fault fault.Memory end.WriteFault so reads bound same stops = absurd stops
   by_fault fault.Memory end.Memory so reads bound same stops = no_more (Err fault.Memory) end.Memory [] so reads bound same (refl, so.goes) (unwritten so stops)
 
-  pub stopped : (how : Ended) → SoFar step most left mid talk told written middle held old now served → Turns step (nat_lt (served + 1) most) mid left' told talk' held held' middle written' now new (Stopped how)
+  pub stopped : (how : Ended) → SoFar step most left mid talk told written middle held old now served
+      → Turns step (nat_lt (served + 1) most) mid left' told talk' held held' middle written' now new (Stopped how)
       → held'.read ≤ 2 ^ 63 → Ran step most left left' written written' old new how
   stopped how so turn bound = by_answer turn.answer turn.reads turn.follows
     where
-      by_answer : (answer : Result (Option Request) WireFault) → Reads mid left' told turn.heard held held' answer → Follows step (nat_lt (served + 1) most) middle written' turn.heard talk' now new answer (Stopped how)
+      by_answer : (answer : Result (Option Request) WireFault) → Reads mid left' told turn.heard held held' answer
+          → Follows step (nat_lt (served + 1) most) middle written' turn.heard talk' now new answer (Stopped how)
           → Ran step most left left' written written' old new how
       by_answer (Ok (Some request)) reads follows = by_request request how so reads bound follows
       by_answer (Ok None) reads follows = by_end how so reads bound (ap how_of follows.0) follows.1 follows.2
       by_answer (Err found) reads follows =
-          subst (λ h. Ran step most left left' written written' old new h) (sym (ap how_of follows.1)) (by_fault found follows.0 so reads bound follows.2 follows.3)
+          subst (λ h. Ran step most left left' written written' old new h) (sym (ap how_of follows.1))
+          (by_fault found follows.0 so reads bound follows.2 follows.3)
 
 pub bound_of : {r s : RestSeen} → r ≡ s → r.read ≤ 2 ^ 63 → s.read ≤ 2 ^ 63
 bound_of same bound = subst (λ r. r.read ≤ 2 ^ 63) same bound

@@ -1,5 +1,6 @@
 -- What a session took of a source whose bytes are told, as one over all its bytes.
-use Rattle.std.proofs.Common.{◌≡◌, ◌≢◌, ◌∙◌, ◌≤◌, ◌+◌, ◌-◌, ◌^◌, ◌⊎◌, inl, inr, ℕ, Bool, List, [], ◌++◌, Option, None, Some, length, take, refl, sym, ap, subst, arith, append-nil}
+use Rattle.std.proofs.Common.{◌≡◌, ◌≢◌, ◌∙◌, ◌≤◌, ◌+◌, ◌-◌, ◌^◌, ◌⊎◌, inl, inr, ℕ, Bool, List, [], ◌++◌, Option, None, Some, length, take, refl, sym, ap}
+use Rattle.std.proofs.Common.{subst, arith, append-nil}
 use Rattle.std.specs.Prelude.{⊤}
 use Rattle.std.proofs.Math.Seq.{take-append-add, take-nil}
 use Rattle.dh_outside.specs.Pieces.{IsSpent}
@@ -28,11 +29,13 @@ none_behind taken left (inr most) = let none : 2 ^ 63 - length taken ≡ 0 = ome
 still : (rest more : List ℕ) (found : Found) → more ≡ [] → IsNext rest found → IsNext (rest ++ more) found
 still rest more found none next = subst (λ xs. IsNext (rest ++ xs) found) (sym none) (subst (λ xs. IsNext xs found) (sym (append-nil rest)) next)
 
-ends_longer : (most : ℕ) (requests : List Request) (rest more : List ℕ) (Spent : Type 0) (how : Ended) (last : List ℕ) → (Spent → more ≡ []) → how ≢ end.ReadFault
+ends_longer : (most : ℕ) (requests : List Request) (rest more : List ℕ) (Spent : Type 0) (how : Ended) (last : List ℕ) → (Spent → more ≡ [])
+    → how ≢ end.ReadFault
     → EndsBy most requests rest Spent how last → EndsBy most requests (rest ++ more) ⊤ how last
 ends_longer most requests rest more Spent end.Closed last none other ends = (ends.0, closed ends.1)
   where
-    closed : AsksToClose most requests ⊎ (GoesOn most requests × IsNext rest ended × Spent) → AsksToClose most requests ⊎ (GoesOn most requests × IsNext (rest ++ more) ended × ⊤)
+    closed : AsksToClose most requests ⊎ (GoesOn most requests × IsNext rest ended × Spent)
+        → AsksToClose most requests ⊎ (GoesOn most requests × IsNext (rest ++ more) ended × ⊤)
     closed (inl asks) = inl asks
     closed (inr over) = inr (over.0, still rest more ended (none over.2) over.1, tt)
 ends_longer most requests rest more Spent end.Truncated last none other ends = (ends.0, ends.1, still rest more cut (none ends.3) ends.2, tt)
@@ -44,7 +47,8 @@ ends_longer most requests rest more Spent end.WriteFault last none other (inr en
     inr (ends.0, (ends.1.0, next_stays rest more (refused ends.0) ends.1.1 tt, ends.1.2))
 ends_longer most requests rest more Spent end.Memory last none other ends = ends
 
-over_left : {M : Type 0} (step : M → Request → Bool → List ℕ → M → Type 0) (most : ℕ) (bytes : List ℕ) (left' written written' : Option (List ℕ)) (old new : M) (how : Ended)
+over_left : {M : Type 0} (step : M → Request → Bool → List ℕ → M
+    → Type 0) (most : ℕ) (bytes : List ℕ) (left' written written' : Option (List ℕ)) (old new : M) (how : Ended)
     → how ≢ end.ReadFault → Ran step most (Some bytes) left' written written' old new how → RanOver step most bytes written written' old new how
 over_left step most bytes None written written' old new how other ran = absurd ran.consumed
 over_left step most bytes (Some left) written written' old new how other ran =
@@ -58,14 +62,17 @@ over_left step most bytes (Some left) written written' old new how other ran =
         replies = ran.session.replies;
         served = ran.session.served;
         last = ran.session.last;
-        ends = ends_longer most ran.session.requests ran.session.rest (take (2 ^ 63 - length ran.taken) left) (IsSpent (Some left) (length ran.taken)) how ran.session.last
+        ends =
+            ends_longer most ran.session.requests ran.session.rest (take (2 ^ 63 - length ran.taken) left) (IsSpent (Some left) (length ran.taken)) how
+            ran.session.last
             (none_behind ran.taken left) other ran.session.ends;
         whole = ran.session.whole;
       },
       ran.writes,
     )
 
-pub over_all : {M : Type 0} (step : M → Request → Bool → List ℕ → M → Type 0) (most : ℕ) (bytes : List ℕ) (left left' written written' : Option (List ℕ)) (old new : M) (how : Ended)
+pub over_all : {M : Type 0} (step : M → Request → Bool → List ℕ → M
+    → Type 0) (most : ℕ) (bytes : List ℕ) (left left' written written' : Option (List ℕ)) (old new : M) (how : Ended)
     → left ≡ Some bytes → how ≢ end.ReadFault → Ran step most left left' written written' old new how → RanOver step most bytes written written' old new how
 over_all step most bytes left left' written written' old new how told other ran =
     over_left step most bytes left' written written' old new how other (subst (λ l. Ran step most l left' written written' old new how) told ran)

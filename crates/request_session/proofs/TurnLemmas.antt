@@ -9,12 +9,14 @@ use Rattle.request_session.specs.declared.ended.Turn.{Turn}
 
 pub turns_by : {M : Type 0} (step : M → Request → Bool → List ℕ → M → Type 0) (more : Bool) {left mid left' : Option (List ℕ)} {talk heard talk' : Option Talk}
     {held held' : RestSeen} {written middle written' : Option (List ℕ)} {old new : M} (answer : Result (Option Request) WireFault) (turn : Turn)
-    → Reads left mid talk heard held held' answer → middle ≡ written → left' ≡ mid → Follows step more middle written' heard talk' old new answer turn → Speaks heard talk'
+    → Reads left mid talk heard held held' answer → middle ≡ written → left' ≡ mid → Follows step more middle written' heard talk' old new answer turn
+    → Speaks heard talk'
     → Turns step more left left' talk talk' held held' written written' old new turn
-turns_by step more {left} {mid} {left'} {talk} {heard} {talk'} {held} {held'} {written} {middle} {written'} {old} {new} answer turn reads unwritten unread follows speaks = record {
-  answer = answer;
-  heard = heard;
-  reads = subst (λ l. Reads left l talk heard held held' answer) (sym unread) reads;
-  follows = subst (λ w. Follows step more w written' heard talk' old new answer turn) unwritten follows;
-  speaks = speaks;
-}
+turns_by step more {left} {mid} {left'} {talk} {heard} {talk'} {held} {held'} {written} {middle} {written'} {old} {new} answer turn reads unwritten unread
+    follows speaks = record {
+      answer = answer;
+      heard = heard;
+      reads = subst (λ l. Reads left l talk heard held held' answer) (sym unread) reads;
+      follows = subst (λ w. Follows step more w written' heard talk' old new answer turn) unwritten follows;
+      speaks = speaks;
+    }

@@ -25,8 +25,8 @@ keeps most before request = request.keep && nat_lt (before + 1) most
 abbrev pub Replies : {M : Type 0} → (M → Request → Bool → List ℕ → M → Type 0) → ℕ → ℕ → M → List Request → List ℕ → M → Type 0
 Replies step most before old [] text new = (text ≡ []) × (new ≡ old)
 Replies {M} step most before old (request ∷ requests) text new =
-    (reply : List ℕ) × (behind : List ℕ) × (next : M) × step old request (keeps most before request) reply next
-    × Replies step most (before + 1) next requests behind new × (text ≡ reply ++ behind)
+    (reply : List ℕ) × (beyond : List ℕ) × (next : M) × step old request (keeps most before request) reply next
+    × Replies step most (before + 1) next requests beyond new × (text ≡ reply ++ beyond)
 
 -- after these requests the session goes on: none asks to close, and they are fewer than are allowed
 abbrev pub GoesOn : ℕ → List Request → Type 0
@@ -61,7 +61,8 @@ EndsBy most requests rest Spent end.WriteFault text =
 EndsBy most requests rest Spent end.Memory text = (text ≡ []) × GoesOn most requests
 
 -- a session over bytes, of at most so many requests: its text is the replies and what stands after them
-pub record Session {M : Type 0} (step : M → Request → Bool → List ℕ → M → Type 0) (most : ℕ) (bytes : List ℕ) (Spent : Type 0) (old new : M) (how : Ended) (text : List ℕ) : Type 0 where
+pub record Session {M : Type 0} (step : M → Request → Bool → List ℕ → M
+    → Type 0) (most : ℕ) (bytes : List ℕ) (Spent : Type 0) (old new : M) (how : Ended) (text : List ℕ) : Type 0 where
   pub requests : List Request
   pub rest : List ℕ
   pub found : Requests bytes requests rest
@@ -81,7 +82,8 @@ WritesUpTo end.WriteFault old new text = AppendsFront old new text
 WritesUpTo _ old new text = Appends old new text
 
 -- what a session took of its source, what it came to over these bytes, and what it wrote
-pub record Ran {M : Type 0} (step : M → Request → Bool → List ℕ → M → Type 0) (most : ℕ) (left left' written written' : Option (List ℕ)) (old new : M) (how : Ended) : Type 0 where
+pub record Ran {M : Type 0} (step : M → Request → Bool → List ℕ → M
+    → Type 0) (most : ℕ) (left left' written written' : Option (List ℕ)) (old new : M) (how : Ended) : Type 0 where
   pub taken : List ℕ
   pub consumed : Consumes left left' taken
   pub bound : length taken ≤ 2 ^ 63

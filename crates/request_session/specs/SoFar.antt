@@ -15,7 +15,9 @@ PromptSoFar step most (Some first) (Some last) old taken replies =
     (reads : List Heard) × (last.heard ≡ first.heard ++ reads) × (given_by reads ≡ taken) × (last.written ≡ first.written ++ replies)
     × (first.left ≡ taken ++ last.left) × EachRead (AllAnswered step most old first.written) [] reads
 
-pub record SoFar {M : Type 0} (step : M → Request → Bool → List ℕ → M → Type 0) (most : ℕ) (left left' : Option (List ℕ)) (talk talk' : Option Talk) (written written' : Option (List ℕ)) (held : RestSeen) (old new : M) (served : ℕ) : Type 0 where
+pub record SoFar {M : Type 0} (step : M → Request → Bool → List ℕ → M
+    → Type 0) (most : ℕ) (left left' : Option (List ℕ)) (talk talk' : Option Talk) (written written' : Option (List ℕ)) (held : RestSeen) (old new : M)
+    (served : ℕ) : Type 0 where
   pub taken : List ℕ
   pub consumed : Consumes left left' taken
   pub counted : held.read ≡ length taken

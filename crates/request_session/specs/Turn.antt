@@ -25,7 +25,8 @@ Sent (Err e) old new talk talk' text = AppendsFront old new text × Speaks talk 
 
 -- What comes of a request: the machine's reply is written, which says that the connection is kept where the request asks
 -- for it and more requests are allowed.
-abbrev pub Responds : {M : Type 0} → (M → Request → Bool → List ℕ → M → Type 0) → Bool → Option (List ℕ) → Option (List ℕ) → Option Talk → Option Talk → M → M → Request → Turn → Type 0
+abbrev pub Responds : {M : Type 0} → (M → Request → Bool → List ℕ → M → Type 0) → Bool → Option (List ℕ) → Option (List ℕ) → Option Talk → Option Talk → M → M
+    → Request → Turn → Type 0
 Responds step more written written' talk talk' old new request (Answered keep) =
     (reply : List ℕ) × step old request (request.keep && more) reply new × Appends written written' reply × (keep ≡ request.keep) × Says talk talk' reply
 Responds step more written written' talk talk' old new request (Stopped end.WriteFault) =
@@ -42,13 +43,16 @@ Stops written written' fault.Memory end.Memory = Appends written written' []
 Stops written written' _ _ = ⊥
 
 -- what comes of what was read
-abbrev pub Follows : {M : Type 0} → (M → Request → Bool → List ℕ → M → Type 0) → Bool → Option (List ℕ) → Option (List ℕ) → Option Talk → Option Talk → M → M → Result (Option Request) WireFault → Turn → Type 0
+abbrev pub Follows : {M : Type 0} → (M → Request → Bool → List ℕ → M → Type 0) → Bool → Option (List ℕ) → Option (List ℕ) → Option Talk → Option Talk → M → M
+    → Result (Option Request) WireFault → Turn → Type 0
 Follows step more written written' talk talk' old new (Ok (Some request)) turn = Responds step more written written' talk talk' old new request turn
 Follows step more written written' talk talk' old new (Ok None) turn = (turn ≡ Stopped end.Closed) × (new ≡ old) × Appends written written' []
 Follows step more written written' talk talk' old new (Err found) turn = (how : Ended) × (turn ≡ Stopped how) × (new ≡ old) × Stops written written' found how
 
 -- a turn: what was read of the source, what came of it, and that all writes came after all reads
-pub record Turns {M : Type 0} (step : M → Request → Bool → List ℕ → M → Type 0) (more : Bool) (left left' : Option (List ℕ)) (talk talk' : Option Talk) (held held' : RestSeen) (written written' : Option (List ℕ)) (old new : M) (turn : Turn) : Type 0 where
+pub record Turns {M : Type 0} (step : M → Request → Bool → List ℕ → M
+    → Type 0) (more : Bool) (left left' : Option (List ℕ)) (talk talk' : Option Talk) (held held' : RestSeen) (written written' : Option (List ℕ)) (old new : M)
+    (turn : Turn) : Type 0 where
   pub answer : Result (Option Request) WireFault
   pub heard : Option Talk
   pub reads : Reads left left' talk heard held held' answer

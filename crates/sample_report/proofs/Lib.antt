@@ -1,5 +1,5 @@
 pub mod StepLemmas
-pub mod SmallLemmas
 pub mod LoadLemmas
+pub mod CountLemmas
 pub mod ReportLemmas
 pub mod GeneratedLemmas

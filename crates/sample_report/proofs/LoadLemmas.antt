@@ -1,78 +1,88 @@
 -- A log that grows by sets of samples.
-use Rattle.std.proofs.Common.{◌≡◌, ◌∙◌, ℕ, zero, suc, ℤ, ◌+◌, ◌-◌, ◌*◌, ◌≤◌, ◌<◌, ◌/◌, true, List, [], ◌∷◌, ◌++◌, length, min, refl, sym, ap, subst, arith, nat_lt, cond, Result, Ok, Err, OnOk}
-use Rattle.std.proofs.lemmas.List.{append_assoc, append-nil}
-use Rattle.std.proofs.Math.Nat.{mul-div-le}
+use Rattle.std.proofs.Common.{◌≡◌, ◌∙◌, ℕ, ℤ, ◌+◌, ◌-◌, ◌≤◌, ◌<◌, ◌/◌, suc, List, [], min, refl, sym, ap, subst, arith, None, Result, Ok, Err, OnOk}
+use Rattle.dh_base.specs.declared.codes.Refusal.{Refusal}
+use Rattle.dh_base.specs.declared.memory.Memory.{Memory}
 use Rattle.dh_changes.specs.declared.change.Change.{Change}
-use Rattle.dh_changes.specs.declared.change.Write.{Write}
 use Rattle.meta_parts.specs.declared.held.Records.{Records}
-use Rattle.record_index.specs.Facts.{Facts, facts_in}
-use Rattle.table_build.specs.Log.{writes_of}
+use Rattle.change_log.specs.declared.limits.Limits.{Limits}
+use Rattle.change_requests.specs.Requests.{Asked}
+use Rattle.engine.specs.declared.machine.Report.{Report}
+use Rattle.engine.specs.Machine.{State}
+use Rattle.engine.specs.Seen.{Seen}
+use Rattle.engine.specs.InMemory.{largest, started, outcome_of, Loads}
 use Rattle.sample_report.specs.declared.draws.Sample.{Sample}
 use Rattle.sample_report.specs.Draws.{start, samples, after_samples}
 use Rattle.sample_report.specs.Sets.{sets_from, sample_sets}
-use Rattle.sample_report.specs.Loaded.{writes_for, change_of, grown, log_with}
-use Rattle.sample_report.specs.Small.{AreSmall}
-use Rattle.sample_report.proofs.SmallLemmas.{both-small, wider}
+use Rattle.sample_report.specs.Loaded.{asked_for, log_after, with_set, log_with, HasLoaded}
 
--- the writes of one change more
-pub writes-last : (log : List Change) (change : Change) → writes_of (log ++ change ∷ []) ≡ writes_of log ++ change.writes
-writes-last [] change = append-nil change.writes
-writes-last (first ∷ log) change = ap (λ l. first.writes ++ l) (writes-last log change) ∙ sym (append_assoc first.writes (writes_of log) change.writes)
+-- ---- one set
 
-positive : (n : ℕ) → nat_lt 0 (suc n) ≡ true
-positive n = grind arith
+-- a machine before the first call
+pub nothing-loaded : (machine : Seen) → machine ≡ started machine.meta → HasLoaded machine.meta machine
+nothing-loaded machine is = record {
+  meta = refl;
+  limits = ap (λ (m : Seen). m.limits) is;
+  free = ap (λ (m : Seen). m.state.full) is;
+  ticket = ap (λ (m : Seen). m.state.ticket) is;
+  faults = ap (λ (m : Seen). m.faults) is;
+}
 
--- the writes of a log that grows
-grown-writes : (moment : ℤ) (log : List Change) (writes : List Write) → writes_of (grown moment log writes) ≡ writes_of log ++ writes
-grown-writes moment log [] = sym (append-nil (writes_of log))
-grown-writes moment log (w ∷ writes) =
-    ap (λ b. writes_of (cond b (log ++ change_of moment (w ∷ writes) ∷ []) log)) (positive (length writes)) ∙ writes-last log (change_of moment (w ∷ writes))
+pub stays-loaded : (old new : Seen) (r : Records) (asked : Asked) (result : Result (Result Report Refusal) Memory) → HasLoaded r old
+    → Loads old asked result new
+    → HasLoaded r new
+stays-loaded old new r asked (Ok (Ok report)) before is = record {
+  meta = is.1.1.0 ∙ before.meta;
+  limits = is.1.1.1.0 ∙ before.limits;
+  free = ap (λ (s : State). s.full) is.1.0 ∙ before.free;
+  ticket = ap (λ (s : State). s.ticket) is.1.0 ∙ before.ticket;
+  faults = is.1.1.1.1;
+}
+stays-loaded old new r asked (Ok (Err refused)) before is = subst (λ (m : Seen). HasLoaded r m) (sym is.1) before
+stays-loaded old new r asked (Err memory) before is = subst (λ (m : Seen). HasLoaded r m) (sym is) before
 
--- what holds after a change was put last
-pub held-last : {T E : Type 0} (result : Result T E) (known : Facts) (old new : List Change) (moment : ℤ) (writes : List Write)
-    → OnOk result (new ≡ old ++ change_of moment writes ∷ []) → OnOk result (known ≡ facts_in (writes_of old ++ writes)) → OnOk result (known ≡ facts_in (writes_of new))
-held-last (Ok x) known old new moment writes last held = held ∙ ap facts_in (sym (ap writes_of last ∙ writes-last old (change_of moment writes)))
-held-last (Err e) known old new moment writes last held = tt
+-- the log that it leaves
+pub log-loaded : (old new : Seen) (moment : ℤ) (set : List Sample) (found : Result Report Refusal) → old.limits ≡ largest
+    → Loads old (asked_for moment set) (Ok found) new
+    → new.state.log ≡ with_set old.meta moment old.state.log set
+unfolding with_set
+log-loaded old new moment set (Ok report) limits is =
+    let asked = asked_for moment set in
+    ap (λ (s : State). s.log) is.1.0
+    ∙ ap (log_after old.meta old.state.log asked) (sym (ap (λ (l : Limits). outcome_of old.meta l old.state.log asked) (sym limits) ∙ is.0))
+log-loaded old new moment set (Err refused) limits is =
+    let asked = asked_for moment set in
+    ap (λ (m : Seen). m.state.log) is.1
+    ∙ ap (log_after old.meta old.state.log asked) (sym (ap (λ (l : Limits). outcome_of old.meta l old.state.log asked) (sym limits) ∙ is.0))
 
--- a log that grows by few writes stays small
-pub grown-small : (moment : ℤ) (log : List Change) (writes : List Write) (most more : ℕ) → AreSmall more writes → AreSmall most (writes_of log) → AreSmall (most + more) (writes_of (grown moment log writes))
-grown-small moment log writes most more new old =
-    subst (λ l. AreSmall (most + more) l) (sym (grown-writes moment log writes)) (both-small most more (writes_of log) writes old new)
-
-length-samples : (n x : ℕ) → length (samples n x) ≡ n
-length-samples zero x = refl
-length-samples (suc n) x = ap (λ m. suc m) (length-samples n _)
+-- ---- one set after the other
 
 left-suc : (n i : ℕ) → i < n → n - i ≡ suc (n - (i + 1))
 left-suc n i below = omega (arith, below)
 
--- the same of what was brought
-pub brought-small : {T E : Type 0} (result : Result T E) (moment : ℤ) (old new : List Change) (writes : List Write) (more : ℕ) → AreSmall more writes
-    → OnOk result (new ≡ grown moment old writes) → OnOk result ((most : ℕ) → AreSmall most (writes_of old) → AreSmall (most + more) (writes_of new))
-brought-small (Ok x) moment old new writes more small is =
-    λ most before. subst (λ l. AreSmall (most + more) (writes_of l)) (sym is) (grown-small moment old writes most more small before)
-brought-small (Err e) moment old new writes more small is = tt
+-- before the first set
+pub none-brought : (machine : Seen) (moment : ℤ) (n count x : ℕ) → machine ≡ started machine.meta → x ≡ start
+    → log_with machine.meta moment [] (sets_from n count start) ≡ log_with machine.meta moment machine.state.log (sets_from (n - 0) count x)
+none-brought machine moment n count x is drawn =
+    ap (λ l. log_with machine.meta moment l (sets_from n count start)) (sym (ap (λ (m : Seen). m.state.log) is))
+    ∙ ap (λ m. log_with machine.meta moment machine.state.log (sets_from m count start)) all-left
+    ∙ ap (λ z. log_with machine.meta moment machine.state.log (sets_from (n - 0) count z)) (sym drawn)
+  where
+    all-left : n ≡ n - 0
+    all-left = omega arith
 
 -- one set more
-pub set-step : (r : Records) (moment : ℤ) (old new : List Change) (n i left rest size x y : ℕ) (set : List Sample) → i < n → size ≡ min left 1000 → rest ≡ left - 1000
-    → set ≡ samples size x → y ≡ after_samples size x → new ≡ grown moment old (writes_for r moment old set)
+pub set-step : (r meta : Records) (moment : ℤ) (old new : List Change) (n i left rest size x y : ℕ) (set : List Sample) → meta ≡ r → i < n
+    → size ≡ min left 1000 → rest ≡ left - 1000
+    → set ≡ samples size x → y ≡ after_samples size x → new ≡ with_set meta moment old set
     → log_with r moment old (sets_from (n - i) left x) ≡ log_with r moment new (sets_from (n - (i + 1)) rest y)
-set-step r moment old new n i left rest size x y set below sized less drawn next more =
+set-step r meta moment old new n i left rest size x y set same below sized less drawn next more =
     ap (λ m. log_with r moment old (sets_from m left x)) (left-suc n i below)
-    ∙ ap (λ k. log_with r moment (grown moment old (writes_for r moment old (samples k x))) (sets_from (n - (i + 1)) (left - 1000) (after_samples k x))) (sym sized)
-    ∙ ap (λ s. log_with r moment (grown moment old (writes_for r moment old s)) (sets_from (n - (i + 1)) (left - 1000) (after_samples size x))) (sym drawn)
-    ∙ ap (λ l. log_with r moment l (sets_from (n - (i + 1)) (left - 1000) (after_samples size x))) (sym more)
+    ∙ ap (λ k. log_with r moment (with_set r moment old (samples k x)) (sets_from (n - (i + 1)) (left - 1000) (after_samples k x))) (sym sized)
+    ∙ ap (λ s. log_with r moment (with_set r moment old s) (sets_from (n - (i + 1)) (left - 1000) (after_samples size x))) (sym drawn)
+    ∙ ap (λ l. log_with r moment l (sets_from (n - (i + 1)) (left - 1000) (after_samples size x)))
+    (sym (more ∙ ap (λ (m : Records). with_set m moment old set) same))
     ∙ ap (λ z. log_with r moment new (sets_from (n - (i + 1)) (left - 1000) z)) (sym next)
     ∙ ap (λ k. log_with r moment new (sets_from (n - (i + 1)) k y)) (sym less)
-
--- a set has at most 1,000 samples
-pub small-step : (writes : List Write) (i left size x : ℕ) (set : List Sample) → size ≡ min left 1000 → set ≡ samples size x → AreSmall (1000 * i + length set) writes → AreSmall (1000 * (i + 1)) writes
-small-step writes i left size x set sized drawn small =
-    wider (1000 * i + length set) (1000 * (i + 1)) writes
-    (omega (arith, ap (λ (s : List Sample). length s) drawn, length-samples size x, sized, min-least left)) small
-  where
-    min-least : (n : ℕ) → min n 1000 ≤ 1000
-    min-least n = omega arith
 
 -- all sets are brought
 pub all-brought : (r : Records) (moment : ℤ) (log : List Change) (count n i left x : ℕ) → n ≡ (count + 999) / 1000 → n ≤ i
@@ -83,7 +93,3 @@ all-brought r moment log count n i left x all done is =
   where
     none-left : n - i ≡ 0
     none-left = omega (arith, done)
-
--- they are few enough for tables
-pub few-sets : (count i : ℕ) (writes : List Write) → count ≤ 200000 → i ≤ (count + 999) / 1000 → AreSmall (1000 * i) writes → AreSmall 4194304 writes
-few-sets count i writes below within small = wider (1000 * i) 4194304 writes (omega (arith, mul-div-le (count + 999) 1000, below, within)) small

@@ -20,7 +20,8 @@ pub some_years : (periods : List PeriodName) → periods ≡ years → 0 < lengt
 some_years periods is = omega (arith, ap (λ (l : List PeriodName). length l) is, two-years)
 
 -- the value of a cell over the years, as the user sees it
-pub total_same : (result : Result (Option Fraction) Memory) (r : Records) (rows : List Row) (seer user element unit : ℕ) (periods : List PeriodName) → seer ≡ user → periods ≡ years
+pub total_same : (result : Result (Option Fraction) Memory) (r : Records) (rows : List Row) (seer user element unit : ℕ) (periods : List PeriodName)
+    → seer ≡ user → periods ≡ years
     → IfOk result (λ total. total ≡ aggregate_of r (seen r seer rows) (cell_of element None None periods (unit ∷ []) false))
     → IfOk result (λ total. total ≡ total_for r rows user element unit)
 unfolding total_for

@@ -3,6 +3,6 @@ pub mod Ids
 pub mod File
 pub mod Sets
 pub mod Loaded
-pub mod Small
+pub mod Counts
 pub mod Report
 pub mod Generated

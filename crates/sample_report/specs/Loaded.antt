@@ -1,27 +1,39 @@
--- Sets of samples, brought to a log one after the other.
-use Rattle.std.specs.Prelude.{ℤ, nat_lt, if◌then◌else◌, List, [], ◌∷◌, ◌++◌, length, None}
+-- Sets of samples, which the loader brings to the log of a machine in memory, one after the other.
+use Rattle.std.specs.Prelude.{◌≡◌, ℤ, List, [], ◌∷◌, None, Result, Ok, Err}
+use Rattle.dh_base.specs.declared.codes.Refusal.{Refusal}
 use Rattle.dh_changes.specs.declared.change.Change.{Change}
-use Rattle.dh_changes.specs.declared.change.Write.{Write}
-use Rattle.table_build.specs.Log.{writes_of}
 use Rattle.meta_parts.specs.declared.held.Records.{Records}
-use Rattle.record_index.specs.Facts.{facts_in}
-use Rattle.record_index.specs.declared.outcome.Who.TheVariants.{Loader}
-use Rattle.value_import.specs.Verdicts.{verdict_of}
+use Rattle.change_requests.specs.Requests.{Asked}
+use Rattle.change_requests.specs.declared.request.ChangeRequest.TheVariants.{Values}
+use Rattle.engine.specs.declared.machine.Report.{Report}
+use Rattle.engine.specs.Machine.{judged_in, log_by}
+use Rattle.engine.specs.Seen.{Seen}
+use Rattle.engine.specs.InMemory.{largest, loading, outcome_of}
 use Rattle.sample_report.specs.declared.draws.Sample.{Sample}
 use Rattle.sample_report.specs.Sets.{set_of}
 
--- what the loader writes where it brings a set of samples after a log
-unfoldable pub writes_for : Records → ℤ → List Change → List Sample → List Write
-writes_for r moment log set = (verdict_of (facts_in (writes_of log)) r Loader moment (set_of set)).writes
+-- the loader asks for the import of some samples at a moment
+abbrev pub asked_for : ℤ → List Sample → Asked
+asked_for moment samples = loading moment (Values (set_of samples))
 
-abbrev pub change_of : ℤ → List Write → Change
-change_of moment writes = record { user = None; moment = moment; writes = writes }
+-- the log by what that comes to: a set for which the log has no room leaves it
+abbrev pub log_after : Records → List Change → Asked → Result Report Refusal → List Change
+log_after r log asked (Ok report) = log_by r log asked (judged_in r log asked)
+log_after r log asked (Err refused) = log
 
--- a log with one change more; without writes there is none
-abbrev pub grown : ℤ → List Change → List Write → List Change
-grown moment log writes = if nat_lt 0 (length writes) then log ++ change_of moment writes ∷ [] else log
+-- the log after one set of samples more
+unfoldable pub with_set : Records → ℤ → List Change → List Sample → List Change
+with_set r moment log samples = log_after r log (asked_for moment samples) (outcome_of r largest log (asked_for moment samples))
 
 -- the log that sets of samples leave after another
 abbrev pub log_with : Records → ℤ → List Change → List (List Sample) → List Change
 log_with r moment log [] = log
-log_with r moment log (set ∷ more) = log_with r moment (grown moment log (writes_for r moment log set)) more
+log_with r moment log (set ∷ more) = log_with r moment (with_set r moment log set) more
+
+-- a machine in memory over these metadata, to which changes were brought, and nothing else was done
+pub record HasLoaded (r : Records) (machine : Seen) : Type 0 where
+  pub meta : machine.meta ≡ r
+  pub limits : machine.limits ≡ largest
+  pub free : machine.state.full ≡ None
+  pub ticket : machine.state.ticket ≡ 0
+  pub faults : machine.faults ≡ 0

@@ -14,10 +14,11 @@ use Rattle.meta_parts.specs.declared.kind.Kind.{Kind}
 use Rattle.meta_parts.specs.declared.kind.Kind.TheVariants.{DataElement, OrganisationUnit, User}
 use Rattle.dh_metadata.specs.Objects.{find_of}
 use Rattle.table_rows.specs.declared.row.Row.{Row}
-use Rattle.table_build.specs.Log.{writes_of}
-use Rattle.table_build.specs.Listed.{listed_in}
 use Rattle.seen_rows.specs.Seen.{seen}
 use Rattle.cell_values.specs.Cells.{cell_of, aggregate_of}
+use Rattle.engine.specs.MetaAfter.{meta_after}
+use Rattle.engine.specs.Tables.{tables_of}
+use Rattle.sample_report.specs.Counts.{rows_counted}
 use Rattle.sample_report.specs.Ids.{country_id, element_id, user_id}
 
 -- the object of a kind with an identifier
@@ -38,6 +39,10 @@ total_of r rows =
     option_and_then (λ user. option_and_then (λ element. option_and_then (total_for r rows user element)
     (named r OrganisationUnit country_id)) (named r DataElement element_id)) (named r User user_id)
 
+-- how many rows there are of the element of the samples
+unfoldable pub records_of : Records → List Row → ℕ
+records_of r rows = option_map_or (λ element. rows_counted element (length r.organisation_units) rows) (named r DataElement element_id) 0
+
 -- a number that isn't whole has up to 6 decimals
 unfoldable pub total_text : Option Fraction → List ℕ
 total_text total = option_map_or (λ x. printed x 6) total (codes "none")
@@ -48,11 +53,13 @@ line name value = name ++ (32 ∷ value ++ 10 ∷ [])
 -- how many values were drawn, how many rows there are, how many changes, and the total
 unfoldable pub lines_of : ℕ → ℕ → ℕ → List ℕ → List ℕ
 lines_of values records changes total =
-    line (codes "values") (decimal values) ++ (line (codes "records") (decimal records) ++ (line (codes "changes") (decimal changes) ++ line (codes "total") total))
+    line (codes "values") (decimal values) ++ (line (codes "records") (decimal records)
+    ++ (line (codes "changes") (decimal changes) ++ line (codes "total") total))
 
 -- what is told of a number of values over the rows that their log leaves
 abbrev pub report_over : Records → ℕ → List Change → List Row → List ℕ
-report_over r count log rows = lines_of count (length rows) (length log) (total_text (total_of r rows))
+report_over r count log rows = lines_of count (records_of r rows) (length log) (total_text (total_of r rows))
 
+-- over the tables of a log, as the user sees them after it
 unfoldable pub report_of : Records → ℕ → List Change → List ℕ
-report_of r count log = report_over r count log (listed_in r (writes_of log)).rows
+report_of r count log = report_over (meta_after r log) count log (tables_of r log).rows

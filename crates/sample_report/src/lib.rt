@@ -2,11 +2,11 @@
 //! their total.
 #![tactic(auto)]
 
+mod counts;
 pub mod draws;
 pub mod file;
 pub mod ids;
 mod load;
-mod records;
 mod report;
 mod run;
 mod sets;

@@ -1,22 +1,16 @@
 //! What is told of the samples that were brought.
-ghost use Rattle.std.specs.Prelude.{◌≡◌, ◌≤◌, ◌++◌, map, length, OnOk, IfOk};
-ghost use Rattle.std.specs.Arc.{arc_value};
+ghost use Rattle.std.specs.Prelude.{◌≡◌, ◌++◌, OnOk, IfOk};
 ghost use Rattle.std.specs.Fmt.{decimal};
-ghost use Rattle.record_index.specs.World.{facts};
-ghost use Rattle.record_index.specs.Facts.{facts_in};
-ghost use Rattle.table_build.specs.Log.{writes_of};
-ghost use Rattle.table_build.specs.Listed.{listed_in};
-ghost use Rattle.sample_report.specs.Small.{AreSmall};
-ghost use Rattle.sample_report.specs.Report.{line, lines_of, total_of, total_text, report_of};
+ghost use Rattle.sample_report.specs.Loaded.{HasLoaded};
+ghost use Rattle.sample_report.specs.Report.{line, lines_of, records_of, total_of, total_text, report_of};
 
-use crate::load::Loaded;
-use crate::records::count_records;
-use crate::total::{total_of, total_text};
+use crate::total::{records_of, total_of, total_text};
 use dh_base::items::Items;
 use dh_base::memory::Memory;
 use dh_metadata::metadata::Metadata;
+use engine::{Engine, Unkept, tables_of_all};
 use std::alloc::Global;
-use table_build::listed::build;
+use table_rows::RowStore;
 
 fn push_line(text: &mut Vec<u8>, name: &[u8], value: &[u8]) -> Result<(), Memory>
     ensures { OnOk result (text.new.items ≡ text.old.items ++ line name.now value.now) }
@@ -53,37 +47,33 @@ fn lines_of(
     Ok(Items::from(text))
 }
 
-// The total over the rows that a log leaves, as a text.
-fn total_over(alloc: Global, meta: &Metadata, loaded: &Loaded) -> Result<Vec<u8>, Memory>
-    requires small { AreSmall 4194304 (writes_of (map arc_value loaded.now.log.items)) }
-    ensures { IfOk result (λ text. text.items ≡ total_text (total_of meta.now (listed_in meta.now (writes_of (map arc_value loaded.now.log.items))).rows)) }
+// The report over a store of the rows that a log of so many changes leaves.
+fn report_over<S: RowStore>(
+    alloc: Global,
+    meta: &Metadata,
+    store: &S,
+    count: u32,
+    changes: u64,
+) -> Result<Items<u8>, Memory>
+    ensures { IfOk result (λ text. text ≡ lines_of count (records_of meta.now (S.rows store.now)) changes (total_text (total_of meta.now (S.rows store.now)))) }
 {
-    let store = build(alloc, meta, loaded.log.as_slice())?;
-    let total = total_of(alloc, meta, &store);
-    drop(store);
-    total_text(alloc, total?)
+    let records = records_of(alloc, meta, store)?;
+    let total = total_of(alloc, meta, store)?;
+    let total = total_text(alloc, total)?;
+    lines_of(alloc, u64::from(count), records, changes, &total)
 }
 
-/// The report on a number of values that were brought.
+/// The report on a number of values that were brought to an engine.
 #[tactic(auto, unfolding(crate::specs::Report::report_of))]
 pub(crate) fn report_of(
     alloc: Global,
-    meta: &Metadata,
+    engine: &mut Engine<Unkept>,
     count: u32,
-    loaded: &Loaded,
 ) -> Result<Items<u8>, Memory>
-    requires held { facts loaded.now.world ≡ facts_in (writes_of (map arc_value loaded.now.log.items)) }
-    requires small { AreSmall 4194304 (writes_of (map arc_value loaded.now.log.items)) }
-    ensures { IfOk result (λ text. text ≡ report_of meta.now count (map arc_value loaded.now.log.items)) }
+    requires { HasLoaded engine.old.meta engine.old }
+    ensures { IfOk result (λ text. text ≡ report_of engine.old.meta count engine.old.state.log) }
 {
-    let log = loaded.log.as_slice();
-    let records = count_records(alloc, meta, &loaded.world, log)?;
-    let total = total_over(alloc, meta, loaded)?;
-    lines_of(
-        alloc,
-        u64::from(count),
-        records as u64,
-        log.len() as u64,
-        &total,
-    )
+    let tables = tables_of_all(alloc, engine)?;
+    let changes = engine.standing().changes;
+    report_over(alloc, engine.latest_meta(), &*tables, count, changes)
 }

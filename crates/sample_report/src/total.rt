@@ -1,9 +1,10 @@
-//! The total of the samples, as the user sees it.
+//! The rows of the samples, and their total, as the user sees it.
 ghost use Rattle.std.specs.Prelude.{◌≡◌, ◌<◌, ℕ, List, length, Some, IfOk, IfSome, pos};
 ghost use Rattle.dh_metadata.specs.Objects.{count_of};
 ghost use Rattle.sample_report.specs.Ids.{country_id, element_id, user_id};
-ghost use Rattle.sample_report.specs.Report.{named, years, total_for, total_of, total_text};
+ghost use Rattle.sample_report.specs.Report.{named, years, records_of, total_for, total_of, total_text};
 
+use crate::counts::count_rows;
 use crate::ids::{COUNTRY, ELEMENT, USER};
 use cell_values::element_value;
 use dh_base::frac::Frac;
@@ -16,7 +17,7 @@ use dh_periods::Period;
 use meta_parts::kind::Kind;
 use seen_rows::Seer;
 use std::alloc::Global;
-use table_rows::ListRows;
+use table_rows::RowStore;
 
 // The object of a kind with an identifier.
 fn named(meta: &Metadata, kind: Kind, text: &[u8]) -> Option<u32>
@@ -44,10 +45,10 @@ fn years(alloc: Global) -> Result<Vec<Period>, Memory>
 }
 
 // The value of an element for a unit over the years, as a user sees it.
-fn total_for(
+fn total_for<S: RowStore>(
     alloc: Global,
     meta: &Metadata,
-    store: &ListRows,
+    store: &S,
     user: u32,
     element: u32,
     unit: u32,
@@ -55,7 +56,7 @@ fn total_for(
     requires user { user < length meta.now.users }
     requires element { element < length meta.now.data_elements }
     requires unit { unit < length meta.now.organisation_units }
-    ensures { IfOk result (λ total. total ≡ total_for meta.now store.now.rows user element unit) }
+    ensures { IfOk result (λ total. total ≡ total_for meta.now (S.rows store.now) user element unit) }
 {
     let seer = Seer::of(alloc, meta, user)?;
     let periods = years(alloc)?;
@@ -67,12 +68,12 @@ fn total_for(
 
 /// The value of the element for the country over the years, as the user of the samples sees it.
 #[tactic(auto, unfolding(crate::specs::Report::total_of, crate::specs::Ids::user_id, crate::specs::Ids::element_id, crate::specs::Ids::country_id))]
-pub(crate) fn total_of(
+pub(crate) fn total_of<S: RowStore>(
     alloc: Global,
     meta: &Metadata,
-    store: &ListRows,
+    store: &S,
 ) -> Result<Option<Frac>, Memory>
-    ensures { IfOk result (λ total. total ≡ total_of meta.now store.now.rows) }
+    ensures { IfOk result (λ total. total ≡ total_of meta.now (S.rows store.now)) }
 {
     let Some(user) = named(meta, Kind::User, USER) else {
         return Ok(None);
@@ -84,6 +85,21 @@ pub(crate) fn total_of(
         return Ok(None);
     };
     total_for(alloc, meta, store, user, element, unit)
+}
+
+/// How many rows there are of the element of the samples.
+#[tactic(auto, unfolding(crate::specs::Report::records_of, crate::specs::Ids::element_id))]
+pub(crate) fn records_of<S: RowStore>(
+    alloc: Global,
+    meta: &Metadata,
+    store: &S,
+) -> Result<u64, Memory>
+    ensures { IfOk result (λ count. count ≡ records_of meta.now (S.rows store.now)) }
+{
+    match named(meta, Kind::DataElement, ELEMENT) {
+        Some(element) => count_rows(alloc, store, element, meta.count(Kind::OrganisationUnit)),
+        None => Ok(0),
+    }
 }
 
 /// The text of a total.

@@ -1,5 +1,6 @@
 -- Going through two lists of ranges at once.
-use Rattle.std.proofs.Common.{◌≡◌, ◌∙◌, ℕ, ◌+◌, ◌<◌, ◌≤◌, max, min, Bool, true, false, ◌&&◌, ◌||◌, List, [], ◌∷◌, ◌++◌, ◌-◌, ◌⊎◌, length, drop, get_or, inl, inr, refl, sym, ap, subst, arith}
+use Rattle.std.proofs.Common.{◌≡◌, ◌∙◌, ℕ, ◌+◌, ◌<◌, ◌≤◌, max, min, Bool, true, false, ◌&&◌, ◌||◌, List, [], ◌∷◌, ◌++◌, ◌-◌, ◌⊎◌, length, drop, get_or, inl}
+use Rattle.std.proofs.Common.{inr, refl, sym, ap, subst, arith}
 use Rattle.std.specs.Prelude.{nat_le, nat_lt}
 use Rattle.std.proofs.lemmas.Bool.{cases_Bool, false≢true, and_parts, leb-true, ltb-true}
 use Rattle.std.proofs.lemmas.Bool.Decides.{nat_tests}
@@ -16,8 +17,8 @@ pub in_overlap : (x y : ℕ × ℕ) (n : ℕ) → is_in_range n (overlap_of x y)
 in_overlap x y n = in_both x.0 x.1 y.0 y.1 n
 
 -- what the ranges after one hold lies after its end
-pub behind : (ranges : List (ℕ × ℕ)) (j n : ℕ) → AreApart ranges → is_within (drop (j + 1) ranges) n ≡ true → (get_or ranges j (0, 0)).1 < n
-behind ranges j n apart inside =
+pub beyond : (ranges : List (ℕ × ℕ)) (j n : ℕ) → AreApart ranges → is_within (drop (j + 1) ranges) n ≡ true → (get_or ranges j (0, 0)).1 < n
+beyond ranges j n apart inside =
     let found = Any-from_list_any (is_in_range n) (drop (j + 1) ranges) inside in
     let k = found.0 in
     let shorter : length (drop (j + 1) ranges) ≤ length ranges - (j + 1) = omega (arith, length-drop (j + 1) ranges) in
@@ -33,7 +34,8 @@ behind ranges j n apart inside =
 pub record Both (a b : List (ℕ × ℕ)) (i j : ℕ) (both : List (ℕ × ℕ)) : Type 0 where
   pub members : (n : ℕ) → (is_within a n && is_within b n) ≡ (is_within both n || (is_within (drop i a) n && is_within (drop j b) n))
 
-within-drop : (ranges : List (ℕ × ℕ)) (i n : ℕ) → i < length ranges → is_within (drop i ranges) n ≡ (is_in_range n (get_or ranges i (0, 0)) || is_within (drop (i + 1) ranges) n)
+within-drop : (ranges : List (ℕ × ℕ)) (i n : ℕ) → i < length ranges
+    → is_within (drop i ranges) n ≡ (is_in_range n (get_or ranges i (0, 0)) || is_within (drop (i + 1) ranges) n)
 within-drop ranges i n within = ap (λ rs. is_within rs n) (drop_more ranges i (0, 0) within)
 
 left_done : (w x a y b : Bool) → (x ≡ true → b ≡ false) → (w || ((x || a) && (y || b))) ≡ ((w || (x && y)) || (a && (y || b)))
@@ -53,11 +55,12 @@ right_done false true a false b h = refl
 right_done false false a false b h = refl
 
 -- a number of a range isn't in those after one that ends no sooner
-not_behind : (ranges : List (ℕ × ℕ)) (j n : ℕ) (x : ℕ × ℕ) → AreApart ranges → x.1 ≤ (get_or ranges j (0, 0)).1 → is_in_range n x ≡ true → is_within (drop (j + 1) ranges) n ≡ false
+not_behind : (ranges : List (ℕ × ℕ)) (j n : ℕ) (x : ℕ × ℕ) → AreApart ranges → x.1 ≤ (get_or ranges j (0, 0)).1 → is_in_range n x ≡ true
+    → is_within (drop (j + 1) ranges) n ≡ false
 not_behind ranges j n x apart ends inside =
     elim (cases_Bool (is_within (drop (j + 1) ranges) n)) [
       | inl there ↦
-          let past = behind ranges j n apart there in
+          let past = beyond ranges j n apart there in
           let short : n < x.1 = ltb-true n x.1 (and_parts (nat_le x.0 n) (nat_lt n x.1) inside).1 in
           absurd (omega (arith, past, short, ends))
       | inr off ↦ off
@@ -66,7 +69,8 @@ not_behind ranges j n x apart ends inside =
 pub Both-start : (a b : List (ℕ × ℕ)) → Both a b 0 0 []
 Both-start a b = record { members = λ n. refl }
 
-pub Both-left : (a b both : List (ℕ × ℕ)) (i j : ℕ) → AreApart b → i < length a → j < length b → (get_or a i (0, 0)).1 ≤ (get_or b j (0, 0)).1 → Both a b i j both
+pub Both-left : (a b both : List (ℕ × ℕ)) (i j : ℕ) → AreApart b → i < length a → j < length b → (get_or a i (0, 0)).1 ≤ (get_or b j (0, 0)).1
+    → Both a b i j both
     → Both a b (i + 1) j (both ++ overlap_of (get_or a i (0, 0)) (get_or b j (0, 0)) ∷ [])
 Both-left a b both i j apart ha hb ends before = record {
   members = λ n.
@@ -86,7 +90,8 @@ Both-left a b both i j apart ha hb ends before = record {
       ∙ ap (λ v. v || (A && is_within (drop j b) n)) (sym (within-push both (overlap_of x y) n)));
 }
 
-pub Both-right : (a b both : List (ℕ × ℕ)) (i j : ℕ) → AreApart a → i < length a → j < length b → (get_or b j (0, 0)).1 ≤ (get_or a i (0, 0)).1 → Both a b i j both
+pub Both-right : (a b both : List (ℕ × ℕ)) (i j : ℕ) → AreApart a → i < length a → j < length b → (get_or b j (0, 0)).1 ≤ (get_or a i (0, 0)).1
+    → Both a b i j both
     → Both a b i (j + 1) (both ++ overlap_of (get_or a i (0, 0)) (get_or b j (0, 0)) ∷ [])
 Both-right a b both i j apart ha hb ends before = record {
   members = λ n.

@@ -23,7 +23,8 @@ past_all us t order none =
       | inr high ↦ high
     ]
 
-pub interval-under : (us : List UnitRow) → IsTree us → (y order : ℕ) → y < length us → is_in_range order (order_of us y, order_of us y + size_of us y) ≡ is_order_under us y order
+pub interval-under : (us : List UnitRow) → IsTree us → (y order : ℕ) → y < length us
+    → is_in_range order (order_of us y, order_of us y + size_of us y) ≡ is_order_under us y order
 unfolding is_order_under unit_with
 interval-under us t y order h =
     let end = order_of us y + size_of us y in
@@ -39,7 +40,8 @@ interval-under us t y order h =
           ∙ ap (λ o. option_map_or (λ x. is_under us x y) o false) (sym none.0)
     ]
 
-pub range-under : (us : List UnitRow) → IsTree us → (y : ℕ) (range : ℕ × ℕ) → y < length us → range.0 ≡ order_of us y → range.1 ≡ order_of us y + size_of us y → IsRangeAt us false y range
+pub range-under : (us : List UnitRow) → IsTree us → (y : ℕ) (range : ℕ × ℕ) → y < length us → range.0 ≡ order_of us y → range.1 ≡ order_of us y + size_of us y
+    → IsRangeAt us false y range
 range-under us t y range h first end = record {
   members = λ order.
       ap (λ n. nat_le n order && nat_lt order range.1) first ∙ ap (λ n. nat_le (order_of us y) order && nat_lt order n) end ∙ interval-under us t y order h;
@@ -54,7 +56,8 @@ range-alone us y order is = record {
 }
 
 -- one unit more
-pub ranges-more : (us : List UnitRow) (alone : Bool) (units : List ℕ) (i unit : ℕ) (ranges : List (ℕ × ℕ)) (range : ℕ × ℕ) → i < length units → unit ≡ get_or units i unit
+pub ranges-more : (us : List UnitRow) (alone : Bool) (units : List ℕ) (i unit : ℕ) (ranges : List (ℕ × ℕ)) (range : ℕ × ℕ) → i < length units
+    → unit ≡ get_or units i unit
     → AreOrdersAt us alone (take i units) ranges → IsRangeAt us alone unit range → AreOrdersAt us alone (take (i + 1) units) (ranges ++ range ∷ [])
 ranges-more us alone units i unit ranges range within at before here = record {
   members = λ order.

@@ -16,7 +16,7 @@ use Rattle.dh_periods.proofs.BoundLemmas.{date-parts}
 use Rattle.dh_periods.proofs.HeldLemmas.{int_le-at}
 use Rattle.dh_periods.proofs.CivilLemmas.{read_date-is}
 use Rattle.dh_periods.proofs.TextLemmas.{some_when, and_then-some, map-some}
-use Rattle.table_rows.specs.Events.{is_day}
+use Rattle.dh_base.specs.Limits.{is_day}
 
 -- 1 January 2101
 last-month : days_before_month 2412 ≡ 73_414
@@ -38,7 +38,8 @@ place-bound y m d from to low high first last =
     let k = month_place y m in
     let ye : 1900 + k / 12 ≡ y = omega arith in
     let me : k % 12 + 1 ≡ m = omega arith in
-    let next : days_before_month (k + 1) ≡ days_before_month k + month_length y m = days_before_month-next k ∙ ap (λ n. days_before_month k + month_length n (k % 12 + 1)) ye ∙ ap (λ n. days_before_month k + month_length y n) me in
+    let next : days_before_month (k + 1) ≡ days_before_month k + month_length y m = days_before_month-next k
+    ∙ ap (λ n. days_before_month k + month_length n (k % 12 + 1)) ye ∙ ap (λ n. days_before_month k + month_length y n) me in
     let later = days_before_month-later (k + 1) 2412 (omega arith) in
     let end = last-month in
     omega arith

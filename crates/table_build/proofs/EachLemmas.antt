@@ -17,7 +17,8 @@ module _ {A X : Type 0} (f : A → Option X) where
       ]
 
   -- each that is given has a property, where each that it is given of has another
-  pub filter_map-each : (Q : A → Type 0) (P : X → Type 0) → ((a : A) (x : X) → Q a → f a ≡ Some x → P x) → (list : List A) → AllByRecursion Q list → AllByRecursion P (filter_map f list)
+  pub filter_map-each : (Q : A → Type 0) (P : X → Type 0) → ((a : A) (x : X) → Q a → f a ≡ Some x → P x) → (list : List A) → AllByRecursion Q list
+      → AllByRecursion P (filter_map f list)
   filter_map-each Q P one [] all = tt
   filter_map-each Q P one (a ∷ list) all =
       elim (f a) as (λ o. f a ≡ o → AllByRecursion P (cons_option o (filter_map f list))) [
@@ -35,7 +36,8 @@ list_all-each test (x ∷ list) all = and_from (test x) (list_all test list) all
 
 -- a list that is given of ascending keys ascends by these
 module _ {K X : Type 0} (cmp : K → K → Ordering) (key : X → K) (f : K → Option X) (own : (k : K) (x : X) → f k ≡ Some x → key x ≡ k) where
-  above-given : (x : X) (k : K) → key x ≡ k → (ks : List K) → AllByRecursion (λ y. cmp k y ≡ Less) ks → AllByRecursion (λ y. cmp (key x) (key y) ≡ Less) (filter_map f ks)
+  above-given : (x : X) (k : K) → key x ≡ k → (ks : List K) → AllByRecursion (λ y. cmp k y ≡ Less) ks
+      → AllByRecursion (λ y. cmp (key x) (key y) ≡ Less) (filter_map f ks)
   above-given x k is [] all = tt
   above-given x k is (j ∷ ks) all =
       elim (f j) as (λ o. f j ≡ o → AllByRecursion (λ y. cmp (key x) (key y) ≡ Less) (cons_option o (filter_map f ks))) [

@@ -13,8 +13,9 @@ use Rattle.record_index.specs.declared.said.Said.TheVariants as said
 use Rattle.record_index.specs.Said.{same_id, said_by, last_said, of_event, of_enrollment, of_registration}
 use Rattle.record_index.specs.Facts.{Facts, facts_in}
 use Rattle.dh_changes.specs.Keys.{same_reg_key}
-use Rattle.table_rows.specs.Events.{is_day, is_day_if_any}
+use Rattle.table_rows.specs.Events.{is_day_if_any}
 use Rattle.table_build.specs.Log.{is_of_days}
+use Rattle.dh_base.specs.Limits.{is_day}
 
 abbrev event_days : Event → Bool
 event_days event = is_day_if_any event.occurred && is_day_if_any event.scheduled
@@ -78,7 +79,8 @@ event-said id (said.Entity other held) event days is = absurd (cc)
 event-said id (said.Approval key state) event days is = absurd (cc)
 event-said id (said.Registration key day) event days is = absurd (cc)
 
-enrollment-said : (id : List ℕ) (s : Said) (enrollment : Enrollment) → said_days s ≡ true → of_enrollment id s ≡ Some (Some enrollment) → enrollment_days enrollment ≡ true
+enrollment-said : (id : List ℕ) (s : Said) (enrollment : Enrollment) → said_days s ≡ true → of_enrollment id s ≡ Some (Some enrollment)
+    → enrollment_days enrollment ≡ true
 enrollment-said id (said.Value key value) enrollment days is = absurd (cc)
 enrollment-said id (said.Event other held) enrollment days is = absurd (cc)
 enrollment-said id (said.Enrollment other held) enrollment days is =
@@ -110,6 +112,7 @@ facts-days writes days =
     let all : list_all said_days (map said_by writes) ≡ true = sym (all-said writes) ∙ days in
     record {
       event = λ id event is. (and_parts _ _ (last-passes (of_event id) event_days (event-said id) (map said_by writes) all event is)).0;
-      enrollment = λ id enrollment is. (and_parts _ _ (last-passes (of_enrollment id) enrollment_days (enrollment-said id) (map said_by writes) all enrollment is)).0;
+      enrollment =
+          λ id enrollment is. (and_parts _ _ (last-passes (of_enrollment id) enrollment_days (enrollment-said id) (map said_by writes) all enrollment is)).0;
       registration = λ key day is. last-passes (of_registration key) is_day (reg-said key) (map said_by writes) all day is;
     }

@@ -31,7 +31,8 @@ use Rattle.table_build.proofs.OrderedLemmas.{in_order-All, in_order-sorted}
 use Rattle.table_build.proofs.MemberLemmas.{IsIn, in_order-is, in_order-has, sorted-differ}
 
 find-one : (r : Records) (kind : Kind) (a b : List ℕ) (n m : ℕ) → find_of r kind a ≡ Some n → find_of r kind b ≡ Some m → n ≡ m → a ≡ b
-find-one r kind a b n m left right same = sym (place_of-at (ids_of r kind) a n left) ∙ ap (λ k. get_or (ids_of r kind) k []) same ∙ place_of-at (ids_of r kind) b m right
+find-one r kind a b n m left right same = sym (place_of-at (ids_of r kind) a n left) ∙ ap (λ k. get_or (ids_of r kind) k []) same
+    ∙ place_of-at (ids_of r kind) b m right
 
 -- the units that a log leaves are a tree, in which each has its number in the metadata
 pub record StandsTree (r : Records) (facts : Facts) : Type 0 where
@@ -43,9 +44,11 @@ units-length [] = refl
 units-length (unit ∷ units) = ap suc (units-length units)
 
 unit-below : (r : Records) (facts : Facts) → StandsTree r facts → (id : List ℕ) (n : ℕ) → find_of r OrganisationUnit id ≡ Some n → n < length (tree facts r)
-unit-below r facts stands id n e = subst (λ k. n < k) (units-length r.organisation_units ∙ sym stands.numbers) (place_of-below (ids_of r OrganisationUnit) id n e)
+unit-below r facts stands id n e =
+    subst (λ k. n < k) (units-length r.organisation_units ∙ sym stands.numbers) (place_of-below (ids_of r OrganisationUnit) id n e)
 
-unit-one : (r : Records) (facts : Facts) → StandsTree r facts → (a b : List ℕ) (n m : ℕ) → find_of r OrganisationUnit a ≡ Some n → find_of r OrganisationUnit b ≡ Some m
+unit-one : (r : Records) (facts : Facts) → StandsTree r facts → (a b : List ℕ) (n m : ℕ) → find_of r OrganisationUnit a ≡ Some n
+    → find_of r OrganisationUnit b ≡ Some m
     → order_of (tree facts r) n ≡ order_of (tree facts r) m → a ≡ b
 unit-one r facts stands a b n m left right same =
     find-one r OrganisationUnit a b n m left right
@@ -102,14 +105,17 @@ rowed r facts key x e =
     }
 
 -- rows of one group and one order are of one value key
-pub place-key : (r : Records) (facts : Facts) → StandsTree r facts → (a b : ValueKey) (x y : Row) → values.row_of r facts a ≡ Some x → values.row_of r facts b ≡ Some y
+pub place-key : (r : Records) (facts : Facts) → StandsTree r facts → (a b : ValueKey) (x y : Row) → values.row_of r facts a ≡ Some x
+    → values.row_of r facts b ≡ Some y
     → group_of x ≡ group_of y → x.order ≡ y.order → a ≡ b
 place-key r facts stands a b x y left right same order =
     let p = rowed r facts a x left in
     let q = rowed r facts b y right in
     let element = find-one r DataElement a.element b.element _ _ p.are.element q.are.element (sym p.element ∙ ap (λ k. k.element) same ∙ q.element) in
     let combo = find-one r CategoryOptionCombo a.combo b.combo _ _ p.are.combo q.are.combo (sym p.combo ∙ ap (λ k. k.combo) same ∙ q.combo) in
-    let attribute = find-one r CategoryOptionCombo a.attribute b.attribute _ _ p.are.attribute q.are.attribute (sym p.attribute ∙ ap (λ k. k.attribute) same ∙ q.attribute) in
+    let attribute =
+    find-one r CategoryOptionCombo a.attribute b.attribute _ _ p.are.attribute q.are.attribute (sym p.attribute ∙ ap (λ k. k.attribute) same
+    ∙ q.attribute) in
     let unit = unit-one r facts stands a.unit b.unit _ _ p.are.unit q.are.unit (sym p.order ∙ order ∙ q.order) in
     let around = sym p.period ∙ ap (λ k. k.period) same ∙ q.period in
     λ i. record { element = element i; period = around i; unit = unit i; combo = combo i; attribute = attribute i }
@@ -119,7 +125,8 @@ pub record IsRow (r : Records) (facts : Facts) (x : Row) : Type 0 where
   pub key : ValueKey
   pub is : values.row_of r facts key ≡ Some x
 
-place-one : (r : Records) (facts : Facts) → StandsTree r facts → (x y : Row) → IsRow r facts x → IsRow r facts y → group_of x ≡ group_of y → x.order ≡ y.order → x ≡ y
+place-one : (r : Records) (facts : Facts) → StandsTree r facts → (x y : Row) → IsRow r facts x → IsRow r facts y → group_of x ≡ group_of y → x.order ≡ y.order
+    → x ≡ y
 place-one r facts stands x y left right same order =
     inside x y (sym left.is ∙ ap (values.row_of r facts) (place-key r facts stands left.key right.key x y left.is right.is same order) ∙ right.is)
 
@@ -153,7 +160,8 @@ module _ {A X : Type 0} (f : A → Option X) where
       ] refl
 
 -- the row of each key of a list stands among the rows of the list
-pub rows-has : (r : Records) (facts : Facts) → StandsTree r facts → (keys : List ValueKey) (key : ValueKey) (x : Row) → IsIn key keys → values.row_of r facts key ≡ Some x → IsIn x (values.rows_of r facts keys)
+pub rows-has : (r : Records) (facts : Facts) → StandsTree r facts → (keys : List ValueKey) (key : ValueKey) (x : Row) → IsIn key keys
+    → values.row_of r facts key ≡ Some x → IsIn x (values.rows_of r facts keys)
 unfolding values.rows_of
 rows-has r facts stands keys key x member is =
     in_order-has key_cmp key_of key_total same-key (IsRow r facts) (row-one r facts stands) (filter_map (values.row_of r facts) keys) x
@@ -162,7 +170,8 @@ rows-has r facts stands keys key x member is =
 
 -- an ascending list of just the rows of the keys is the list of their rows
 pub rows-are : (r : Records) (facts : Facts) → StandsTree r facts → (keys : List ValueKey) (rows : List Row) → IsStrictlySortedBy row_cmp rows
-    → ((x : Row) → IsIn x (filter_map (values.row_of r facts) keys) → IsIn x rows) → ((x : Row) → IsIn x rows → IsIn x (filter_map (values.row_of r facts) keys))
+    → ((x : Row) → IsIn x (filter_map (values.row_of r facts) keys) → IsIn x rows)
+    → ((x : Row) → IsIn x rows → IsIn x (filter_map (values.row_of r facts) keys))
     → rows ≡ values.rows_of r facts keys
 unfolding values.rows_of
 rows-are r facts stands keys rows sorted to from =

@@ -54,7 +54,8 @@ module _ {X : Type 0} (cmp : X → X → Ordering) (total : IsTotalOrder cmp) wh
   later-is a x xs (inl e) less = absurd (not-below a x less (sym e))
   later-is a x xs (inr later) less = later
 
-  heads : (a b : X) (left right : List X) → IsIn a (b ∷ right) → IsIn b (a ∷ left) → AllByRecursion (λ z. cmp a z ≡ Less) left → AllByRecursion (λ z. cmp b z ≡ Less) right → a ≡ b
+  heads : (a b : X) (left right : List X) → IsIn a (b ∷ right) → IsIn b (a ∷ left) → AllByRecursion (λ z. cmp a z ≡ Less) left
+      → AllByRecursion (λ z. cmp b z ≡ Less) right → a ≡ b
   heads a b left right here there above over =
       elim (first-is a b right here over) [
         | inl e ↦ e
@@ -72,14 +73,17 @@ module _ {X : Type 0} (cmp : X → X → Ordering) (total : IsTotalOrder cmp) wh
   sorted-same (a ∷ left) [] s t to from = absurd (to a (inl refl))
   sorted-same (a ∷ left) (b ∷ right) s t to from =
       let same = heads a b left right (to a (inl refl)) (from b (inl refl)) s.0 t.0 in
-      let to_rest : (x : X) → IsIn x left → IsIn x right = λ x is. later-is b x right (to x (inr is)) (ap (λ y. cmp y x) (sym same) ∙ at-member (λ z. cmp a z ≡ Less) x left s.0 is) in
-      let from_rest : (x : X) → IsIn x right → IsIn x left = λ x is. later-is a x left (from x (inr is)) (ap (λ y. cmp y x) same ∙ at-member (λ z. cmp b z ≡ Less) x right t.0 is) in
+      let to_rest : (x : X) → IsIn x left → IsIn x right =
+      λ x is. later-is b x right (to x (inr is)) (ap (λ y. cmp y x) (sym same) ∙ at-member (λ z. cmp a z ≡ Less) x left s.0 is) in
+      let from_rest : (x : X) → IsIn x right → IsIn x left =
+      λ x is. later-is a x left (from x (inr is)) (ap (λ y. cmp y x) same ∙ at-member (λ z. cmp b z ≡ Less) x right t.0 is) in
       let rest = sorted-same left right s.1 t.1 to_rest from_rest in
       λ i. same i ∷ rest i
 
 -- ---- of an ascending list no member is like a later one, where a test tells members apart
 
-module _ {X : Type 0} (cmp : X → X → Ordering) (total : IsTotalOrder cmp) (like : X → X → Bool) (P : X → Type 0) (one : (x y : X) → P x → P y → like x y ≡ true → x ≡ y) where
+module _ {X : Type 0} (cmp : X → X → Ordering) (total : IsTotalOrder cmp) (like : X → X → Bool) (P : X → Type 0) (one : (x y : X) → P x → P y → like x y ≡ true
+    → x ≡ y) where
   unlike : (x y : X) → P x → P y → cmp x y ≡ Less → like x y ≡ false
   unlike x y p q less =
       elim (cases_Bool (like x y)) [
@@ -98,7 +102,8 @@ module _ {X : Type 0} (cmp : X → X → Ordering) (total : IsTotalOrder cmp) (l
 
 -- ---- the members of an ordered list
 
-module _ {K X : Type 0} (cmp : K → K → Ordering) (key : X → K) (total : IsTotalOrder cmp) (decides : IsAntisymmetric cmp) (P : X → Type 0) (own : (x y : X) → P x → P y → key x ≡ key y → x ≡ y) where
+module _ {K X : Type 0} (cmp : K → K → Ordering) (key : X → K) (total : IsTotalOrder cmp) (decides : IsAntisymmetric cmp) (P : X → Type 0) (own : (x y : X)
+    → P x → P y → key x ≡ key y → x ≡ y) where
   put-in : (x : X) (es : List (K × X)) → IsIn x (values_of (insert_entry cmp es (key x) x))
   put-in x [] = inl refl
   put-in x (e ∷ es) =
@@ -112,7 +117,8 @@ module _ {K X : Type 0} (cmp : K → K → Ordering) (key : X → K) (total : Is
   still-in : (x y : X) (es : List (K × X)) → Keyed cmp key es → IsIn y (values_of es) → IsIn y (values_of (insert_entry cmp es (key x) x)) ⊎ (key y ≡ key x)
   still-in x y [] keyed is = absurd is
   still-in x y (e ∷ es) keyed is =
-      elim (cmp (key x) e.0) as (λ r. cmp (key x) e.0 ≡ r → IsIn y (values_of (match_ordering r ((key x, x) ∷ e ∷ es) ((e.0, x) ∷ es) (e ∷ insert_entry cmp es (key x) x))) ⊎ (key y ≡ key x)) [
+      elim (cmp (key x) e.0) as (λ r. cmp (key x) e.0 ≡ r
+      → IsIn y (values_of (match_ordering r ((key x, x) ∷ e ∷ es) ((e.0, x) ∷ es) (e ∷ insert_entry cmp es (key x) x))) ⊎ (key y ≡ key x)) [
         | Less ↦ λ found. inl (inr is)
         | Equal ↦ λ found. by_equal found is
         | Greater ↦ λ found. by_greater is (λ later. still-in x y es keyed.1 later)
@@ -130,7 +136,8 @@ module _ {K X : Type 0} (cmp : K → K → Ordering) (key : X → K) (total : Is
         | inr tied ↦ inr tied
       ]
 
-  put_all-has : (es : List (K × X)) (xs : List X) (y : X) → Keyed cmp key es → P y → AllByRecursion P xs → IsIn y (values_of es) ⊎ IsIn y xs → IsIn y (values_of (put_all cmp key es xs))
+  put_all-has : (es : List (K × X)) (xs : List X) (y : X) → Keyed cmp key es → P y → AllByRecursion P xs → IsIn y (values_of es) ⊎ IsIn y xs
+      → IsIn y (values_of (put_all cmp key es xs))
   put_all-has es [] y keyed one all (inl was) = was
   put_all-has es [] y keyed one all (inr none) = absurd none
   put_all-has es (x ∷ xs) y keyed one all (inl was) =
@@ -152,7 +159,8 @@ module _ {K X : Type 0} (cmp : K → K → Ordering) (key : X → K) (total : Is
   -- and no other
   pub in_order-from : (xs : List X) (x : X) → IsIn x (in_order cmp key xs) → IsIn x xs
   in_order-from xs x is =
-      at-member (λ y. IsIn y xs) x (in_order cmp key xs) (recursion_from_All _ _ (in_order-All cmp key (λ y. IsIn y xs) xs (All-from_recursion _ _ (each-member xs)))) is
+      at-member (λ y. IsIn y xs) x (in_order cmp key xs)
+      (recursion_from_All _ _ (in_order-All cmp key (λ y. IsIn y xs) xs (All-from_recursion _ _ (each-member xs)))) is
 
   -- an ascending list of just these members is the ordered list
   pub in_order-is : (xs ys : List X) → AllByRecursion P xs → IsStrictlySortedBy (λ a b. cmp (key a) (key b)) ys
@@ -162,4 +170,10 @@ module _ {K X : Type 0} (cmp : K → K → Ordering) (key : X → K) (total : Is
       (λ x is. in_order-has xs x all (from x is)) (λ x is. to x (in_order-from xs x is))
     where
       by_key : IsTotalOrder (λ (a b : X). cmp (key a) (key b))
-      by_key = record { antisymm = λ a b. total.antisymm (key a) (key b); trans = λ a b c p q. total.trans (key a) (key b) (key c) p q; congr = λ a b c p. total.congr (key a) (key b) (key c) p }
+      by_key =
+          record {
+            antisymm = λ a b. total.antisymm (key a) (key b);
+            trans = λ a b c p q. total.trans (key a) (key b) (key c) p q;
+            congr =
+                λ a b c p. total.congr (key a) (key b) (key c) p;
+          }

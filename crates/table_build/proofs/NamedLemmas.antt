@@ -28,7 +28,8 @@ writes_of-append [] ys = refl
 writes_of-append (x ∷ xs) ys = ap (λ l. x.writes ++ l) (writes_of-append xs ys) ∙ sym (append_assoc x.writes (writes_of xs) (writes_of ys))
 
 -- the writes of one change more
-pub taken-step : {A : Type 0} (of : A → Change) (changes : List A) (i : ℕ) (a : A) (change : Change) → i < length changes → a ≡ get_or changes i a → change ≡ of a
+pub taken-step : {A : Type 0} (of : A → Change) (changes : List A) (i : ℕ) (a : A) (change : Change) → i < length changes → a ≡ get_or changes i a
+    → change ≡ of a
     → writes_of (map of (take i changes)) ++ change.writes ≡ writes_of (map of (take (i + 1) changes))
 taken-step of changes i a change within is seen =
     let before : List Change = map of (take i changes) in

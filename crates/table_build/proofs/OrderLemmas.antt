@@ -38,7 +38,9 @@ reg_total = reg_place.total-law
 
 pub same-reg : IsAntisymmetric registrations.place_cmp
 same-reg a b e =
-    let first = both-equal (nat_cmp a.set b.set) (ordering_then (period_cmp a.period b.period) (ordering_then (nat_cmp a.order b.order) (nat_cmp a.attribute b.attribute))) e in
+    let first =
+    both-equal (nat_cmp a.set b.set) (ordering_then (period_cmp a.period b.period)
+    (ordering_then (nat_cmp a.order b.order) (nat_cmp a.attribute b.attribute))) e in
     let second = both-equal (period_cmp a.period b.period) (ordering_then (nat_cmp a.order b.order) (nat_cmp a.attribute b.attribute)) first.1 in
     let third = both-equal (nat_cmp a.order b.order) (nat_cmp a.attribute b.attribute) second.1 in
     let set = nat_cmp-IsAntisymmetric a.set b.set first.0 in

@@ -18,28 +18,33 @@ module _ {K X : Type 0} (cmp : K → K → Ordering) (k : K) (v : X) where
       → AllByRecursion (λ y. cmp x y ≡ Less) (keys_of (insert_entry cmp es k v))
   insert-above x [] above h = (h, tt)
   insert-above x (e ∷ es) above h =
-      elim (cmp k e.0) as (λ r. AllByRecursion (λ y. cmp x y ≡ Less) (keys_of (match_ordering r ((k, v) ∷ e ∷ es) ((e.0, v) ∷ es) (e ∷ insert_entry cmp es k v)))) [
+      elim (cmp k e.0) as (λ r. AllByRecursion (λ y. cmp x y ≡ Less)
+      (keys_of (match_ordering r ((k, v) ∷ e ∷ es) ((e.0, v) ∷ es) (e ∷ insert_entry cmp es k v)))) [
         | Less ↦ (h, above)
         | Equal ↦ above
         | Greater ↦ (above.0, insert-above x es above.1 h)
       ]
 
-below_all : {K : Type 0} (cmp : K → K → Ordering) → IsTotalOrder cmp → (x y : K) (ys : List K) → cmp x y ≡ Less → AllByRecursion (λ z. cmp y z ≡ Less) ys → AllByRecursion (λ z. cmp x z ≡ Less) ys
+below_all : {K : Type 0} (cmp : K → K → Ordering) → IsTotalOrder cmp → (x y : K) (ys : List K) → cmp x y ≡ Less → AllByRecursion (λ z. cmp y z ≡ Less) ys
+    → AllByRecursion (λ z. cmp x z ≡ Less) ys
 below_all cmp total x y [] h all = tt
 below_all cmp total x y (z ∷ zs) h all = (total.trans x y z h all.0, below_all cmp total x y zs h all.1)
 
-insert-sorted : {K X : Type 0} (cmp : K → K → Ordering) → IsTotalOrder cmp → (k : K) (v : X) (es : List (K × X)) → IsStrictlySortedBy cmp (keys_of es) → IsStrictlySortedBy cmp (keys_of (insert_entry cmp es k v))
+insert-sorted : {K X : Type 0} (cmp : K → K → Ordering) → IsTotalOrder cmp → (k : K) (v : X) (es : List (K × X)) → IsStrictlySortedBy cmp (keys_of es)
+    → IsStrictlySortedBy cmp (keys_of (insert_entry cmp es k v))
 unfolding IsStrictlySortedBy
 insert-sorted cmp total k v [] s = (tt, tt)
 insert-sorted cmp total k v (e ∷ es) s =
-    elim (cmp k e.0) as (λ r. cmp k e.0 ≡ r → IsStrictlySortedBy cmp (keys_of (match_ordering r ((k, v) ∷ e ∷ es) ((e.0, v) ∷ es) (e ∷ insert_entry cmp es k v)))) [
+    elim (cmp k e.0) as (λ r. cmp k e.0 ≡ r
+    → IsStrictlySortedBy cmp (keys_of (match_ordering r ((k, v) ∷ e ∷ es) ((e.0, v) ∷ es) (e ∷ insert_entry cmp es k v)))) [
       | Less ↦ λ is. ((is, below_all cmp total k e.0 (keys_of es) is s.0), s)
       | Equal ↦ λ is. s
       | Greater ↦ λ is. (insert-above cmp k v e.0 es s.0 (total.antisymm e.0 k ∙ ap ordering_reverse is), insert-sorted cmp total k v es s.1)
     ] refl
 
 module _ {K X : Type 0} (cmp : K → K → Ordering) (key : X → K) where
-  pub put_all-sorted : IsTotalOrder cmp → (es : List (K × X)) (xs : List X) → IsStrictlySortedBy cmp (keys_of es) → IsStrictlySortedBy cmp (keys_of (put_all cmp key es xs))
+  pub put_all-sorted : IsTotalOrder cmp → (es : List (K × X)) (xs : List X) → IsStrictlySortedBy cmp (keys_of es)
+      → IsStrictlySortedBy cmp (keys_of (put_all cmp key es xs))
   put_all-sorted total es [] s = s
   put_all-sorted total es (x ∷ xs) s = put_all-sorted total (insert_entry cmp es (key x) x) xs (insert-sorted cmp total (key x) x es s)
 
@@ -52,7 +57,8 @@ module _ {K X : Type 0} (cmp : K → K → Ordering) (key : X → K) where
   pub insert-keyed : IsAntisymmetric cmp → (x : X) (es : List (K × X)) → Keyed es → Keyed (insert_entry cmp es (key x) x)
   insert-keyed same x [] keyed = (refl, tt)
   insert-keyed same x (e ∷ es) keyed =
-      elim (cmp (key x) e.0) as (λ r. cmp (key x) e.0 ≡ r → Keyed (match_ordering r ((key x, x) ∷ e ∷ es) ((e.0, x) ∷ es) (e ∷ insert_entry cmp es (key x) x))) [
+      elim (cmp (key x) e.0) as (λ r. cmp (key x) e.0 ≡ r
+      → Keyed (match_ordering r ((key x, x) ∷ e ∷ es) ((e.0, x) ∷ es) (e ∷ insert_entry cmp es (key x) x))) [
         | Less ↦ λ is. (refl, keyed)
         | Equal ↦ λ is. (sym (same (key x) e.0 is), keyed.1)
         | Greater ↦ λ is. (keyed.0, insert-keyed same x es keyed.1)

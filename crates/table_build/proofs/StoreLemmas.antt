@@ -31,12 +31,13 @@ use Rattle.table_rows.specs.declared.event.ItemValue.{ItemValue}
 use Rattle.table_rows.specs.declared.event.ItemValue.TheVariants.{Number, Day, Plain}
 use Rattle.table_rows.specs.Rows.{key_of}
 use Rattle.table_rows.specs.Order.{key_cmp, row_cmp}
-use Rattle.table_rows.specs.Events.{event_cmp, reg_cmp, is_day, is_day_if_any, is_value_with_day, has_day, have_days, has_days}
+use Rattle.table_rows.specs.Events.{event_cmp, reg_cmp, is_day_if_any, is_value_with_day, has_day, have_days, has_days}
 use Rattle.table_rows.specs.Store.{Listed, is_store, is_short, rises, have_own_places}
 use Rattle.table_rows.proofs.OrderLemmas.{key_total}
 use Rattle.table_build.specs.declared.events.EventPlace.{EventPlace}
 use Rattle.table_build.specs.Log.{value_named, reg_named, event_named, values_named, regs_named, events_named, is_of_days}
-use Rattle.table_build.specs.Items.{number_item, day_item, text_item, item_of, numbered, element_item, element_value, element_values, attribute_item, attribute_value, attribute_values}
+use Rattle.table_build.specs.Items.{number_item, day_item, text_item, item_of, numbered, element_item, element_value, element_values, attribute_item}
+use Rattle.table_build.specs.Items.{attribute_value, attribute_values}
 use Rattle.table_build.specs.Values as values
 use Rattle.table_build.specs.Regs as registrations
 use Rattle.table_build.specs.Events as tracker
@@ -47,6 +48,7 @@ use Rattle.table_build.proofs.OrderLemmas.{same-key, reg_total, same-reg, event_
 use Rattle.table_build.proofs.EachLemmas.{filter_map-length, filter_map-each, every, list_all-each, sorted-given, rises-sorted}
 use Rattle.table_build.proofs.DayLemmas.{civil-day}
 use Rattle.table_build.proofs.FactLemmas.{HaveDays, facts-days}
+use Rattle.dh_base.specs.Limits.{is_day}
 
 -- ---- each list is in its order
 
@@ -56,7 +58,8 @@ rows-rise r facts keys = rises-sorted row_cmp _ (in_order-sorted key_cmp key_of 
 
 regs-rise : (r : Records) (facts : Facts) (keys : List RegKey) → rises reg_cmp (registrations.regs_of r facts keys) ≡ true
 unfolding registrations.regs_of
-regs-rise r facts keys = rises-sorted reg_cmp _ (in_order-sorted registrations.place_cmp registrations.place_of reg_total same-reg (filter_map (registrations.reg_of r facts) keys))
+regs-rise r facts keys =
+    rises-sorted reg_cmp _ (in_order-sorted registrations.place_cmp registrations.place_of reg_total same-reg (filter_map (registrations.reg_of r facts) keys))
 
 abbrev row_place : EventRow → EventPlace
 row_place row = tracker.event_place row.id row.day
@@ -64,7 +67,8 @@ row_place row = tracker.event_place row.id row.day
 own-place : (r : Records) (facts : Facts) (place : EventPlace) (row : EventRow) → tracker.event_at r facts place ≡ Some row → row_place row ≡ place
 unfolding tracker.event_at tracker.event_with
 own-place r facts place row e =
-    let found = and_then-some (λ (event : Event). option_map (tracker.event_with r facts place event) (tracker.objects_of r event)) (facts.event place.id) row e in
+    let found =
+    and_then-some (λ (event : Event). option_map (tracker.event_with r facts place event) (tracker.objects_of r event)) (facts.event place.id) row e in
     let objects = map-some (tracker.event_with r facts place found.0) (tracker.objects_of r found.0) row found.2 in
     ap row_place (sym objects.2)
 
@@ -78,7 +82,8 @@ events-rise r facts ids =
 years-rise : (rows : List Row) (regs : List RegRow) (events : List EventRow) → rises int_cmp (years_of rows regs events) ≡ true
 unfolding years_of
 years-rise rows regs events =
-    rises-sorted int_cmp _ (in_order-sorted int_cmp (λ year. year) int_cmp_total int_cmp-IsAntisymmetric (map row_year rows ++ (map reg_year regs ++ filter_map event_year events)))
+    rises-sorted int_cmp _ (in_order-sorted int_cmp (λ year. year) int_cmp_total int_cmp-IsAntisymmetric
+    (map row_year rows ++ (map reg_year regs ++ filter_map event_year events)))
 
 -- ---- and not longer than the log
 
@@ -122,15 +127,18 @@ reg-day r facts days key reg e =
     let objects = map-some (registrations.reg_with r facts key held.0) (registrations.objects_of r key) reg held.2 in
     ap (λ (x : RegRow). is_day x.day) (sym objects.2) ∙ days.registration key held.0 held.1
 
-regs-days : (r : Records) (facts : Facts) → HaveDays facts → (keys : List RegKey) → list_all (λ (reg : RegRow). is_day reg.day) (registrations.regs_of r facts keys) ≡ true
+regs-days : (r : Records) (facts : Facts) → HaveDays facts → (keys : List RegKey)
+    → list_all (λ (reg : RegRow). is_day reg.day) (registrations.regs_of r facts keys) ≡ true
 unfolding registrations.regs_of
 regs-days r facts days keys =
     list_all-each (λ (reg : RegRow). is_day reg.day) _
     (recursion_from_All _ _
     (in_order-All registrations.place_cmp registrations.place_of (λ (reg : RegRow). is_day reg.day ≡ true) _
-    (All-from_recursion _ _ (filter_map-each (registrations.reg_of r facts) (λ key. Unit {0}) (λ (reg : RegRow). is_day reg.day ≡ true) (λ key reg all is. reg-day r facts days key reg is) keys (every keys)))))
+    (All-from_recursion _ _ (filter_map-each (registrations.reg_of r facts) (λ key. Unit {0}) (λ (reg : RegRow). is_day reg.day ≡ true) (λ key reg all is.
+    reg-day r facts days key reg is) keys (every keys)))))
 
-numbered-day : (n : ℕ) (o : Option ItemValue) (v : ℕ × ItemValue) → ((w : ItemValue) → o ≡ Some w → is_value_with_day w ≡ true) → option_map (numbered n) o ≡ Some v → has_day v ≡ true
+numbered-day : (n : ℕ) (o : Option ItemValue) (v : ℕ × ItemValue) → ((w : ItemValue) → o ≡ Some w → is_value_with_day w ≡ true)
+    → option_map (numbered n) o ≡ Some v → has_day v ≡ true
 numbered-day n o v each e =
     let value = map-some (numbered n) o v e in
     ap has_day (sym value.2) ∙ each value.0 value.1
@@ -166,31 +174,41 @@ unfolding element_value element_item
 element-day r pair v e =
     let element = and_then-some (λ element. option_map (numbered element) (element_item r pair.1 element)) (find_of r DataElement pair.0) v e in
     numbered-day element.0 (element_item r pair.1 element.0) v
-    (λ w is. let found = and_then-some (λ (found : Element). item_of found.value_type pair.1) (slice_get r.data_elements element.0) w is in item-day found.0.value_type pair.1 w found.2)
+    (λ w is. let found =
+    and_then-some (λ (found : Element). item_of found.value_type pair.1) (slice_get r.data_elements element.0) w is in item-day found.0.value_type pair.1 w
+    found.2)
     element.2
 
 attribute-day : (r : Records) (pair : List ℕ × List ℕ) (v : ℕ × ItemValue) → attribute_value r pair ≡ Some v → has_day v ≡ true
 unfolding attribute_value attribute_item
 attribute-day r pair v e =
-    let attribute = and_then-some (λ attribute. option_map (numbered attribute) (attribute_item r pair.1 attribute)) (find_of r TrackedEntityAttribute pair.0) v e in
+    let attribute =
+    and_then-some (λ attribute. option_map (numbered attribute) (attribute_item r pair.1 attribute)) (find_of r TrackedEntityAttribute pair.0) v e in
     numbered-day attribute.0 (attribute_item r pair.1 attribute.0) v
-    (λ w is. let found = and_then-some (λ (found : Attribute). item_of found.value_type pair.1) (slice_get r.tracked_entity_attributes attribute.0) w is in item-day found.0.value_type pair.1 w found.2)
+    (λ w is. let found =
+    and_then-some (λ (found : Attribute). item_of found.value_type pair.1) (slice_get r.tracked_entity_attributes attribute.0) w is in item-day
+    found.0.value_type pair.1 w found.2)
     attribute.2
 
 elements-days : (r : Records) (pairs : List (List ℕ × List ℕ)) → have_days (element_values r pairs) ≡ true
 unfolding element_values
-elements-days r pairs = list_all-each has_day _ (filter_map-each (element_value r) (λ pair. Unit {0}) (λ v. has_day v ≡ true) (λ pair v all is. element-day r pair v is) pairs (every pairs))
+elements-days r pairs =
+    list_all-each has_day _ (filter_map-each (element_value r) (λ pair. Unit {0}) (λ v. has_day v ≡ true) (λ pair v all is. element-day r pair v is) pairs
+    (every pairs))
 
 attributes-days : (r : Records) (pairs : List (List ℕ × List ℕ)) → have_days (attribute_values r pairs) ≡ true
 unfolding attribute_values
-attributes-days r pairs = list_all-each has_day _ (filter_map-each (attribute_value r) (λ pair. Unit {0}) (λ v. has_day v ≡ true) (λ pair v all is. attribute-day r pair v is) pairs (every pairs))
+attributes-days r pairs =
+    list_all-each has_day _ (filter_map-each (attribute_value r) (λ pair. Unit {0}) (λ v. has_day v ≡ true) (λ pair v all is. attribute-day r pair v is) pairs
+    (every pairs))
 
 entity-days : (r : Records) (found : Option Entity) → have_days (tracker.entity_values r found) ≡ true
 unfolding tracker.entity_values
 entity-days r None = refl
 entity-days r (Some entity) = attributes-days r entity.attributes
 
-enrolled-day : (facts : Facts) → HaveDays facts → (event : Event) (found : Option Enrollment) → tracker.enrollment_of facts event ≡ found → is_day_if_any (tracker.enrolled_day found) ≡ true
+enrolled-day : (facts : Facts) → HaveDays facts → (event : Event) (found : Option Enrollment) → tracker.enrollment_of facts event ≡ found
+    → is_day_if_any (tracker.enrolled_day found) ≡ true
 unfolding tracker.enrolled_day tracker.enrollment_of
 enrolled-day facts days event None is = refl
 enrolled-day facts days event (Some enrollment) is =
@@ -204,10 +222,12 @@ place-day facts days id place e =
     let day = map-some (tracker.event_place id) found.0.occurred place found.2 in
     ap (λ (p : EventPlace). is_day p.day) (sym day.2) ∙ ap is_day_if_any (sym day.1) ∙ days.event id found.0 found.1
 
-event-days : (r : Records) (facts : Facts) → HaveDays facts → (place : EventPlace) (row : EventRow) → is_day place.day ≡ true → tracker.event_at r facts place ≡ Some row → has_days row ≡ true
+event-days : (r : Records) (facts : Facts) → HaveDays facts → (place : EventPlace) (row : EventRow) → is_day place.day ≡ true
+    → tracker.event_at r facts place ≡ Some row → has_days row ≡ true
 unfolding tracker.event_at tracker.event_with has_days
 event-days r facts days place row day e =
-    let found = and_then-some (λ (event : Event). option_map (tracker.event_with r facts place event) (tracker.objects_of r event)) (facts.event place.id) row e in
+    let found =
+    and_then-some (λ (event : Event). option_map (tracker.event_with r facts place event) (tracker.objects_of r event)) (facts.event place.id) row e in
     let objects = map-some (tracker.event_with r facts place found.0) (tracker.objects_of r found.0) row found.2 in
     ap has_days (sym objects.2)
     ∙ and_from _ _ day
@@ -218,17 +238,20 @@ events-days : (r : Records) (facts : Facts) → HaveDays facts → (ids : List (
 unfolding tracker.events_of tracker.places_of
 events-days r facts days ids =
     list_all-each has_days _
-    (filter_map-each (tracker.event_at r facts) (λ (place : EventPlace). is_day place.day ≡ true) (λ row. has_days row ≡ true) (λ place row day is. event-days r facts days place row day is) (tracker.places_of facts ids)
+    (filter_map-each (tracker.event_at r facts) (λ (place : EventPlace). is_day place.day ≡ true) (λ row. has_days row ≡ true) (λ place row day is.
+    event-days r facts days place row day is) (tracker.places_of facts ids)
     (recursion_from_All _ _
     (in_order-All tracker.place_cmp (λ place. place) (λ (place : EventPlace). is_day place.day ≡ true) _
-    (All-from_recursion _ _ (filter_map-each (tracker.place_of facts) (λ id. Unit {0}) (λ (place : EventPlace). is_day place.day ≡ true) (λ id place all is. place-day facts days id place is) ids (every ids))))))
+    (All-from_recursion _ _ (filter_map-each (tracker.place_of facts) (λ id. Unit {0}) (λ (place : EventPlace). is_day place.day ≡ true) (λ id place all is.
+    place-day facts days id place is) ids (every ids))))))
 
 -- ---- the lists are those of a store
 
 abbrev pub IsStore : Listed → Type 0
 IsStore lists = is_store lists.rows lists.events lists.regs lists.years ≡ true
 
-listed-by : (r : Records) (facts : Facts) (writes : List Write) → length writes ≤ 4194304 → HaveDays facts → have_own_places (values.rows_of r facts (values_named writes)) ≡ true → IsStore (listed_by r facts writes)
+listed-by : (r : Records) (facts : Facts) (writes : List Write) → length writes ≤ 4194304 → HaveDays facts
+    → have_own_places (values.rows_of r facts (values_named writes)) ≡ true → IsStore (listed_by r facts writes)
 unfolding is_store
 listed-by r facts writes few days own =
     and_from _ _ (short _ writes (rows-fit r facts writes) few)
@@ -241,13 +264,15 @@ listed-by r facts writes few days own =
     (and_from _ _ (events-days r facts days (events_named writes))
     (and_from _ _ (regs-days r facts days (regs_named writes)) own))))))))
 
-pub listed-store : (r : Records) (writes : List Write) → length writes ≤ 4194304 → list_all is_of_days writes ≡ true → have_own_places (listed_in r writes).rows ≡ true → IsStore (listed_in r writes)
+pub listed-store : (r : Records) (writes : List Write) → length writes ≤ 4194304 → list_all is_of_days writes ≡ true
+    → have_own_places (listed_in r writes).rows ≡ true → IsStore (listed_in r writes)
 unfolding listed_in
 listed-store r writes few days own = listed-by r (facts_in writes) writes few (facts-days writes days) own
 
 -- ---- lists that were made in turn
 
-pub made : (r : Records) (writes : List Write) (facts : Facts) (keys : List ValueKey) (ids : List (List ℕ)) (names : List RegKey) (rows : List Row) (events : List EventRow) (regs : List RegRow) (years : List ℤ)
+pub made : (r : Records) (writes : List Write) (facts : Facts) (keys : List ValueKey) (ids : List (List ℕ)) (names : List RegKey) (rows : List Row)
+    (events : List EventRow) (regs : List RegRow) (years : List ℤ)
     → facts ≡ facts_in writes
     → keys ≡ values_named writes → rows ≡ values.rows_of r facts keys
     → ids ≡ events_named writes → events ≡ tracker.events_of r facts ids
@@ -256,16 +281,21 @@ pub made : (r : Records) (writes : List Write) (facts : Facts) (keys : List Valu
     → ◌≡◌ {A = Listed} (record { rows = rows; events = events; regs = regs; years = years }) (listed_in r writes)
 unfolding listed_in
 made r writes facts keys ids names rows events regs years held key row id event name reg year =
-    let rows_are : rows ≡ values.rows_of r (facts_in writes) (values_named writes) = row ∙ ap (λ f. values.rows_of r f keys) held ∙ ap (values.rows_of r (facts_in writes)) key in
-    let events_are : events ≡ tracker.events_of r (facts_in writes) (events_named writes) = event ∙ ap (λ f. tracker.events_of r f ids) held ∙ ap (tracker.events_of r (facts_in writes)) id in
-    let regs_are : regs ≡ registrations.regs_of r (facts_in writes) (regs_named writes) = reg ∙ ap (λ f. registrations.regs_of r f names) held ∙ ap (registrations.regs_of r (facts_in writes)) name in
+    let rows_are : rows ≡ values.rows_of r (facts_in writes) (values_named writes) = row ∙ ap (λ f. values.rows_of r f keys) held
+    ∙ ap (values.rows_of r (facts_in writes)) key in
+    let events_are : events ≡ tracker.events_of r (facts_in writes) (events_named writes) = event ∙ ap (λ f. tracker.events_of r f ids) held
+    ∙ ap (tracker.events_of r (facts_in writes)) id in
+    let regs_are : regs ≡ registrations.regs_of r (facts_in writes) (regs_named writes) = reg ∙ ap (λ f. registrations.regs_of r f names) held
+    ∙ ap (registrations.regs_of r (facts_in writes)) name in
     let years_are : years ≡ (listed_by r (facts_in writes) writes).years =
-    year ∙ ap (λ list. years_of list regs events) rows_are ∙ ap (λ list. years_of (values.rows_of r (facts_in writes) (values_named writes)) list events) regs_are
+    year ∙ ap (λ list. years_of list regs events) rows_are
+    ∙ ap (λ list. years_of (values.rows_of r (facts_in writes) (values_named writes)) list events) regs_are
     ∙ ap (years_of (values.rows_of r (facts_in writes) (values_named writes)) (registrations.regs_of r (facts_in writes) (regs_named writes))) events_are in
     λ i. record { rows = rows_are i; events = events_are i; regs = regs_are i; years = years_are i }
 
 -- they are those of a store
-pub made-store : (r : Records) (writes : List Write) (rows : List Row) (events : List EventRow) (regs : List RegRow) (years : List ℤ) → length writes ≤ 4194304 → list_all is_of_days writes ≡ true
+pub made-store : (r : Records) (writes : List Write) (rows : List Row) (events : List EventRow) (regs : List RegRow) (years : List ℤ) → length writes ≤ 4194304
+    → list_all is_of_days writes ≡ true
     → have_own_places rows ≡ true
     → ◌≡◌ {A = Listed} (record { rows = rows; events = events; regs = regs; years = years }) (listed_in r writes) → is_store rows events regs years ≡ true
 made-store r writes rows events regs years few days own is =
@@ -277,10 +307,12 @@ pub made-result : (r : Records) (writes : List Write) (store : Listed) (rows : L
     → ◌≡◌ {A = Listed} (record { rows = rows; events = events; regs = regs; years = years }) (listed_in r writes)
     → store.rows ≡ rows → store.events ≡ events → store.regs ≡ regs → store.years ≡ years → store ≡ listed_in r writes
 made-result r writes store rows events regs years is row event reg year =
-    let same : store ≡ record { rows = rows; events = events; regs = regs; years = years } = λ i. record { rows = row i; events = event i; regs = reg i; years = year i } in
+    let same : store ≡ record { rows = rows; events = events; regs = regs; years = years } =
+    λ i. record { rows = row i; events = event i; regs = reg i; years = year i } in
     same ∙ is
 
-pub years-seen : (years : List ℤ) (rows seen_rows : List Row) (regs seen_regs : List RegRow) (events seen_events : List EventRow) → years ≡ years_of seen_rows seen_regs seen_events
+pub years-seen : (years : List ℤ) (rows seen_rows : List Row) (regs seen_regs : List RegRow) (events seen_events : List EventRow)
+    → years ≡ years_of seen_rows seen_regs seen_events
     → seen_rows ≡ rows → seen_regs ≡ regs → seen_events ≡ events → years ≡ years_of rows regs events
 years-seen years rows seen_rows regs seen_regs events seen_events is row reg event =
     is ∙ ap (λ list. years_of list seen_regs seen_events) row ∙ ap (λ list. years_of rows list seen_events) reg ∙ ap (years_of rows regs) event

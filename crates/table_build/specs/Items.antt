@@ -48,7 +48,8 @@ unfoldable pub attribute_item : Records → List ℕ → ℕ → Option ItemValu
 attribute_item r text attribute = option_and_then (λ (found : Attribute). item_of found.value_type text) (slice_get r.tracked_entity_attributes attribute)
 
 unfoldable pub attribute_value : Records → List ℕ × List ℕ → Option (ℕ × ItemValue)
-attribute_value r pair = option_and_then (λ attribute. option_map (numbered attribute) (attribute_item r pair.1 attribute)) (find_of r TrackedEntityAttribute pair.0)
+attribute_value r pair =
+    option_and_then (λ attribute. option_map (numbered attribute) (attribute_item r pair.1 attribute)) (find_of r TrackedEntityAttribute pair.0)
 
 unfoldable pub attribute_values : Records → List (List ℕ × List ℕ) → List (ℕ × ItemValue)
 attribute_values r pairs = filter_map (attribute_value r) pairs

@@ -20,7 +20,8 @@ with_years rows events regs = record { rows = rows; events = events; regs = regs
 -- the rows of the keys that writes name, by what each key holds
 abbrev pub listed_by : Records → Facts → List Write → Listed
 listed_by r facts writes =
-    with_years (values.rows_of r facts (values_named writes)) (tracker.events_of r facts (events_named writes)) (registrations.regs_of r facts (regs_named writes))
+    with_years (values.rows_of r facts (values_named writes)) (tracker.events_of r facts (events_named writes))
+    (registrations.regs_of r facts (regs_named writes))
 
 -- the rows, the registrations and the events that these writes leave, under these metadata
 unfoldable pub listed_in : Records → List Write → Listed

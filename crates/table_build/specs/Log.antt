@@ -6,7 +6,8 @@ use Rattle.dh_changes.specs.declared.change.Write.{Write}
 use Rattle.dh_changes.specs.declared.change.Write.TheVariants as write
 use Rattle.dh_changes.specs.declared.keys.ValueKey.{ValueKey}
 use Rattle.dh_changes.specs.declared.keys.RegKey.{RegKey}
-use Rattle.table_rows.specs.Events.{is_day, is_day_if_any}
+use Rattle.table_rows.specs.Events.{is_day_if_any}
+use Rattle.dh_base.specs.Limits.{is_day}
 
 -- the writes of changes, in order
 abbrev pub writes_of : List Change → List Write

@@ -44,7 +44,8 @@ place_of reg = record { set = reg.set; period = reg.period; order = reg.order; a
 
 abbrev pub place_cmp : RegPlace → RegPlace → Ordering
 place_cmp a b =
-    ordering_then (nat_cmp a.set b.set) (ordering_then (period_cmp a.period b.period) (ordering_then (nat_cmp a.order b.order) (nat_cmp a.attribute b.attribute)))
+    ordering_then (nat_cmp a.set b.set) (ordering_then (period_cmp a.period b.period)
+    (ordering_then (nat_cmp a.order b.order) (nat_cmp a.attribute b.attribute)))
 
 -- the rows of keys, by data set, period, order and attribute combination
 unfoldable pub regs_of : Records → Facts → List RegKey → List RegRow

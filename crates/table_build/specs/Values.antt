@@ -24,7 +24,8 @@ value_objects element unit combo attribute = record { element = element; unit = 
 unfoldable pub objects_of : Records → ValueKey → Option ValueObjects
 objects_of r key =
     option_and_then (λ element. option_and_then (λ unit. option_and_then (λ combo. option_map (λ attribute. value_objects element unit combo attribute)
-    (find_of r CategoryOptionCombo key.attribute)) (find_of r CategoryOptionCombo key.combo)) (find_of r OrganisationUnit key.unit)) (find_of r DataElement key.element)
+    (find_of r CategoryOptionCombo key.attribute)) (find_of r CategoryOptionCombo key.combo)) (find_of r OrganisationUnit key.unit))
+    (find_of r DataElement key.element)
 
 -- the number of a text as a value of the element; none of a date, a text, or one that doesn't fit the element's value type
 unfoldable pub number_at : Records → ℕ → List ℕ → Option ℤ

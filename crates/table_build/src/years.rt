@@ -86,7 +86,8 @@ fn year_map(
     regs: &[RegRow],
     events: &[EventRow],
 ) -> Result<BTreeMap<i32, i32>, Memory>
-    ensures { IfOk result (λ years. years.entries ≡ put_all int_cmp (λ year. year) [] (map known.row_year rows.now ++ (map known.reg_year regs.now ++ filter_map known.event_year events.now))) }
+    ensures { IfOk result (λ years. years.entries ≡ put_all int_cmp (λ year. year) []
+        (map known.row_year rows.now ++ (map known.reg_year regs.now ++ filter_map known.event_year events.now))) }
 {
     let mut years = BTreeMap::new(alloc);
     put_rows(&mut years, rows)?;

@@ -1,5 +1,6 @@
 -- The rows of a cell, found group by group.
-use Rattle.std.proofs.Common.{◌≡◌, ◌∙◌, ℕ, zero, suc, ◌+◌, ◌<◌, Bool, true, false, not, cond, ◌&&◌, ◌||◌, List, [], ◌∷◌, length, map, get_or, inl, inr, refl, sym, ap, arith}
+use Rattle.std.proofs.Common.{◌≡◌, ◌∙◌, ℕ, zero, suc, ◌+◌, ◌<◌, Bool, true, false, not, cond, ◌&&◌, ◌||◌, List, [], ◌∷◌, length, map, get_or, inl, inr, refl}
+use Rattle.std.proofs.Common.{sym, ap, arith}
 use Rattle.std.specs.Prelude.{All, nat_eq}
 use Rattle.std.specs.List.{filter, list_any}
 use Rattle.std.proofs.lemmas.Bool.{cases_Bool, false≢true}
@@ -20,7 +21,8 @@ none_behind : (g h : Group) (hs : List Group) → same_group h g ≡ true → ho
 none_behind g h [] same = refl
 none_behind g h (y ∷ ys) same =
     elim (cases_Bool (same_group h y)) [
-      | inl again ↦ ap (λ b. how_many (same_group g) (cond (not b) (y ∷ filter (λ z. not (same_group h z)) ys) (filter (λ z. not (same_group h z)) ys))) again ∙ none_behind g h ys same
+      | inl again ↦ ap (λ b. how_many (same_group g) (cond (not b) (y ∷ filter (λ z. not (same_group h z)) ys) (filter (λ z. not (same_group h z)) ys))) again
+          ∙ none_behind g h ys same
       | inr other ↦
           let apart : same_group g y ≡ false = ap (λ v. same_group v y) (sym (same_group-true h g same)) ∙ other in
           ap (λ b. how_many (same_group g) (cond (not b) (y ∷ filter (λ z. not (same_group h z)) ys) (filter (λ z. not (same_group h z)) ys))) other
@@ -31,7 +33,8 @@ none_behind g h (y ∷ ys) same =
     zero_plus : {n : ℕ} → n ≡ 0 → 0 + n ≡ 0
     zero_plus e = omega arith
 
-all_behind : (g h : Group) (hs : List Group) → same_group g h ≡ false → how_many (same_group g) (filter (λ y. not (same_group h y)) hs) ≡ how_many (same_group g) hs
+all_behind : (g h : Group) (hs : List Group) → same_group g h ≡ false
+    → how_many (same_group g) (filter (λ y. not (same_group h y)) hs) ≡ how_many (same_group g) hs
 all_behind g h [] apart = refl
 all_behind g h (y ∷ ys) apart =
     elim (cases_Bool (same_group h y)) [
@@ -108,7 +111,8 @@ not_in_list r element (x ∷ xs) other = by_first (is_of_element element x) refl
     by_first false is rest = rest
 
 -- a row's group stands once among those of its element, and not among those of another
-pub groups_of-count : (element : ℕ) (rows : List Row) → All (λ r. how_many (same_group (group_of r)) (groups_of element rows) ≡ times (is_of_element element r)) rows
+pub groups_of-count : (element : ℕ) (rows : List Row)
+    → All (λ r. how_many (same_group (group_of r)) (groups_of element rows) ≡ times (is_of_element element r)) rows
 unfolding groups_of
 groups_of-count element rows k d within =
     let r = get_or rows k d in
@@ -172,20 +176,23 @@ in_one_group g r of_group u true is = ap (λ v. of_group v && u) (same_group-tru
 in_one_group g r of_group u false is = sym (and_false (of_group g))
 
 group_tested : (f : Row → Sum) (of_group : Group → Bool) (of_row : Row → Bool) (rows : List Row) (g : Group)
-    → sum_over f (filter (λ r. is_in_group g r && (of_group (group_of r) && of_row r)) rows) ≡ cond (of_group g) (sum_over f (filter (λ r. is_in_group g r && of_row r) rows)) no_sum
+    → sum_over f (filter (λ r. is_in_group g r && (of_group (group_of r) && of_row r)) rows)
+    ≡ cond (of_group g) (sum_over f (filter (λ r. is_in_group g r && of_row r) rows)) no_sum
 group_tested f of_group of_row rows g =
     ap (sum_over f)
     (filter-same (λ r. is_in_group g r && (of_group (group_of r) && of_row r)) (λ r. of_group g && (is_in_group g r && of_row r)) rows
     (λ r. in_one_group g r of_group (of_row r) (is_in_group g r) refl))
     ∙ by_test (of_group g)
   where
-    by_test : (b : Bool) → sum_over f (filter (λ r. b && (is_in_group g r && of_row r)) rows) ≡ cond b (sum_over f (filter (λ r. is_in_group g r && of_row r) rows)) no_sum
+    by_test : (b : Bool)
+        → sum_over f (filter (λ r. b && (is_in_group g r && of_row r)) rows) ≡ cond b (sum_over f (filter (λ r. is_in_group g r && of_row r) rows)) no_sum
     by_test true = refl
     by_test false = ap (sum_over f) (filter-never (λ r. false && (is_in_group g r && of_row r)) rows (λ r. refl))
 
 -- the sum over a cell's rows is the sum, over the groups that pass, of the sums over each group's rows
 pub cell-groups : (f : Row → Sum) (element : ℕ) (of_group : Group → Bool) (of_row : Row → Bool) (rows : List Row)
-    → sum_over f (cell_rows element of_group of_row rows) ≡ sum_over (λ g. sum_over f (filter (λ r. is_in_group g r && of_row r) rows)) (filter of_group (groups_of element rows))
+    → sum_over f (cell_rows element of_group of_row rows)
+    ≡ sum_over (λ g. sum_over f (filter (λ r. is_in_group g r && of_row r) rows)) (filter of_group (groups_of element rows))
 cell-groups f element of_group of_row rows =
     sum_over-parts f (is_of_cell element of_group of_row) (λ g r. is_in_group g r && (of_group (group_of r) && of_row r)) (groups_of element rows) rows
     (groups_by element rows (λ r. of_group (group_of r) && of_row r))
@@ -211,7 +218,8 @@ parts_of_group of_row parts rows g all k d within =
 pub cell-parts : (f : Row → Sum) (element : ℕ) (of_group : Group → Bool) (of_row : Row → Bool) (parts : Group → List Part) (rows : List Row)
     → All (λ r. times (of_row r) ≡ how_many (is_in_part r) (parts (group_of r))) rows
     → sum_over f (cell_rows element of_group of_row rows)
-    ≡ sum_over (λ g. sum_over (λ (part : Part). sum_over f (wanted_rows g part.need part.from part.to rows)) (parts g)) (filter of_group (groups_of element rows))
+    ≡ sum_over (λ g. sum_over (λ (part : Part). sum_over f (wanted_rows g part.need part.from part.to rows)) (parts g))
+    (filter of_group (groups_of element rows))
 cell-parts f element of_group of_row parts rows all =
     cell-groups f element of_group of_row rows
     ∙ sum_over-same (λ g. sum_over f (filter (λ r. is_in_group g r && of_row r) rows))

@@ -28,5 +28,6 @@ module _ {X : Type 0} where
       (none-like (like x) xs parts.0, differ-distinct like xs parts.1)
 
   -- a list of which each member is like none of those after it
-  pub differ-more : (like : X → X → Bool) (x : X) (xs : List X) → AllByRecursion (λ y. like x y ≡ false) xs → all_differ like xs ≡ true → all_differ like (x ∷ xs) ≡ true
+  pub differ-more : (like : X → X → Bool) (x : X) (xs : List X) → AllByRecursion (λ y. like x y ≡ false) xs → all_differ like xs ≡ true
+      → all_differ like (x ∷ xs) ≡ true
   differ-more like x xs all rest = and_from (not (list_any (like x) xs)) (all_differ like xs) (none-any (like x) xs all) rest

@@ -1,5 +1,6 @@
 -- The rows of a cell are those of its groups, one group after the other.
-use Rattle.std.proofs.Common.{◌≡◌, ◌∙◌, ℕ, Bool, true, false, not, cond, ◌&&◌, List, [], ◌∷◌, ◌++◌, map, inl, inr, refl, sym, ap, Ordering, Less, Equal, Greater}
+use Rattle.std.proofs.Common.{◌≡◌, ◌∙◌, ℕ, Bool, true, false, not, cond, ◌&&◌, List, [], ◌∷◌, ◌++◌, map, inl, inr, refl, sym, ap, Ordering, Less, Equal}
+use Rattle.std.proofs.Common.{Greater}
 use Rattle.std.specs.List.{filter, AllByRecursion}
 use Rattle.std.specs.Ordering.{is_gt, is_eq, ordering_reverse}
 use Rattle.std.proofs.lemmas.Bool.{cases_Bool, false≢true, eqb-true, eq-eqb}
@@ -109,7 +110,8 @@ every-map P (r ∷ rows) all = (all.0, every-map P rows all.1)
 -- the rest of the rows, where the first group's come first
 rest_of : (h : Group) (rows : List Row) → IsUp (h ∷ map group_of rows)
     → gathered (λ g. filter (is_in_group g) rows) (each_once same_group (map group_of rows)) ≡ rows
-    → filter (is_in_group h) rows ++ gathered (λ g. filter (is_in_group g) rows) (filter (λ g. not (same_group h g)) (each_once same_group (map group_of rows))) ≡ rows
+    → filter (is_in_group h) rows ++ gathered (λ g. filter (is_in_group g) rows) (filter (λ g. not (same_group h g)) (each_once same_group (map group_of rows)))
+    ≡ rows
 rest_of h [] up is = refl
 rest_of h (s ∷ rows) up is =
     let k = group_of s in
@@ -119,13 +121,17 @@ rest_of h (s ∷ rows) up is =
       | inl same ↦
           let one : h ≡ k = same_group-true h k same in
           let drops : filter (λ g. not (same_group h g)) (k ∷ filter (λ g. not (same_group k g)) later) ≡ filter (λ g. not (same_group k g)) later =
-          ap (λ b. cond (not b) (k ∷ filter (λ g. not (same_group h g)) (filter (λ g. not (same_group k g)) later)) (filter (λ g. not (same_group h g)) (filter (λ g. not (same_group k g)) later))) same
+          ap (λ b. cond (not b) (k ∷ filter (λ g. not (same_group h g)) (filter (λ g. not (same_group k g)) later))
+          (filter (λ g. not (same_group h g)) (filter (λ g. not (same_group k g)) later))) same
           ∙ ap (λ v. filter (λ g. not (same_group v g)) (filter (λ g. not (same_group k g)) later)) one
           ∙ filter-every (λ g. not (same_group k g)) (filter (λ g. not (same_group k g)) later) (every-kept (λ g. not (same_group k g)) later) in
           ap (λ v. F h ++ gathered F v) drops ∙ ap (λ v. F v ++ gathered F (filter (λ g. not (same_group k g)) later)) one ∙ is
       | inr differs ↦
-          let others : AllByRecursion (λ g. same_group h g ≡ false) (map group_of (s ∷ rows)) =
-          (differs, every-same (λ g. is_gt (group_cmp k g) ≡ false) (λ g. same_group h g ≡ false) (map group_of rows) (λ g l. apart h k g up.0.0 differs l) up.1.0) in
+          let others : AllByRecursion (λ g. same_group h g ≡ false) (map group_of (s ∷ rows)) = (
+            differs,
+            every-same (λ g. is_gt (group_cmp k g) ≡ false) (λ g. same_group h g ≡ false) (map group_of rows) (λ g l. apart h k g up.0.0 differs l)
+                up.1.0,
+          ) in
           let none : F h ≡ [] = filter-none (is_in_group h) (s ∷ rows)
           (every-same (λ r. same_group h (group_of r) ≡ false) (λ r. is_in_group h r ≡ false) (s ∷ rows) (λ r e. turned h (group_of r) e)
           (every-map (λ g. same_group h g ≡ false) (s ∷ rows) others)) in
@@ -141,8 +147,10 @@ gather_all [] up = refl
 gather_all (r ∷ rows) up =
     let h = group_of r in
     let others = filter (λ g. not (same_group h g)) (each_once same_group (map group_of rows)) in
-    ap (λ b. cond b (r ∷ filter (is_in_group h) rows) (filter (is_in_group h) rows) ++ gathered (λ g. filter (is_in_group g) (r ∷ rows)) others) (same_group-self h)
-    ∙ ap (λ v. (r ∷ filter (is_in_group h) rows) ++ v) (skip_first r rows others (every-kept (λ g. not (same_group h g)) (each_once same_group (map group_of rows))))
+    ap (λ b. cond b (r ∷ filter (is_in_group h) rows) (filter (is_in_group h) rows) ++ gathered (λ g. filter (is_in_group g) (r ∷ rows)) others)
+    (same_group-self h)
+    ∙ ap (λ v. (r ∷ filter (is_in_group h) rows) ++ v)
+    (skip_first r rows others (every-kept (λ g. not (same_group h g)) (each_once same_group (map group_of rows))))
     ∙ ap (λ v. r ∷ v) (rest_of h rows up (gather_all rows up.1))
 
 -- ---- a cell

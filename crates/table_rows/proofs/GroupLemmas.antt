@@ -1,5 +1,6 @@
 -- Of rows in their order those of one group stand side by side.
-use Rattle.std.proofs.Common.{◌≡◌, ◌∙◌, ℕ, ◌+◌, ◌-◌, ◌<◌, Bool, true, false, not, cond, ◌||◌, List, [], ◌∷◌, ◌++◌, length, map, take, get_or, Option, Some, None, inl, inr, refl, sym, ap, subst, arith, length-append}
+use Rattle.std.proofs.Common.{◌≡◌, ◌∙◌, ℕ, ◌+◌, ◌-◌, ◌<◌, Bool, true, false, not, cond, ◌||◌, List, [], ◌∷◌, ◌++◌, length, map, take, get_or, Option, Some}
+use Rattle.std.proofs.Common.{None, inl, inr, refl, sym, ap, subst, arith, length-append}
 use Rattle.std.specs.Prelude.{All, Contains, nat_eq, slice_get}
 use Rattle.std.specs.List.{filter, list_any}
 use Rattle.std.specs.Ordering.{is_gt}
@@ -35,10 +36,12 @@ each_once-push same (y ∷ ys) x =
     ap (λ zs. y ∷ filter (λ z. not (same y z)) zs) (each_once-push same ys x) ∙ by_rest (list_any (λ z. same z x) ys) (same y x) refl
   where
     kept_all : (y ∷ filter (λ z. not (same y z)) (each_once same ys ++ [])) ≡ (y ∷ filter (λ z. not (same y z)) (each_once same ys)) ++ []
-    kept_all = ap (λ zs. y ∷ filter (λ z. not (same y z)) zs) (append-nil (each_once same ys)) ∙ sym (append-nil (y ∷ filter (λ z. not (same y z)) (each_once same ys)))
+    kept_all = ap (λ zs. y ∷ filter (λ z. not (same y z)) zs) (append-nil (each_once same ys))
+        ∙ sym (append-nil (y ∷ filter (λ z. not (same y z)) (each_once same ys)))
 
     by_rest : (any here : Bool) → same y x ≡ here
-        → (y ∷ filter (λ z. not (same y z)) (each_once same ys ++ cond any [] (x ∷ []))) ≡ (y ∷ filter (λ z. not (same y z)) (each_once same ys)) ++ cond (here || any) [] (x ∷ [])
+        → (y ∷ filter (λ z. not (same y z)) (each_once same ys ++ cond any [] (x ∷ [])))
+        ≡ (y ∷ filter (λ z. not (same y z)) (each_once same ys)) ++ cond (here || any) [] (x ∷ [])
     by_rest true true is = kept_all
     by_rest true false is = kept_all
     by_rest false true is = ap (λ zs. y ∷ zs) (filter-push_not same y x (each_once same ys) true is)
@@ -100,7 +103,9 @@ group-known hs gs top g is last is_top same =
     let one : g ≡ top = same_group-true g top same in
     let upto : is_gt (group_cmp g top) ≡ false = ap (λ v. is_gt (group_cmp v top)) one ∙ ap is_gt (group_cmp-self top) in
     record {
-      is = is ∙ sym (each_once-push same_group hs g ∙ ap (λ b. each_once same_group hs ++ cond b [] (g ∷ [])) (some_same hs top g is_top.0 one) ∙ append-nil (each_once same_group hs));
+      is = is
+          ∙ sym (each_once-push same_group hs g ∙ ap (λ b. each_once same_group hs ++ cond b [] (g ∷ [])) (some_same hs top g is_top.0 one)
+          ∙ append-nil (each_once same_group hs));
       top = subst (λ (o : Option Group). IsTop o (hs ++ g ∷ [])) (sym last)
           (Contains-append_left hs (g ∷ []) top is_top.0, All-push (λ h. is_gt (group_cmp h top) ≡ false) hs g is_top.1 upto);
     }
@@ -118,10 +123,12 @@ group-step hs gs g before upto = by_last (last_of gs) refl
         let is_top : IsTop (Some top) hs = subst (λ (o : Option Group). IsTop o hs) last before.top in
         elim (cases_Bool (same_group g top)) [
           | inl same ↦
-              let kept : gs ≡ with_group true gs g = ap (λ b. cond (not b) (gs ++ g ∷ []) gs) (sym same) ∙ ap (λ o. cond (differs_from o g) (gs ++ g ∷ []) gs) (sym last) in
+              let kept : gs ≡ with_group true gs g = ap (λ b. cond (not b) (gs ++ g ∷ []) gs) (sym same)
+              ∙ ap (λ o. cond (differs_from o g) (gs ++ g ∷ []) gs) (sym last) in
               subst (Step (hs ++ g ∷ [])) kept (group-known hs gs top g before.is last is_top same)
           | inr other ↦
-              let added : gs ++ g ∷ [] ≡ with_group true gs g = ap (λ b. cond (not b) (gs ++ g ∷ []) gs) (sym other) ∙ ap (λ o. cond (differs_from o g) (gs ++ g ∷ []) gs) (sym last) in
+              let added : gs ++ g ∷ [] ≡ with_group true gs g = ap (λ b. cond (not b) (gs ++ g ∷ []) gs) (sym other)
+              ∙ ap (λ o. cond (differs_from o g) (gs ++ g ∷ []) gs) (sym last) in
               subst (Step (hs ++ g ∷ [])) added (group-new hs gs g before.is upto (none_same hs top g is_top upto other))
         ]
 
@@ -146,7 +153,8 @@ earlier_upto element rows i x up within at =
 more_groups : (element : ℕ) (rows : List Row) (i : ℕ) (x : Row) → i < length rows → x ≡ get_or rows i x
     → groups_upto element rows (i + 1) ≡ groups_upto element rows i ++ map group_of (cond (is_of_element element x) (x ∷ []) [])
 more_groups element rows i x within at =
-    ap (map group_of) (filter_more (is_of_element element) rows i x within ∙ ap (λ y. filter (is_of_element element) (take i rows) ++ cond (is_of_element element y) (y ∷ []) []) (sym at))
+    ap (map group_of) (filter_more (is_of_element element) rows i x within
+    ∙ ap (λ y. filter (is_of_element element) (take i rows) ++ cond (is_of_element element y) (y ∷ []) []) (sym at))
     ∙ map-append group_of (filter (is_of_element element) (take i rows)) (cond (is_of_element element x) (x ∷ []) [])
 
 pub groups-more : (element : ℕ) (rows : List Row) (i : ℕ) (x : Row) (gs new : List Group) → rises row_cmp rows ≡ true → i < length rows → x ≡ get_or rows i x

@@ -1,5 +1,6 @@
 -- Lists in which each member is below the next.
-use Rattle.std.proofs.Common.{◌≡◌, ◌∙◌, ℕ, zero, suc, ◌+◌, ◌-◌, ◌<◌, ◌≤◌, true, ◌&&◌, List, [], ◌∷◌, length, drop, get_or, refl, sym, ap, arith, add-one, drop-cons, Ordering, Less, Equal, Greater}
+use Rattle.std.proofs.Common.{◌≡◌, ◌∙◌, ℕ, zero, suc, ◌+◌, ◌-◌, ◌<◌, ◌≤◌, true, ◌&&◌, List, [], ◌∷◌, length, drop, get_or, refl, sym, ap, arith, add-one}
+use Rattle.std.proofs.Common.{drop-cons, Ordering, Less, Equal, Greater}
 use Rattle.std.specs.Cmp.{IsTotalOrder}
 use Rattle.std.specs.List.{AllByRecursion}
 use Rattle.std.specs.List.Sorted.{IsStrictlySortedBy}
@@ -37,7 +38,8 @@ less Less e = refl
 less Equal e = absurd (cc)
 less Greater e = absurd (cc)
 
-below_all : {X : Type 0} (cmp : X → X → Ordering) → IsTotalOrder cmp → (x y : X) (ys : List X) → cmp x y ≡ Less → AllByRecursion (λ z. cmp y z ≡ Less) ys → AllByRecursion (λ z. cmp x z ≡ Less) ys
+below_all : {X : Type 0} (cmp : X → X → Ordering) → IsTotalOrder cmp → (x y : X) (ys : List X) → cmp x y ≡ Less → AllByRecursion (λ z. cmp y z ≡ Less) ys
+    → AllByRecursion (λ z. cmp x z ≡ Less) ys
 below_all cmp total x y [] h all = tt
 below_all cmp total x y (z ∷ zs) h all = (total.trans x y z h all.0, below_all cmp total x y zs h all.1)
 
@@ -62,7 +64,8 @@ at_recursion P (x ∷ xs) zero d all within = all.0
 at_recursion P (x ∷ xs) (suc k) d all within = at_recursion P xs k d all.1 (omega arith)
 
 -- of two members the earlier is below the later
-pub sorted-far : {X : Type 0} (cmp : X → X → Ordering) (xs : List X) (j k : ℕ) (d e : X) → IsStrictlySortedBy cmp xs → j < k → k < length xs → cmp (get_or xs j d) (get_or xs k e) ≡ Less
+pub sorted-far : {X : Type 0} (cmp : X → X → Ordering) (xs : List X) (j k : ℕ) (d e : X) → IsStrictlySortedBy cmp xs → j < k → k < length xs
+    → cmp (get_or xs j d) (get_or xs k e) ≡ Less
 unfolding IsStrictlySortedBy
 sorted-far cmp [] j k d e sorted less within = absurd (omega arith)
 sorted-far cmp (x ∷ xs) j zero d e sorted less within = absurd (omega arith)

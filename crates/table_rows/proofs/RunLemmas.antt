@@ -35,9 +35,10 @@ less Less a b = refl
 less Equal a b = absurd (cc)
 less Greater a b = absurd (cc)
 
-behind : (h : Group) (gs : List Group) → AllByRecursion (λ g. is_gt (group_cmp h g) ≡ false) gs → AllByRecursion (λ g. group_cmp h g ≡ Less) (filter (λ g. not (same_group h g)) gs)
-behind h [] all = tt
-behind h (g ∷ gs) all = by_test (same_group h g) refl (behind h gs all.1)
+beyond : (h : Group) (gs : List Group) → AllByRecursion (λ g. is_gt (group_cmp h g) ≡ false) gs
+    → AllByRecursion (λ g. group_cmp h g ≡ Less) (filter (λ g. not (same_group h g)) gs)
+beyond h [] all = tt
+beyond h (g ∷ gs) all = by_test (same_group h g) refl (beyond h gs all.1)
   where
     by_test : (b : Bool) → same_group h g ≡ b → AllByRecursion (λ g. group_cmp h g ≡ Less) (filter (λ g. not (same_group h g)) gs)
         → AllByRecursion (λ g. group_cmp h g ≡ Less) (cond (not b) (g ∷ filter (λ g. not (same_group h g)) gs) (filter (λ g. not (same_group h g)) gs))
@@ -48,11 +49,12 @@ each_once-sorted : (hs : List Group) → IsUp hs → IsStrictlySortedBy group_cm
 unfolding IsStrictlySortedBy
 each_once-sorted [] up = tt
 each_once-sorted (h ∷ hs) up = (
-  behind h (each_once same_group hs) (every-each_once (λ g. is_gt (group_cmp h g) ≡ false) hs up.0),
+  beyond h (each_once same_group hs) (every-each_once (λ g. is_gt (group_cmp h g) ≡ false) hs up.0),
   IsStrictlySortedBy-filter group_cmp (λ g. not (same_group h g)) (each_once same_group hs) (each_once-sorted hs up.1),
 )
 
-upto_all : (r : Row) (rs : List Row) → AllByRecursion (λ s. row_cmp r s ≡ Less) rs → AllByRecursion (λ g. is_gt (group_cmp (group_of r) g) ≡ false) (map group_of rs)
+upto_all : (r : Row) (rs : List Row) → AllByRecursion (λ s. row_cmp r s ≡ Less) rs
+    → AllByRecursion (λ g. is_gt (group_cmp (group_of r) g) ≡ false) (map group_of rs)
 upto_all r [] all = tt
 upto_all r (s ∷ rs) all = (group_upto r s all.0, upto_all r rs all.1)
 
@@ -66,7 +68,8 @@ pub groups_of-sorted : (element : ℕ) (rows : List Row) → rises row_cmp rows 
 unfolding groups_of
 groups_of-sorted element rows up =
     each_once-sorted (map group_of (filter (is_of_element element) rows))
-    (up_from_sorted (filter (is_of_element element) rows) (IsStrictlySortedBy-filter row_cmp (is_of_element element) rows (sorted_from_rises row_cmp row_total rows up)))
+    (up_from_sorted (filter (is_of_element element) rows)
+    (IsStrictlySortedBy-filter row_cmp (is_of_element element) rows (sorted_from_rises row_cmp row_total rows up)))
 
 -- ---- as many groups as rows at most
 

@@ -52,7 +52,8 @@ sum_over-split f p q r xs all =
 -- ---- many parts
 
 -- what stands once among many is summed once
-pub sum_over-once : {A : Type 0} (s : Sum) (t : A → Bool) (parts : List A) (b : Bool) → times b ≡ how_many t parts → sum_over (λ a. cond (t a) s no_sum) parts ≡ cond b s no_sum
+pub sum_over-once : {A : Type 0} (s : Sum) (t : A → Bool) (parts : List A) (b : Bool) → times b ≡ how_many t parts
+    → sum_over (λ a. cond (t a) s no_sum) parts ≡ cond b s no_sum
 sum_over-once s t [] true e = absurd (omega arith)
 sum_over-once s t [] false e = refl
 sum_over-once s t (a ∷ parts) b e = by_first (t a) b (λ c. sum_over-once s t parts c) e
@@ -63,7 +64,8 @@ sum_over-once s t (a ∷ parts) b e = by_first (t a) b (λ c. sum_over-once s t 
     by_first true false rest e = absurd (omega arith)
     by_first false b rest e = none-joined (sum_over (λ a. cond (t a) s no_sum) parts) ∙ rest b (e ∙ zero-add (how_many t parts))
 
-parts_by : {A X : Type 0} (f : X → Sum) (p : X → Bool) (t : A → X → Bool) (parts : List A) (xs : List X) → AllByRecursion (λ x. times (p x) ≡ how_many (λ a. t a x) parts) xs
+parts_by : {A X : Type 0} (f : X → Sum) (p : X → Bool) (t : A → X → Bool) (parts : List A) (xs : List X)
+    → AllByRecursion (λ x. times (p x) ≡ how_many (λ a. t a x) parts) xs
     → sum_over (λ x. cond (p x) (f x) no_sum) xs ≡ sum_over (λ a. sum_over (λ x. cond (t a x) (f x) no_sum) xs) parts
 parts_by f p t parts [] all = sym (sum_over-none parts)
 parts_by f p t parts (x ∷ xs) all =
@@ -72,7 +74,8 @@ parts_by f p t parts (x ∷ xs) all =
     ∙ sym (sum_over-joined (λ a. cond (t a x) (f x) no_sum) (λ a. sum_over (λ y. cond (t a y) (f y) no_sum) xs) parts)
 
 -- each member that a filter keeps is kept by just one of many others
-pub sum_over-parts : {A X : Type 0} (f : X → Sum) (p : X → Bool) (t : A → X → Bool) (parts : List A) (xs : List X) → All (λ x. times (p x) ≡ how_many (λ a. t a x) parts) xs
+pub sum_over-parts : {A X : Type 0} (f : X → Sum) (p : X → Bool) (t : A → X → Bool) (parts : List A) (xs : List X)
+    → All (λ x. times (p x) ≡ how_many (λ a. t a x) parts) xs
     → sum_over f (filter p xs) ≡ sum_over (λ a. sum_over f (filter (t a) xs)) parts
 sum_over-parts f p t parts xs all =
     sum_over-filter f p xs

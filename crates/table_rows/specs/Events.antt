@@ -1,5 +1,5 @@
 -- Events and registrations.
-use Rattle.std.specs.Prelude.{ℕ, Bool, true, ◌&&◌, nat_eq, ℤ, pos, neg_ℤ, int_le, List, Option, Some, None}
+use Rattle.std.specs.Prelude.{ℕ, Bool, true, ◌&&◌, nat_eq, ℤ, int_le, List, Option, Some, None}
 use Rattle.std.specs.List.{filter, list_all}
 use Rattle.std.specs.Cmp.Lexicographic.{slice_cmp}
 use Rattle.std.specs.Ordering.{ordering_then, nat_cmp, int_cmp}
@@ -9,6 +9,7 @@ use Rattle.table_rows.specs.declared.event.RegRow.{RegRow}
 use Rattle.table_rows.specs.declared.event.ItemValue.{ItemValue}
 use Rattle.table_rows.specs.declared.event.ItemValue.TheVariants.{Number, Day, Plain}
 use Rattle.table_rows.specs.Order.{period_cmp}
+use Rattle.dh_base.specs.Limits.{is_day}
 
 -- events by day and identifier
 abbrev pub event_cmp : EventRow → EventRow → Ordering
@@ -17,7 +18,8 @@ event_cmp a b = ordering_then (int_cmp a.day b.day) (slice_cmp nat_cmp a.id b.id
 -- registrations by data set, period, order and attribute combination
 abbrev pub reg_cmp : RegRow → RegRow → Ordering
 reg_cmp a b =
-    ordering_then (nat_cmp a.set b.set) (ordering_then (period_cmp a.period b.period) (ordering_then (nat_cmp a.order b.order) (nat_cmp a.attribute b.attribute)))
+    ordering_then (nat_cmp a.set b.set) (ordering_then (period_cmp a.period b.period)
+    (ordering_then (nat_cmp a.order b.order) (nat_cmp a.attribute b.attribute)))
 
 -- an event is of a program and of a day from the one to the other, both counted
 abbrev pub is_event_of : ℕ → ℤ → ℤ → EventRow → Bool
@@ -33,10 +35,6 @@ abbrev pub regs_of : ℕ → List RegRow → List RegRow
 regs_of set regs = filter (is_reg_of set) regs
 
 -- ---- days
-
--- a day from 1900-01-01 to 2100-12-31, as days since 1970-01-01
-abbrev pub is_day : ℤ → Bool
-is_day day = int_le (neg_ℤ (pos 25567)) day && int_le day (pos 47846)
 
 abbrev pub is_day_if_any : Option ℤ → Bool
 is_day_if_any None = true

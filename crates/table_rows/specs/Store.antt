@@ -8,7 +8,9 @@ use Rattle.table_rows.specs.declared.event.RegRow.{RegRow}
 use Rattle.table_rows.specs.declared.row.Row.{Row}
 use Rattle.table_rows.specs.Order.{row_cmp}
 use Rattle.table_rows.specs.Rows.{same_place}
-use Rattle.table_rows.specs.Events.{event_cmp, reg_cmp, is_day, has_days}
+use Rattle.table_rows.specs.Events.{event_cmp, reg_cmp, has_days}
+use Rattle.dh_base.specs.declared.limits.TheConstants.{MOST_RECORDS}
+use Rattle.dh_base.specs.Limits.{is_day}
 
 -- x is below the first of a list, and each member below the next
 abbrev pub rises_from : {X : Type 0} → (X → X → Ordering) → X → List X → Bool
@@ -30,7 +32,7 @@ abbrev pub have_own_places : List Row → Bool
 have_own_places rows = all_differ same_place rows
 
 abbrev pub is_short : {X : Type 0} → List X → Bool
-is_short xs = nat_le (length xs) 4194304
+is_short xs = nat_le (length xs) MOST_RECORDS
 
 -- each list is in its order without a repeat and has at most 4,194,304 members, days lie in the years from 1900 to 2100, and of a
 -- group each unit has at most one row

@@ -2,6 +2,7 @@
 use Rattle.std.specs.Prelude.{ℕ, ◌+◌, ◌*◌, ◌^◌, ◌≤◌, ℤ, pos, ◌+ℤ◌, unsigned_abs, List, [], ◌∷◌, Option, Some, None}
 use Rattle.table_rows.specs.declared.row.Row.{Row}
 use Rattle.table_rows.specs.declared.sum.Sum.{Sum}
+use Rattle.dh_base.specs.declared.limits.TheConstants.{MOST_RECORDS}
 
 -- a sum of millionths, of how many rows it is, and how many of these have a number
 abbrev pub sum_with : ℤ → ℕ → ℕ → Sum
@@ -34,4 +35,4 @@ sum_of_rows rows = sum_over sum_of_row rows
 pub record IsSized (sum : Sum) : Type 0 where
   pub micros : unsigned_abs sum.micros ≤ 2 ^ 63 * sum.count
   pub plain : sum.plain ≤ sum.count
-  pub count : sum.count ≤ 4194304
+  pub count : sum.count ≤ MOST_RECORDS

@@ -3,21 +3,14 @@ ghost use Rattle.std.specs.Prelude.{◌≡◌};
 ghost use Rattle.std.specs.List.{list_all, list_any};
 ghost use Rattle.std.specs.Ordering.{int_cmp, is_lt};
 ghost use Rattle.table_rows.specs.Order.{row_cmp};
-ghost use Rattle.table_rows.specs.Events.{event_cmp, reg_cmp, is_day, is_day_if_any, has_day, have_days, has_days};
+ghost use Rattle.table_rows.specs.Events.{event_cmp, reg_cmp, is_day_if_any, has_day, have_days, has_days};
 ghost use Rattle.table_rows.specs.Rows.{same_place};
 ghost use Rattle.table_rows.specs.Store.{is_store, rises, have_own_places};
+ghost use Rattle.dh_base.specs.Limits.{is_day};
 
 use crate::event::{EventRow, ItemValue, RegRow};
 use crate::row::Row;
-
-/// 1 January 1900.
-const FIRST_DAY: i32 = -25_567;
-
-/// 31 December 2100.
-const LAST_DAY: i32 = 47_846;
-
-/// The most members that a list of a store has.
-const MOST: usize = 4_194_304;
+use dh_base::limits::{MOST_RECORDS, is_day};
 
 fn rows_rise(rows: &[Row]) -> bool
     ensures { result ≡ rises row_cmp rows.now }
@@ -86,12 +79,6 @@ fn years_rise(years: &[i32]) -> bool
     all_rise(years)
 }
 
-fn is_day(day: i32) -> bool
-    ensures { result ≡ is_day day }
-{
-    FIRST_DAY <= day && day <= LAST_DAY
-}
-
 fn is_day_if_any(day: Option<i32>) -> bool
     ensures { result ≡ is_day_if_any day }
 {
@@ -146,9 +133,9 @@ fn regs_have_days(regs: &[RegRow]) -> bool
 pub fn is_store(rows: &[Row], events: &[EventRow], regs: &[RegRow], years: &[i32]) -> bool
     ensures { result ≡ is_store rows.now events.now regs.now years.now }
 {
-    rows.len() <= MOST
-        && events.len() <= MOST
-        && regs.len() <= MOST
+    rows.len() <= MOST_RECORDS
+        && events.len() <= MOST_RECORDS
+        && regs.len() <= MOST_RECORDS
         && rows_rise(rows)
         && events_rise(events)
         && regs_rise(regs)

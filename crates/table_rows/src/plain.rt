@@ -6,6 +6,7 @@ ghost use Rattle.table_rows.specs.Rows.{group_of, wanted_rows};
 ghost use Rattle.table_rows.specs.Sums.{sum_of_rows, sum_of_row, sum_over, joined, IsSized};
 ghost use Rattle.table_rows.specs.Order.{row_cmp};
 ghost use Rattle.table_rows.specs.Store.{rises};
+ghost use Rattle.dh_base.specs.declared.limits.TheConstants.{MOST_RECORDS};
 
 use crate::event::{EventRow, RegRow};
 use crate::row::{Group, Row};
@@ -50,7 +51,7 @@ fn differs_from_last(groups: &[Group], row: &Row) -> bool
 
 #[tactic(auto, using(crate::proofs::SumLemmas::sum_more), unfolding(crate::specs::Sums::sum_of_rows))]
 pub(crate) fn range_sum(rows: &[Row], group: &Group, need: Need, from: u32, to: u32) -> Sum
-    requires { length rows.now ≤ 4_194_304 }
+    requires { length rows.now ≤ MOST_RECORDS }
     ensures sum { result ≡ sum_of_rows (wanted_rows group.now need from to rows.now) }
     ensures size { IsSized result }
 {
@@ -66,7 +67,7 @@ pub(crate) fn range_sum(rows: &[Row], group: &Group, need: Need, from: u32, to: 
 fn with_row(sum: &Sum, row: &Row, wanted: bool) -> Sum
     requires size { unsigned_abs sum.now.micros ≤ 2 ^ 63 * sum.now.count }
     requires plain { sum.now.plain ≤ sum.now.count }
-    requires few { sum.now.count < 4_194_304 }
+    requires few { sum.now.count < MOST_RECORDS }
     ensures sum { result ≡ joined sum.now (sum_over sum_of_row (cond wanted (row.now ∷ []) [])) }
     ensures size { unsigned_abs result.micros ≤ 2 ^ 63 * result.count }
     ensures plain { result.plain ≤ result.count }

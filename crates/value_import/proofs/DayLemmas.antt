@@ -1,5 +1,6 @@
 -- The days of completions lie in the years from 1900 to 2100.
-use Rattle.std.proofs.Common.{◌≡◌, ◌∙◌, ℕ, ◌+◌, ◌/◌, ◌%◌, ◌<◌, ◌≤◌, Bool, true, false, cond, List, drop, take, Option, Some, None, sym, ap, arith, ℤ, pos, neg_ℤ, ◌-ℤ◌, ◌≤ℤ◌}
+use Rattle.std.proofs.Common.{◌≡◌, ◌∙◌, ℕ, ◌+◌, ◌/◌, ◌%◌, ◌<◌, ◌≤◌, Bool, true, false, cond, List, drop, take, Option, Some, None, sym, ap, arith, ℤ, pos}
+use Rattle.std.proofs.Common.{neg_ℤ, ◌-ℤ◌, ◌≤ℤ◌}
 use Rattle.std.specs.Prelude.{option_and_then}
 use Rattle.std.specs.Int.{int_min, int_max}
 use Rattle.std.proofs.lemmas.Bool.{and_from}
@@ -17,7 +18,7 @@ use Rattle.dh_periods.proofs.BoundLemmas.{date-parts}
 use Rattle.dh_periods.proofs.HeldLemmas.{int_le-at}
 use Rattle.dh_periods.proofs.CivilLemmas.{read_date-is}
 use Rattle.dh_periods.proofs.TextLemmas.{some_when, and_then-some, map-some}
-use Rattle.change_bytes.specs.Fields.{is_day}
+use Rattle.dh_base.specs.Limits.{is_day}
 use Rattle.dh_periods.specs.Moment.{whole_days, day_of}
 use Rattle.value_import.specs.Dates.{is_time, dated, day_told}
 
@@ -41,7 +42,8 @@ place-bound y m d from to low high first last =
     let k = month_place y m in
     let ye : 1900 + k / 12 ≡ y = omega arith in
     let me : k % 12 + 1 ≡ m = omega arith in
-    let next : days_before_month (k + 1) ≡ days_before_month k + month_length y m = days_before_month-next k ∙ ap (λ n. days_before_month k + month_length n (k % 12 + 1)) ye ∙ ap (λ n. days_before_month k + month_length y n) me in
+    let next : days_before_month (k + 1) ≡ days_before_month k + month_length y m = days_before_month-next k
+    ∙ ap (λ n. days_before_month k + month_length n (k % 12 + 1)) ye ∙ ap (λ n. days_before_month k + month_length y n) me in
     let later = days_before_month-later (k + 1) 2412 (omega arith) in
     let end = last-month in
     omega arith

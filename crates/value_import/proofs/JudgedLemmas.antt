@@ -10,12 +10,14 @@ use Rattle.value_import.specs.Values.{judged_by}
 use Rattle.value_import.proofs.FirstLemmas.{first-here, first-there}
 
 -- where no condition holds, it is taken
-pub unrefused-ok : (r : Result Judged Memory) (first : Option Code) (taken : Judged) → None ≡ first → IfOk r (λ j. j ≡ taken) → IfOk r (λ j. j ≡ judged_by first taken)
+pub unrefused-ok : (r : Result Judged Memory) (first : Option Code) (taken : Judged) → None ≡ first → IfOk r (λ j. j ≡ taken)
+    → IfOk r (λ j. j ≡ judged_by first taken)
 unrefused-ok (Ok j) first taken none is = is ∙ ap (λ o. judged_by o taken) none
 unrefused-ok (Err e) first taken none is = is
 
 -- a condition on the names holds
-pub judged-refused : (names more : List Condition) (code : Code) (taken : Judged) → first_of names ≡ Some code → judged.Refused code ≡ judged_by (first_of (names ++ more)) taken
+pub judged-refused : (names more : List Condition) (code : Code) (taken : Judged) → first_of names ≡ Some code
+    → judged.Refused code ≡ judged_by (first_of (names ++ more)) taken
 judged-refused names more code taken is = ap (λ o. judged_by o taken) (first-here names more code (sym is))
 
 -- no condition on the names holds, and all of them are there
@@ -26,7 +28,8 @@ judged-there names place there taken p j none some is =
     is ∙ ap (λ o. judged_by o (taken p)) (first-there names (there p) (first_of (there p)) (sym none) refl)
     ∙ ap (λ q. judged_by (first_of (names ++ option_map_or there q [])) (option_map_or taken q judged.Ignored)) (sym some)
 
-pub judged-there-ok : {P : Type 0} (r : Result Judged Memory) (names : List Condition) (place : Option P) (there : P → List Condition) (taken : P → Judged) (p : P)
+pub judged-there-ok : {P : Type 0} (r : Result Judged Memory) (names : List Condition) (place : Option P) (there : P → List Condition) (taken : P
+    → Judged) (p : P)
     → first_of names ≡ None → place ≡ Some p → IfOk r (λ j. j ≡ judged_by (first_of (there p)) (taken p))
     → IfOk r (λ j. j ≡ judged_by (first_of (names ++ option_map_or there place [])) (option_map_or taken place judged.Ignored))
 judged-there-ok (Ok j) names place there taken p none some is = judged-there names place there taken p j none some is

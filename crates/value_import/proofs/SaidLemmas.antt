@@ -12,7 +12,8 @@ use Rattle.record_index.specs.Said.{said_by, last_said, of_value, of_registratio
 use Rattle.value_import.specs.Said.{AreSaid, IsNoted}
 
 -- what is put at a key is what is said there
-put : {V : Type 0} (same : Bool) (value : Option V) (before : Option Bool) → cond same (Some (is_some value)) before ≡ option_or (option_map is_some (cond same (Some value) None)) before
+put : {V : Type 0} (same : Bool) (value : Option V) (before : Option Bool)
+    → cond same (Some (is_some value)) before ≡ option_or (option_map is_some (cond same (Some value) None)) before
 put true value before = refl
 put false value before = refl
 
@@ -44,7 +45,8 @@ last-end : {A : Type 0} (of : Said → Option A) (writes : List Write) (w : Writ
 last-end of [] w = elim (of (said_by w)) as (λ o. option_or None o ≡ option_or o None) [ Some a ↦ refl | None ↦ refl ]
 last-end of (x ∷ writes) w =
     ap (λ o. option_or o (of (said_by x))) (last-end of writes w)
-    ∙ elim (of (said_by w)) as (λ o. option_or (option_or o (last_said of (map said_by writes))) (of (said_by x)) ≡ option_or o (option_or (last_said of (map said_by writes)) (of (said_by x))))
+    ∙ elim (of (said_by w)) as (λ o. option_or (option_or o (last_said of (map said_by writes))) (of (said_by x))
+    ≡ option_or o (option_or (last_said of (map said_by writes)) (of (said_by x))))
     [ Some a ↦ refl | None ↦ refl ]
 
 either-some : {V : Type 0} (a b : Option (Option V)) → option_or (option_map is_some a) (option_map is_some b) ≡ option_map is_some (option_or a b)

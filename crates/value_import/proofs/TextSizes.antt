@@ -52,10 +52,12 @@ unfolding civil_of
 civil_of-long text long = ap (λ o. option_map first_day (option_and_then listed o)) (read_date-long text long)
 
 is_true-long : (text : List ℕ) → 1024 < length text → is_true text ≡ false
-is_true-long text long = either (bytes_eq text (codes "true")) (bytes_eq text (codes "1")) (other text (codes "true") (omega arith)) (other text (codes "1") (omega arith))
+is_true-long text long =
+    either (bytes_eq text (codes "true")) (bytes_eq text (codes "1")) (other text (codes "true") (omega arith)) (other text (codes "1") (omega arith))
 
 is_false-long : (text : List ℕ) → 1024 < length text → is_false text ≡ false
-is_false-long text long = either (bytes_eq text (codes "false")) (bytes_eq text (codes "0")) (other text (codes "false") (omega arith)) (other text (codes "0") (omega arith))
+is_false-long text long =
+    either (bytes_eq text (codes "false")) (bytes_eq text (codes "0")) (other text (codes "false") (omega arith)) (other text (codes "0") (omega arith))
 
 is_short-long : (text : List ℕ) → 1024 < length text → is_short text ≡ false
 unfolding is_short
@@ -88,7 +90,8 @@ pub fits-small : (kind : ValueType) (text : List ℕ) → fits kind text ≡ tru
 fits-small kind text is = small_or_long (length text) (fits kind text) (fits-long kind text) is
 
 -- a text that an element may have
-pub value-small : (found : Option Element) (text : Option (List ℕ)) → option_map_or (λ (element : Element). option_map_or (λ own. fits element.value_type own) text false) found false ≡ true
+pub value-small : (found : Option Element) (text : Option (List ℕ))
+    → option_map_or (λ (element : Element). option_map_or (λ own. fits element.value_type own) text false) found false ≡ true
     → length (unwrap_or text []) ≤ 1024
 value-small None text is = cc
 value-small (Some element) None is = cc

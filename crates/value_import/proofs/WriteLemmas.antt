@@ -1,5 +1,6 @@
 -- What the writes of a verdict are: values of at most 1,024 bytes, and completions on a day that is told.
-use Rattle.std.proofs.Common.{◌≡◌, ◌∙◌, ℕ, ◌+◌, ◌≤◌, Bool, true, false, cond, List, [], ◌∷◌, ◌++◌, length, Option, Some, None, refl, ap, sym, subst, arith, Result, Ok, Err, IfOk}
+use Rattle.std.proofs.Common.{◌≡◌, ◌∙◌, ℕ, ◌+◌, ◌≤◌, Bool, true, false, cond, List, [], ◌∷◌, ◌++◌, length, Option, Some, None, refl, ap, sym, subst, arith}
+use Rattle.std.proofs.Common.{Result, Ok, Err, IfOk}
 use Rattle.std.specs.Prelude.{ℤ, pos, ◌&&◌, not, unwrap_or}
 use Rattle.std.specs.Option.{option_map_or, option_or, is_none}
 use Rattle.std.specs.List.{All, AllByRecursion}
@@ -30,8 +31,10 @@ use Rattle.value_import.specs.Rules.{Condition, first_of, place_conditions}
 use Rattle.value_import.specs.Outcomes.{taken, finished, nothing}
 use Rattle.value_import.specs.Said.{holds_value, holds_registration}
 use Rattle.value_import.specs.Sizes.{IsTold, IsValueWrite}
-use Rattle.value_import.specs.Values.{names_of, name_conditions, place_of, key_of, is_delete, has_value, is_idle_zero, stored, zeroed, accepted, judged_by, value_conditions, placed_conditions, judged_value}
-use Rattle.value_import.specs.Completions.{reg_names_of, reg_name_conditions, reg_place_of, reg_key_of, reg_conditions, placed_reg_conditions, completed, registered, judged_completion, completion_in, uncounted}
+use Rattle.value_import.specs.Values.{names_of, name_conditions, place_of, key_of, is_delete, has_value, is_idle_zero, stored, zeroed, accepted, judged_by}
+use Rattle.value_import.specs.Values.{value_conditions, placed_conditions, judged_value}
+use Rattle.value_import.specs.Completions.{reg_names_of, reg_name_conditions, reg_place_of, reg_key_of, reg_conditions, placed_reg_conditions, completed}
+use Rattle.value_import.specs.Completions.{registered, judged_completion, completion_in, uncounted}
 use Rattle.value_import.specs.Verdicts.{with_value, with_values, with_date, verdict_of, with_completion, with_completions, completions_verdict_of}
 use Rattle.value_import.proofs.FirstLemmas.{first_of-append}
 use Rattle.value_import.proofs.TextSizes.{value-small}
@@ -48,8 +51,8 @@ Writes today (judged.Uncounted w) = IsValueWrite today w
 
 -- ---- conditions
 
-none-behind : (xs ys : List Condition) → None ≡ first_of (xs ++ ys) → None ≡ first_of ys
-none-behind xs ys none = split (first_of xs) (first_of ys) (none ∙ first_of-append xs ys)
+none-beyond : (xs ys : List Condition) → None ≡ first_of (xs ++ ys) → None ≡ first_of ys
+none-beyond xs ys none = split (first_of xs) (first_of ys) (none ∙ first_of-append xs ys)
   where
     split : (a b : Option Code) → None ≡ option_or a b → None ≡ b
     split None b is = is
@@ -73,7 +76,8 @@ zeroed-writes : (today : ℤ) (key : ValueKey) (held : Bool) → Writes today (z
 zeroed-writes today key true = tt
 zeroed-writes today key false = tt
 
-accepted-writes : (today : ℤ) (key : ValueKey) (held deletes has zero : Bool) (text : List ℕ) → (not deletes && not has) ≡ false → (has ≡ true → length text ≤ 1024)
+accepted-writes : (today : ℤ) (key : ValueKey) (held deletes has zero : Bool) (text : List ℕ) → (not deletes && not has) ≡ false
+    → (has ≡ true → length text ≤ 1024)
     → Writes today (cond deletes (judged.Deleted (write.ValueCleared key)) (cond zero (zeroed key held) (stored key held text)))
 accepted-writes today key held true has zero text fit small = tt
 accepted-writes today key held false has true text fit small = zeroed-writes today key held
@@ -84,15 +88,17 @@ has-small : (r : Records) (element : ℕ) (text : Option (List ℕ)) → has_val
 unfolding has_value
 has-small r element text has = value-small _ text has
 
-value-writes : (facts : Facts) (r : Records) (who : Who) (today : ℤ) (chosen : ImportStrategy) (holds : ValueKey → Bool) (value : SetValue) (names : List Condition) (place : Option ValuePlace)
+value-writes : (facts : Facts) (r : Records) (who : Who) (today : ℤ) (chosen : ImportStrategy) (holds : ValueKey
+    → Bool) (value : SetValue) (names : List Condition) (place : Option ValuePlace)
     → None ≡ first_of (names ++ option_map_or (λ (p : ValuePlace). placed_conditions facts r who today chosen (holds (key_of r p)) p value) place [])
     → Writes today (option_map_or (λ (p : ValuePlace). accepted r chosen (key_of r p) (holds (key_of r p)) p.element value) place judged.Ignored)
 unfolding value_conditions accepted
 value-writes facts r who today chosen holds value names None none = tt
 value-writes facts r who today chosen holds value names (Some p) none =
-    let own = none-behind (place_conditions facts r who p.at) (value_conditions facts r who today chosen (holds (key_of r p)) p value)
-    (none-behind names (placed_conditions facts r who today chosen (holds (key_of r p)) p value) none) in
-    accepted-writes today (key_of r p) (holds (key_of r p)) (is_delete chosen value) (has_value r p.element value.value) (is_idle_zero r p.element (unwrap_or value.value [])) (unwrap_or value.value [])
+    let own = none-beyond (place_conditions facts r who p.at) (value_conditions facts r who today chosen (holds (key_of r p)) p value)
+    (none-beyond names (placed_conditions facts r who today chosen (holds (key_of r p)) p value) none) in
+    accepted-writes today (key_of r p) (holds (key_of r p)) (is_delete chosen value) (has_value r p.element value.value)
+    (is_idle_zero r p.element (unwrap_or value.value [])) (unwrap_or value.value [])
     (none-here (not (is_delete chosen value) && not (has_value r p.element value.value)) C11 _ own)
     (has-small r p.element value.value)
 
@@ -100,7 +106,8 @@ judged_value-writes : (facts : Facts) (r : Records) (who : Who) (today : ℤ) (s
     → Writes today (judged_value facts r who today set holds value)
 unfolding judged_value
 judged_value-writes facts r who today set holds value =
-    by-judged today _ _ (value-writes facts r who today set.params.strategy holds value (name_conditions (names_of r set value)) (place_of (names_of r set value)))
+    by-judged today _ _ (value-writes facts r who today set.params.strategy holds value (name_conditions (names_of r set value))
+    (place_of (names_of r set value)))
 
 -- ---- completions
 
@@ -115,17 +122,20 @@ registered-writes today key true held text None told there = cc
 registered-writes today key true held text (Some day) told there = completed-writes today key day held (text, told)
 
 reg-writes : (facts : Facts) (r : Records) (who : Who) (today : ℤ) (holds : RegKey → Bool) (asked : Completion) (names : List Condition) (place : Option Place)
-    → None ≡ first_of (names ++ option_map_or (λ p. placed_reg_conditions facts r who (day_told today asked.date) asked.done (holds (reg_key_of r p)) p) place [])
-    → Writes today (option_map_or (λ p. registered (reg_key_of r p) (unwrap_or (day_told today asked.date) (pos 0)) asked.done (holds (reg_key_of r p))) place judged.Ignored)
+    → None ≡ first_of (names ++ option_map_or (λ p. placed_reg_conditions facts r who (day_told today asked.date) asked.done (holds (reg_key_of r p)) p) place
+    [])
+    → Writes today (option_map_or (λ p. registered (reg_key_of r p) (unwrap_or (day_told today asked.date) (pos 0)) asked.done (holds (reg_key_of r p))) place
+    judged.Ignored)
 unfolding reg_conditions
 reg-writes facts r who today holds asked names None none = tt
 reg-writes facts r who today holds asked names (Some p) none =
-    let own = none-behind (place_conditions facts r who p) (reg_conditions (day_told today asked.date) asked.done (holds (reg_key_of r p)))
-    (none-behind names (placed_reg_conditions facts r who (day_told today asked.date) asked.done (holds (reg_key_of r p)) p) none) in
+    let own = none-beyond (place_conditions facts r who p) (reg_conditions (day_told today asked.date) asked.done (holds (reg_key_of r p)))
+    (none-beyond names (placed_reg_conditions facts r who (day_told today asked.date) asked.done (holds (reg_key_of r p)) p) none) in
     registered-writes today (reg_key_of r p) asked.done (holds (reg_key_of r p)) asked.date (day_told today asked.date) refl
     (none-here (is_none (day_told today asked.date)) C11 _ own)
 
-judged_completion-writes : (facts : Facts) (r : Records) (who : Who) (today : ℤ) (holds : RegKey → Bool) (asked : Completion) → Writes today (judged_completion facts r who today holds asked)
+judged_completion-writes : (facts : Facts) (r : Records) (who : Who) (today : ℤ) (holds : RegKey → Bool) (asked : Completion)
+    → Writes today (judged_completion facts r who today holds asked)
 unfolding judged_completion
 judged_completion-writes facts r who today holds asked =
     by-judged today _ _ (reg-writes facts r who today holds asked (reg_name_conditions (reg_names_of r asked)) (reg_place_of (reg_names_of r asked)))
@@ -140,7 +150,8 @@ uncounted-writes today (judged.Uncounted w) writes = writes
 
 -- ---- verdicts
 
-all-end : (today : ℤ) (ws : List Write) (w : Write) → AllByRecursion (IsValueWrite today) ws → IsValueWrite today w → AllByRecursion (IsValueWrite today) (ws ++ w ∷ [])
+all-end : (today : ℤ) (ws : List Write) (w : Write) → AllByRecursion (IsValueWrite today) ws → IsValueWrite today w
+    → AllByRecursion (IsValueWrite today) (ws ++ w ∷ [])
 all-end today [] w all is = (is, tt)
 all-end today (x ∷ ws) w all is = (all.0, all-end today ws w all.1 is)
 
@@ -157,13 +168,15 @@ with_value-writes : (facts : Facts) (r : Records) (who : Who) (today : ℤ) (set
     → AllByRecursion (IsValueWrite today) v.writes → AllByRecursion (IsValueWrite today) (with_value facts r who today set index value v).writes
 unfolding with_value
 with_value-writes facts r who today set index value v all =
-    taken-writes today index (judged_value facts r who today set (holds_value facts v.writes) value) v all (judged_value-writes facts r who today set (holds_value facts v.writes) value)
+    taken-writes today index (judged_value facts r who today set (holds_value facts v.writes) value) v all
+    (judged_value-writes facts r who today set (holds_value facts v.writes) value)
 
 with_values-writes : (facts : Facts) (r : Records) (who : Who) (today : ℤ) (set : ValueSet) (index : ℕ) (values : List SetValue) (v : Verdict)
     → AllByRecursion (IsValueWrite today) v.writes → AllByRecursion (IsValueWrite today) (with_values facts r who today set index values v).writes
 with_values-writes facts r who today set index [] v all = all
 with_values-writes facts r who today set index (value ∷ more) v all =
-    with_values-writes facts r who today set (index + 1) more (with_value facts r who today set index value v) (with_value-writes facts r who today set index value v all)
+    with_values-writes facts r who today set (index + 1) more (with_value facts r who today set index value v)
+    (with_value-writes facts r who today set index value v all)
 
 dated-writes : (today : ℤ) (date : Option (List ℕ)) (index : ℕ) (j : Judged) (v : Verdict) → AllByRecursion (IsValueWrite today) v.writes → Writes today j
     → AllByRecursion (IsValueWrite today) (option_map_or (λ (d : List ℕ). taken index j v) date v).writes
@@ -174,15 +187,18 @@ with_date-writes : (facts : Facts) (r : Records) (who : Who) (today : ℤ) (set 
     → AllByRecursion (IsValueWrite today) v.writes → AllByRecursion (IsValueWrite today) (with_date facts r who today set v).writes
 unfolding with_date
 with_date-writes facts r who today set v all =
-    dated-writes today set.complete_date (length set.values) (uncounted (judged_completion facts r who today (holds_registration facts v.writes) (completion_in set))) v all
+    dated-writes today set.complete_date (length set.values)
+    (uncounted (judged_completion facts r who today (holds_registration facts v.writes) (completion_in set))) v all
     (uncounted-writes today _ (judged_completion-writes facts r who today (holds_registration facts v.writes) (completion_in set)))
 
-finished-writes : (today : ℤ) (dry : Bool) (v : Verdict) → AllByRecursion (IsValueWrite today) v.writes → AllByRecursion (IsValueWrite today) (finished dry v).writes
+finished-writes : (today : ℤ) (dry : Bool) (v : Verdict) → AllByRecursion (IsValueWrite today) v.writes
+    → AllByRecursion (IsValueWrite today) (finished dry v).writes
 finished-writes today true v all = tt
 finished-writes today false v all = all
 
 -- the writes of the verdict on a data value set
-verdict_of-writes : (facts : Facts) (r : Records) (who : Who) (moment : ℤ) (set : ValueSet) → AllByRecursion (IsValueWrite (day_of moment)) (verdict_of facts r who moment set).writes
+verdict_of-writes : (facts : Facts) (r : Records) (who : Who) (moment : ℤ) (set : ValueSet)
+    → AllByRecursion (IsValueWrite (day_of moment)) (verdict_of facts r who moment set).writes
 unfolding verdict_of
 verdict_of-writes facts r who moment set =
     finished-writes (day_of moment) set.params.dry _
@@ -194,7 +210,8 @@ unfolding with_completion
 with_completions-writes facts r who today index [] v all = all
 with_completions-writes facts r who today index (asked ∷ more) v all =
     with_completions-writes facts r who today (index + 1) more (with_completion facts r who today index asked v)
-    (taken-writes today index (judged_completion facts r who today (holds_registration facts v.writes) asked) v all (judged_completion-writes facts r who today (holds_registration facts v.writes) asked))
+    (taken-writes today index (judged_completion facts r who today (holds_registration facts v.writes) asked) v all
+    (judged_completion-writes facts r who today (holds_registration facts v.writes) asked))
 
 -- the writes of the verdict on completions
 completions_verdict_of-writes : (facts : Facts) (r : Records) (who : Who) (moment : ℤ) (list : List Completion)
@@ -207,7 +224,8 @@ dry v true is = refl
 dry v false is = cc
 
 -- a dry run writes nothing
-verdict_of-dry : (facts : Facts) (r : Records) (who : Who) (moment : ℤ) (set : ValueSet) → set.params.dry ≡ true → (verdict_of facts r who moment set).writes ≡ []
+verdict_of-dry : (facts : Facts) (r : Records) (who : Who) (moment : ℤ) (set : ValueSet) → set.params.dry ≡ true
+    → (verdict_of facts r who moment set).writes ≡ []
 unfolding verdict_of
 verdict_of-dry facts r who moment set is = dry _ set.params.dry is
 
@@ -239,17 +257,22 @@ each-fits moment (w ∷ ws) all = (fits-bytes moment w all.0, each-fits moment w
 of-verdict : (P : List Write → Type 0) (v told : Verdict) → v ≡ told → P told.writes → P v.writes
 of-verdict P v told is holds = subst (λ (w : Verdict). P w.writes) (sym is) holds
 
-pub set-writes : (facts : Facts) (r : Records) (who : Who) (moment : ℤ) (set : ValueSet) (result : Result Verdict Memory) → IfOk result (λ v. v ≡ verdict_of facts r who moment set)
+pub set-writes : (facts : Facts) (r : Records) (who : Who) (moment : ℤ) (set : ValueSet) (result : Result Verdict Memory)
+    → IfOk result (λ v. v ≡ verdict_of facts r who moment set)
     → IfOk result (λ v. All (IsValueWrite (day_of moment)) v.writes)
-set-writes facts r who moment set (Ok v) is = of-verdict (All (IsValueWrite (day_of moment))) v _ is (All-from_recursion (IsValueWrite (day_of moment)) _ (verdict_of-writes facts r who moment set))
+set-writes facts r who moment set (Ok v) is =
+    of-verdict (All (IsValueWrite (day_of moment))) v _ is (All-from_recursion (IsValueWrite (day_of moment)) _ (verdict_of-writes facts r who moment set))
 set-writes facts r who moment set (Err memory) is = tt
 
-pub set-fits : (facts : Facts) (r : Records) (who : Who) (moment : ℤ) (set : ValueSet) (result : Result Verdict Memory) → IfOk result (λ v. v ≡ verdict_of facts r who moment set)
+pub set-fits : (facts : Facts) (r : Records) (who : Who) (moment : ℤ) (set : ValueSet) (result : Result Verdict Memory)
+    → IfOk result (λ v. v ≡ verdict_of facts r who moment set)
     → IfOk result (λ v. All WriteFits v.writes)
-set-fits facts r who moment set (Ok v) is = of-verdict (All WriteFits) v _ is (All-from_recursion WriteFits _ (each-fits moment _ (verdict_of-writes facts r who moment set)))
+set-fits facts r who moment set (Ok v) is =
+    of-verdict (All WriteFits) v _ is (All-from_recursion WriteFits _ (each-fits moment _ (verdict_of-writes facts r who moment set)))
 set-fits facts r who moment set (Err memory) is = tt
 
-pub set-dry : (facts : Facts) (r : Records) (who : Who) (moment : ℤ) (set : ValueSet) (result : Result Verdict Memory) → IfOk result (λ v. v ≡ verdict_of facts r who moment set)
+pub set-dry : (facts : Facts) (r : Records) (who : Who) (moment : ℤ) (set : ValueSet) (result : Result Verdict Memory)
+    → IfOk result (λ v. v ≡ verdict_of facts r who moment set)
     → set.params.dry ≡ true → IfOk result (λ v. v.writes ≡ [])
 set-dry facts r who moment set (Ok v) is dry = ap (λ (w : Verdict). w.writes) is ∙ verdict_of-dry facts r who moment set dry
 set-dry facts r who moment set (Err memory) is dry = tt
@@ -258,11 +281,13 @@ pub list-writes : (facts : Facts) (r : Records) (who : Who) (moment : ℤ) (list
     → IfOk result (λ v. v ≡ completions_verdict_of facts r who moment list)
     → IfOk result (λ v. All (IsValueWrite (day_of moment)) v.writes)
 list-writes facts r who moment list (Ok v) is =
-    of-verdict (All (IsValueWrite (day_of moment))) v _ is (All-from_recursion (IsValueWrite (day_of moment)) _ (completions_verdict_of-writes facts r who moment list))
+    of-verdict (All (IsValueWrite (day_of moment))) v _ is
+    (All-from_recursion (IsValueWrite (day_of moment)) _ (completions_verdict_of-writes facts r who moment list))
 list-writes facts r who moment list (Err memory) is = tt
 
 pub list-fits : (facts : Facts) (r : Records) (who : Who) (moment : ℤ) (list : List Completion) (result : Result Verdict Memory)
     → IfOk result (λ v. v ≡ completions_verdict_of facts r who moment list)
     → IfOk result (λ v. All WriteFits v.writes)
-list-fits facts r who moment list (Ok v) is = of-verdict (All WriteFits) v _ is (All-from_recursion WriteFits _ (each-fits moment _ (completions_verdict_of-writes facts r who moment list)))
+list-fits facts r who moment list (Ok v) is =
+    of-verdict (All WriteFits) v _ is (All-from_recursion WriteFits _ (each-fits moment _ (completions_verdict_of-writes facts r who moment list)))
 list-fits facts r who moment list (Err memory) is = tt

@@ -91,7 +91,8 @@ placed_reg_conditions facts r who day done held place = place_conditions facts r
 abbrev pub completion_conditions : Facts → Records → Who → ℤ → (RegKey → Bool) → Completion → List Condition
 completion_conditions facts r who today holds asked =
     reg_name_conditions (reg_names_of r asked)
-    ++ option_map_or (λ place. placed_reg_conditions facts r who (day_told today asked.date) asked.done (holds (reg_key_of r place)) place) (reg_place_of (reg_names_of r asked)) []
+    ++ option_map_or (λ place. placed_reg_conditions facts r who (day_told today asked.date) asked.done (holds (reg_key_of r place)) place)
+    (reg_place_of (reg_names_of r asked)) []
 
 -- ---- what it comes to
 
@@ -106,7 +107,8 @@ registered key day done held = cond done (completed key day held) (judged.Delete
 unfoldable pub judged_completion : Facts → Records → Who → ℤ → (RegKey → Bool) → Completion → Judged
 judged_completion facts r who today holds asked =
     judged_by (first_of (completion_conditions facts r who today holds asked))
-    (option_map_or (λ (place : Place). registered (reg_key_of r place) (unwrap_or (day_told today asked.date) (pos 0)) asked.done (holds (reg_key_of r place))) (reg_place_of (reg_names_of r asked)) judged.Ignored)
+    (option_map_or (λ (place : Place). registered (reg_key_of r place) (unwrap_or (day_told today asked.date) (pos 0)) asked.done (holds (reg_key_of r place)))
+    (reg_place_of (reg_names_of r asked)) judged.Ignored)
 
 -- the completion that the `completeDate` of a set asks for
 abbrev pub completion_in : ValueSet → Completion

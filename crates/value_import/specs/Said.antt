@@ -23,6 +23,8 @@ pub record AreSaid {S T : Type 0} (held : HashMap ValueKey Bool S) (registered :
   pub registrations : (key : RegKey) → get same_reg_key registered key ≡ option_map is_some (last_said (of_registration key) (map said_by writes))
 
 -- the new maps have what a write says beside what the old ones had
-pub record IsNoted {S T : Type 0} (write : Write) (old : HashMap ValueKey Bool S × HashMap RegKey Bool T) (new : HashMap ValueKey Bool S × HashMap RegKey Bool T) : Type 0 where
+pub record IsNoted {S T : Type 0} (write : Write) (old : HashMap ValueKey Bool S × HashMap RegKey Bool T) (new : HashMap ValueKey Bool S
+    × HashMap RegKey Bool T) : Type 0 where
   pub values : (key : ValueKey) → get same_value_key new.0 key ≡ option_or (option_map is_some (of_value key (said_by write))) (get same_value_key old.0 key)
-  pub registrations : (key : RegKey) → get same_reg_key new.1 key ≡ option_or (option_map is_some (of_registration key (said_by write))) (get same_reg_key old.1 key)
+  pub registrations : (key : RegKey)
+      → get same_reg_key new.1 key ≡ option_or (option_map is_some (of_registration key (said_by write))) (get same_reg_key old.1 key)

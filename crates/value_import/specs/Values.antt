@@ -1,5 +1,6 @@
 -- How a data value is judged.
-use Rattle.std.specs.Prelude.{ℕ, Bool, true, false, ◌&&◌, ◌||◌, ◌==◌, not, cond, List, [], ◌∷◌, ◌++◌, length, slice_get, Option, Some, None, is_some, option_and_then, unwrap_or, ℤ, pos}
+use Rattle.std.specs.Prelude.{ℕ, Bool, true, false, ◌&&◌, ◌||◌, ◌==◌, not, cond, List, [], ◌∷◌, ◌++◌, length, slice_get, Option, Some, None, is_some}
+use Rattle.std.specs.Prelude.{option_and_then, unwrap_or, ℤ, pos}
 use Rattle.std.specs.Option.{option_map_or, option_or, is_none}
 use Rattle.std.specs.Ordering.{int_eq}
 use Rattle.dh_base.specs.declared.codes.Code.{Code}
@@ -142,7 +143,8 @@ is_zero element text = is_numeric element.value_type && option_map_or (λ number
 -- a zero that says nothing: of an element that is summed and whose zeros aren't significant
 unfoldable pub is_idle_zero : Records → ℕ → List ℕ → Bool
 is_idle_zero r element text =
-    option_map_or (λ (found : Element). is_summed found.aggregation_type && (not found.zero_is_significant && is_zero found text)) (slice_get r.data_elements element) false
+    option_map_or (λ (found : Element). is_summed found.aggregation_type && (not found.zero_is_significant && is_zero found text))
+    (slice_get r.data_elements element) false
 
 abbrev pub is_create : ImportStrategy → Bool
 is_create strategy.Create = true
@@ -183,7 +185,8 @@ placed_conditions facts r who today chosen held place value =
 abbrev pub conditions : Facts → Records → Who → ℤ → ValueSet → (ValueKey → Bool) → SetValue → List Condition
 conditions facts r who today set holds value =
     name_conditions (names_of r set value)
-    ++ option_map_or (λ place. placed_conditions facts r who today set.params.strategy (holds (key_of r place)) place value) (place_of (names_of r set value)) []
+    ++ option_map_or (λ place. placed_conditions facts r who today set.params.strategy (holds (key_of r place)) place value) (place_of (names_of r set value))
+    []
 
 -- ---- what it comes to
 
@@ -211,4 +214,5 @@ judged_by None taken = taken
 unfoldable pub judged_value : Facts → Records → Who → ℤ → ValueSet → (ValueKey → Bool) → SetValue → Judged
 judged_value facts r who today set holds value =
     judged_by (first_of (conditions facts r who today set holds value))
-    (option_map_or (λ (place : ValuePlace). accepted r set.params.strategy (key_of r place) (holds (key_of r place)) place.element value) (place_of (names_of r set value)) judged.Ignored)
+    (option_map_or (λ (place : ValuePlace). accepted r set.params.strategy (key_of r place) (holds (key_of r place)) place.element value)
+    (place_of (names_of r set value)) judged.Ignored)

@@ -26,7 +26,8 @@ with_values facts r who today set index (value ∷ more) v = with_values facts r
 -- a `completeDate` adds a completion, whose index is the number of values
 unfoldable pub with_date : Facts → Records → Who → ℤ → ValueSet → Verdict → Verdict
 with_date facts r who today set v =
-    option_map_or (λ date. taken (length set.values) (uncounted (judged_completion facts r who today (holds_registration facts v.writes) (completion_in set))) v)
+    option_map_or (λ date. taken (length set.values) (uncounted (judged_completion facts r who today (holds_registration facts v.writes) (completion_in set)))
+    v)
     set.complete_date v
 
 -- the verdict on a data value set

@@ -152,21 +152,23 @@ pub fn take_in(batch: &mut Batch, index: u64, judged: Judged) -> Result<(), Memo
     ensures counts { OnOk result (AreAtMost (index + 1) batch.new.verdict) }
 {
     match judged {
-        Judged::Refused(code) => refuse(&mut batch.verdict, index, code)?,
-        Judged::Ignored => batch.verdict.ignored += 1,
+        Judged::Refused(code) => refuse(&mut batch.verdict, index, code),
+        Judged::Ignored => {
+            batch.verdict.ignored += 1;
+            Ok(())
+        }
         Judged::Imported(write) => {
-            accept(batch, write)?;
             batch.verdict.imported += 1;
+            accept(batch, write)
         }
         Judged::Updated(write) => {
-            accept(batch, write)?;
             batch.verdict.updated += 1;
+            accept(batch, write)
         }
         Judged::Deleted(write) => {
-            accept(batch, write)?;
             batch.verdict.deleted += 1;
+            accept(batch, write)
         }
-        Judged::Uncounted(write) => accept(batch, write)?,
+        Judged::Uncounted(write) => accept(batch, write),
     }
-    Ok(())
 }

@@ -4,7 +4,8 @@ ghost use Rattle.std.specs.Prelude.{◌≡◌, ◌<◌, length, IfOk, unwrap_or,
 ghost use Rattle.dh_metadata.specs.Linked.{IsBelow};
 ghost use Rattle.record_index.specs.World.{facts};
 ghost use Rattle.value_import.specs.Completions as asks;
-ghost use Rattle.value_import.specs.Completions.{typed_set, reg_names_of, reg_name_conditions, reg_place_of, set_id, reg_key_of, reg_conditions, placed_reg_conditions, registered, completed, judged_completion, uncounted};
+ghost use Rattle.value_import.specs.Completions.{typed_set, reg_names_of, reg_name_conditions, reg_place_of, set_id, reg_key_of, reg_conditions};
+ghost use Rattle.value_import.specs.Completions.{placed_reg_conditions, registered, completed, judged_completion, uncounted};
 ghost use Rattle.value_import.specs.Dates.{day_told};
 ghost use Rattle.value_import.specs.Outcomes.{IsKnown};
 ghost use Rattle.value_import.specs.Ranges.{IsWithin, AreRegWithin, Finds};
@@ -12,6 +13,7 @@ ghost use Rattle.value_import.specs.Rules.{first_of};
 ghost use Rattle.value_import.specs.Said.{AreSaid, holds_registration};
 ghost use Rattle.value_import.specs.Values.{judged_by};
 
+use crate::asking::Asking;
 use crate::batch::{Batch, holds_registration};
 use crate::dates::day_told;
 use crate::judged::Judged;
@@ -128,19 +130,17 @@ fn reg_condition(day: Option<i32>, done: bool, held: bool) -> Option<Code>
 }
 
 fn condition(
-    world: &World,
-    meta: &Metadata,
-    who: Who,
+    asking: &Asking<'_>,
     day: Option<i32>,
     done: bool,
     held: bool,
     place: &Place,
 ) -> Option<Code>
-    requires who { IsKnown meta.now who }
-    requires place { IsWithin meta.now place.now }
-    ensures { result ≡ first_of (placed_reg_conditions (facts world.now) meta.now who day done held place.now) }
+    requires who { IsKnown asking.now.meta.now asking.now.who }
+    requires place { IsWithin asking.now.meta.now place.now }
+    ensures { result ≡ first_of (placed_reg_conditions (facts asking.now.world.now) asking.now.meta.now asking.now.who day done held place.now) }
 {
-    match place_condition(world, meta, who, place) {
+    match place_condition(asking.world, asking.meta, asking.who, place) {
         Some(code) => Some(code),
         None => reg_condition(day, done, held),
     }
@@ -174,71 +174,58 @@ fn day_or_first(day: Option<i32>) -> i32
 
 // What a completion comes to, where it is there or isn't.
 fn judge_held(
-    world: &World,
-    meta: &Metadata,
-    who: Who,
+    asking: &Asking<'_>,
     day: Option<i32>,
     done: bool,
     key: RegKey,
     held: bool,
     place: &Place,
 ) -> Judged
-    requires who { IsKnown meta.now who }
-    requires place { IsWithin meta.now place.now }
+    requires who { IsKnown asking.now.meta.now asking.now.who }
+    requires place { IsWithin asking.now.meta.now place.now }
     ensures { result ≡ judged_by
-        (first_of (placed_reg_conditions (facts world.now) meta.now who day done held place.now))
+        (first_of (placed_reg_conditions (facts asking.now.world.now) asking.now.meta.now asking.now.who day done held place.now))
         (registered key (unwrap_or day (pos 0)) done held) }
 {
-    match condition(world, meta, who, day, done, held, place) {
+    match condition(asking, day, done, held, place) {
         Some(code) => Judged::Refused(code),
         None => registered(key, day_or_first(day), done, held),
     }
 }
 
 fn judge_placed(
-    world: &World,
-    meta: &Metadata,
-    who: Who,
+    asking: &Asking<'_>,
     day: Option<i32>,
     done: bool,
     batch: &Batch,
     place: &Place,
 ) -> Judged
-    requires who { IsKnown meta.now who }
-    requires place { IsWithin meta.now place.now }
+    requires who { IsKnown asking.now.meta.now asking.now.who }
+    requires place { IsWithin asking.now.meta.now place.now }
     requires said { AreSaid batch.now.values batch.now.registrations batch.now.verdict.writes }
     ensures { result ≡ judged_by
-        (first_of (placed_reg_conditions (facts world.now) meta.now who day done (holds_registration (facts world.now) batch.now.verdict.writes (reg_key_of meta.now place.now)) place.now))
-        (registered (reg_key_of meta.now place.now) (unwrap_or day (pos 0)) done (holds_registration (facts world.now) batch.now.verdict.writes (reg_key_of meta.now place.now))) }
+        (first_of (placed_reg_conditions (facts asking.now.world.now) asking.now.meta.now asking.now.who day done
+        (holds_registration (facts asking.now.world.now) batch.now.verdict.writes (reg_key_of asking.now.meta.now place.now)) place.now))
+        (registered (reg_key_of asking.now.meta.now place.now) (unwrap_or day (pos 0)) done
+        (holds_registration (facts asking.now.world.now) batch.now.verdict.writes (reg_key_of asking.now.meta.now place.now))) }
 {
-    let key = key_of(meta, place);
-    let held = holds_registration(world, batch, &key);
-    judge_held(world, meta, who, day, done, key, held, place)
+    let key = key_of(asking.meta, place);
+    let held = holds_registration(asking.world, batch, &key);
+    judge_held(asking, day, done, key, held, place)
 }
 
 /// What a completion comes to, after the writes accepted so far.
-pub fn judge_completion(
-    world: &World,
-    meta: &Metadata,
-    who: Who,
-    today: i32,
-    batch: &Batch,
-    asked: &Completion,
-) -> Judged
-    requires who { IsKnown meta.now who }
+pub fn judge_completion(asking: &Asking<'_>, batch: &Batch, asked: &Completion) -> Judged
+    requires who { IsKnown asking.now.meta.now asking.now.who }
     requires said { AreSaid batch.now.values batch.now.registrations batch.now.verdict.writes }
-    ensures { result ≡ judged_completion (facts world.now) meta.now who today (holds_registration (facts world.now) batch.now.verdict.writes) asked.now }
+    ensures { result ≡ judged_completion (facts asking.now.world.now) asking.now.meta.now asking.now.who asking.now.today
+        (holds_registration (facts asking.now.world.now) batch.now.verdict.writes) asked.now }
 {
-    match placed(meta, asked) {
-        Ok(place) => judge_placed(
-            world,
-            meta,
-            who,
-            day_told(today, &asked.date),
-            asked.done,
-            batch,
-            &place,
-        ),
+    match placed(asking.meta, asked) {
+        Ok(place) => {
+            let day = day_told(asking.today, &asked.date);
+            judge_placed(asking, day, asked.done, batch, &place)
+        }
         Err(code) => Judged::Refused(code),
     }
 }
@@ -266,16 +253,36 @@ fn copied(alloc: Global, text: &Option<Items<u8>>) -> Result<Option<Items<u8>>, 
     }
 }
 
+// The same of another text, beside what was copied before. What stands here isn't held by the caller
+// while it may have to return early.
+fn copied_beside<A: Drop>(
+    first: A,
+    alloc: Global,
+    text: &Option<Items<u8>>,
+) -> Result<(A, Option<Items<u8>>), Memory>
+    ensures first { IfOk result (λ pair. pair.0 ≡ first) }
+    ensures copy { IfOk result (λ pair. pair.1 ≡ text.now) }
+{
+    let second = copied(alloc, text)?;
+    Ok((first, second))
+}
+
 /// The completion that the `completeDate` of a set asks for.
 pub fn completion_in(alloc: Global, set: &ValueSet) -> Result<Completion, Memory>
     ensures { IfOk result (λ asked. asked ≡ asks.completion_in set.now) }
 {
+    let one = copied(alloc, &set.data_set)?;
+    let two = copied_beside(one, alloc, &set.period)?;
+    let three = copied_beside(two, alloc, &set.unit)?;
+    let four = copied_beside(three, alloc, &set.attribute)?;
+    let all = copied_beside(four, alloc, &set.complete_date)?;
+    let ((((data_set, period), unit), attribute), date) = all;
     Ok(Completion {
-        data_set: copied(alloc, &set.data_set)?,
-        period: copied(alloc, &set.period)?,
-        unit: copied(alloc, &set.unit)?,
-        attribute: copied(alloc, &set.attribute)?,
-        date: copied(alloc, &set.complete_date)?,
+        data_set,
+        period,
+        unit,
+        attribute,
+        date,
         done: true,
     })
 }

@@ -5,8 +5,10 @@ ghost use Rattle.record_index.specs.World.{facts};
 ghost use Rattle.value_import.specs.Outcomes.{IsKnown};
 ghost use Rattle.value_import.specs.Ranges.{IsValueWithin};
 ghost use Rattle.value_import.specs.Rules.{first_of, of_user};
-ghost use Rattle.value_import.specs.Values.{is_delete_all, is_delete, has_value, is_summed, is_zero, is_idle_zero, is_create, is_update, is_misplaced, is_approved, value_conditions, stored, zeroed, accepted};
+ghost use Rattle.value_import.specs.Values.{is_delete_all, is_delete, has_value, is_summed, is_zero, is_idle_zero, is_create, is_update, is_misplaced};
+ghost use Rattle.value_import.specs.Values.{is_approved, value_conditions, stored, zeroed, accepted};
 
+use crate::asking::Asking;
 use crate::judged::Judged;
 use crate::place::ValuePlace;
 use crate::rules::{is_too_early, is_too_late};
@@ -25,6 +27,13 @@ use record_index::outcome::{ImportStrategy, Who};
 use record_index::world::World;
 use std::alloc::Global;
 use value_forms::set::SetValue;
+
+/// The key of a value, and whether it holds one.
+#[derive(Clone, Copy)]
+pub struct Slot {
+    pub key: ValueKey,
+    pub held: bool,
+}
 
 fn is_delete_all(strategy: ImportStrategy) -> bool
     ensures { result ≡ is_delete_all strategy }
@@ -153,29 +162,27 @@ fn is_unfit(meta: &Metadata, strategy: ImportStrategy, place: &ValuePlace, value
 /// The first condition on a value in its place that holds; `held` says whether its key holds a value.
 #[tactic(auto, unfolding(crate::specs::Values::value_conditions))]
 pub fn value_condition(
-    world: &World,
-    meta: &Metadata,
-    who: Who,
-    today: i32,
+    asking: &Asking<'_>,
     strategy: ImportStrategy,
     held: bool,
     place: &ValuePlace,
     value: &SetValue,
 ) -> Option<Code>
-    requires who { IsKnown meta.now who }
-    requires place { IsValueWithin meta.now place.now }
-    ensures { result ≡ first_of (value_conditions (facts world.now) meta.now who today strategy held place.now value.now) }
+    requires who { IsKnown asking.now.meta.now asking.now.who }
+    requires place { IsValueWithin asking.now.meta.now place.now }
+    ensures { result ≡ first_of (value_conditions (facts asking.now.world.now) asking.now.meta.now asking.now.who asking.now.today
+        strategy held place.now value.now) }
 {
-    if is_unfit(meta, strategy, place, value) {
+    if is_unfit(asking.meta, strategy, place, value) {
         return Some(Code::C11);
     }
-    if is_too_early(meta, who, today, &place.at) {
+    if is_too_early(asking.meta, asking.who, asking.today, &place.at) {
         return Some(Code::C12);
     }
-    if is_too_late(meta, who, today, &place.at) {
+    if is_too_late(asking.meta, asking.who, asking.today, &place.at) {
         return Some(Code::C13);
     }
-    if is_closed(world, meta, who, place) {
+    if is_closed(asking.world, asking.meta, asking.who, place) {
         return Some(Code::C14);
     }
     if is_misplaced(strategy, is_delete(strategy, value), held) {
@@ -221,20 +228,19 @@ pub fn accepted(
     alloc: Global,
     meta: &Metadata,
     strategy: ImportStrategy,
-    key: ValueKey,
-    held: bool,
+    slot: Slot,
     element: u32,
     value: &SetValue,
 ) -> Result<Judged, Memory>
     requires { element < length meta.now.data_elements }
-    ensures { IfOk result (λ judged. judged ≡ accepted meta.now strategy key held element value.now) }
+    ensures { IfOk result (λ judged. judged ≡ accepted meta.now strategy slot.key slot.held element value.now) }
 {
     if is_delete(strategy, value) {
-        return Ok(Judged::Deleted(Write::ValueCleared { key }));
+        return Ok(Judged::Deleted(Write::ValueCleared { key: slot.key }));
     }
     let text = text_of(&value.value);
     if is_idle_zero(meta, element, text) {
-        return Ok(zeroed(key, held));
+        return Ok(zeroed(slot.key, slot.held));
     }
-    stored(alloc, key, held, text)
+    stored(alloc, slot.key, slot.held, text)
 }

@@ -8,118 +8,96 @@ ghost use Rattle.value_import.specs.Rules.{first_of};
 ghost use Rattle.value_import.specs.Said.{AreSaid, holds_value};
 ghost use Rattle.value_import.specs.Values.{placed_conditions, accepted, judged_by, key_of, judged_value};
 
+use crate::asking::Asking;
 use crate::batch::{Batch, holds_value};
-use crate::effect::{accepted, value_condition};
+use crate::effect::{Slot, accepted, value_condition};
 use crate::judged::Judged;
 use crate::place::ValuePlace;
 use crate::rules::place_condition;
 use crate::value::{key_of, placed};
 use dh_base::codes::Code;
 use dh_base::memory::Memory;
-use dh_changes::keys::ValueKey;
-use dh_metadata::metadata::Metadata;
-use record_index::outcome::{ImportStrategy, Who};
-use record_index::world::World;
+use record_index::outcome::ImportStrategy;
 use std::alloc::Global;
 use value_forms::set::{SetValue, ValueSet};
 
 fn condition(
-    world: &World,
-    meta: &Metadata,
-    who: Who,
-    today: i32,
+    asking: &Asking<'_>,
     strategy: ImportStrategy,
     held: bool,
     place: &ValuePlace,
     value: &SetValue,
 ) -> Option<Code>
-    requires who { IsKnown meta.now who }
-    requires place { IsValueWithin meta.now place.now }
-    ensures { result ≡ first_of (placed_conditions (facts world.now) meta.now who today strategy held place.now value.now) }
+    requires who { IsKnown asking.now.meta.now asking.now.who }
+    requires place { IsValueWithin asking.now.meta.now place.now }
+    ensures { result ≡ first_of (placed_conditions (facts asking.now.world.now) asking.now.meta.now asking.now.who asking.now.today
+        strategy held place.now value.now) }
 {
-    match place_condition(world, meta, who, &place.at) {
+    match place_condition(asking.world, asking.meta, asking.who, &place.at) {
         Some(code) => Some(code),
-        None => value_condition(world, meta, who, today, strategy, held, place, value),
+        None => value_condition(asking, strategy, held, place, value),
     }
 }
 
 // What a value comes to, where its key holds a value or doesn't.
 fn judge_held(
     alloc: Global,
-    world: &World,
-    meta: &Metadata,
-    who: Who,
-    today: i32,
+    asking: &Asking<'_>,
     strategy: ImportStrategy,
-    key: ValueKey,
-    held: bool,
+    slot: Slot,
     place: &ValuePlace,
     value: &SetValue,
 ) -> Result<Judged, Memory>
-    requires who { IsKnown meta.now who }
-    requires place { IsValueWithin meta.now place.now }
+    requires who { IsKnown asking.now.meta.now asking.now.who }
+    requires place { IsValueWithin asking.now.meta.now place.now }
     ensures { IfOk result (λ judged. judged ≡ judged_by
-        (first_of (placed_conditions (facts world.now) meta.now who today strategy held place.now value.now))
-        (accepted meta.now strategy key held place.now.element value.now)) }
+        (first_of (placed_conditions (facts asking.now.world.now) asking.now.meta.now asking.now.who asking.now.today
+        strategy slot.held place.now value.now))
+        (accepted asking.now.meta.now strategy slot.key slot.held place.now.element value.now)) }
 {
-    match condition(world, meta, who, today, strategy, held, place, value) {
+    match condition(asking, strategy, slot.held, place, value) {
         Some(code) => Ok(Judged::Refused(code)),
-        None => accepted(alloc, meta, strategy, key, held, place.element, value),
+        None => accepted(alloc, asking.meta, strategy, slot, place.element, value),
     }
 }
 
 fn judge_placed(
     alloc: Global,
-    world: &World,
-    meta: &Metadata,
-    who: Who,
-    today: i32,
+    asking: &Asking<'_>,
     strategy: ImportStrategy,
     batch: &Batch,
     place: &ValuePlace,
     value: &SetValue,
 ) -> Result<Judged, Memory>
-    requires who { IsKnown meta.now who }
-    requires place { IsValueWithin meta.now place.now }
+    requires who { IsKnown asking.now.meta.now asking.now.who }
+    requires place { IsValueWithin asking.now.meta.now place.now }
     requires said { AreSaid batch.now.values batch.now.registrations batch.now.verdict.writes }
     ensures { IfOk result (λ judged. judged ≡ judged_by
-        (first_of (placed_conditions (facts world.now) meta.now who today strategy (holds_value (facts world.now) batch.now.verdict.writes (key_of meta.now place.now)) place.now value.now))
-        (accepted meta.now strategy (key_of meta.now place.now) (holds_value (facts world.now) batch.now.verdict.writes (key_of meta.now place.now)) place.now.element value.now)) }
+        (first_of (placed_conditions (facts asking.now.world.now) asking.now.meta.now asking.now.who asking.now.today strategy
+        (holds_value (facts asking.now.world.now) batch.now.verdict.writes (key_of asking.now.meta.now place.now)) place.now value.now))
+        (accepted asking.now.meta.now strategy (key_of asking.now.meta.now place.now)
+        (holds_value (facts asking.now.world.now) batch.now.verdict.writes (key_of asking.now.meta.now place.now)) place.now.element value.now)) }
 {
-    let key = key_of(meta, place);
-    let held = holds_value(world, batch, &key);
-    judge_held(
-        alloc, world, meta, who, today, strategy, key, held, place, value,
-    )
+    let key = key_of(asking.meta, place);
+    let held = holds_value(asking.world, batch, &key);
+    judge_held(alloc, asking, strategy, Slot { key, held }, place, value)
 }
 
 /// What a value comes to, after the writes accepted so far.
 pub fn judge_value(
     alloc: Global,
-    world: &World,
-    meta: &Metadata,
-    who: Who,
-    today: i32,
+    asking: &Asking<'_>,
     set: &ValueSet,
     batch: &Batch,
     value: &SetValue,
 ) -> Result<Judged, Memory>
-    requires who { IsKnown meta.now who }
+    requires who { IsKnown asking.now.meta.now asking.now.who }
     requires said { AreSaid batch.now.values batch.now.registrations batch.now.verdict.writes }
-    ensures { IfOk result (λ judged. judged ≡ judged_value (facts world.now) meta.now who today set.now (holds_value (facts world.now) batch.now.verdict.writes) value.now) }
+    ensures { IfOk result (λ judged. judged ≡ judged_value (facts asking.now.world.now) asking.now.meta.now asking.now.who asking.now.today
+        set.now (holds_value (facts asking.now.world.now) batch.now.verdict.writes) value.now) }
 {
-    match placed(meta, set, value) {
-        Ok(place) => judge_placed(
-            alloc,
-            world,
-            meta,
-            who,
-            today,
-            set.params.strategy,
-            batch,
-            &place,
-            value,
-        ),
+    match placed(asking.meta, set, value) {
+        Ok(place) => judge_placed(alloc, asking, set.params.strategy, batch, &place, value),
         Err(code) => Ok(Judged::Refused(code)),
     }
 }

@@ -1,6 +1,7 @@
 //! The verdict on data value sets and on completions.
 #![tactic(auto)]
 
+mod asking;
 mod batch;
 mod completion;
 mod dates;

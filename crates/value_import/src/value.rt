@@ -5,7 +5,8 @@ ghost use Rattle.std.specs.Option.{option_map_or};
 ghost use Rattle.dh_metadata.specs.Linked.{IsBelow};
 ghost use Rattle.value_import.specs.Ranges.{IsValueWithin, AreWithin, Finds};
 ghost use Rattle.value_import.specs.Values as values;
-ghost use Rattle.value_import.specs.Values.{set_of, combo_of, attribute_of, names_of, name_conditions, place_of, unit_id, option_combo_id, element_id, key_of, set_combo, element_combo};
+ghost use Rattle.value_import.specs.Values.{set_of, combo_of, attribute_of, names_of, name_conditions, place_of, unit_id, option_combo_id, element_id};
+ghost use Rattle.value_import.specs.Values.{key_of, set_combo, element_combo};
 
 use crate::names::{chosen_combo, chosen_set, either, has_candidate, object_named, period_named};
 use crate::place::{Place, ValueNames, ValuePlace};

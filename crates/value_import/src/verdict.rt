@@ -10,6 +10,7 @@ ghost use Rattle.value_import.specs.Said.{AreSaid};
 ghost use Rattle.value_import.specs.Sizes.{IsValueWrite};
 ghost use Rattle.value_import.specs.Verdicts.{with_value, with_values, with_date, verdict_of, with_completion, with_completions, completions_verdict_of};
 
+use crate::asking::Asking;
 use crate::batch::{Batch, empty_batch, take_in};
 use crate::completion::{completion_in, judge_completion, uncounted};
 use crate::judge::judge_value;
@@ -26,47 +27,43 @@ use value_forms::set::{SetValue, ValueSet};
 #[tactic(auto, unfolding(crate::specs::Verdicts::with_value))]
 fn with_value(
     alloc: Global,
-    world: &World,
-    meta: &Metadata,
-    who: Who,
-    today: i32,
+    asking: &Asking<'_>,
     set: &ValueSet,
     batch: &mut Batch,
     index: u64,
     value: &SetValue,
 ) -> Result<(), Memory>
-    requires who { IsKnown meta.now who }
+    requires who { IsKnown asking.now.meta.now asking.now.who }
     requires said { AreSaid batch.old.values batch.old.registrations batch.old.verdict.writes }
     requires counts { AreAtMost index batch.old.verdict }
     requires few { index + 1 < 2 ^ 64 }
-    ensures verdict { OnOk result (batch.new.verdict ≡ with_value (facts world.now) meta.now who today set.now index value.now batch.old.verdict) }
+    ensures verdict { OnOk result (batch.new.verdict ≡ with_value (facts asking.now.world.now) asking.now.meta.now asking.now.who asking.now.today
+        set.now index value.now batch.old.verdict) }
     ensures said { OnOk result (AreSaid batch.new.values batch.new.registrations batch.new.verdict.writes) }
     ensures counts { OnOk result (AreAtMost (index + 1) batch.new.verdict) }
 {
-    let judged = judge_value(alloc, world, meta, who, today, set, batch, value)?;
+    let judged = judge_value(alloc, asking, set, batch, value)?;
     take_in(batch, index, judged)
 }
 
 fn with_values(
     alloc: Global,
-    world: &World,
-    meta: &Metadata,
-    who: Who,
-    today: i32,
+    asking: &Asking<'_>,
     set: &ValueSet,
     values: &[SetValue],
     batch: &mut Batch,
 ) -> Result<(), Memory>
-    requires who { IsKnown meta.now who }
+    requires who { IsKnown asking.now.meta.now asking.now.who }
     requires said { AreSaid batch.old.values batch.old.registrations batch.old.verdict.writes }
     requires counts { AreAtMost 0 batch.old.verdict }
-    ensures verdict { OnOk result (batch.new.verdict ≡ with_values (facts world.now) meta.now who today set.now 0 values.now batch.old.verdict) }
+    ensures verdict { OnOk result (batch.new.verdict ≡ with_values (facts asking.now.world.now) asking.now.meta.now asking.now.who asking.now.today
+        set.now 0 values.now batch.old.verdict) }
     ensures said { OnOk result (AreSaid batch.new.values batch.new.registrations batch.new.verdict.writes) }
     ensures counts { OnOk result (AreAtMost (length values.now) batch.new.verdict) }
 {
     let mut index = 0u64;
     for value in values {
-        with_value(alloc, world, meta, who, today, set, batch, index, value)?;
+        with_value(alloc, asking, set, batch, index, value)?;
         index += 1;
     }
     Ok(())
@@ -75,23 +72,21 @@ fn with_values(
 #[tactic(auto, unfolding(crate::specs::Verdicts::with_date))]
 fn with_date(
     alloc: Global,
-    world: &World,
-    meta: &Metadata,
-    who: Who,
-    today: i32,
+    asking: &Asking<'_>,
     set: &ValueSet,
     batch: &mut Batch,
 ) -> Result<(), Memory>
-    requires who { IsKnown meta.now who }
+    requires who { IsKnown asking.now.meta.now asking.now.who }
     requires said { AreSaid batch.old.values batch.old.registrations batch.old.verdict.writes }
     requires counts { AreAtMost (length set.now.values) batch.old.verdict }
-    ensures { OnOk result (batch.new.verdict ≡ with_date (facts world.now) meta.now who today set.now batch.old.verdict) }
+    ensures { OnOk result (batch.new.verdict ≡ with_date (facts asking.now.world.now) asking.now.meta.now asking.now.who asking.now.today
+        set.now batch.old.verdict) }
 {
     if set.complete_date.is_none() {
         return Ok(());
     }
     let asked = completion_in(alloc, set)?;
-    let judged = judge_completion(world, meta, who, today, batch, &asked);
+    let judged = judge_completion(asking, batch, &asked);
     let index = set.values.as_slice().len() as u64;
     take_in(batch, index, uncounted(judged))
 }
@@ -103,6 +98,23 @@ fn finished(alloc: Global, dry: bool, mut verdict: Verdict) -> Verdict
         verdict.writes = Items::new(alloc);
     }
     verdict
+}
+
+// Takes in the values of a set, and the completion that its date asks for.
+fn with_set(
+    alloc: Global,
+    asking: &Asking<'_>,
+    set: &ValueSet,
+    batch: &mut Batch,
+) -> Result<(), Memory>
+    requires who { IsKnown asking.now.meta.now asking.now.who }
+    requires said { AreSaid batch.old.values batch.old.registrations batch.old.verdict.writes }
+    requires counts { AreAtMost 0 batch.old.verdict }
+    ensures { OnOk result (batch.new.verdict ≡ with_date (facts asking.now.world.now) asking.now.meta.now asking.now.who asking.now.today set.now
+        (with_values (facts asking.now.world.now) asking.now.meta.now asking.now.who asking.now.today set.now 0 set.now.values batch.old.verdict)) }
+{
+    with_values(alloc, asking, set, set.values.as_slice(), batch)?;
+    with_date(alloc, asking, set, batch)
 }
 
 #[tactic(auto, unfolding(crate::specs::Verdicts::verdict_of))]
@@ -117,19 +129,14 @@ fn judged_set(
     requires { IsKnown meta.now who }
     ensures { IfOk result (λ verdict. verdict ≡ verdict_of (facts world.now) meta.now who moment set.now) }
 {
-    let today = day_of(moment);
-    let mut batch = empty_batch(alloc);
-    with_values(
-        alloc,
+    let asking = Asking {
         world,
         meta,
         who,
-        today,
-        set,
-        set.values.as_slice(),
-        &mut batch,
-    )?;
-    with_date(alloc, world, meta, who, today, set, &mut batch)?;
+        today: day_of(moment),
+    };
+    let mut batch = empty_batch(alloc);
+    with_set(alloc, &asking, set, &mut batch)?;
     Ok(finished(alloc, set.params.dry, batch.verdict))
 }
 
@@ -155,42 +162,38 @@ pub fn verdict(
 
 #[tactic(auto, unfolding(crate::specs::Verdicts::with_completion))]
 fn with_completion(
-    world: &World,
-    meta: &Metadata,
-    who: Who,
-    today: i32,
+    asking: &Asking<'_>,
     batch: &mut Batch,
     index: u64,
     asked: &Completion,
 ) -> Result<(), Memory>
-    requires who { IsKnown meta.now who }
+    requires who { IsKnown asking.now.meta.now asking.now.who }
     requires said { AreSaid batch.old.values batch.old.registrations batch.old.verdict.writes }
     requires counts { AreAtMost index batch.old.verdict }
     requires few { index + 1 < 2 ^ 64 }
-    ensures verdict { OnOk result (batch.new.verdict ≡ with_completion (facts world.now) meta.now who today index asked.now batch.old.verdict) }
+    ensures verdict { OnOk result (batch.new.verdict ≡ with_completion (facts asking.now.world.now) asking.now.meta.now asking.now.who asking.now.today
+        index asked.now batch.old.verdict) }
     ensures said { OnOk result (AreSaid batch.new.values batch.new.registrations batch.new.verdict.writes) }
     ensures counts { OnOk result (AreAtMost (index + 1) batch.new.verdict) }
 {
-    let judged = judge_completion(world, meta, who, today, batch, asked);
+    let judged = judge_completion(asking, batch, asked);
     take_in(batch, index, judged)
 }
 
 fn with_completions(
-    world: &World,
-    meta: &Metadata,
-    who: Who,
-    today: i32,
+    asking: &Asking<'_>,
     list: &[Completion],
     batch: &mut Batch,
 ) -> Result<(), Memory>
-    requires who { IsKnown meta.now who }
+    requires who { IsKnown asking.now.meta.now asking.now.who }
     requires said { AreSaid batch.old.values batch.old.registrations batch.old.verdict.writes }
     requires counts { AreAtMost 0 batch.old.verdict }
-    ensures { OnOk result (batch.new.verdict ≡ with_completions (facts world.now) meta.now who today 0 list.now batch.old.verdict) }
+    ensures { OnOk result (batch.new.verdict ≡ with_completions (facts asking.now.world.now) asking.now.meta.now asking.now.who asking.now.today
+        0 list.now batch.old.verdict) }
 {
     let mut index = 0u64;
     for asked in list {
-        with_completion(world, meta, who, today, batch, index, asked)?;
+        with_completion(asking, batch, index, asked)?;
         index += 1;
     }
     Ok(())
@@ -208,9 +211,14 @@ fn judged_list(
     requires { IsKnown meta.now who }
     ensures { IfOk result (λ verdict. verdict ≡ completions_verdict_of (facts world.now) meta.now who moment list.now) }
 {
-    let today = day_of(moment);
+    let asking = Asking {
+        world,
+        meta,
+        who,
+        today: day_of(moment),
+    };
     let mut batch = empty_batch(alloc);
-    with_completions(world, meta, who, today, list, &mut batch)?;
+    with_completions(&asking, list, &mut batch)?;
     Ok(batch.verdict)
 }
 

@@ -9,7 +9,8 @@ use Rattle.web_routes.specs.declared.call.Call.TheVariants as call
 use Rattle.web_routes.specs.Calls.{IsBy, IsSound}
 
 -- a call of one of the metadata's users is sound
-pub sound_call : (r : Records) (by : ℕ) (result : Result Call RouteFault) → by < length r.users → IfOk result (λ found. IsBy r by found) → IfOk result (λ found. IsSound r found)
+pub sound_call : (r : Records) (by : ℕ) (result : Result Call RouteFault) → by < length r.users → IfOk result (λ found. IsBy r by found)
+    → IfOk result (λ found. IsSound r found)
 sound_call r by (Ok (call.Query user asked query)) below found =
     (omega (arith, below, found.0), subst (λ n. IsAskable r n query) (sym found.0) found.1)
 sound_call r by (Ok (call.Update kind)) below found = found

@@ -1,6 +1,7 @@
 -- Paths of requests: `/api/`, a version of one to three digits and `/` if there is one, and the rest. Bytes are compared
 -- as they came, without percent decoding.
-use Rattle.std.specs.Prelude.{ℕ, Bool, nat_le, nat_lt, not, ◌&&◌, ◌==◌, if◌then◌else◌, List, length, take, drop, slice_index, bytes_eq, codes, Option, Some, None}
+use Rattle.std.specs.Prelude.{ℕ, Bool, nat_le, nat_lt, not, ◌&&◌, ◌==◌, if◌then◌else◌, List, length, take, drop, slice_index, bytes_eq, codes, Option, Some}
+use Rattle.std.specs.Prelude.{None}
 use Rattle.std.specs.List.{list_all, list_any}
 use Rattle.std.specs.Char.{is_ascii_digit}
 

@@ -4,7 +4,8 @@ ghost use Rattle.std.specs.Option.{option_copied};
 ghost use Rattle.meta_parts.specs.declared.held.Records.{Records};
 ghost use Rattle.web_routes.specs.Given.{Gives};
 ghost use Rattle.web_routes.specs.Routes.{authority_of};
-ghost use Rattle.web_routes.specs.Calls.{user_for, lacked, query_call, update_call, values_call, completions_call, uncompletion_call, not_built, call_of, allowed_call, IsBy};
+ghost use Rattle.web_routes.specs.Calls.{user_for, lacked, query_call, update_call, values_call, completions_call, uncompletion_call, not_built, call_of};
+ghost use Rattle.web_routes.specs.Calls.{allowed_call, IsBy};
 
 use crate::body::{completions_in, query_in, set_in};
 use crate::call::Call;

@@ -5,7 +5,8 @@ ghost use Rattle.std.specs.List.{list_all};
 ghost use Rattle.std.specs.Option.{option_copied};
 ghost use Rattle.std.specs.Str.Parse.{digits_value};
 ghost use Rattle.web_routes.specs.Given.{Gives};
-ghost use Rattle.web_routes.specs.Parameters.{value_of, or_default, parameter, truth_of, strategy_of, is_number, number_of, is_scheme, asked_of, kind_of, is_bad_scheme, bad_scheme, params_of};
+ghost use Rattle.web_routes.specs.Parameters.{value_of, or_default, parameter, truth_of, strategy_of, is_number, number_of, is_scheme, asked_of, kind_of};
+ghost use Rattle.web_routes.specs.Parameters.{is_bad_scheme, bad_scheme, params_of};
 ghost use Rattle.dh_base.specs.declared.plain.CutKind.TheVariants as cut;
 
 use crate::fault::{RouteFault, refused};

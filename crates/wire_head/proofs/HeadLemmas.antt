@@ -1,9 +1,11 @@
 -- A head of few lines has few fields, and what is read of it is one thing.
-use Rattle.std.proofs.Common.{◌≡◌, ◌≢◌, ◌∙◌, ℕ, ◌+◌, ◌-◌, ◌<◌, ◌≤◌, List, [], ◌∷◌, ◌++◌, length, drop, map, Option, Some, None, Result, Ok, Err, refl, sym, ap, subst, arith, append-nil, append_assoc, nat_eq, cond, codes}
+use Rattle.std.proofs.Common.{◌≡◌, ◌≢◌, ◌∙◌, ℕ, ◌+◌, ◌-◌, ◌<◌, ◌≤◌, List, [], ◌∷◌, ◌++◌, length, drop, map, Option, Some, None, Result, Ok, Err, refl, sym}
+use Rattle.std.proofs.Common.{ap, subst, arith, append-nil, append_assoc, nat_eq, cond, codes}
 use Rattle.std.proofs.lemmas.List.Sums.{sum_by-append}
 use Rattle.std.proofs.Math.Seq.{drop-length}
 use Rattle.std.specs.List.{count_by, flat_map}
-use Rattle.httparse.specs.Grammar.{RequestHead, ReadsRequest, Field, LineEnd, lf, crlf, print_end, print_field, print_section, print_request, print_blank, print_version}
+use Rattle.httparse.specs.Grammar.{RequestHead, ReadsRequest, Field, LineEnd, lf, crlf, print_end, print_field, print_section, print_request, print_blank}
+use Rattle.httparse.specs.Grammar.{print_version}
 use Rattle.httparse.specs.Spans.{RequestOverflows, name_and_value}
 use Rattle.httparse.specs.declared.Error.{Error}
 use Rattle.httparse.specs.declared.Status.{Status}
@@ -33,7 +35,8 @@ feeds_field : (f : Field) → 1 ≤ feeds (print_field f)
 feeds_field f =
     let e = feeds_end f.end in
     let whole : print_field f ≡ (f.name ++ 58 ∷ f.raw) ++ print_end f.end = refl in
-    let parted : feeds (print_field f) ≡ feeds (f.name ++ 58 ∷ f.raw) + feeds (print_end f.end) = ap feeds whole ∙ feeds_append (f.name ++ 58 ∷ f.raw) (print_end f.end) in
+    let parted : feeds (print_field f) ≡ feeds (f.name ++ 58 ∷ f.raw) + feeds (print_end f.end) = ap feeds whole
+    ∙ feeds_append (f.name ++ 58 ∷ f.raw) (print_end f.end) in
     omega arith
 
 feeds_fields : (fs : List Field) → length fs ≤ feeds (flat_map print_field fs)
@@ -48,7 +51,8 @@ feeds_head : (h : RequestHead) → length h.fields + 2 ≤ feeds (print_request 
 unfolding print_request
 feeds_head h =
     let front : List ℕ = print_blank h.blank ++ h.method ++ 32 ∷ h.target ++ 32 ∷ print_version h.minor in
-    let all : print_request h ≡ front ++ (print_end h.line_end ++ print_section h.fields h.last) = append_assoc front (print_end h.line_end) (print_section h.fields h.last) in
+    let all : print_request h ≡ front ++ (print_end h.line_end ++ print_section h.fields h.last) =
+    append_assoc front (print_end h.line_end) (print_section h.fields h.last) in
     let parted : feeds (print_request h) ≡ feeds front + feeds (print_end h.line_end ++ print_section h.fields h.last) =
     ap feeds all ∙ feeds_append front (print_end h.line_end ++ print_section h.fields h.last) in
     let line = feeds_append (print_end h.line_end) (print_section h.fields h.last) in
@@ -66,7 +70,8 @@ few_fields bytes h reads few =
     omega arith
 
 -- an answer that ends elsewhere
-pub none_whole : (bytes : List ℕ) (k : RequestHead) (end : ℕ) → ReadsRequest bytes k (drop end bytes) → end ≡ length (print_request k) → end ≢ length bytes → IsRead bytes None
+pub none_whole : (bytes : List ℕ) (k : RequestHead) (end : ℕ) → ReadsRequest bytes k (drop end bytes) → end ≡ length (print_request k) → end ≢ length bytes
+    → IsRead bytes None
 none_whole bytes k end reads len apart h whole =
     let same = request_unique bytes k h (drop end bytes) [] reads whole in
     let all : bytes ≡ print_request k = whole.1 ∙ append-nil (print_request h) ∙ ap print_request (sym same.0) in
@@ -96,7 +101,8 @@ pub held_by : (status : Status ℕ) (end : ℕ) (Held : ℕ → Type 0) → stat
 held_by status end Held same held = subst (λ s. IfComplete {A = ℕ} {E = Error} (Ok s) Held) same held
 
 -- the parts that were read are those of the head
-pub parts_held : (k : RequestHead) (method target : List ℕ) (minor : ℕ) (parts : List fields.Field) → Some method ≡ Some k.method → Some target ≡ Some k.target → Some minor ≡ Some k.minor
+pub parts_held : (k : RequestHead) (method target : List ℕ) (minor : ℕ) (parts : List fields.Field) → Some method ≡ Some k.method → Some target ≡ Some k.target
+    → Some minor ≡ Some k.minor
     → parts ≡ map name_and_value k.fields → ◌≡◌ {A = Parts} (record { method = method; target = target; minor = minor; fields = parts }) (parts_of k)
 parts_held k method target minor parts a b m f =
     let aa : method ≡ k.method = cc in

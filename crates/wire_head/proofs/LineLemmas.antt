@@ -1,5 +1,6 @@
 -- Empty lines and the end of a head, as more bytes come.
-use Rattle.std.proofs.Common.{◌≡◌, ◌∙◌, ℕ, ◌+◌, ◌-◌, ◌<◌, ◌≤◌, ◌&&◌, Bool, true, false, cond, List, [], ◌∷◌, ◌++◌, length, drop, take, refl, sym, ap, arith, nat_eq, nat_lt}
+use Rattle.std.proofs.Common.{◌≡◌, ◌∙◌, ℕ, ◌+◌, ◌-◌, ◌<◌, ◌≤◌, ◌&&◌, Bool, true, false, cond, List, [], ◌∷◌, ◌++◌, length, drop, take, refl, sym, ap, arith}
+use Rattle.std.proofs.Common.{nat_eq, nat_lt}
 use Rattle.std.proofs.lemmas.Bool.Decides.{nat_tests}
 use Rattle.std.proofs.Math.Seq.{drop-cons}
 use Rattle.std.proofs.Common.{get_or, Option, Some, None, suc}
@@ -69,7 +70,8 @@ head_on bytes at within none' from =
 
 -- the head that ends where an empty line follows a byte
 pub head_here : (bytes : List ℕ) (at : ℕ) → at < length bytes → 0 < cond (nat_eq (get_or bytes at 0) 10) (empty_line (drop (at + 1) bytes)) 0
-    → head_length bytes ≡ shifted at (head_length (drop at bytes)) → head_length bytes ≡ Some (at + (1 + cond (nat_eq (get_or bytes at 0) 10) (empty_line (drop (at + 1) bytes)) 0))
+    → head_length bytes ≡ shifted at (head_length (drop at bytes))
+    → head_length bytes ≡ Some (at + (1 + cond (nat_eq (get_or bytes at 0) 10) (empty_line (drop (at + 1) bytes)) 0))
 head_here bytes at within some' from =
     let some = a_line (nat_eq (get_or bytes at 0) 10) (empty_line (drop (at + 1) bytes)) some' in
     from ∙ ap (shifted at) (head_split bytes at within)

@@ -1,5 +1,6 @@
 -- The fields of a head: names and values.
-use Rattle.std.specs.Prelude.{ℕ, ◌+◌, Bool, ◌&&◌, not, List, [], ◌∷◌, Option, None, Some, cond, length, take, drop, filter, codes, option_and_then, position, nat_eq, nat_le, nat_lt}
+use Rattle.std.specs.Prelude.{ℕ, ◌+◌, Bool, ◌&&◌, not, List, [], ◌∷◌, Option, None, Some, cond, length, take, drop, filter, codes, option_and_then, position}
+use Rattle.std.specs.Prelude.{nat_eq, nat_le, nat_lt}
 use Rattle.std.specs.List.{list_all, list_any, count_by}
 use Rattle.std.specs.Char.{is_ascii_digit}
 use Rattle.std.specs.Cmp.Lexicographic.{pointwise}
@@ -32,16 +33,16 @@ abbrev pub before : Option ℕ → List ℕ → List ℕ
 before None text = text
 before (Some place) text = take place text
 
-abbrev pub behind : Option ℕ → List ℕ → List ℕ
-behind None text = []
-behind (Some place) text = drop (place + 1) text
+abbrev pub beyond : Option ℕ → List ℕ → List ℕ
+beyond None text = []
+beyond (Some place) text = drop (place + 1) text
 
 -- the path of a target, and its query after the first question mark
 unfoldable pub path_of : List ℕ → List ℕ
 path_of target = before (position (λ b. nat_eq b 63) target) target
 
 unfoldable pub query_of : List ℕ → List ℕ
-query_of target = behind (position (λ b. nat_eq b 63) target) target
+query_of target = beyond (position (λ b. nat_eq b 63) target) target
 
 -- 1 to 18 digits
 unfoldable pub is_length : List ℕ → Bool

@@ -4,7 +4,8 @@ use Rattle.std.specs.List.{list_any}
 use Rattle.std.specs.Str.Parse.{digits_value}
 use Rattle.dh_base.specs.declared.codes.Code.{Code}
 use Rattle.dh_base.specs.declared.codes.Code.TheVariants.{F3, F4, F5}
-use Rattle.wire_head.specs.Fields.{Field, count_named, last_named, is_length, gives_length, gives_bad_length, names_transfer, names_other_transfer, names_coding, names_other_media}
+use Rattle.wire_head.specs.Fields.{Field, count_named, last_named, is_length, gives_length, gives_bad_length, names_transfer, names_other_transfer}
+use Rattle.wire_head.specs.Fields.{names_coding, names_other_media}
 use Rattle.wire_head.specs.declared.plan.Plan.{Plan}
 use Rattle.wire_head.specs.declared.plan.Plan.TheVariants.{Sized, Chunked}
 

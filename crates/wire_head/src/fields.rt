@@ -3,7 +3,9 @@ ghost use Rattle.std.specs.List.{list_all, list_any};
 ghost use Rattle.std.specs.Char.{is_ascii_digit};
 ghost use Rattle.std.specs.Str.{str_eq_ignore_ascii_case};
 ghost use Rattle.httparse.specs.Borrowed.{header_parts};
-ghost use Rattle.wire_head.specs.Fields.{is_named, count_named, last_named, is_length, gives_length, gives_bad_length, names_transfer, names_other_transfer, names_coding, is_json, names_other_media, asks_to_close, before, behind, is_kept, is_no_space, path_of, query_of, token_in, token_of};
+ghost use Rattle.wire_head.specs.Fields.{is_named, count_named, last_named, is_length, gives_length, gives_bad_length, names_transfer, names_other_transfer};
+ghost use Rattle.wire_head.specs.Fields.{names_coding, is_json, names_other_media, asks_to_close, before, beyond, is_kept, is_no_space, path_of, query_of};
+ghost use Rattle.wire_head.specs.Fields.{token_in, token_of};
 
 use httparse::Header;
 
@@ -63,8 +65,8 @@ fn before(text: &[u8], mark: u8) -> &[u8]
     }
 }
 
-fn behind(text: &[u8], mark: u8) -> &[u8]
-    ensures { result.now ≡ behind (position (λ byte. nat_eq byte mark) text.now) text.now }
+fn beyond(text: &[u8], mark: u8) -> &[u8]
+    ensures { result.now ≡ beyond (position (λ byte. nat_eq byte mark) text.now) text.now }
 {
     match place_of(text, mark) {
         Some(place) => &text[place + 1..],
@@ -85,7 +87,7 @@ pub fn path(target: &[u8]) -> &[u8]
 pub fn query(target: &[u8]) -> &[u8]
     ensures { result.now ≡ query_of target.now }
 {
-    behind(target, b'?')
+    beyond(target, b'?')
 }
 
 fn has_digits(value: &[u8]) -> bool

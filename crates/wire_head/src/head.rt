@@ -76,7 +76,8 @@ fn head_with(
     headers: &[Header],
     plan: Plan,
 ) -> Result<Head, HeadFault>
-    ensures { Answers result (λ meant. meant ≡ Ok (head_with (record { method = method.now; target = target.now; minor = minor; fields = map header_parts headers.now }) plan)) }
+    ensures { Answers result (λ meant. meant ≡ Ok (head_with
+        (record { method = method.now; target = target.now; minor = minor; fields = map header_parts headers.now }) plan)) }
 {
     Ok(Head {
         method: copied(alloc, method)?,
@@ -97,7 +98,8 @@ fn said_by(
     minor: u8,
     headers: &[Header],
 ) -> Result<Head, HeadFault>
-    ensures { Answers result (λ meant. meant ≡ said_by (record { method = method.now; target = target.now; minor = minor; fields = map header_parts headers.now })) }
+    ensures { Answers result (λ meant. meant ≡ said_by
+        (record { method = method.now; target = target.now; minor = minor; fields = map header_parts headers.now })) }
 {
     match plan_body(headers) {
         Ok(plan) => head_with(alloc, method, target, minor, headers, plan),

@@ -3,7 +3,8 @@ ghost use Rattle.std.specs.List.{list_any, list_all};
 ghost use Rattle.std.specs.Char.{is_ascii_digit};
 ghost use Rattle.std.specs.Str.Parse.{digits_value};
 ghost use Rattle.httparse.specs.Borrowed.{header_parts};
-ghost use Rattle.wire_head.specs.Fields.{count_named, last_named, is_length, gives_length, gives_bad_length, names_transfer, names_other_transfer, names_coding, names_other_media};
+ghost use Rattle.wire_head.specs.Fields.{count_named, last_named, is_length, gives_length, gives_bad_length, names_transfer, names_other_transfer};
+ghost use Rattle.wire_head.specs.Fields.{names_coding, names_other_media};
 ghost use Rattle.wire_head.specs.Plan.{length_in, length_by, announced, is_badly_framed, is_not_plain, has_body, is_too_long, plan_of};
 
 use crate::fields;

@@ -11,7 +11,8 @@ returns-then-any_number c =
     let value = mean (total weighted (numbered samples)) c.args.days in
     let fits : FitsSigned w128 c.weighted_sum.result = search rules in
     let is : c.mean.result ≡ value =
-    c.mean.ensures ∙ ap (λ m. mean m c.from.result) (to_z-of_z fits ∙ c.weighted_sum.ensures.sum) ∙ ap (mean (total weighted (numbered samples))) c.from.ensures in
+    c.mean.ensures ∙ ap (λ m. mean m c.from.result) (to_z-of_z fits ∙ c.weighted_sum.ensures.sum)
+    ∙ ap (mean (total weighted (numbered samples))) c.from.ensures in
     ap Some is ∙ sym (any-numbered samples value ∙ ap (λ b. cond b (Some value) None) (sym c.any_number.ensures ∙ c.if-any_number.true))
 
 pub returns-else-any_number : goal.returns-else-any_number

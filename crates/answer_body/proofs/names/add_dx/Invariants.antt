@@ -6,5 +6,6 @@ use Rattle.answer_body.proofs.names.add_dx.Given as goal
 abbrev pub invariant-loop-each : goal.invariant-loop-each
 invariant-loop-each l = record {
   ids : map view l.ids.items ≡ ids_of (dx_named l.meta (take l.each-index l.dx));
-  names : put_names (dx_named l.meta (drop l.each-index l.dx)) (members_view l.items.entries) ≡ put_names (dx_named l.meta l.dx) (members_view l.initial.items.entries);
+  names : put_names (dx_named l.meta (drop l.each-index l.dx)) (members_view l.items.entries)
+      ≡ put_names (dx_named l.meta l.dx) (members_view l.initial.items.entries);
 }

@@ -6,5 +6,6 @@ use Rattle.answer_body.proofs.names.add_periods.Given as goal
 abbrev pub invariant-loop-each : goal.invariant-loop-each
 invariant-loop-each l = record {
   ids : map view l.ids.items ≡ ids_of (period_named (take l.each-index l.periods));
-  names : put_names (period_named (drop l.each-index l.periods)) (members_view l.items.entries) ≡ put_names (period_named l.periods) (members_view l.initial.items.entries);
+  names : put_names (period_named (drop l.each-index l.periods)) (members_view l.items.entries)
+      ≡ put_names (period_named l.periods) (members_view l.initial.items.entries);
 }

@@ -8,4 +8,4 @@ returns-in-Ok c =
     let fits : FitsSigned w64 c.args.moment = c.ranges.moment in
     let made = rw (to_z-of_z fits) at c.over_metadata.ensures in
     over_made (asked c.args.user.now c.args.query.now c.args.moment) c.args.forms.parts c.args.forms.values c.in-Ok.meta c.over_metadata.result
-    c.in-Ok.ensures.0 c.in-Ok.ensures.1 made
+    c.in-Ok.ensures.value made

@@ -9,7 +9,11 @@ put_id_text-requires c = rw c.pair-item.is (c.requires c.loop-pair.pair-index _ 
 
 pub loop-pair-preserved : goal.loop-pair-preserved
 loop-pair-preserved c = record {
-  bytes = grown id_text c.args.out.now.items c.loop-pair.out.items c.put_id_text.new.out.items c.args.values.now c.loop-pair.pair-index c.pair-item.result c.loop-pair-test.true c.pair-item.is
+  bytes =
+      grown id_text c.args.out.now.items c.loop-pair.out.items c.put_id_text.new.out.items c.args.values.now c.loop-pair.pair-index c.pair-item.result
+      c.loop-pair-test.true c.pair-item.is
       c.loop-pair.invariant.bytes c.in_ok-put_id_text.ensures.bytes;
-  valid = All-more IsIdText c.args.values.now c.loop-pair.pair-index c.pair-item.result c.loop-pair-test.true c.loop-pair.invariant.valid (subst IsIdText c.pair-item.is c.in_ok-put_id_text.ensures.valid);
+  valid =
+      All-more IsIdText c.args.values.now c.loop-pair.pair-index c.pair-item.result c.loop-pair-test.true c.loop-pair.invariant.valid
+      (subst IsIdText c.pair-item.is c.in_ok-put_id_text.ensures.valid);
 }

@@ -18,7 +18,8 @@ use Rattle.cell_values.proofs.element.element_value.Goals as goal
 pub value_in-requires-clause-few : goal.value_in-requires-clause-few
 value_in-requires-clause-few g c =
     let s = c.args.store.now in
-    let holds = store-holds (g.S.RowStore.rows s) (g.S.RowStore.events s) (g.S.RowStore.regs s) (g.S.RowStore.built s) (true_from _ c.asked_groups.ensures.store) in
+    let holds =
+    store-holds (g.S.RowStore.rows s) (g.S.RowStore.events s) (g.S.RowStore.regs s) (g.S.RowStore.built s) (true_from _ c.asked_groups.ensures.store) in
     leb-true (length (g.S.RowStore.rows s)) 4194304 holds.few_rows
 
 pub value_in-requires-clause-all : goal.value_in-requires-clause-all
@@ -69,6 +70,7 @@ returns g c =
     (ap (λ gs. value_in rows kind gs c.need_for-need.result ranges c.in_ok-count.count) (c.deref.ensures.value ∙ c.in_ok-groups.ensures.groups)
     ∙ ap (λ n. value_in rows kind found n ranges c.in_ok-count.count) c.need_for-need.ensures
     ∙ ap (λ d. value_in rows kind found (need_for r user c.args.element) ranges d) c.in_ok-count.ensures.value
-    ∙ element-value r user c.args.element c.args.combo c.args.attribute c.args.periods.now c.args.units.now c.args.alone ranges rows c.element.result.now holds.rows_rise
+    ∙ element-value r user c.args.element c.args.combo c.args.attribute c.args.periods.now c.args.units.now c.args.alone ranges rows c.element.result.now
+    holds.rows_rise
     c.parts.ensures.apart are c.element.ensures.value)
     c.value_in.ensures

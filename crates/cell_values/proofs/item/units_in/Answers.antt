@@ -8,4 +8,5 @@ pub returns : goal.returns
 returns c =
     c.covered.ensures ∙ ap covered c.parts.ensures.parts
     ∙ units-counted c.args.meta.now c.args.group.now c.args.units.now c.args.alone c.tree-tree.result.now c.in_ok-own.own c.in_ok-asked.asked c.in_ok-both.both
-    c.tree-tree.ensures.value c.count-units.ensures.tree c.requires.group c.in_ok-own.ensures c.in_ok-asked.ensures c.in_ok-both.ensures (subst AreApart c.parts.ensures.parts c.parts.ensures.apart)
+    c.tree-tree.ensures.value c.count-units.ensures.tree c.requires.group c.in_ok-own.ensures c.in_ok-asked.ensures c.in_ok-both.ensures
+    (subst AreApart c.parts.ensures.parts c.parts.ensures.apart)

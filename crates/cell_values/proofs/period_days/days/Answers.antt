@@ -18,4 +18,5 @@ returns-clause-some c =
     c.covered.ensures ∙ ap covered c.parts.ensures.parts
     ∙ days-counted c.args.periods.now c.in_ok-ranges.ranges.items c.in_ok-joined.joined c.in_ok-ranges.ensures
     (subst (λ (v : List (ℕ × ℕ)). HoldsTheSame c.in_ok-joined.joined v) c.deref.ensures.value c.in_ok-joined.ensures.members) c.in_ok-joined.ensures.apart in
-    subst (λ n. 0 < n) (sym value) (days-some c.args.periods.now c.index-periods-0.result c.requires c.index-periods-0.is (true_from _ c.first-day.ensures.listed))
+    subst (λ n. 0 < n) (sym value) (days-some c.args.periods.now c.index-periods-0.result c.requires c.index-periods-0.is
+    (true_from _ c.first-day.ensures.listed))

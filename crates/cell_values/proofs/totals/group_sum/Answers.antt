@@ -15,12 +15,16 @@ loop-range-preserved g c =
     let x = get_or ranges i (0, 0) in
     let at : x ≡ get_or ranges i x = get_or_default ranges i (0, 0) x c.loop-range-test.true in
     let all : (sum_over f ranges).count ≤ length rows =
-    subst (λ (s : Sum). s.count ≤ length rows) (over_ranges rows c.args.need c.args.group.now ranges) (group_sum-few c.args.need ranges rows c.args.group.now c.requires.apart) in
+    subst (λ (s : Sum). s.count ≤ length rows) (over_ranges rows c.args.need c.args.group.now ranges)
+    (group_sum-few c.args.need ranges rows c.args.group.now c.requires.apart) in
     let few : (sum_over f ranges).count ≤ 4194304 = omega (arith, all, c.requires.few) in
-    let fits = sums-fit f ranges i x c.loop-range.sum c.range_sum-more.result 4194304 c.loop-range-test.true at c.range_sum-more.ensures.sum few c.loop-range.invariant.is in
+    let fits =
+    sums-fit f ranges i x c.loop-range.sum c.range_sum-more.result 4194304 c.loop-range-test.true at c.range_sum-more.ensures.sum few
+    c.loop-range.invariant.is in
     let count : c.join-sum.result.count ≡ c.loop-range.sum.count + c.range_sum-more.result.count = ap (λ (s : Sum). s.count) c.join-sum.ensures.sum in
     record {
-      is = sums-more f ranges i x c.loop-range.sum c.range_sum-more.result c.join-sum.result c.loop-range-test.true at c.range_sum-more.ensures.sum c.join-sum.ensures.sum c.loop-range.invariant.is;
+      is = sums-more f ranges i x c.loop-range.sum c.range_sum-more.result c.join-sum.result c.loop-range-test.true at c.range_sum-more.ensures.sum
+          c.join-sum.ensures.sum c.loop-range.invariant.is;
       size = c.join-sum.ensures.size;
       plain = c.join-sum.ensures.plain;
       few = omega (arith, fits, count);
@@ -29,5 +33,6 @@ loop-range-preserved g c =
 pub returns-clause-sum : goal.returns-clause-sum
 returns-clause-sum g c =
     let rows = g.S.RowStore.rows c.args.store.now in
-    sums-end (range_sum rows c.args.need c.args.group.now) c.args.ranges.now c.loop-range.range-index c.loop-range.sum c.loop-range-test.false c.loop-range.invariant.is
+    sums-end (range_sum rows c.args.need c.args.group.now) c.args.ranges.now c.loop-range.range-index c.loop-range.sum c.loop-range-test.false
+    c.loop-range.invariant.is
     ∙ sym (over_ranges rows c.args.need c.args.group.now c.args.ranges.now)

@@ -26,15 +26,19 @@ loop-group-preserved g c =
     let sum : c.plus-weighted.result ≡ old +ℤ w x = c.plus-weighted.ensures.sum ∙ ap (λ z. old +ℤ z) weight in
     let added : unsigned_abs c.plus-weighted.result ≤ unsigned_abs old + unsigned_abs c.weight.result =
     subst (λ z. unsigned_abs c.plus-weighted.result ≤ unsigned_abs old + unsigned_abs z) told c.plus-weighted.ensures.size in
-    let room = sums-fit f groups i x c.loop-group.sum more 4194304 within c.group-item.is c.group_sum-more.ensures.sum c.requires.all c.loop-group.invariant.is in
+    let room =
+    sums-fit f groups i x c.loop-group.sum more 4194304 within c.group-item.is c.group_sum-more.ensures.sum c.requires.all c.loop-group.invariant.is in
     let count : c.join-sum.result.count ≡ c.loop-group.sum.count + more.count = ap (λ (s : Sum). s.count) c.join-sum.ensures.sum in
     let small : unsigned_abs c.plus-weighted.result ≤ 39614081257132168796771975168 * c.join-sum.result.count =
     omega (arith, added, count, c.weight.ensures.size, c.loop-group.invariant.small) in
     record {
-      is = sums-more f groups i x c.loop-group.sum more c.join-sum.result within c.group-item.is c.group_sum-more.ensures.sum c.join-sum.ensures.sum c.loop-group.invariant.is;
+      is = sums-more f groups i x c.loop-group.sum more c.join-sum.result within c.group-item.is c.group_sum-more.ensures.sum c.join-sum.ensures.sum
+          c.loop-group.invariant.is;
       size = c.join-sum.ensures.size;
       plain = c.join-sum.ensures.plain;
       few = omega (arith, room, count);
-      weighted = weights-more w groups i x old (w x) (to_z w128 (of_z w128 c.plus-weighted.result)) within c.group-item.is refl (to_z-of_z fits ∙ sum) c.loop-group.invariant.weighted;
+      weighted =
+          weights-more w groups i x old (w x) (to_z w128 (of_z w128 c.plus-weighted.result)) within c.group-item.is refl (to_z-of_z fits
+          ∙ sum) c.loop-group.invariant.weighted;
       small = rw (to_z-of_z fits) small;
     }

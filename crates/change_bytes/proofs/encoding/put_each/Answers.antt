@@ -10,7 +10,11 @@ put_write-requires c = rw c.write-item.is (c.requires c.loop-write.write-index _
 
 pub loop-write-preserved : goal.loop-write-preserved
 loop-write-preserved c = record {
-  bytes = grown write_bytes c.args.out.now.items c.loop-write.out.items c.put_write.new.out.items c.args.writes.now c.loop-write.write-index c.write-item.result c.loop-write-test.true c.write-item.is
+  bytes =
+      grown write_bytes c.args.out.now.items c.loop-write.out.items c.put_write.new.out.items c.args.writes.now c.loop-write.write-index c.write-item.result
+      c.loop-write-test.true c.write-item.is
       c.loop-write.invariant.bytes c.in_ok-put_write.ensures.bytes;
-  valid = All-more IsWrite c.args.writes.now c.loop-write.write-index c.write-item.result c.loop-write-test.true c.loop-write.invariant.valid (subst IsWrite c.write-item.is c.in_ok-put_write.ensures.valid);
+  valid =
+      All-more IsWrite c.args.writes.now c.loop-write.write-index c.write-item.result c.loop-write-test.true c.loop-write.invariant.valid
+      (subst IsWrite c.write-item.is c.in_ok-put_write.ensures.valid);
 }

@@ -6,4 +6,5 @@ use Rattle.change_log.proofs.held.limit_passed.Goals as goal
 pub returns : goal.returns
 returns c =
     c.limit_over.ensures (length (changes_of c.args.held.now) + 1)
-    ∙ passed-more c.args.limits.now (changes_of c.args.held.now) c.args.change.now c.args.held.now.writes c.args.held.now.bytes c.requires.held.writes c.requires.held.bytes
+    ∙ passed-more c.args.limits.now (changes_of c.args.held.now) c.args.change.now c.args.held.now.writes c.args.held.now.bytes c.requires.held.writes
+    c.requires.held.bytes

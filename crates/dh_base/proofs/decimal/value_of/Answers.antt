@@ -8,7 +8,14 @@ small v i n bound within short = omega (arith, power_within i 11 (omega arith))
 
 pub overflow_mul-value : goal.overflow_mul-value
 overflow_mul-value c =
-    record { fits = omega (arith, small c.loop-byte.value c.loop-byte.byte-index (length c.args.text.now) c.loop-byte.invariant.bound c.loop-byte-test.true c.requires.short) }
+    record {
+      fits =
+          omega (
+            arith,
+            small c.loop-byte.value c.loop-byte.byte-index (length c.args.text.now) c.loop-byte.invariant.bound c.loop-byte-test.true
+                c.requires.short,
+          );
+    }
 
 digit : (c : goal.After-from) → IsDigit (get_or c.args.text.now c.loop-byte.byte-index 0)
 digit c = digit_at c.args.text.now c.loop-byte.byte-index c.requires.digits c.loop-byte-test.true
@@ -16,12 +23,22 @@ digit c = digit_at c.args.text.now c.loop-byte.byte-index c.requires.digits c.lo
 pub overflow_add-value : goal.overflow_add-value
 overflow_add-value c =
     let d = digit c in
-    record { fits = omega (arith, d.low, d.high, c.from.ensures, small c.loop-byte.value c.loop-byte.byte-index (length c.args.text.now) c.loop-byte.invariant.bound c.loop-byte-test.true c.requires.short) }
+    record {
+      fits =
+          omega (
+            arith,
+            d.low,
+            d.high,
+            c.from.ensures,
+            small c.loop-byte.value c.loop-byte.byte-index (length c.args.text.now) c.loop-byte.invariant.bound c.loop-byte-test.true c.requires.short,
+          );
+    }
 
 pub loop-byte-preserved : goal.loop-byte-preserved
 loop-byte-preserved c =
     let d = digit c in
     record {
-      value = ap (λ n. c.loop-byte.value * 10 + n) c.from.ensures ∙ value_step c.args.text.now c.loop-byte.byte-index c.loop-byte.value c.requires.digits c.loop-byte-test.true c.loop-byte.invariant.value;
+      value = ap (λ n. c.loop-byte.value * 10 + n) c.from.ensures
+          ∙ value_step c.args.text.now c.loop-byte.byte-index c.loop-byte.value c.requires.digits c.loop-byte-test.true c.loop-byte.invariant.value;
       bound = omega (arith, d.low, d.high, c.from.ensures, power_more c.loop-byte.byte-index, c.loop-byte.invariant.bound);
     }

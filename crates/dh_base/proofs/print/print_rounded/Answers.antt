@@ -16,9 +16,11 @@ push_decimals-requires-clause-below c = subst (λ n. n < 10 ^ c.args.decimals) (
 -- the text that the steps write is the one of the definition
 written : (f : Fraction) (places whole rest size den : ℕ) (num : ℤ) (start signed pointed last : List ℕ)
     → num ≡ f.num → size ≡ unsigned_abs f.num → den ≡ f.den → whole ≡ rounded size den places / 10 ^ places → rest ≡ rounded size den places % 10 ^ places
-    → start ≡ [] → signed ≡ start ++ sign_of num (whole + rest) → pointed ≡ signed ++ decimal whole → last ≡ pointed ++ with_point (decimals places rest) → last ≡ printed f places
+    → start ≡ [] → signed ≡ start ++ sign_of num (whole + rest) → pointed ≡ signed ++ decimal whole → last ≡ pointed ++ with_point (decimals places rest)
+    → last ≡ printed f places
 written f places whole rest size den num start signed pointed last en es ed ew er e0 e1 e2 e3 =
-    e3 ∙ ap (λ t. t ++ with_point (decimals places rest)) (e2 ∙ ap (λ t. t ++ decimal whole) (e1 ∙ ap (λ t. t ++ sign_of num (whole + rest)) e0 ∙ ap (λ z. sign_of z (whole + rest)) en))
+    e3 ∙ ap (λ t. t ++ with_point (decimals places rest)) (e2
+    ∙ ap (λ t. t ++ decimal whole) (e1 ∙ ap (λ t. t ++ sign_of num (whole + rest)) e0 ∙ ap (λ z. sign_of z (whole + rest)) en))
     ∙ printed_by_parts f places whole rest
     (ew ∙ ap (λ n. rounded n den places / 10 ^ places) es ∙ ap (λ n. rounded (unsigned_abs f.num) n places / 10 ^ places) ed)
     (er ∙ ap (λ n. rounded n den places % 10 ^ places) es ∙ ap (λ n. rounded (unsigned_abs f.num) n places % 10 ^ places) ed)

@@ -11,6 +11,7 @@ holders-requires c =
 
 pub returns : goal.returns
 returns c =
-    raw_holders (user_lists c.args.groups.now) c.in_ok-lists.lists.items c.in_ok-lists.ensures (range_with_len 0 (length c.args.groups.now)) c.args.count c.in_ok-all.all.items
+    raw_holders (user_lists c.args.groups.now) c.in_ok-lists.lists.items c.in_ok-lists.ensures (range_with_len 0 (length c.args.groups.now)) c.args.count
+    c.in_ok-all.all.items
     (subst (λ l. AreHolders l (range_with_len 0 (length c.args.groups.now)) c.args.count c.in_ok-all.all.items) c.deref.ensures.value
     (subst (λ o. AreHolders c.deref.result.now o c.args.count c.in_ok-all.all.items) (c.deref-2.ensures.value ∙ c.in_ok-order.ensures) c.in_ok-all.ensures))

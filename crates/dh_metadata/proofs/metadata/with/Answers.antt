@@ -15,7 +15,8 @@ invariant_of-result c =
       tree = c.requires.held.tree;
       combos = c.requires.held.combos;
       workflows = c.requires.held.workflows;
-      levels = small ∙ ap (map (map tree_level)) c.requires.held.positions ∙ map_map (map tree_level) (positions_of r.data_approval_levels) r.data_approval_workflows;
+      levels = small ∙ ap (map (map tree_level)) c.requires.held.positions
+          ∙ map_map (map tree_level) (positions_of r.data_approval_levels) r.data_approval_workflows;
       few_levels = subst (Each (λ own. length own ≤ 8)) (sym small) (few_mapped c.args.held.positions.items c.requires.held.few_positions);
       set_elements = c.requires.made.lists.elements;
       set_units = c.requires.made.lists.units;

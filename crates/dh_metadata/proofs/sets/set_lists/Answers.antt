@@ -20,7 +20,8 @@ returns c =
       elements = elements;
       units = units;
       having =
-          raw_holders (element_lists sets) c.in_ok-elements.elements.items elements (by_id (set_ids sets)) (length c.args.records.now.data_elements) c.in_ok-having.having.items
+          raw_holders (element_lists sets) c.in_ok-elements.elements.items elements (by_id (set_ids sets)) (length c.args.records.now.data_elements)
+          c.in_ok-having.having.items
           (subst (λ l. AreHolders l (by_id (set_ids sets)) (length c.args.records.now.data_elements) c.in_ok-having.having.items) c.deref.ensures.value
           (subst (λ o. AreHolders c.deref.result.now o (length c.args.records.now.data_elements) c.in_ok-having.having.items)
           (c.deref-2.ensures.value ∙ c.in_ok-order.ensures ∙ ap (λ s. by_id (set_ids s)) c.as_slice-sets.ensures)

@@ -10,7 +10,9 @@ returns-in_ok-insert c =
     let text = c.in_ok-from_slice.ensures.items in
     let none : is_some c.get.result ≡ false = c.is_none.ensures ∙ ap not c.if-is_none.true in
     subst (λ t. TakesToken t c.args.user c.args.users.now c.insert.new.self) text
-    (token_put c.args.users.now c.insert.new.self c.in_ok-from_slice.field-0 c.args.user c.in_ok-insert.ensures.updates (subst (λ t. get_by (λ (k : Vec ℕ Global). same_id t k.items) c.args.users.now ≡ None) (sym text) (sym c.get.ensures.value ∙ none_copied c.get.result none)))
+    (token_put c.args.users.now c.insert.new.self c.in_ok-from_slice.field-0 c.args.user c.in_ok-insert.ensures.updates
+    (subst (λ t. get_by (λ (k : Vec ℕ Global). same_id t k.items) c.args.users.now ≡ None) (sym text) (sym c.get.ensures.value
+    ∙ none_copied c.get.result none)))
 
 pub returns-else-is_none : goal.returns-else-is_none
 returns-else-is_none c =

@@ -1,7 +1,8 @@
 use Rattle.std.proofs.Common.{inl, inr}
 use Rattle.dh_periods.specs.declared.kind.Shape.TheVariants.{Day, Week, Months}
 use Rattle.dh_periods.proofs.SpanLemmas.{span_of-as, span_of-outside}
-use Rattle.dh_periods.proofs.days.span_of.Goals.{then-name-lt-FIRST_YEAR-via-then-name-lt-FIRST_YEAR, then-name-lt-FIRST_YEAR-via-else-name-lt-FIRST_YEAR+then-name-gt-LAST_YEAR}
+use Rattle.dh_periods.proofs.days.span_of.Goals.{then-name-lt-FIRST_YEAR-via-then-name-lt-FIRST_YEAR}
+use Rattle.dh_periods.proofs.days.span_of.Goals.{then-name-lt-FIRST_YEAR-via-else-name-lt-FIRST_YEAR+then-name-gt-LAST_YEAR}
 use Rattle.dh_periods.proofs.days.span_of.Goals as goal
 
 pub returns-then-name-lt-FIRST_YEAR : goal.returns-then-name-lt-FIRST_YEAR
@@ -21,4 +22,5 @@ returns-in-Week c =
 
 pub returns-in-Months : goal.returns-in-Months
 returns-in-Months c =
-    span_of-as (Months c.in-Months.count c.in-Months.opening) c.args.name _ c.in-Months.ensures.value c.if-name-lt-FIRST_YEAR.false c.if-name-gt-LAST_YEAR.false c.span_of_months.ensures
+    span_of-as (Months c.in-Months.count c.in-Months.opening) c.args.name _ c.in-Months.ensures.value c.if-name-lt-FIRST_YEAR.false c.if-name-gt-LAST_YEAR.false
+    c.span_of_months.ensures

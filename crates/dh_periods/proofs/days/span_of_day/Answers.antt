@@ -23,4 +23,5 @@ returns-in-Ok c =
     let fits : FitsSigned w32 c.to_unix_epoch_day-day.result = search rules in
     let first : to_z w32 (of_z w32 c.to_unix_epoch_day-day.result) ≡ unix_day (day_place p.year p.number p.day) =
     to_z-of_z fits ∙ c.to_unix_epoch_day-day.ensures.value ∙ ap epoch_day c.to_plain.ensures ∙ counted in
-    some_span _ _ _ (span_as Day p) (date_listed p c.requires.year_from c.requires.year_to (has.0 refl)) first (first ∙ sym (unix_day-back (day_place p.year p.number p.day)))
+    some_span _ _ _ (span_as Day p) (date_listed p c.requires.year_from c.requires.year_to (has.0 refl)) first (first
+    ∙ sym (unix_day-back (day_place p.year p.number p.day)))

@@ -26,7 +26,8 @@ returns-in-Ok c =
     to_z-of_z fits ∙ c.to_unix_epoch_day-first.ensures.value ∙ ap epoch_day c.to_plain.ensures ∙ counted in
     let back : to_z w32 (of_z w32 c.to_unix_epoch_day-first.result) ≡ c.to_unix_epoch_day-first.result = to_z-of_z fits in
     let room : FitsSigned w32 (to_z w32 (of_z w32 c.to_unix_epoch_day-first.result) +ℤ pos 6) = rw back (omega (arith, signed_arith)) in
-    some_span _ _ _ (span_as Week p) (week_listed p c.requires.year_from c.requires.year_to c.if-name-ne1.false (has.0 refl)) first (to_z-of_z room ∙ ap (λ z. z +ℤ pos 6) first ∙ unix_day-week place)
+    some_span _ _ _ (span_as Week p) (week_listed p c.requires.year_from c.requires.year_to c.if-name-ne1.false (has.0 refl)) first (to_z-of_z room
+    ∙ ap (λ z. z +ℤ pos 6) first ∙ unix_day-week place)
 
 pub returns-in-Err : goal.returns-in-Err
 returns-in-Err c =

@@ -3,7 +3,8 @@ use Rattle.std.specs.Prelude.{int_lt}
 use Rattle.jiff_core.proofs.SignedLemmas.{signed_arith}
 use borrow.Author.Differences.{lt-true}
 use Rattle.dh_periods.proofs.ContainingLemmas.{containing_of-outside}
-use Rattle.dh_periods.proofs.period.period_with.Goals.{then-first-lt-FIRST_DAY-via-then-first-lt-FIRST_DAY, then-first-lt-FIRST_DAY-via-else-first-lt-FIRST_DAY+then-first-gt-LAST_DAY}
+use Rattle.dh_periods.proofs.period.period_with.Goals.{then-first-lt-FIRST_DAY-via-then-first-lt-FIRST_DAY}
+use Rattle.dh_periods.proofs.period.period_with.Goals.{then-first-lt-FIRST_DAY-via-else-first-lt-FIRST_DAY+then-first-gt-LAST_DAY}
 use Rattle.dh_periods.proofs.period.period_with.Goals as goal
 
 pub returns-then-first-lt-FIRST_DAY : goal.returns-then-first-lt-FIRST_DAY

@@ -6,7 +6,7 @@ invariant-loop-low l = record {
   between : l.low ≤ l.high;
   most : l.high ≤ length l.parts;
   before : (i : ℕ) → i < l.low → (get_or l.parts i (0, 0)).0 ≤ l.order;
-  behind : (i : ℕ) → l.high ≤ i → i < length l.parts → l.order < (get_or l.parts i (0, 0)).0;
+  beyond : (i : ℕ) → l.high ≤ i → i < length l.parts → l.order < (get_or l.parts i (0, 0)).0;
 }
 
 abbrev pub decreases-loop-low : goal.decreases-loop-low

@@ -22,5 +22,6 @@ returns-in_ok-reply_to_too_long-in-Err-TooLong-clause-reply g c =
       bytes = read.0;
       is = made read.0 long;
       told_bytes = told-longer (g.S.Source.left c.args.input.now) (g.S.Source.left c.read_all.new.source) read.0 67108864
-          (λ bytes. IsQueryReplyNow c.args.user.now c.args.query.now (g.C.Clock.shows c.args.clock.now) bytes c.in_ok-reply_to_too_long-in-Err-TooLong.field-0) refl read.1 read.2 made;
+          (λ bytes. IsQueryReplyNow c.args.user.now c.args.query.now (g.C.Clock.shows c.args.clock.now) bytes c.in_ok-reply_to_too_long-in-Err-TooLong.field-0)
+          refl read.1 read.2 made;
     }

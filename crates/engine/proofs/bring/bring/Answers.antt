@@ -11,4 +11,5 @@ pub returns-in-Ok-clause-brings : goal.returns-in-Ok-clause-brings
 returns-in-Ok-clause-brings g c =
     subst (λ (m : ℤ). Brings c.args.meta.now c.args.log.now (record { who = c.args.who; moment = m; request = c.args.request.now }) c.put.result c.put.new.log)
     (to_z-of_z w64 c.args.moment c.ranges.moment)
-    (brings-put c.args.meta.now c.args.log.now c.put.new.log _ _ _ c.in-Ok.found c.put.result c.maker_of-user.ensures c.world.ensures c.in-Ok.ensures.value c.put.ensures.puts)
+    (brings-put c.args.meta.now c.args.log.now c.put.new.log _ _ _ c.in-Ok.found c.put.result c.maker_of-user.ensures c.world.ensures c.in-Ok.ensures.value
+    c.put.ensures.puts)

@@ -17,4 +17,5 @@ pub returns-clause-brought : goal.returns-clause-brought
 returns-clause-brought g c = brings-brought c.args.meta.now c.args.shown.now c.args.log.now c.bring.new.log _ c.bring.result c.bring.ensures.brings
 
 pub returns-clause-parts : goal.returns-clause-parts
-returns-clause-parts g c = brings-parts c.args.meta.now c.args.shown.now c.args.log.now c.bring.new.log _ c.bring.result c.requires.parts c.bring.ensures.whole c.bring.ensures.brings
+returns-clause-parts g c =
+    brings-parts c.args.meta.now c.args.shown.now c.args.log.now c.bring.new.log _ c.bring.result c.requires.parts c.bring.ensures.whole c.bring.ensures.brings

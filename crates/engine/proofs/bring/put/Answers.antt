@@ -11,4 +11,5 @@ returns-in-Ok-clause-puts g c =
     subst (λ (m : ℤ). Puts c.args.log.now (record { user = c.args.user; moment = m; writes = c.args.judged.writes }) c.args.judged
     (Ok (record { body = c.args.judged.body; status = c.args.judged.status; number = c.in-Ok.number })) c.append.new.self)
     (to_z-of_z w64 c.args.moment c.ranges.moment)
-    (append-puts c.args.log.now c.append.new.self (record { user = c.args.user; moment = _; writes = c.args.judged.writes }) c.args.judged c.in-Ok.number some c.in-Ok.ensures.appends)
+    (append-puts c.args.log.now c.append.new.self (record { user = c.args.user; moment = _; writes = c.args.judged.writes }) c.args.judged c.in-Ok.number some
+    c.in-Ok.ensures.appends)

@@ -11,5 +11,6 @@ returns-clause-step c =
     let log = map arc_value c.args.changes.now in
     let none : refused_by (by_kind c.args.kind c.args.shown.now.full c.args.shown.now.latest) c.args.shown.now.ticket c.args.limits.now.updates ≡ None =
     ap (λ x. refused_by x c.args.shown.now.ticket c.args.limits.now.updates) (sym c.staged_of.ensures) ∙ sym c.refusal.ensures ∙ c.in_default.is in
-    begun_cuts c.args.limits.now (state_of log c.args.shown.now) (state_of log c.stage-ticket.new.shown) c.args.kind c.stage-ticket.result (length c.args.changes.now) none
+    begun_cuts c.args.limits.now (state_of log c.args.shown.now) (state_of log c.stage-ticket.new.shown) c.args.kind c.stage-ticket.result
+    (length c.args.changes.now) none
     c.stage-ticket.ensures.ticket (sym (length-map c.args.changes.now arc_value)) (c.stage-ticket.ensures.staged log)

@@ -18,4 +18,5 @@ tables_of-requires-clause-fits c =
 
 pub returns : goal.returns
 returns c =
-    subst (λ x. IfOk c.tables_of.result (λ tables. contents_in (arc_value tables) ≡ tables_of c.args.meta.now x)) (sym (take-map arc_value c.args.number c.args.changes.now)) c.tables_of.ensures
+    subst (λ x. IfOk c.tables_of.result (λ tables. contents_in (arc_value tables) ≡ tables_of c.args.meta.now x))
+    (sym (take-map arc_value c.args.number c.args.changes.now)) c.tables_of.ensures

@@ -9,7 +9,12 @@ pub overflow_mul-value : goal.overflow_mul-value
 overflow_mul-value c = omega (arith, tens_below c.loop-count.count 12 (omega arith))
 
 pub overflow_add-value : goal.overflow_add-value
-overflow_add-value c = omega (arith, tens_below c.loop-count.count 12 (omega arith), (digit_is (get_or c.args.bytes.now c.loop-count.count 0) (sym c.is_ascii_digit.ensures.value ∙ c.if-is_ascii_digit.true)).1)
+overflow_add-value c =
+    omega (
+      arith,
+      tens_below c.loop-count.count 12 (omega arith),
+      (digit_is (get_or c.args.bytes.now c.loop-count.count 0) (sym c.is_ascii_digit.ensures.value ∙ c.if-is_ascii_digit.true)).1,
+    )
 
 pub loop-count-preserved : goal.loop-count-preserved
 loop-count-preserved c =
@@ -27,7 +32,9 @@ returns-else-is_ascii_digit-clause-count c =
 
 pub returns-else-is_ascii_digit-clause-value : goal.returns-else-is_ascii_digit-clause-value
 returns-else-is_ascii_digit-clause-value c =
-    let n : c.loop-count.count ≡ digit_count c.args.most c.args.bytes.now = omega (arith, count_stop c.args.most c.loop-count.count c.args.bytes.now (omega arith) (sym c.is_ascii_digit.ensures.value ∙ c.if-is_ascii_digit.false)) in
+    let n : c.loop-count.count ≡ digit_count c.args.most c.args.bytes.now =
+    omega (arith, count_stop c.args.most c.loop-count.count c.args.bytes.now (omega arith) (sym c.is_ascii_digit.ensures.value ∙ c.if-is_ascii_digit.false))
+    in
     c.loop-count.invariant.1 ∙ ap (λ (k : ℕ). digits_value 10 (take k c.args.bytes.now)) n
 
 pub returns-else-is_ascii_digit-clause-small : goal.returns-else-is_ascii_digit-clause-small

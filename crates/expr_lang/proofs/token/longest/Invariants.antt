@@ -3,4 +3,5 @@ use Rattle.expr_lang.specs.Token.{longest_from, no_front}
 use Rattle.expr_lang.proofs.token.longest.Given as goal
 
 abbrev pub invariant-loop-symbol : goal.invariant-loop-symbol
-invariant-loop-symbol l = (longest_from l.best l.allowed (drop l.symbol-index l.symbols) l.bytes ≡ longest_from no_front l.allowed l.symbols l.bytes) × (l.best.len ≤ length l.bytes)
+invariant-loop-symbol l =
+    (longest_from l.best l.allowed (drop l.symbol-index l.symbols) l.bytes ≡ longest_from no_front l.allowed l.symbols l.bytes) × (l.best.len ≤ length l.bytes)

@@ -6,7 +6,8 @@ use Rattle.http_wire.proofs.body.read_sized.Goals as goal
 pub returns-in_err-wait_for-clause-reads : goal.returns-in_err-wait_for-clause-reads
 returns-in_err-wait_for-clause-reads g c =
     let is : c.from_residual.result ≡ Err c.in_err-wait_for.field-0.0 = search rules in
-    rw is (reads_sized_stop c.args.end c.args.count c.in_err-wait_for.field-0.0 c.wait_for.ensures.gains c.in_err-wait_for.ensures.short c.in_err-wait_for.ensures.stops
+    rw is (reads_sized_stop c.args.end c.args.count c.in_err-wait_for.field-0.0 c.wait_for.ensures.gains c.in_err-wait_for.ensures.short
+    c.in_err-wait_for.ensures.stops
     (λ e. c.in_err-wait_for.ensures.over (ap Err e)))
 
 pub returns-in_err-take_sized-clause-reads : goal.returns-in_err-take_sized-clause-reads

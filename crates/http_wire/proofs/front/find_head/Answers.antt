@@ -26,7 +26,8 @@ returns-in-TooLong-clause-front g c = front_skipped c.loop-end.bytes.items c.loo
 pub returns-in_err-take_more-in-Nothing-clause-skims : goal.returns-in_err-take_more-in-Nothing-clause-skims
 returns-in_err-take_more-in-Nothing-clause-skims g c =
     skims_more (skims_skipped c.look.new.bytes.items c.loop-end.invariant.skims c.look.ensures.skipped)
-    (front_skipped c.loop-end.bytes.items c.look.new.bytes.items c.look.ensures.skipped) (inl (sym c.look.ensures.opening ∙ c.in-Nothing.is)) c.take_more.ensures.gains
+    (front_skipped c.loop-end.bytes.items c.look.new.bytes.items c.look.ensures.skipped) (inl (sym c.look.ensures.opening ∙ c.in-Nothing.is))
+    c.take_more.ensures.gains
 
 pub returns-in_err-take_more-in-Nothing-clause-front : goal.returns-in_err-take_more-in-Nothing-clause-front
 returns-in_err-take_more-in-Nothing-clause-front g c =
@@ -35,14 +36,16 @@ returns-in_err-take_more-in-Nothing-clause-front g c =
 pub returns-then-not-branch-clause-skims : goal.returns-then-not-branch-clause-skims
 returns-then-not-branch-clause-skims g c =
     skims_more (skims_skipped c.look.new.bytes.items c.loop-end.invariant.skims c.look.ensures.skipped)
-    (front_skipped c.loop-end.bytes.items c.look.new.bytes.items c.look.ensures.skipped) (inl (sym c.look.ensures.opening ∙ c.in-Nothing.is)) c.take_more.ensures.gains
+    (front_skipped c.loop-end.bytes.items c.look.new.bytes.items c.look.ensures.skipped) (inl (sym c.look.ensures.opening ∙ c.in-Nothing.is))
+    c.take_more.ensures.gains
 
 pub loop-end-preserved-else-not-branch : goal.loop-end-preserved-else-not-branch
 loop-end-preserved-else-not-branch g c = record {
   skims = skims_more (skims_skipped c.look.new.bytes.items c.loop-end.invariant.skims c.look.ensures.skipped)
-      (front_skipped c.loop-end.bytes.items c.look.new.bytes.items c.look.ensures.skipped) (inl (sym c.look.ensures.opening ∙ c.in-Nothing.is)) c.take_more.ensures.gains;
+      (front_skipped c.loop-end.bytes.items c.look.new.bytes.items c.look.ensures.skipped) (inl (sym c.look.ensures.opening ∙ c.in-Nothing.is))
+      c.take_more.ensures.gains;
   passed = passed_on c.look.new.bytes.items c.take_more.new.bytes.items c.take_more.ensures.gains.taken c.look.new.from
-      (inl (sym c.look.ensures.opening ∙ c.in-Nothing.is)) c.look.ensures.from c.take_more.ensures.gains.behind;
+      (inl (sym c.look.ensures.opening ∙ c.in-Nothing.is)) c.look.ensures.from c.take_more.ensures.gains.beyond;
   bound = c.take_more.ensures.bound;
   keeps = omega (arith, c.take_more.ensures.keeps, c.loop-end.invariant.keeps);
 }
@@ -50,16 +53,19 @@ loop-end-preserved-else-not-branch g c = record {
 pub returns-in_err-take_more-in-Unfinished-clause-skims : goal.returns-in_err-take_more-in-Unfinished-clause-skims
 returns-in_err-take_more-in-Unfinished-clause-skims g c =
     skims_more (skims_skipped c.look.new.bytes.items c.loop-end.invariant.skims c.look.ensures.skipped)
-    (front_skipped c.loop-end.bytes.items c.look.new.bytes.items c.look.ensures.skipped) (inr (sym c.look.ensures.opening ∙ c.in-Unfinished.is)) c.take_more-in-Unfinished.ensures.gains
+    (front_skipped c.loop-end.bytes.items c.look.new.bytes.items c.look.ensures.skipped) (inr (sym c.look.ensures.opening ∙ c.in-Unfinished.is))
+    c.take_more-in-Unfinished.ensures.gains
 
 pub returns-in_err-take_more-in-Unfinished-clause-front : goal.returns-in_err-take_more-in-Unfinished-clause-front
 returns-in_err-take_more-in-Unfinished-clause-front g c =
-    front_same c.loop-end.bytes.items c.look.new.bytes.items c.take_more-in-Unfinished.new.bytes.items c.look.ensures.skipped c.in_err-take_more-in-Unfinished.ensures.nothing
+    front_same c.loop-end.bytes.items c.look.new.bytes.items c.take_more-in-Unfinished.new.bytes.items c.look.ensures.skipped
+    c.in_err-take_more-in-Unfinished.ensures.nothing
 
 pub returns-then-not-branch-2-clause-skims : goal.returns-then-not-branch-2-clause-skims
 returns-then-not-branch-2-clause-skims g c =
     skims_more (skims_skipped c.look.new.bytes.items c.loop-end.invariant.skims c.look.ensures.skipped)
-    (front_skipped c.loop-end.bytes.items c.look.new.bytes.items c.look.ensures.skipped) (inr (sym c.look.ensures.opening ∙ c.in-Unfinished.is)) c.take_more-in-Unfinished.ensures.gains
+    (front_skipped c.loop-end.bytes.items c.look.new.bytes.items c.look.ensures.skipped) (inr (sym c.look.ensures.opening ∙ c.in-Unfinished.is))
+    c.take_more-in-Unfinished.ensures.gains
 
 pub returns-then-not-branch-2-clause-front : goal.returns-then-not-branch-2-clause-front
 returns-then-not-branch-2-clause-front g c =
@@ -69,9 +75,10 @@ returns-then-not-branch-2-clause-front g c =
 pub loop-end-preserved : goal.loop-end-preserved
 loop-end-preserved g c = record {
   skims = skims_more (skims_skipped c.look.new.bytes.items c.loop-end.invariant.skims c.look.ensures.skipped)
-      (front_skipped c.loop-end.bytes.items c.look.new.bytes.items c.look.ensures.skipped) (inr (sym c.look.ensures.opening ∙ c.in-Unfinished.is)) c.take_more-in-Unfinished.ensures.gains;
+      (front_skipped c.loop-end.bytes.items c.look.new.bytes.items c.look.ensures.skipped) (inr (sym c.look.ensures.opening ∙ c.in-Unfinished.is))
+      c.take_more-in-Unfinished.ensures.gains;
   passed = passed_on c.look.new.bytes.items c.take_more-in-Unfinished.new.bytes.items c.take_more-in-Unfinished.ensures.gains.taken c.look.new.from
-      (inr (sym c.look.ensures.opening ∙ c.in-Unfinished.is)) c.look.ensures.from c.take_more-in-Unfinished.ensures.gains.behind;
+      (inr (sym c.look.ensures.opening ∙ c.in-Unfinished.is)) c.look.ensures.from c.take_more-in-Unfinished.ensures.gains.beyond;
   bound = c.take_more-in-Unfinished.ensures.bound;
   keeps = omega (arith, c.take_more-in-Unfinished.ensures.keeps, c.loop-end.invariant.keeps);
 }

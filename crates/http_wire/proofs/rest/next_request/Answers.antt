@@ -5,7 +5,8 @@ use Rattle.http_wire.proofs.rest.next_request.Goals as goal
 
 pub returns-clause-whole : goal.returns-clause-whole
 returns-clause-whole g c request used is =
-    unread (whole request used) c.read_next.ensures.reads (subst (λ r. IsNext r.bytes (whole request used)) (sym c.rest.view_is) is) tt ∙ ap (λ r. r.read) c.rest.view_is
+    unread (whole request used) c.read_next.ensures.reads (subst (λ r. IsNext r.bytes (whole request used)) (sym c.rest.view_is) is) tt
+    ∙ ap (λ r. r.read) c.rest.view_is
 
 pub returns-clause-refused : goal.returns-clause-refused
 returns-clause-refused g c code is =

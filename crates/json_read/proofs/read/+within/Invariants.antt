@@ -17,4 +17,5 @@ abbrev pub invariant-are_items_within-loop-item : goal.invariant-are_items_withi
 invariant-are_items_within-loop-item l = are_items_within (items_view (drop l.item-index l.item-items)) ≡ are_items_within (items_view l.item-items)
 
 abbrev pub invariant-are_members_within-loop-member : goal.invariant-are_members_within-loop-member
-invariant-are_members_within-loop-member l = are_members_within (members_view (drop l.member-index l.member-items)) ≡ are_members_within (members_view l.member-items)
+invariant-are_members_within-loop-member l =
+    are_members_within (members_view (drop l.member-index l.member-items)) ≡ are_members_within (members_view l.member-items)

@@ -7,7 +7,8 @@ pub loop-each-preserved : goal.loop-each-preserved
 loop-each-preserved c =
     let days = c.args.days.now in
     let i = c.loop-each.each-index in
-    let step = made_step (program_indicator_unread c.args.ids.now days) (IsProgramIndicator days) c.args.raw.now c.args.links i c.each-item.result c.next-own.result
+    let step =
+    made_step (program_indicator_unread c.args.ids.now days) (IsProgramIndicator days) c.args.raw.now c.args.links i c.each-item.result c.next-own.result
     c.loop-each.rest c.next-own.new.rest c.loop-each.made.items c.in_ok-program_indicator.field-0 c.loop-each-test.true c.each-item.is
     c.loop-each.invariant.rest c.next-own.ensures c.in_ok-program_indicator.ensures.0 c.in_ok-program_indicator.ensures.1 c.loop-each.invariant.made in
     record {

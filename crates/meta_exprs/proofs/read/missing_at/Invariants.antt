@@ -5,4 +5,6 @@ use Rattle.meta_exprs.specs.Read.{missing_place}
 use Rattle.meta_exprs.proofs.read.missing_at.Given as goal
 
 abbrev pub invariant-loop-n : goal.invariant-loop-n
-invariant-loop-n l = missing_place (is_missing l.ids) (items_in l.expr) (places_in l.expr) ≡ missing_place (is_missing l.ids) (drop l.n (items_in l.expr)) (drop l.n (places_in l.expr))
+invariant-loop-n l =
+    missing_place (is_missing l.ids) (items_in l.expr) (places_in l.expr)
+    ≡ missing_place (is_missing l.ids) (drop l.n (items_in l.expr)) (drop l.n (places_in l.expr))

@@ -8,7 +8,8 @@ returns-then-is_some c =
     let some : is_some (indicator_broken c.args.ids.now c.args.stages.now c.indicator-item.result) ≡ true =
     ap is_some (sym c.broken-found.ensures) ∙ sym c.is_some.ensures ∙ c.if-is_some.true in
     c.broken-found.ensures
-    ∙ sym (stages_broken-here c.args.ids.now c.args.stages.now c.args.indicators.now c.loop-indicator.indicator-index c.indicator-item.result c.loop-indicator-test.true c.indicator-item.is some)
+    ∙ sym (stages_broken-here c.args.ids.now c.args.stages.now c.args.indicators.now c.loop-indicator.indicator-index c.indicator-item.result
+    c.loop-indicator-test.true c.indicator-item.is some)
     ∙ sym c.loop-indicator.invariant
 
 pub loop-indicator-preserved : goal.loop-indicator-preserved
@@ -16,4 +17,5 @@ loop-indicator-preserved c =
     let none : is_some (indicator_broken c.args.ids.now c.args.stages.now c.indicator-item.result) ≡ false =
     ap is_some (sym c.broken-found.ensures) ∙ sym c.is_some.ensures ∙ c.if-is_some.false in
     c.loop-indicator.invariant
-    ∙ stages_broken-next c.args.ids.now c.args.stages.now c.args.indicators.now c.loop-indicator.indicator-index c.indicator-item.result c.loop-indicator-test.true c.indicator-item.is none
+    ∙ stages_broken-next c.args.ids.now c.args.stages.now c.args.indicators.now c.loop-indicator.indicator-index c.indicator-item.result
+    c.loop-indicator-test.true c.indicator-item.is none

@@ -1,4 +1,5 @@
-use Rattle.std.proofs.Common.{◌≡◌, ◌∙◌, ◌+◌, ◌<◌, ◌∷◌, ◌++◌, [], ℕ, List, Option, Some, None, is_some, true, false, suc, length, take, drop, get_or, sym, ap, refl, arith, add-one, drop-cons}
+use Rattle.std.proofs.Common.{◌≡◌, ◌∙◌, ◌+◌, ◌<◌, ◌∷◌, ◌++◌, [], ℕ, List, Option, Some, None, is_some, true, false, suc, length, take, drop, get_or, sym, ap}
+use Rattle.std.proofs.Common.{refl, arith, add-one, drop-cons}
 use Rattle.std.proofs.lemmas.List.{take_more, length-take}
 use Rattle.std.specs.HashMap.{get}
 use Rattle.meta_ids.specs.Places.{same_id, place_of, repeat_of, repeat_behind}

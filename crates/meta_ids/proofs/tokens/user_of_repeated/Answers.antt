@@ -16,9 +16,11 @@ returns-then-not-branch c =
     let before : List (List ℕ) = map (λ (each : List ℕ × List ℕ). each.0) (take i tokens) in
     let key : c.in_ok-copy.copy ≡ token.0 = c.in_ok-copy.ensures in
     let held : contains same_id c.loop-token.seen c.in_ok-copy.copy ≡ is_one_of before c.in_ok-copy.copy = c.loop-token.invariant.held c.in_ok-copy.copy in
-    let there : contains same_id c.loop-token.seen c.in_ok-copy.copy ≡ true = was_there c.in_ok-insert.field-0 _ c.in_ok-insert.ensures.added c.if-not-branch.true in
+    let there : contains same_id c.loop-token.seen c.in_ok-copy.copy ≡ true =
+    was_there c.in_ok-insert.field-0 _ c.in_ok-insert.ensures.added c.if-not-branch.true in
     let one : is_one_of before token.0 ≡ true = sym (held ∙ ap (is_one_of before) key) ∙ there in
-    sym (c.loop-token.invariant.rest ∙ ap (user_behind before) (rest_at tokens i token within c.token-item.is) ∙ user_behind-same before token (drop (i + 1) tokens) one)
+    sym (c.loop-token.invariant.rest ∙ ap (user_behind before) (rest_at tokens i token within c.token-item.is)
+    ∙ user_behind-same before token (drop (i + 1) tokens) one)
 
 pub loop-token-preserved : goal.loop-token-preserved
 loop-token-preserved c =
@@ -29,12 +31,14 @@ loop-token-preserved c =
     let before : List (List ℕ) = map (λ (each : List ℕ × List ℕ). each.0) (take i tokens) in
     let key : c.in_ok-copy.copy ≡ token.0 = c.in_ok-copy.ensures in
     let held : contains same_id c.loop-token.seen c.in_ok-copy.copy ≡ is_one_of before c.in_ok-copy.copy = c.loop-token.invariant.held c.in_ok-copy.copy in
-    let absent : contains same_id c.loop-token.seen c.in_ok-copy.copy ≡ false = was_absent c.in_ok-insert.field-0 _ c.in_ok-insert.ensures.added c.if-not-branch.false in
+    let absent : contains same_id c.loop-token.seen c.in_ok-copy.copy ≡ false =
+    was_absent c.in_ok-insert.field-0 _ c.in_ok-insert.ensures.added c.if-not-branch.false in
     let none : is_one_of before token.0 ≡ false = sym (held ∙ ap (is_one_of before) key) ∙ absent in
     let more : map (λ (each : List ℕ × List ℕ). each.0) (take (i + 1) tokens) ≡ before ++ token.0 ∷ [] = texts_more tokens i token within c.token-item.is in
     record {
       held = λ q. is_one_of-more before token.0 q _ _ (c.loop-token.invariant.held q)
-          (c.in_ok-insert.ensures.updates.0 q ∙ ap (λ k. cond (same_id k q) true (contains same_id c.loop-token.seen q)) key) ∙ ap (λ ys. is_one_of ys q) (sym more);
+          (c.in_ok-insert.ensures.updates.0 q ∙ ap (λ k. cond (same_id k q) true (contains same_id c.loop-token.seen q)) key)
+          ∙ ap (λ ys. is_one_of ys q) (sym more);
       rest = c.loop-token.invariant.rest ∙ ap (user_behind before) (rest_at tokens i token within c.token-item.is)
           ∙ user_behind-new before token (drop (i + 1) tokens) none ∙ ap (λ ys. user_behind ys (drop (i + 1) tokens)) (sym more);
     }

@@ -11,5 +11,9 @@ use Rattle.meta_links.proofs.fields.set_element.Goals as goal
 pub returns-clause-told : goal.returns-clause-told
 returns-clause-told c =
     (c.in_ok-set_combo.ensures
-    ∙ ap (λ m. after c.args.ids.now m (optional (step (step (field_path c.args.field.kind c.args.field.place c.args.field.name.now) (decimal c.args.place)) (codes "categoryCombo")) kind.CategoryCombo c.args.element.now.1)) c.in_ok-number.ensures.told
-    ∙ sym (after_append c.args.ids.now c.args.unknown.now (one (step (step (field_path c.args.field.kind c.args.field.place c.args.field.name.now) (decimal c.args.place)) (codes "dataElement")) kind.DataElement c.args.element.now.0) (optional (step (step (field_path c.args.field.kind c.args.field.place c.args.field.name.now) (decimal c.args.place)) (codes "categoryCombo")) kind.CategoryCombo c.args.element.now.1)))
+    ∙ ap (λ m. after c.args.ids.now m (optional (step (step (field_path c.args.field.kind c.args.field.place c.args.field.name.now) (decimal c.args.place))
+    (codes "categoryCombo")) kind.CategoryCombo c.args.element.now.1)) c.in_ok-number.ensures.told
+    ∙ sym (after_append c.args.ids.now c.args.unknown.now
+    (one (step (step (field_path c.args.field.kind c.args.field.place c.args.field.name.now) (decimal c.args.place)) (codes "dataElement")) kind.DataElement
+    c.args.element.now.0) (optional (step (step (field_path c.args.field.kind c.args.field.place c.args.field.name.now) (decimal c.args.place))
+    (codes "categoryCombo")) kind.CategoryCombo c.args.element.now.1)))

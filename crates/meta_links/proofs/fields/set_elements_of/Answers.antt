@@ -15,11 +15,16 @@ loop-element-preserved c =
     record {
       place = ap (λ n. n + 1) c.loop-element.invariant.place;
       numbers = c.in_ok-push.ensures.items ∙ ap (λ ns. ns ++ c.in_ok-set_element.field-0 ∷ []) c.loop-element.invariant.numbers
-          ∙ ap (λ n. map (λ (element : List ℕ × Option (List ℕ)). number_of c.args.ids.now kind.DataElement element.0) (take c.loop-element.element-index c.args.elements.now) ++ n ∷ []) c.in_ok-set_element.ensures.number
-          ∙ sym (map_more (λ (element : List ℕ × Option (List ℕ)). number_of c.args.ids.now kind.DataElement element.0) c.args.elements.now c.loop-element.element-index c.element-item.result c.loop-element-test.true
-          ∙ ap (λ y. map (λ (element : List ℕ × Option (List ℕ)). number_of c.args.ids.now kind.DataElement element.0) (take c.loop-element.element-index c.args.elements.now) ++ (λ (element : List ℕ × Option (List ℕ)). number_of c.args.ids.now kind.DataElement element.0) y ∷ []) (sym c.element-item.is));
+          ∙ ap (λ n. map (λ (element : List ℕ × Option (List ℕ)). number_of c.args.ids.now kind.DataElement element.0)
+          (take c.loop-element.element-index c.args.elements.now) ++ n ∷ []) c.in_ok-set_element.ensures.number
+          ∙ sym (map_more (λ (element : List ℕ × Option (List ℕ)). number_of c.args.ids.now kind.DataElement element.0) c.args.elements.now
+          c.loop-element.element-index c.element-item.result c.loop-element-test.true
+          ∙ ap (λ y. map (λ (element : List ℕ × Option (List ℕ)). number_of c.args.ids.now kind.DataElement element.0)
+          (take c.loop-element.element-index c.args.elements.now)
+          ++ (λ (element : List ℕ × Option (List ℕ)). number_of c.args.ids.now kind.DataElement element.0) y ∷ []) (sym c.element-item.is));
       rest = each_more c.args.ids.now (set_element (field_path c.args.field.kind c.args.field.place c.args.field.name.now))
-          c.loop-element.place c.args.elements.now c.loop-element.element-index c.element-item.result _ c.loop-element.unknown _ c.loop-element-test.true c.element-item.is c.loop-element.invariant.rest c.in_ok-set_element.ensures.told;
+          c.loop-element.place c.args.elements.now c.loop-element.element-index c.element-item.result _ c.loop-element.unknown _ c.loop-element-test.true
+          c.element-item.is c.loop-element.invariant.rest c.in_ok-set_element.ensures.told;
     }
 
 pub returns-clause-told : goal.returns-clause-told
@@ -27,4 +32,7 @@ unfolding set_elements
 returns-clause-told c =
     let past = c.loop-element-test.false in
     let end : length c.args.elements.now ≤ c.loop-element.element-index = omega arith in
-    sym (c.loop-element.invariant.rest ∙ ap (λ l. after c.args.ids.now c.loop-element.unknown (each (set_element (field_path c.args.field.kind c.args.field.place c.args.field.name.now)) c.loop-element.place l)) (drop_all c.loop-element.element-index c.args.elements.now end) ∙ after_none c.args.ids.now c.loop-element.unknown)
+    sym (c.loop-element.invariant.rest
+    ∙ ap (λ l. after c.args.ids.now c.loop-element.unknown
+    (each (set_element (field_path c.args.field.kind c.args.field.place c.args.field.name.now)) c.loop-element.place l))
+    (drop_all c.loop-element.element-index c.args.elements.now end) ∙ after_none c.args.ids.now c.loop-element.unknown)

@@ -17,9 +17,13 @@ loop-uid-preserved c =
       numbers = c.in_ok-push.ensures.items ∙ ap (λ ns. ns ++ c.in_ok-inner.field-0 ∷ []) c.loop-uid.invariant.numbers
           ∙ ap (λ n. map (number_of c.args.ids.now c.args.kind) (take c.loop-uid.uid-index c.args.uids.now) ++ n ∷ []) c.in_ok-inner.ensures.number
           ∙ sym (map_more (number_of c.args.ids.now c.args.kind) c.args.uids.now c.loop-uid.uid-index c.uid-item.result c.loop-uid-test.true
-          ∙ ap (λ y. map (number_of c.args.ids.now c.args.kind) (take c.loop-uid.uid-index c.args.uids.now) ++ (number_of c.args.ids.now c.args.kind) y ∷ []) (sym c.uid-item.is));
-      rest = each_more c.args.ids.now (λ place uid. one (step (step (field_path c.args.field.kind c.args.field.place c.args.field.name.now) (decimal place)) c.args.name.now) c.args.kind uid)
-          c.loop-uid.place c.args.uids.now c.loop-uid.uid-index c.uid-item.result _ c.loop-uid.unknown _ c.loop-uid-test.true c.uid-item.is c.loop-uid.invariant.rest c.in_ok-inner.ensures.told;
+          ∙ ap (λ y. map (number_of c.args.ids.now c.args.kind) (take c.loop-uid.uid-index c.args.uids.now) ++ (number_of c.args.ids.now c.args.kind) y ∷ [])
+          (sym c.uid-item.is));
+      rest =
+          each_more c.args.ids.now (λ place uid. one
+          (step (step (field_path c.args.field.kind c.args.field.place c.args.field.name.now) (decimal place)) c.args.name.now) c.args.kind uid)
+          c.loop-uid.place c.args.uids.now c.loop-uid.uid-index c.uid-item.result _ c.loop-uid.unknown _ c.loop-uid-test.true c.uid-item.is
+          c.loop-uid.invariant.rest c.in_ok-inner.ensures.told;
     }
 
 pub returns-clause-told : goal.returns-clause-told
@@ -27,4 +31,7 @@ unfolding several_in
 returns-clause-told c =
     let past = c.loop-uid-test.false in
     let end : length c.args.uids.now ≤ c.loop-uid.uid-index = omega arith in
-    sym (c.loop-uid.invariant.rest ∙ ap (λ l. after c.args.ids.now c.loop-uid.unknown (each (λ place uid. one (step (step (field_path c.args.field.kind c.args.field.place c.args.field.name.now) (decimal place)) c.args.name.now) c.args.kind uid) c.loop-uid.place l)) (drop_all c.loop-uid.uid-index c.args.uids.now end) ∙ after_none c.args.ids.now c.loop-uid.unknown)
+    sym (c.loop-uid.invariant.rest
+    ∙ ap (λ l. after c.args.ids.now c.loop-uid.unknown
+    (each (λ place uid. one (step (step (field_path c.args.field.kind c.args.field.place c.args.field.name.now) (decimal place)) c.args.name.now)
+    c.args.kind uid) c.loop-uid.place l)) (drop_all c.loop-uid.uid-index c.args.uids.now end) ∙ after_none c.args.ids.now c.loop-uid.unknown)

@@ -13,6 +13,8 @@ abbrev pub invariant-loop-uid : goal.invariant-loop-uid
 invariant-loop-uid l = record {
   place : l.place ≡ l.uid-index;
   numbers : l.numbers.items ≡ map (number_of l.ids l.kind) (take l.uid-index l.uids);
-  rest : after l.ids l.fn.unknown (each (λ place uid. one (step (step (field_path l.field.kind l.field.place l.field.name.now) (decimal place)) l.name) l.kind uid) 0 l.uids)
-      ≡ after l.ids l.unknown (each (λ place uid. one (step (step (field_path l.field.kind l.field.place l.field.name.now) (decimal place)) l.name) l.kind uid) l.place (drop l.uid-index l.uids));
+  rest : after l.ids l.fn.unknown (each (λ place uid.
+      one (step (step (field_path l.field.kind l.field.place l.field.name.now) (decimal place)) l.name) l.kind uid) 0 l.uids)
+      ≡ after l.ids l.unknown (each (λ place uid. one (step (step (field_path l.field.kind l.field.place l.field.name.now) (decimal place)) l.name) l.kind uid)
+      l.place (drop l.uid-index l.uids));
 }

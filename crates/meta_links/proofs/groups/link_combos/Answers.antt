@@ -16,6 +16,11 @@ returns-clause-told c =
     ∙ ap (λ m. after c.args.ids.now m (flat_map approval_level_references c.args.parts.now.data_approval_levels)) (c.in_ok-three.ensures.told
     ∙ ap (λ m. after c.args.ids.now m (flat_map element_references c.args.parts.now.data_elements)) (c.in_ok-two.ensures.told
     ∙ ap (λ m. after c.args.ids.now m (flat_map option_combo_references c.args.parts.now.category_option_combos)) c.in_ok-one.ensures.told
-    ∙ sym (after_append c.args.ids.now c.args.unknown.now (flat_map category_combo_references c.args.parts.now.category_combos) (flat_map option_combo_references c.args.parts.now.category_option_combos)))
-    ∙ sym (after_append c.args.ids.now c.args.unknown.now ((flat_map category_combo_references c.args.parts.now.category_combos) ++ (flat_map option_combo_references c.args.parts.now.category_option_combos)) (flat_map element_references c.args.parts.now.data_elements)))
-    ∙ sym (after_append c.args.ids.now c.args.unknown.now ((flat_map category_combo_references c.args.parts.now.category_combos) ++ (flat_map option_combo_references c.args.parts.now.category_option_combos) ++ (flat_map element_references c.args.parts.now.data_elements)) (flat_map approval_level_references c.args.parts.now.data_approval_levels)))
+    ∙ sym (after_append c.args.ids.now c.args.unknown.now (flat_map category_combo_references c.args.parts.now.category_combos)
+    (flat_map option_combo_references c.args.parts.now.category_option_combos)))
+    ∙ sym (after_append c.args.ids.now c.args.unknown.now
+    ((flat_map category_combo_references c.args.parts.now.category_combos) ++ (flat_map option_combo_references c.args.parts.now.category_option_combos))
+    (flat_map element_references c.args.parts.now.data_elements)))
+    ∙ sym (after_append c.args.ids.now c.args.unknown.now
+    ((flat_map category_combo_references c.args.parts.now.category_combos) ++ (flat_map option_combo_references c.args.parts.now.category_option_combos)
+    ++ (flat_map element_references c.args.parts.now.data_elements)) (flat_map approval_level_references c.args.parts.now.data_approval_levels)))

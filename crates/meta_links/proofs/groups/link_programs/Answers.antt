@@ -15,5 +15,8 @@ returns-clause-told c =
     (c.in_ok-all.ensures.told
     ∙ ap (λ m. after c.args.ids.now m (flat_map program_indicator_references c.args.parts.now.program_indicators)) (c.in_ok-two.ensures.told
     ∙ ap (λ m. after c.args.ids.now m (flat_map stage_references c.args.parts.now.program_stages)) c.in_ok-one.ensures.told
-    ∙ sym (after_append c.args.ids.now c.args.unknown.now (flat_map program_references c.args.parts.now.programs) (flat_map stage_references c.args.parts.now.program_stages)))
-    ∙ sym (after_append c.args.ids.now c.args.unknown.now ((flat_map program_references c.args.parts.now.programs) ++ (flat_map stage_references c.args.parts.now.program_stages)) (flat_map program_indicator_references c.args.parts.now.program_indicators)))
+    ∙ sym (after_append c.args.ids.now c.args.unknown.now (flat_map program_references c.args.parts.now.programs)
+    (flat_map stage_references c.args.parts.now.program_stages)))
+    ∙ sym (after_append c.args.ids.now c.args.unknown.now
+    ((flat_map program_references c.args.parts.now.programs) ++ (flat_map stage_references c.args.parts.now.program_stages))
+    (flat_map program_indicator_references c.args.parts.now.program_indicators)))

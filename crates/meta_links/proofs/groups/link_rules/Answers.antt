@@ -16,6 +16,11 @@ returns-clause-told c =
     ∙ ap (λ m. after c.args.ids.now m (flat_map attribute_references c.args.parts.now.tracked_entity_attributes)) (c.in_ok-three.ensures.told
     ∙ ap (λ m. after c.args.ids.now m (flat_map entity_type_references c.args.parts.now.tracked_entity_types)) (c.in_ok-two.ensures.told
     ∙ ap (λ m. after c.args.ids.now m (flat_map rule_references c.args.parts.now.validation_rules)) c.in_ok-one.ensures.told
-    ∙ sym (after_append c.args.ids.now c.args.unknown.now (flat_map indicator_references c.args.parts.now.indicators) (flat_map rule_references c.args.parts.now.validation_rules)))
-    ∙ sym (after_append c.args.ids.now c.args.unknown.now ((flat_map indicator_references c.args.parts.now.indicators) ++ (flat_map rule_references c.args.parts.now.validation_rules)) (flat_map entity_type_references c.args.parts.now.tracked_entity_types)))
-    ∙ sym (after_append c.args.ids.now c.args.unknown.now ((flat_map indicator_references c.args.parts.now.indicators) ++ (flat_map rule_references c.args.parts.now.validation_rules) ++ (flat_map entity_type_references c.args.parts.now.tracked_entity_types)) (flat_map attribute_references c.args.parts.now.tracked_entity_attributes)))
+    ∙ sym (after_append c.args.ids.now c.args.unknown.now (flat_map indicator_references c.args.parts.now.indicators)
+    (flat_map rule_references c.args.parts.now.validation_rules)))
+    ∙ sym (after_append c.args.ids.now c.args.unknown.now
+    ((flat_map indicator_references c.args.parts.now.indicators) ++ (flat_map rule_references c.args.parts.now.validation_rules))
+    (flat_map entity_type_references c.args.parts.now.tracked_entity_types)))
+    ∙ sym (after_append c.args.ids.now c.args.unknown.now
+    ((flat_map indicator_references c.args.parts.now.indicators) ++ (flat_map rule_references c.args.parts.now.validation_rules)
+    ++ (flat_map entity_type_references c.args.parts.now.tracked_entity_types)) (flat_map attribute_references c.args.parts.now.tracked_entity_attributes)))

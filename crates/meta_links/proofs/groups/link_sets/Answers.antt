@@ -16,6 +16,11 @@ returns-clause-told c =
     ∙ ap (λ m. after c.args.ids.now m (flat_map indicator_type_references c.args.parts.now.indicator_types)) (c.in_ok-three.ensures.told
     ∙ ap (λ m. after c.args.ids.now m (flat_map constant_references c.args.parts.now.constants)) (c.in_ok-two.ensures.told
     ∙ ap (λ m. after c.args.ids.now m (flat_map data_set_references c.args.parts.now.data_sets)) c.in_ok-one.ensures.told
-    ∙ sym (after_append c.args.ids.now c.args.unknown.now (flat_map workflow_references c.args.parts.now.data_approval_workflows) (flat_map data_set_references c.args.parts.now.data_sets)))
-    ∙ sym (after_append c.args.ids.now c.args.unknown.now ((flat_map workflow_references c.args.parts.now.data_approval_workflows) ++ (flat_map data_set_references c.args.parts.now.data_sets)) (flat_map constant_references c.args.parts.now.constants)))
-    ∙ sym (after_append c.args.ids.now c.args.unknown.now ((flat_map workflow_references c.args.parts.now.data_approval_workflows) ++ (flat_map data_set_references c.args.parts.now.data_sets) ++ (flat_map constant_references c.args.parts.now.constants)) (flat_map indicator_type_references c.args.parts.now.indicator_types)))
+    ∙ sym (after_append c.args.ids.now c.args.unknown.now (flat_map workflow_references c.args.parts.now.data_approval_workflows)
+    (flat_map data_set_references c.args.parts.now.data_sets)))
+    ∙ sym (after_append c.args.ids.now c.args.unknown.now
+    ((flat_map workflow_references c.args.parts.now.data_approval_workflows) ++ (flat_map data_set_references c.args.parts.now.data_sets))
+    (flat_map constant_references c.args.parts.now.constants)))
+    ∙ sym (after_append c.args.ids.now c.args.unknown.now
+    ((flat_map workflow_references c.args.parts.now.data_approval_workflows) ++ (flat_map data_set_references c.args.parts.now.data_sets)
+    ++ (flat_map constant_references c.args.parts.now.constants)) (flat_map indicator_type_references c.args.parts.now.indicator_types)))

@@ -16,6 +16,11 @@ returns-clause-told c =
     ∙ ap (λ m. after c.args.ids.now m (flat_map category_references c.args.parts.now.categories)) (c.in_ok-three.ensures.told
     ∙ ap (λ m. after c.args.ids.now m (flat_map category_option_references c.args.parts.now.category_options)) (c.in_ok-two.ensures.told
     ∙ ap (λ m. after c.args.ids.now m (flat_map unit_group_references c.args.parts.now.organisation_unit_groups)) c.in_ok-one.ensures.told
-    ∙ sym (after_append c.args.ids.now c.args.unknown.now (flat_map unit_references c.args.parts.now.organisation_units) (flat_map unit_group_references c.args.parts.now.organisation_unit_groups)))
-    ∙ sym (after_append c.args.ids.now c.args.unknown.now ((flat_map unit_references c.args.parts.now.organisation_units) ++ (flat_map unit_group_references c.args.parts.now.organisation_unit_groups)) (flat_map category_option_references c.args.parts.now.category_options)))
-    ∙ sym (after_append c.args.ids.now c.args.unknown.now ((flat_map unit_references c.args.parts.now.organisation_units) ++ (flat_map unit_group_references c.args.parts.now.organisation_unit_groups) ++ (flat_map category_option_references c.args.parts.now.category_options)) (flat_map category_references c.args.parts.now.categories)))
+    ∙ sym (after_append c.args.ids.now c.args.unknown.now (flat_map unit_references c.args.parts.now.organisation_units)
+    (flat_map unit_group_references c.args.parts.now.organisation_unit_groups)))
+    ∙ sym (after_append c.args.ids.now c.args.unknown.now
+    ((flat_map unit_references c.args.parts.now.organisation_units) ++ (flat_map unit_group_references c.args.parts.now.organisation_unit_groups))
+    (flat_map category_option_references c.args.parts.now.category_options)))
+    ∙ sym (after_append c.args.ids.now c.args.unknown.now
+    ((flat_map unit_references c.args.parts.now.organisation_units) ++ (flat_map unit_group_references c.args.parts.now.organisation_unit_groups)
+    ++ (flat_map category_option_references c.args.parts.now.category_options)) (flat_map category_references c.args.parts.now.categories)))

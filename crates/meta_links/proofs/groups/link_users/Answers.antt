@@ -15,5 +15,8 @@ returns-clause-told c =
     (c.in_ok-all.ensures.told
     ∙ ap (λ m. after c.args.ids.now m (flat_map user_group_references c.args.parts.now.user_groups)) (c.in_ok-two.ensures.told
     ∙ ap (λ m. after c.args.ids.now m (flat_map user_references c.args.parts.now.users)) c.in_ok-one.ensures.told
-    ∙ sym (after_append c.args.ids.now c.args.unknown.now (flat_map role_references c.args.parts.now.user_roles) (flat_map user_references c.args.parts.now.users)))
-    ∙ sym (after_append c.args.ids.now c.args.unknown.now ((flat_map role_references c.args.parts.now.user_roles) ++ (flat_map user_references c.args.parts.now.users)) (flat_map user_group_references c.args.parts.now.user_groups)))
+    ∙ sym (after_append c.args.ids.now c.args.unknown.now (flat_map role_references c.args.parts.now.user_roles)
+    (flat_map user_references c.args.parts.now.users)))
+    ∙ sym (after_append c.args.ids.now c.args.unknown.now
+    ((flat_map role_references c.args.parts.now.user_roles) ++ (flat_map user_references c.args.parts.now.users))
+    (flat_map user_group_references c.args.parts.now.user_groups)))

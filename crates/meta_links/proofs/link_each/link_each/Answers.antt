@@ -13,7 +13,8 @@ loop-object-preserved g c =
       all = c.in_ok-push.ensures.items ∙ ap (λ all. all ++ c.in_ok-link.field-0 ∷ []) c.loop-object.invariant.all
           ∙ append_assoc c.args.built_in.items (map held done) (c.in_ok-link.field-0 ∷ [])
           ∙ ap (λ n. c.args.built_in.items ++ (map held done ++ n ∷ [])) c.in_ok-link.ensures.held
-          ∙ ap (λ more. c.args.built_in.items ++ more) (sym (map_more held c.args.objects.now c.loop-object.object-index c.object-item.result c.loop-object-test.true
+          ∙ ap (λ more. c.args.built_in.items ++ more)
+          (sym (map_more held c.args.objects.now c.loop-object.object-index c.object-item.result c.loop-object-test.true
           ∙ ap (λ y. map held done ++ held y ∷ []) (sym c.object-item.is)));
       rest = flat_more c.args.ids.now g.T.Link.references c.args.objects.now c.loop-object.object-index c.object-item.result _ c.loop-object.unknown _
           c.loop-object-test.true c.object-item.is c.loop-object.invariant.rest c.in_ok-link.ensures.told;
@@ -23,5 +24,6 @@ pub returns-clause-told : goal.returns-clause-told
 returns-clause-told g c =
     let past = c.loop-object-test.false in
     let end : length c.args.objects.now ≤ c.loop-object.object-index = omega arith in
-    sym (c.loop-object.invariant.rest ∙ ap (λ l. after c.args.ids.now c.loop-object.unknown (flat_map g.T.Link.references l)) (drop_all c.loop-object.object-index c.args.objects.now end)
+    sym (c.loop-object.invariant.rest
+    ∙ ap (λ l. after c.args.ids.now c.loop-object.unknown (flat_map g.T.Link.references l)) (drop_all c.loop-object.object-index c.args.objects.now end)
     ∙ after_none c.args.ids.now c.loop-object.unknown)

@@ -13,5 +13,6 @@ abbrev pub invariant-loop-entry : goal.invariant-loop-entry
 invariant-loop-entry l = record {
   all : l.all.items ≡ shared_with l.ids l.kind (take l.entry-index l.listed);
   rest : after l.ids l.fn.unknown (flat_map (λ entry. one (step (field_path l.field.kind l.field.place l.field.name.now) entry.0) l.kind entry.1) l.listed)
-      ≡ after l.ids l.unknown (flat_map (λ entry. one (step (field_path l.field.kind l.field.place l.field.name.now) entry.0) l.kind entry.1) (drop l.entry-index l.listed));
+      ≡ after l.ids l.unknown (flat_map (λ entry. one (step (field_path l.field.kind l.field.place l.field.name.now) entry.0) l.kind entry.1)
+      (drop l.entry-index l.listed));
 }

@@ -12,7 +12,14 @@ pub returns-clause-told : goal.returns-clause-told
 unfolding sharing_references
 returns-clause-told c =
     (c.in_ok-groups.ensures.told
-    ∙ ap (λ m. after c.args.ids.now m (entries (field_path c.args.kind c.args.place (codes "sharing.userGroups")) kind.UserGroup c.args.sharing.now.groups)) (c.in_ok-users.ensures.told
-    ∙ ap (λ m. after c.args.ids.now m (entries (field_path c.args.kind c.args.place (codes "sharing.users")) kind.User c.args.sharing.now.users)) c.in_ok-owner.ensures.told
-    ∙ sym (after_append c.args.ids.now c.args.unknown.now (optional (field_path c.args.kind c.args.place (codes "sharing.owner")) kind.User c.args.sharing.now.owner) (entries (field_path c.args.kind c.args.place (codes "sharing.users")) kind.User c.args.sharing.now.users)))
-    ∙ sym (after_append c.args.ids.now c.args.unknown.now ((optional (field_path c.args.kind c.args.place (codes "sharing.owner")) kind.User c.args.sharing.now.owner) ++ (entries (field_path c.args.kind c.args.place (codes "sharing.users")) kind.User c.args.sharing.now.users)) (entries (field_path c.args.kind c.args.place (codes "sharing.userGroups")) kind.UserGroup c.args.sharing.now.groups)))
+    ∙ ap (λ m. after c.args.ids.now m (entries (field_path c.args.kind c.args.place (codes "sharing.userGroups")) kind.UserGroup c.args.sharing.now.groups))
+    (c.in_ok-users.ensures.told
+    ∙ ap (λ m. after c.args.ids.now m (entries (field_path c.args.kind c.args.place (codes "sharing.users")) kind.User c.args.sharing.now.users))
+    c.in_ok-owner.ensures.told
+    ∙ sym (after_append c.args.ids.now c.args.unknown.now
+    (optional (field_path c.args.kind c.args.place (codes "sharing.owner")) kind.User c.args.sharing.now.owner)
+    (entries (field_path c.args.kind c.args.place (codes "sharing.users")) kind.User c.args.sharing.now.users)))
+    ∙ sym (after_append c.args.ids.now c.args.unknown.now
+    ((optional (field_path c.args.kind c.args.place (codes "sharing.owner")) kind.User c.args.sharing.now.owner)
+    ++ (entries (field_path c.args.kind c.args.place (codes "sharing.users")) kind.User c.args.sharing.now.users))
+    (entries (field_path c.args.kind c.args.place (codes "sharing.userGroups")) kind.UserGroup c.args.sharing.now.groups)))

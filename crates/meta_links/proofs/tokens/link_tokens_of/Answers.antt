@@ -22,8 +22,11 @@ loop-token-preserved c =
           ∙ ap (λ n. map held done ++ pair c.token-item.result.0 n ∷ []) c.in_ok-number.ensures.number
           ∙ sym (map_more held c.args.tokens.now c.loop-token.token-index c.token-item.result c.loop-token-test.true
           ∙ ap (λ y. map held done ++ held y ∷ []) (sym c.token-item.is));
-      rest = each_more c.args.ids.now (λ (place : ℕ) (token : List ℕ × List ℕ). one (step (step (codes "apiTokens") (decimal place)) (codes "user")) kind.User token.1)
-          c.loop-token.place c.args.tokens.now c.loop-token.token-index c.token-item.result _ c.loop-token.unknown _ c.loop-token-test.true c.token-item.is c.loop-token.invariant.rest
+      rest =
+          each_more c.args.ids.now (λ (place : ℕ) (token : List ℕ × List ℕ).
+          one (step (step (codes "apiTokens") (decimal place)) (codes "user")) kind.User token.1)
+          c.loop-token.place c.args.tokens.now c.loop-token.token-index c.token-item.result _ c.loop-token.unknown _ c.loop-token-test.true c.token-item.is
+          c.loop-token.invariant.rest
           c.in_ok-number.ensures.told;
     }
 
@@ -32,5 +35,8 @@ unfolding token_references
 returns-clause-told c =
     let past = c.loop-token-test.false in
     let end : length c.args.tokens.now ≤ c.loop-token.token-index = omega arith in
-    sym (c.loop-token.invariant.rest ∙ ap (λ l. after c.args.ids.now c.loop-token.unknown (each (λ (place : ℕ) (token : List ℕ × List ℕ). one (step (step (codes "apiTokens") (decimal place)) (codes "user")) kind.User token.1) c.loop-token.place l)) (drop_all c.loop-token.token-index c.args.tokens.now end)
+    sym (c.loop-token.invariant.rest
+    ∙ ap (λ l. after c.args.ids.now c.loop-token.unknown
+    (each (λ (place : ℕ) (token : List ℕ × List ℕ). one (step (step (codes "apiTokens") (decimal place)) (codes "user")) kind.User token.1)
+    c.loop-token.place l)) (drop_all c.loop-token.token-index c.args.tokens.now end)
     ∙ after_none c.args.ids.now c.loop-token.unknown)

@@ -12,5 +12,6 @@ invariant-loop-token l = record {
   place : l.place ≡ l.token-index;
   all : l.all.items ≡ map (λ token. (token.0, number_of l.ids kind.User token.1)) (take l.token-index l.tokens);
   rest : after l.ids l.fn.unknown (each (λ place token. one (step (step (codes "apiTokens") (decimal place)) (codes "user")) kind.User token.1) 0 l.tokens)
-      ≡ after l.ids l.unknown (each (λ place token. one (step (step (codes "apiTokens") (decimal place)) (codes "user")) kind.User token.1) l.place (drop l.token-index l.tokens));
+      ≡ after l.ids l.unknown (each (λ place token. one (step (step (codes "apiTokens") (decimal place)) (codes "user")) kind.User token.1) l.place
+      (drop l.token-index l.tokens));
 }

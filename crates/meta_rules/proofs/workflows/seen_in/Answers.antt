@@ -6,5 +6,6 @@ use Rattle.meta_rules.proofs.workflows.seen_in.Goals as goal
 
 pub loop-set-preserved : goal.loop-set-preserved
 loop-set-preserved c =
-    HaveSeen-more c.args.sets.now c.loop-set.set-index c.set-item.result c.args.count c.loop-set.seen.items c.take_set.new.seen.items c.loop-set-test.true c.loop-set.invariant
+    HaveSeen-more c.args.sets.now c.loop-set.set-index c.set-item.result c.args.count c.loop-set.seen.items c.take_set.new.seen.items c.loop-set-test.true
+    c.loop-set.invariant
     (subst (λ (d : DataSet). TakesSet c.loop-set.seen.items c.take_set.new.seen.items d) c.set-item.is c.take_set.ensures)

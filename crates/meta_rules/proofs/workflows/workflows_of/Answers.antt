@@ -14,7 +14,8 @@ returns-in-Some c =
     let count : ℕ = length c.args.elements.now in
     let seen : List Seen = c.in_ok-seen.seen.items in
     let same : first_below (several_at seen) (length seen) ≡ first_below (is_torn sets) count = torn-seen sets count seen c.in_ok-seen.ensures in
-    let found : first_below (is_torn sets) count ≡ Some c.in-Some.place = sym same ∙ ap (λ l. first_below (several_at l) (length l)) (sym c.deref.ensures.value) ∙ sym c.in-Some.ensures in
+    let found : first_below (is_torn sets) count ≡ Some c.in-Some.place = sym same ∙ ap (λ l. first_below (several_at l) (length l)) (sym c.deref.ensures.value)
+    ∙ sym c.in-Some.ensures in
     ap (option_map (torn_fault c.args.elements.now)) found ∙ ap Some (sym c.torn.ensures)
 
 pub returns : goal.returns
@@ -24,7 +25,9 @@ returns c =
     let count : ℕ = length c.args.elements.now in
     let seen : List Seen = c.in_ok-seen.seen.items in
     let same : first_below (several_at seen) (length seen) ≡ first_below (is_torn sets) count = torn-seen sets count seen c.in_ok-seen.ensures in
-    let none : first_below (is_torn sets) count ≡ None = sym same ∙ ap (λ l. first_below (several_at l) (length l)) (sym c.deref.ensures.value) ∙ sym c.in-None.ensures in (
+    let none : first_below (is_torn sets) count ≡ None = sym same ∙ ap (λ l. first_below (several_at l) (length l)) (sym c.deref.ensures.value)
+    ∙ sym c.in-None.ensures in (
       ap (option_map (torn_fault c.args.elements.now)) none,
-      subst (AreWorkflows sets count) (sym (c.in_ok-listed-in-None.ensures ∙ ap (map one_seen) c.deref-in-None.ensures.value)) (AreWorkflows-seen sets count seen c.in_ok-seen.ensures none),
+      subst (AreWorkflows sets count) (sym (c.in_ok-listed-in-None.ensures ∙ ap (map one_seen) c.deref-in-None.ensures.value))
+          (AreWorkflows-seen sets count seen c.in_ok-seen.ensures none),
     )

@@ -24,7 +24,8 @@ unfolding tree_fault
 returns-clause-none c =
     let us = c.args.units.now in
     IfOk-weaker c.levels.result (λ levels. AreLevels us levels.items) (λ _. or_else (shape_fault us) (depth_fault us) ≡ None)
-    (λ levels has. ap (λ o. or_else o (depth_fault us)) (sym c.in_default.ensures) ∙ no_depth_fault us levels.items (HasParents-from_none us (shape_parts us (sym c.in_default.ensures)).0) has)
+    (λ levels has. ap (λ o. or_else o (depth_fault us)) (sym c.in_default.ensures)
+    ∙ no_depth_fault us levels.items (HasParents-from_none us (shape_parts us (sym c.in_default.ensures)).0) has)
     c.levels.ensures.levels
 
 pub returns-clause-loop_node : goal.returns-clause-loop_node

@@ -10,7 +10,8 @@ returns c =
     let us = c.args.units.now in
     let place : Kin → ℕ = λ row. row.place in
     let sorted : InFamilies us (map place c.sort.new.self.items) =
-    InFamilies-from_sort us c.requires.tree c.in_ok-rows.rows.items c.sort.new.self.items c.in_ok-rows.ensures c.in_ok-sort.ensures.permutation c.in_ok-sort.ensures.sorted in
+    InFamilies-from_sort us c.requires.tree c.in_ok-rows.rows.items c.sort.new.self.items c.in_ok-rows.ensures c.in_ok-sort.ensures.permutation
+    c.in_ok-sort.ensures.sorted in
     IfOk-weaker c.places.result (λ kin. kin.items ≡ map place c.deref.result.now) (λ kin. InFamilies us kin.items)
     (λ kin is. subst (λ (v : List ℕ). InFamilies us v) (sym (is ∙ ap (map place) c.deref.ensures.value)) sorted)
     c.places.ensures

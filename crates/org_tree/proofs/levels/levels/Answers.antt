@@ -8,7 +8,8 @@ use Rattle.org_tree.proofs.levels.levels.Goals as goal
 
 pub fault_of_depth-requires-clause-first : goal.fault_of_depth-requires-clause-first
 fault_of_depth-requires-clause-first c =
-    first_below-found (is_too_deep c.args.units.now) (length c.args.units.now) c.loop-unit.unit c.loop-unit.invariant.none_deep c.in-None.ensures c.loop-unit-test.true
+    first_below-found (is_too_deep c.args.units.now) (length c.args.units.now) c.loop-unit.unit c.loop-unit.invariant.none_deep c.in-None.ensures
+    c.loop-unit-test.true
 
 pub loop-unit-preserved : goal.loop-unit-preserved
 loop-unit-preserved c =
@@ -17,5 +18,6 @@ loop-unit-preserved c =
     rw c.in_ok-push-in-Some.ensures.items record {
       count = omega (arith, done.count, length_push c.loop-unit.levels.items c.in-Some.level);
       each = each_push (HasLevel us) c.loop-unit.levels.items c.in-Some.level c.loop-unit.unit done.count done.each c.in-Some.ensures;
-      none_deep = first_below-more (is_too_deep us) c.loop-unit.unit done.none_deep (shallow-from_HasLevel us c.loop-unit.unit c.in-Some.level c.in-Some.ensures);
+      none_deep =
+          first_below-more (is_too_deep us) c.loop-unit.unit done.none_deep (shallow-from_HasLevel us c.loop-unit.unit c.in-Some.level c.in-Some.ensures);
     }

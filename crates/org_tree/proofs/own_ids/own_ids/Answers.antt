@@ -9,4 +9,5 @@ returns c =
     own_ids_tell c.args.units.now c.sort.new.self.items c.neighbours_differ.result
     (subst (λ (v : List (List ℕ)). IsPermutation v c.sort.new.self.items) c.in_ok-ids.ensures c.in_ok-sort.ensures.permutation)
     c.in_ok-sort.ensures.sorted
-    (subst (λ (v : List (List ℕ)). MatchBool c.neighbours_differ.result (NeighboursDiffer v) (NeighboursMeet v)) c.deref.ensures.value c.neighbours_differ.ensures)
+    (subst (λ (v : List (List ℕ)). MatchBool c.neighbours_differ.result (NeighboursDiffer v) (NeighboursMeet v)) c.deref.ensures.value
+    c.neighbours_differ.ensures)

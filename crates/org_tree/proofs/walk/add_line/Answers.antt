@@ -12,7 +12,8 @@ overflow_add-sizes c =
     let us = c.args.units.now in
     let here = c.in-Some.here in
     let small = line_fits us c.loop-at.sizes c.args.unit here c.requires.tree (c.loop-at.invariant.in_range here c.in-Some.is) c.requires.in_range
-    (λ y l. subst (λ (o : Option ℕ). get_or c.loop-at.sizes y 0 + ahead_of us o y ≡ count_below (λ z. is_under us z y) (c.args.unit + 1)) c.in-Some.is (c.loop-at.invariant.each y l)) in
+    (λ y l. subst (λ (o : Option ℕ). get_or c.loop-at.sizes y 0 + ahead_of us o y ≡ count_below (λ z. is_under us z y) (c.args.unit + 1)) c.in-Some.is
+    (c.loop-at.invariant.each y l)) in
     omega arith
 
 pub loop-at-smaller : goal.loop-at-smaller
@@ -35,7 +36,9 @@ loop-at-preserved c =
       same_length = length-set c.loop-at.sizes here (get_or c.loop-at.sizes here 0 + 1) ∙ c.loop-at.invariant.same_length;
       each = λ y l.
           ap (λ (o : Option ℕ). get_or (set c.loop-at.sizes here (get_or c.loop-at.sizes here 0 + 1)) y 0 + ahead_of us o y) c.parent-at.ensures
-          ∙ line_more us c.loop-at.sizes (λ y. count_below (λ z. is_under us z y) (c.args.unit + 1)) here c.requires.tree in_range c.loop-at.invariant.same_length
-          (λ y l. subst (λ (o : Option ℕ). get_or c.loop-at.sizes y 0 + ahead_of us o y ≡ count_below (λ z. is_under us z y) (c.args.unit + 1)) c.in-Some.is (c.loop-at.invariant.each y l))
+          ∙ line_more us c.loop-at.sizes (λ y. count_below (λ z. is_under us z y) (c.args.unit + 1)) here c.requires.tree in_range
+          c.loop-at.invariant.same_length
+          (λ y l. subst (λ (o : Option ℕ). get_or c.loop-at.sizes y 0 + ahead_of us o y ≡ count_below (λ z. is_under us z y) (c.args.unit + 1)) c.in-Some.is
+          (c.loop-at.invariant.each y l))
           y l;
     }

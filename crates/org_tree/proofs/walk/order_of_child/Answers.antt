@@ -22,7 +22,8 @@ overflow_add-result c =
     let value : get_or c.args.orders.now c.in-Some.sibling 0 + get_or c.args.sizes.now c.in-Some.sibling 0 ≡ order_of us (get_or c.args.kin.now c.args.i 0) =
     order_after_sibling us c.args.kin.now c.args.orders.now c.args.sizes.now c.args.i c.args.above c.in-Some.sibling
     c.requires.tree c.requires.kin c.requires.sizes c.requires.orders c.requires.in_range c.requires.above found.0 found.1 found.2 in
-    let small : order_of us (get_or c.args.kin.now c.args.i 0) < length us = order-lt us c.requires.tree (get_or c.args.kin.now c.args.i 0) (c.requires.kin.in_range c.args.i c.requires.in_range) in
+    let small : order_of us (get_or c.args.kin.now c.args.i 0) < length us =
+    order-lt us c.requires.tree (get_or c.args.kin.now c.args.i 0) (c.requires.kin.in_range c.args.i c.requires.in_range) in
     let few = c.requires.tree.few in
     omega arith
 
@@ -32,6 +33,7 @@ overflow_add-result-in-None c =
     let value : get_or c.args.orders.now c.args.above 0 + 1 ≡ order_of us (get_or c.args.kin.now c.args.i 0) =
     order_after_parent us c.args.kin.now c.args.orders.now c.args.i c.args.above
     c.requires.tree c.requires.kin c.requires.orders c.requires.in_range c.requires.above c.in-None.ensures.none in
-    let small : order_of us (get_or c.args.kin.now c.args.i 0) < length us = order-lt us c.requires.tree (get_or c.args.kin.now c.args.i 0) (c.requires.kin.in_range c.args.i c.requires.in_range) in
+    let small : order_of us (get_or c.args.kin.now c.args.i 0) < length us =
+    order-lt us c.requires.tree (get_or c.args.kin.now c.args.i 0) (c.requires.kin.in_range c.args.i c.requires.in_range) in
     let few = c.requires.tree.few in
     omega arith

@@ -17,8 +17,10 @@ pub loop-unit-preserved : goal.loop-unit-preserved
 loop-unit-preserved c =
     let us = c.args.units.now in
     let in_range : c.loop-unit.unit < length us = let e = c.requires.orders.same_length in omega arith in
-    WalkSoFar-more us c.loop-unit.walk.items c.loop-unit.unit _ c.requires.tree in_range (c.requires.orders.each c.loop-unit.unit in_range) c.loop-unit.invariant
+    WalkSoFar-more us c.loop-unit.walk.items c.loop-unit.unit _ c.requires.tree in_range (c.requires.orders.each c.loop-unit.unit in_range)
+    c.loop-unit.invariant
 
 pub returns : goal.returns
 returns c =
-    IsWalk-from_all c.args.units.now c.loop-unit.walk.items c.loop-unit.unit c.requires.tree (let e = c.requires.orders.same_length in omega arith) c.loop-unit.invariant
+    IsWalk-from_all c.args.units.now c.loop-unit.walk.items c.loop-unit.unit c.requires.tree (let e =
+    c.requires.orders.same_length in omega arith) c.loop-unit.invariant

@@ -11,9 +11,13 @@ use Rattle.query_answer.proofs.cells.indicator_cell.Goals as goal
 pub returns : goal.returns
 unfolding indicator_cell
 returns g c =
-    let r = c.args.meta.now in
+    let r = c.args.asking.now.meta.now in
     let indicator = c.args.indicator.now in
-    let value : Item → Option Fraction = λ item. item_value_of r (seen_of r c.args.seer.now.user (contents_of (g.S.RowStore.rows c.args.store.now) (g.S.RowStore.events c.args.store.now) (g.S.RowStore.regs c.args.store.now))) item c.args.periods.now c.args.units.now false in
+    let value : Item → Option Fraction = λ item. item_value_of r
+    (seen_of r c.args.asking.now.seer.now.user
+    (contents_of (g.S.RowStore.rows c.args.asking.now.store.now) (g.S.RowStore.events c.args.asking.now.store.now)
+    (g.S.RowStore.regs c.args.asking.now.store.now)))
+    item c.args.periods.now c.args.units.now false in
     let over : c.as_slice.result.now ≡ map value (items_in indicator.numerator) =
     c.as_slice.ensures.value ∙ c.in_ok-over.ensures ∙ ap (map value) c.items-numerator.ensures in
     let under : c.as_slice-2.result.now ≡ map value (items_in indicator.denominator) =

@@ -5,4 +5,7 @@ use Rattle.query_answer.proofs.cells.item_values.Given as goal
 
 abbrev pub invariant-loop-item : goal.invariant-loop-item
 invariant-loop-item g l =
-    l.values.items ≡ map (λ item. item_value_of l.meta (seen_of l.meta l.seer.user (contents_of (g.S.RowStore.rows l.store) (g.S.RowStore.events l.store) (g.S.RowStore.regs l.store))) item l.periods l.units false) (take l.item-index l.items)
+    l.values.items ≡ map (λ item. item_value_of l.asking.meta.now
+    (seen_of l.asking.meta.now l.asking.seer.now.user
+    (contents_of (g.S.RowStore.rows l.asking.store.now) (g.S.RowStore.events l.asking.store.now) (g.S.RowStore.regs l.asking.store.now)))
+    item l.periods l.units false) (take l.item-index l.items)

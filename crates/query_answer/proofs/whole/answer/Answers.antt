@@ -21,7 +21,8 @@ returns-in-Some-clause-unseen g c other same =
     let held : Contents = contents_of (g.S.RowStore.rows c.args.store.now) (g.S.RowStore.events c.args.store.now) (g.S.RowStore.regs c.args.store.now) in
     let shown : SeenRecords = seen_of c.args.meta.now c.args.seer.now.user held in
     let others : SeenRecords = seen_of c.args.meta.now c.args.seer.now.user other in
-    subst (λ answer. Answers (Err (Wide c.in-Some.id)) answer) (answer_of-same c.args.meta.now c.args.query.now shown others same) (returns-in-Some-clause-answer g c)
+    subst (λ answer. Answers (Err (Wide c.in-Some.id)) answer) (answer_of-same c.args.meta.now c.args.query.now shown others same)
+    (returns-in-Some-clause-answer g c)
 
 pub body-requires : goal.body-requires
 body-requires g c =
@@ -45,4 +46,5 @@ returns-clause-unseen g c other same =
     let held : Contents = contents_of (g.S.RowStore.rows c.args.store.now) (g.S.RowStore.events c.args.store.now) (g.S.RowStore.regs c.args.store.now) in
     let shown : SeenRecords = seen_of c.args.meta.now c.args.seer.now.user held in
     let others : SeenRecords = seen_of c.args.meta.now c.args.seer.now.user other in
-    subst (λ answer. Answers (Ok c.in_ok-body-in-None.field-0) answer) (answer_of-same c.args.meta.now c.args.query.now shown others same) (returns-clause-answer g c)
+    subst (λ answer. Answers (Ok c.in_ok-body-in-None.field-0) answer) (answer_of-same c.args.meta.now c.args.query.now shown others same)
+    (returns-clause-answer g c)

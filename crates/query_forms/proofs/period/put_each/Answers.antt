@@ -11,7 +11,8 @@ loop-text-preserved c = record {
   known = c.in_ok-put_all.ensures.seen;
   rest = periods_more _ c.loop-text.kept.items c.put_all.new.kept.items c.in-Some.found.items c.args.texts.now c.loop-text.text-index c.text-item.result _
       c.loop-text-test.true c.text-item.is
-      (ap (period_form _) (sym c.as_slice.ensures) ∙ sym c.in_ok-found.ensures ∙ ap (option_map (λ (periods : Vec PeriodName Global). periods.items)) c.in-Some.is)
+      (ap (period_form _) (sym c.as_slice.ensures) ∙ sym c.in_ok-found.ensures
+      ∙ ap (option_map (λ (periods : Vec PeriodName Global). periods.items)) c.in-Some.is)
       (c.in_ok-put_all.ensures.kept ∙ ap (once_from same_period c.loop-text.kept.items) c.deref.ensures.value)
       c.loop-text.invariant.rest;
 }

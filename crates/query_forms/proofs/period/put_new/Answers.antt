@@ -10,6 +10,7 @@ returns-clause-seen c =
     let absent : contains same_period c.args.seen.now c.args.period ≡ false = sym c.contains.ensures ∙ c.if-contains.false in
     let added : c.in_ok-insert.field-0 ≡ true = c.in_ok-insert.ensures.added ∙ ap not absent in
     λ period.
-    put_one (same_period period) (same_period period) c.args.period c.args.period c.args.seen.now.keys c.insert.new.self.keys c.args.kept.now.items c.in_ok-insert.field-0
+    put_one (same_period period) (same_period period) c.args.period c.args.period c.args.seen.now.keys c.insert.new.self.keys c.args.kept.now.items
+    c.in_ok-insert.field-0
     added c.in_ok-insert.ensures.keys refl (c.requires period)
     ∙ ap (list_any (same_period period)) (sym c.in_ok-push.ensures.items)

@@ -5,9 +5,11 @@ use Rattle.query_lang.proofs.choice.chosen_among.Goals as goal
 
 pub loop-order-preserved : goal.loop-order-preserved
 loop-order-preserved c =
-    let test : ℕ → Bool = is_chosen c.args.tree.now c.args.bounds.now c.args.levels.now c.args.grouped c.args.members.now in
+    let test : ℕ → Bool = is_chosen c.args.tree.now c.args.narrowing.now.bounds.now c.args.narrowing.now.levels.now
+    c.args.narrowing.now.grouped c.args.narrowing.now.members.now in
     let unit : ℕ = c.unit_at-unit.result in
     c.in_ok-push_if.ensures
     ∙ ap (λ b. c.loop-order.found.items ++ cond b (unit ∷ []) []) c.is_chosen-passes.ensures
     ∙ ap (λ (xs : List ℕ). xs ++ filter test (unit ∷ [])) c.loop-order.invariant
-    ∙ sym (filtered-more c.args.tree.now test unit c.loop-order.order c.count-order-end.ensures.tree c.unit_at-unit.ensures.in_range c.unit_at-unit.ensures.unit)
+    ∙ sym (filtered-more c.args.tree.now test unit c.loop-order.order c.count-order-end.ensures.tree c.unit_at-unit.ensures.in_range
+    c.unit_at-unit.ensures.unit)

@@ -10,4 +10,5 @@ loop-order-preserved c =
     c.in_ok-push_if.ensures
     ∙ ap (λ b. c.loop-order.found.items ++ cond b (unit ∷ []) []) c.is_kin-passes.ensures
     ∙ ap (λ (xs : List ℕ). xs ++ filter test (unit ∷ [])) c.loop-order.invariant
-    ∙ sym (filtered-more c.args.tree.now test unit c.loop-order.order c.count-order-end.ensures.tree c.unit_at-unit.ensures.in_range c.unit_at-unit.ensures.unit)
+    ∙ sym (filtered-more c.args.tree.now test unit c.loop-order.order c.count-order-end.ensures.tree c.unit_at-unit.ensures.in_range
+    c.unit_at-unit.ensures.unit)

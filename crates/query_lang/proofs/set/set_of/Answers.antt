@@ -11,4 +11,5 @@ loop-number-preserved c =
     let i : ℕ = c.loop-number.number-index in
     let x : ℕ = get_or numbers i 0 in
     let more : take (i + 1) numbers ≡ take i numbers ++ x ∷ [] = take_more numbers i 0 c.loop-number-test.true in
-    λ q. has-more (take i numbers) x q _ _ (nat_eq x q) (nat_eq_equiv.symm x q) (c.loop-number.invariant q) (c.in_ok-insert.ensures.updates.0 q) ∙ ap (λ ys. has ys q) (sym more)
+    λ q. has-more (take i numbers) x q _ _ (nat_eq x q) (nat_eq_equiv.symm x q) (c.loop-number.invariant q) (c.in_ok-insert.ensures.updates.0 q)
+    ∙ ap (λ ys. has ys q) (sym more)

@@ -10,7 +10,8 @@ pub returns-in-Err-clause-ready : goal.returns-in-Err-clause-ready
 returns-in-Err-clause-ready c = all_ready-stays c.args.index.now c.make_ready.new.index c.make_ready.ensures.keeps c.args.waiting.now.items c.requires.ready
 
 pub returns-in_err-push-in-Ok-clause-linked : goal.returns-in_err-push-in-Ok-clause-linked
-returns-in_err-push-in-Ok-clause-linked c = linked-same c.args.index.now c.make_ready.new.index c.make_ready.ensures.keeps c.make_ready.ensures.same c.requires.linked
+returns-in_err-push-in-Ok-clause-linked c =
+    linked-same c.args.index.now c.make_ready.new.index c.make_ready.ensures.keeps c.make_ready.ensures.same c.requires.linked
 
 pub returns-in_err-push-in-Ok-clause-ready : goal.returns-in_err-push-in-Ok-clause-ready
 returns-in_err-push-in-Ok-clause-ready c =

@@ -4,13 +4,15 @@ use Rattle.request_session.proofs.session.answer_each.Goals as goal
 
 pub returns-then-served-most-clause-ran : goal.returns-then-served-most-clause-ran
 returns-then-served-most-clause-ran g c =
-    at_limit _ _ _ _ _ _ _ _ _ _ _ _ _ _ _ _ _ c.in-Answered.keep c.loop-keep.invariant.0 c.in-Answered.ensures.turns (bound_of c.rest.view_is c.rest.invariant) c.if-served-most.true
+    at_limit _ _ _ _ _ _ _ _ _ _ _ _ _ _ _ _ _ c.in-Answered.keep c.loop-keep.invariant.0 c.in-Answered.ensures.turns (bound_of c.rest.view_is c.rest.invariant)
+    c.if-served-most.true
 
 pub returns-then-not-keep-clause-ran : goal.returns-then-not-keep-clause-ran
 returns-then-not-keep-clause-ran g c =
     let other : c.loop-keep.served + 1 ≢ c.args.most = search rules in
     let asks : c.in-Answered.keep ≡ false = search rules in
-    closes _ _ _ _ _ _ _ _ _ _ _ _ _ _ _ _ _ c.in-Answered.keep c.loop-keep.invariant.0 c.in-Answered.ensures.turns (bound_of c.rest.view_is c.rest.invariant) c.loop-keep.invariant.1 other asks
+    closes _ _ _ _ _ _ _ _ _ _ _ _ _ _ _ _ _ c.in-Answered.keep c.loop-keep.invariant.0 c.in-Answered.ensures.turns (bound_of c.rest.view_is c.rest.invariant)
+    c.loop-keep.invariant.1 other asks
 
 pub loop-keep-preserved : goal.loop-keep-preserved
 loop-keep-preserved g c =

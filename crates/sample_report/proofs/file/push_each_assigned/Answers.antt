@@ -6,4 +6,5 @@ pub loop-n-init : goal.loop-n-init
 loop-n-init c = each-none assigned c.args.text.now.items
 
 pub loop-n-preserved : goal.loop-n-preserved
-loop-n-preserved c = each-step assigned c.args.text.now.items c.loop-n.text.items c.push_assigned.new.text.items c.loop-n.n c.loop-n.invariant c.in_ok-push_assigned.ensures
+loop-n-preserved c =
+    each-step assigned c.args.text.now.items c.loop-n.text.items c.push_assigned.new.text.items c.loop-n.n c.loop-n.invariant c.in_ok-push_assigned.ensures

@@ -1,10 +1,18 @@
-use Rattle.std.proofs.Common.{map, length, FitsSigned, to_z-of_z, w64}
-use Rattle.std.specs.Arc.{arc_value}
-use Rattle.sample_report.proofs.LoadLemmas.{brought-small}
+use Rattle.std.proofs.Common.{◌≡◌, ℤ, subst, FitsSigned, to_z, of_z, to_z-of_z, w64}
+use Rattle.sample_report.specs.Loaded.{asked_for, with_set}
+use Rattle.sample_report.proofs.LoadLemmas.{stays-loaded, log-loaded}
 use Rattle.sample_report.proofs.load.bring.Goals as goal
 
-pub returns-clause-small : goal.returns-clause-small
-returns-clause-small c =
+pub returns-clause-loaded : goal.returns-clause-loaded
+returns-clause-loaded c =
     let fits : FitsSigned w64 c.args.moment = c.ranges.moment in
-    brought-small c.put.result c.args.moment (map arc_value c.args.loaded.now.log.items) (map arc_value c.put.new.loaded.log.items) c.in_ok-writes.writes (length c.args.samples.now)
-    c.in_ok-writes.ensures.small (rw (to_z-of_z fits) at c.put.ensures.log)
+    λ r before. stays-loaded c.args.engine.now c.load_set.new.engine r (asked_for c.args.moment c.args.samples.now) c.load_set.result before
+    (rw (to_z-of_z fits) at c.load_set.ensures)
+
+pub returns-clause-log : goal.returns-clause-log
+returns-clause-log c =
+    let fits : FitsSigned w64 c.args.moment = c.ranges.moment in
+    let told =
+    log-loaded c.args.engine.now c.load_set.new.engine (to_z w64 (of_z w64 c.args.moment)) c.args.samples.now c.in_ok-found.found c.requires.limits
+    c.in_ok-found.ensures in
+    subst (λ (m : ℤ). c.load_set.new.engine.state.log ≡ with_set c.args.engine.now.meta m c.args.engine.now.state.log c.args.samples.now) (to_z-of_z fits) told

@@ -5,4 +5,5 @@ use Rattle.table_build.proofs.named.events_named.Goals as goal
 
 pub loop-change-preserved : goal.loop-change-preserved
 loop-change-preserved c =
-    named-step arc_value event_named c.args.changes.now c.loop-change.change-index c.change-item.result c.deref.result.now _ _ _ c.loop-change-test.true c.change-item.is c.deref.ensures c.loop-change.invariant c.in_ok-put_change_events.ensures
+    named-step arc_value event_named c.args.changes.now c.loop-change.change-index c.change-item.result c.deref.result.now _ _ _ c.loop-change-test.true
+    c.change-item.is c.deref.ensures c.loop-change.invariant c.in_ok-put_change_events.ensures

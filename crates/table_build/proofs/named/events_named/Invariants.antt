@@ -4,4 +4,5 @@ use Rattle.table_build.specs.Log.{writes_of, events_named}
 use Rattle.table_build.proofs.named.events_named.Given as goal
 
 abbrev pub invariant-loop-change : goal.invariant-loop-change
-invariant-loop-change l = events_named (writes_of (map arc_value l.changes)) ≡ l.ids.items ++ events_named (writes_of (map arc_value (drop l.change-index l.changes)))
+invariant-loop-change l =
+    events_named (writes_of (map arc_value l.changes)) ≡ l.ids.items ++ events_named (writes_of (map arc_value (drop l.change-index l.changes)))

@@ -4,4 +4,5 @@ use Rattle.table_build.specs.Log.{writes_of, values_named}
 use Rattle.table_build.proofs.named.values_named.Given as goal
 
 abbrev pub invariant-loop-change : goal.invariant-loop-change
-invariant-loop-change l = values_named (writes_of (map arc_value l.changes)) ≡ l.keys.items ++ values_named (writes_of (map arc_value (drop l.change-index l.changes)))
+invariant-loop-change l =
+    values_named (writes_of (map arc_value l.changes)) ≡ l.keys.items ++ values_named (writes_of (map arc_value (drop l.change-index l.changes)))

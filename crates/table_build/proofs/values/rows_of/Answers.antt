@@ -9,5 +9,9 @@ pub returns-clause-own_places : goal.returns-clause-own_places
 returns-clause-own_places c =
     ap have_own_places c.in_ok-rows.ensures
     ∙ rows-own c.args.meta.now (facts c.args.world.now)
-    (record { is_tree = subst IsTree c.tree_of.ensures.value c.count-units.ensures.tree; numbers = ap length (sym c.tree_of.ensures.value) ∙ c.tree_of.ensures.numbers })
+    (record {
+      is_tree = subst IsTree c.tree_of.ensures.value c.count-units.ensures.tree;
+      numbers = ap length (sym c.tree_of.ensures.value)
+          ∙ c.tree_of.ensures.numbers;
+    })
     c.args.keys.now

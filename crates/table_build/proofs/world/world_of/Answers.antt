@@ -8,4 +8,5 @@ use Rattle.table_build.proofs.world.world_of.Goals as goal
 pub loop-change-preserved : goal.loop-change-preserved
 loop-change-preserved c =
     c.in_ok-take_change.ensures (writes_of (map arc_value (take c.loop-change.change-index c.args.changes.now))) c.loop-change.invariant
-    ∙ ap facts_in (taken-step arc_value c.args.changes.now c.loop-change.change-index c.change-item.result c.deref.result.now c.loop-change-test.true c.change-item.is c.deref.ensures)
+    ∙ ap facts_in (taken-step arc_value c.args.changes.now c.loop-change.change-index c.change-item.result c.deref.result.now c.loop-change-test.true
+    c.change-item.is c.deref.ensures)

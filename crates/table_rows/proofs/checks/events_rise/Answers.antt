@@ -5,7 +5,8 @@ use Rattle.table_rows.proofs.checks.events_rise.Goals as goal
 
 pub loop-i-preserved : goal.loop-i-preserved
 loop-i-preserved c =
-    rises-kept event_cmp c.args.events.now c.loop-i.i c.index-events-i.result c.index-events-i-in-loop-i.result c.loop-i.auto.i c.loop-i-test.true c.index-events-i.is c.index-events-i-in-loop-i.is
+    rises-kept event_cmp c.args.events.now c.loop-i.i c.index-events-i.result c.index-events-i-in-loop-i.result c.loop-i.auto.i c.loop-i-test.true
+    c.index-events-i.is c.index-events-i-in-loop-i.is
     (sym c.if-not-is_before.false ∙ c.is_before.ensures) c.loop-i.invariant
 
 pub returns : goal.returns

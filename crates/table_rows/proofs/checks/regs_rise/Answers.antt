@@ -5,7 +5,8 @@ use Rattle.table_rows.proofs.checks.regs_rise.Goals as goal
 
 pub loop-i-preserved : goal.loop-i-preserved
 loop-i-preserved c =
-    rises-kept reg_cmp c.args.regs.now c.loop-i.i c.index-regs-i.result c.index-regs-i-in-loop-i.result c.loop-i.auto.i c.loop-i-test.true c.index-regs-i.is c.index-regs-i-in-loop-i.is
+    rises-kept reg_cmp c.args.regs.now c.loop-i.i c.index-regs-i.result c.index-regs-i-in-loop-i.result c.loop-i.auto.i c.loop-i-test.true c.index-regs-i.is
+    c.index-regs-i-in-loop-i.is
     (sym c.if-not-is_before.false ∙ c.is_before.ensures) c.loop-i.invariant
 
 pub returns : goal.returns

@@ -8,12 +8,14 @@ use Rattle.value_import.proofs.batch.holds_registration.Goals as goal
 pub returns-in-Some : goal.returns-in-Some
 unfolding holds_registration
 returns-in-Some c =
-    held-here (last_said (of_registration c.args.key.now) (map said_by c.args.batch.now.verdict.writes)) ((facts c.args.world.now).registration c.args.key.now) c.in-Some.held.now
+    held-here (last_said (of_registration c.args.key.now) (map said_by c.args.batch.now.verdict.writes)) ((facts c.args.world.now).registration c.args.key.now)
+    c.in-Some.held.now
     (c.in-Some.ensures.value ∙ c.requires.registrations c.args.key.now)
 
 pub returns-in-None : goal.returns-in-None
 unfolding holds_registration
 returns-in-None c =
     c.is_registered.ensures
-    ∙ held-else (last_said (of_registration c.args.key.now) (map said_by c.args.batch.now.verdict.writes)) ((facts c.args.world.now).registration c.args.key.now)
+    ∙ held-else (last_said (of_registration c.args.key.now) (map said_by c.args.batch.now.verdict.writes))
+    ((facts c.args.world.now).registration c.args.key.now)
     (c.in-None.ensures.value ∙ c.requires.registrations c.args.key.now)

@@ -8,7 +8,8 @@ use Rattle.value_import.proofs.batch.holds_value.Goals as goal
 pub returns-in-Some : goal.returns-in-Some
 unfolding holds_value
 returns-in-Some c =
-    held-here (last_said (of_value c.args.key.now) (map said_by c.args.batch.now.verdict.writes)) ((facts c.args.world.now).value c.args.key.now) c.in-Some.held.now
+    held-here (last_said (of_value c.args.key.now) (map said_by c.args.batch.now.verdict.writes)) ((facts c.args.world.now).value c.args.key.now)
+    c.in-Some.held.now
     (c.in-Some.ensures.value ∙ c.requires.values c.args.key.now)
 
 pub returns-in-None : goal.returns-in-None

@@ -6,7 +6,8 @@ use Rattle.value_import.proofs.verdict.verdict.Goals as goal
 pub returns-clause-writes : goal.returns-clause-writes
 returns-clause-writes c =
     let fits : FitsSigned w64 c.args.moment = c.ranges.moment in
-    set-writes (facts c.args.world.now) c.args.meta.now c.args.who c.args.moment c.args.set.now c.judged_set.result (rw (to_z-of_z fits) at c.judged_set.ensures)
+    set-writes (facts c.args.world.now) c.args.meta.now c.args.who c.args.moment c.args.set.now c.judged_set.result
+    (rw (to_z-of_z fits) at c.judged_set.ensures)
 
 pub returns-clause-fits : goal.returns-clause-fits
 returns-clause-fits c =

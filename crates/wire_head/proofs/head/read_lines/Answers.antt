@@ -10,7 +10,8 @@ use Rattle.wire_head.proofs.head.read_lines.Goals as goal
 pub returns-then-end-head : goal.returns-then-end-head
 returns-then-end-head c =
     let held : (k : RequestHead) × HoldsRequest c.args.head.now c.in-Ok-Complete.end c.parse.new.self k =
-    held_by c.in-Ok-Complete.field-0 c.in-Ok-Complete.end (HoldsSomeRequest c.args.head.now c.parse.new.self) c.in-Ok-Complete.field-0-is c.in-Ok-Complete.ensures.complete in
+    held_by c.in-Ok-Complete.field-0 c.in-Ok-Complete.end (HoldsSomeRequest c.args.head.now c.parse.new.self) c.in-Ok-Complete.field-0-is
+    c.in-Ok-Complete.ensures.complete in
     (None, none_whole c.args.head.now held.0 c.in-Ok-Complete.end held.1.reads held.1.len_is c.if-end-head.true, refl)
 
 pub returns-in-Err : goal.returns-in-Err
@@ -21,10 +22,20 @@ returns-in-Err c =
 pub returns : goal.returns
 returns c =
     let held : (k : RequestHead) × HoldsRequest c.args.head.now c.in-Ok-Complete.end c.parse.new.self k =
-    held_by c.in-Ok-Complete.field-0 c.in-Ok-Complete.end (HoldsSomeRequest c.args.head.now c.parse.new.self) c.in-Ok-Complete.field-0-is c.in-Ok-Complete.ensures.complete in
-    let parts : Parts = record { method = c.as_bytes.result.now; target = c.as_bytes-2.result.now; minor = c.in-Some-Some-Some.minor; fields = map header_parts c.parse.new.self.headers.now } in
-    let same : parts ≡ parts_of held.0 = parts_held held.0 c.as_bytes.result.now c.as_bytes-2.result.now c.in-Some-Some-Some.minor (map header_parts c.parse.new.self.headers.now)
+    held_by c.in-Ok-Complete.field-0 c.in-Ok-Complete.end (HoldsSomeRequest c.args.head.now c.parse.new.self) c.in-Ok-Complete.field-0-is
+    c.in-Ok-Complete.ensures.complete in
+    let parts : Parts =
+    record {
+      method = c.as_bytes.result.now;
+      target = c.as_bytes-2.result.now;
+      minor = c.in-Some-Some-Some.minor;
+      fields =
+          map header_parts c.parse.new.self.headers.now;
+    } in
+    let same : parts ≡ parts_of held.0 =
+    parts_held held.0 c.as_bytes.result.now c.as_bytes-2.result.now c.in-Some-Some-Some.minor (map header_parts c.parse.new.self.headers.now)
     (ap Some c.as_bytes.ensures.value ∙ sym (ap option_copied c.in-Some-Some-Some.is-0) ∙ held.1.method)
-    (ap Some c.as_bytes-2.ensures.value ∙ sym (ap option_copied c.in-Some-Some-Some.is-1) ∙ held.1.path) (sym c.in-Some-Some-Some.is-2 ∙ held.1.version) held.1.fields in
+    (ap Some c.as_bytes-2.ensures.value ∙ sym (ap option_copied c.in-Some-Some-Some.is-1) ∙ held.1.path) (sym c.in-Some-Some-Some.is-2
+    ∙ held.1.version) held.1.fields in
     Answers_map c.said_by.result (λ meant. meant ≡ said_by parts) _
     (λ meant said. whole_read c.args.head.now held.0 c.in-Ok-Complete.end parts held.1.reads c.if-end-head.false same meant said) c.said_by.ensures

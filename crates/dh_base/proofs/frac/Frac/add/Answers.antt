@@ -23,7 +23,8 @@ reduced c =
 
 pub returns-in-Some-clause-answer : goal.returns-in-Some-clause-answer
 returns-in-Some-clause-answer c =
-    add_answer c.args.self c.args.other (own_positive c) (other_positive c) c.common_divisor-shared.result (common c) c.in-Some.num c.in-Some.den c.lowest.result
+    add_answer c.args.self c.args.other (own_positive c) (other_positive c) c.common_divisor-shared.result (common c) c.in-Some.num c.in-Some.den
+    c.lowest.result
     (sym c.in-Some.is ∙ c.sum_over_common.ensures.value) (reduced c)
 
 pub returns-in-Some-clause-sum : goal.returns-in-Some-clause-sum

@@ -11,5 +11,6 @@ pub returns-in-Some : goal.returns-in-Some
 returns-in-Some c =
     let own : FitsSigned w128 c.in-Some.own = search rules in
     let others : FitsSigned w128 c.in-Some.others = search rules in
-    cmp_answer c.args.self c.args.other (subst (λ (f : Fraction). 0 < f.den) c.other.view_is c.other.invariant.reduced.positive) c.common_divisor-shared.result (search rules) c.in-Some.own c.in-Some.others c.cmp.result
+    cmp_answer c.args.self c.args.other (subst (λ (f : Fraction). 0 < f.den) c.other.view_is c.other.invariant.reduced.positive) c.common_divisor-shared.result
+    (search rules) c.in-Some.own c.in-Some.others c.cmp.result
     (sym c.in-Some.is ∙ c.over_common.ensures) (simp to_z-of_z at c.cmp.ensures)

@@ -24,35 +24,55 @@ told x y s r g h a b left right fx fy es eg er eh fa ea fb eb =
     ∙ ap (λ z. ratio (int_div x.num (pos g) *ℤ z) (x.den / h * (y.den / g))) pb
     ∙ product-crossed x y left.reduced right.reduced g h across back
 
-numbers-In_default : (c : goal.In_default) → ratio (to_z w128 (of_z w128 c.divided.result) *ℤ to_z w128 (of_z w128 c.divided-2.result)) (c.self.inside.den / c.common_divisor-back.result * (c.other.inside.den / c.common_divisor-across.result)) ≡ product_of (ratio c.self.inside.num c.self.inside.den) (ratio c.other.inside.num c.other.inside.den)
+numbers-In_default : (c : goal.In_default)
+    → ratio (to_z w128 (of_z w128 c.divided.result) *ℤ to_z w128 (of_z w128 c.divided-2.result))
+    (c.self.inside.den / c.common_divisor-back.result * (c.other.inside.den / c.common_divisor-across.result))
+    ≡ product_of (ratio c.self.inside.num c.self.inside.den) (ratio c.other.inside.num c.other.inside.den)
 numbers-In_default c =
-    told (ratio c.self.inside.num c.self.inside.den) (ratio c.other.inside.num c.other.inside.den) c.unsigned_abs.result c.unsigned_abs-2.result c.common_divisor-across.result c.common_divisor-back.result c.divided.result c.divided-2.result
-    c.self.invariant c.other.invariant (search rules) (search rules) c.unsigned_abs.ensures.value c.common_divisor-across.ensures.value c.unsigned_abs-2.ensures.value c.common_divisor-back.ensures.value
+    told (ratio c.self.inside.num c.self.inside.den) (ratio c.other.inside.num c.other.inside.den) c.unsigned_abs.result c.unsigned_abs-2.result
+    c.common_divisor-across.result c.common_divisor-back.result c.divided.result c.divided-2.result
+    c.self.invariant c.other.invariant (search rules) (search rules) c.unsigned_abs.ensures.value c.common_divisor-across.ensures.value
+    c.unsigned_abs-2.ensures.value c.common_divisor-back.ensures.value
     (record { sfits = c.divided.type_inv }) c.divided.ensures (record { sfits = c.divided-2.type_inv }) c.divided-2.ensures
 
-numbers-In_default-size_product : (c : goal.In_default-size_product) → ratio (to_z w128 (of_z w128 c.divided.result) *ℤ to_z w128 (of_z w128 c.divided-2.result)) (c.self.inside.den / c.common_divisor-back.result * (c.other.inside.den / c.common_divisor-across.result)) ≡ product_of (ratio c.self.inside.num c.self.inside.den) (ratio c.other.inside.num c.other.inside.den)
+numbers-In_default-size_product : (c : goal.In_default-size_product)
+    → ratio (to_z w128 (of_z w128 c.divided.result) *ℤ to_z w128 (of_z w128 c.divided-2.result))
+    (c.self.inside.den / c.common_divisor-back.result * (c.other.inside.den / c.common_divisor-across.result))
+    ≡ product_of (ratio c.self.inside.num c.self.inside.den) (ratio c.other.inside.num c.other.inside.den)
 numbers-In_default-size_product c =
-    told (ratio c.self.inside.num c.self.inside.den) (ratio c.other.inside.num c.other.inside.den) c.unsigned_abs.result c.unsigned_abs-2.result c.common_divisor-across.result c.common_divisor-back.result c.divided.result c.divided-2.result
-    c.self.invariant c.other.invariant (search rules) (search rules) c.unsigned_abs.ensures.value c.common_divisor-across.ensures.value c.unsigned_abs-2.ensures.value c.common_divisor-back.ensures.value
+    told (ratio c.self.inside.num c.self.inside.den) (ratio c.other.inside.num c.other.inside.den) c.unsigned_abs.result c.unsigned_abs-2.result
+    c.common_divisor-across.result c.common_divisor-back.result c.divided.result c.divided-2.result
+    c.self.invariant c.other.invariant (search rules) (search rules) c.unsigned_abs.ensures.value c.common_divisor-across.ensures.value
+    c.unsigned_abs-2.ensures.value c.common_divisor-back.ensures.value
     (record { sfits = c.divided.type_inv }) c.divided.ensures (record { sfits = c.divided-2.type_inv }) c.divided-2.ensures
 
-numbers-In-Some-size_product : (c : goal.In-Some-size_product) → ratio (to_z w128 (of_z w128 c.divided.result) *ℤ to_z w128 (of_z w128 c.divided-2.result)) (c.self.inside.den / c.common_divisor-back.result * (c.other.inside.den / c.common_divisor-across.result)) ≡ product_of (ratio c.self.inside.num c.self.inside.den) (ratio c.other.inside.num c.other.inside.den)
+numbers-In-Some-size_product : (c : goal.In-Some-size_product)
+    → ratio (to_z w128 (of_z w128 c.divided.result) *ℤ to_z w128 (of_z w128 c.divided-2.result))
+    (c.self.inside.den / c.common_divisor-back.result * (c.other.inside.den / c.common_divisor-across.result))
+    ≡ product_of (ratio c.self.inside.num c.self.inside.den) (ratio c.other.inside.num c.other.inside.den)
 numbers-In-Some-size_product c =
-    told (ratio c.self.inside.num c.self.inside.den) (ratio c.other.inside.num c.other.inside.den) c.unsigned_abs.result c.unsigned_abs-2.result c.common_divisor-across.result c.common_divisor-back.result c.divided.result c.divided-2.result
-    c.self.invariant c.other.invariant (search rules) (search rules) c.unsigned_abs.ensures.value c.common_divisor-across.ensures.value c.unsigned_abs-2.ensures.value c.common_divisor-back.ensures.value
+    told (ratio c.self.inside.num c.self.inside.den) (ratio c.other.inside.num c.other.inside.den) c.unsigned_abs.result c.unsigned_abs-2.result
+    c.common_divisor-across.result c.common_divisor-back.result c.divided.result c.divided-2.result
+    c.self.invariant c.other.invariant (search rules) (search rules) c.unsigned_abs.ensures.value c.common_divisor-across.ensures.value
+    c.unsigned_abs-2.ensures.value c.common_divisor-back.ensures.value
     (record { sfits = c.divided.type_inv }) c.divided.ensures (record { sfits = c.divided-2.type_inv }) c.divided-2.ensures
 
 pub returns-in_default : goal.returns-in_default
 returns-in_default c =
-    subst (λ (f : Fraction). Err Wide ≡ mul_of f c.args.other) c.self.view_is (subst (λ (f : Fraction). Err Wide ≡ mul_of (ratio c.self.inside.num c.self.inside.den) f) c.other.view_is
+    subst (λ (f : Fraction). Err Wide ≡ mul_of f c.args.other) c.self.view_is
+    (subst (λ (f : Fraction). Err Wide ≡ mul_of (ratio c.self.inside.num c.self.inside.den) f) c.other.view_is
     (wide_num_answer _ _ _ (numbers-In_default c) (sym c.in_default.is ∙ c.product.ensures)))
 
 pub returns-in_default-size_product : goal.returns-in_default-size_product
 returns-in_default-size_product c =
-    subst (λ (f : Fraction). Err Wide ≡ mul_of f c.args.other) c.self.view_is (subst (λ (f : Fraction). Err Wide ≡ mul_of (ratio c.self.inside.num c.self.inside.den) f) c.other.view_is
+    subst (λ (f : Fraction). Err Wide ≡ mul_of f c.args.other) c.self.view_is
+    (subst (λ (f : Fraction). Err Wide ≡ mul_of (ratio c.self.inside.num c.self.inside.den) f) c.other.view_is
     (wide_den_answer _ _ _ (numbers-In_default-size_product c) (sym c.in_default-size_product.is ∙ c.size_product.ensures)))
 
-computed : (c : goal.In-Some-size_product) → IsFitting (ratio c.in-Some.num c.in-Some-size_product.den) × (Ok (ratio c.in-Some.num c.in-Some-size_product.den) ≡ fitting (product_of (ratio c.self.inside.num c.self.inside.den) (ratio c.other.inside.num c.other.inside.den)))
+computed : (c : goal.In-Some-size_product)
+    → IsFitting (ratio c.in-Some.num c.in-Some-size_product.den)
+    × (Ok (ratio c.in-Some.num c.in-Some-size_product.den)
+    ≡ fitting (product_of (ratio c.self.inside.num c.self.inside.den) (ratio c.other.inside.num c.other.inside.den)))
 computed c =
     parts_answer _ _ _ (numbers-In-Some-size_product c) (product_of-IsReduced _ _ c.self.invariant.reduced.positive c.other.invariant.reduced.positive)
     c.in-Some.num c.in-Some-size_product.den (sym c.in-Some.is ∙ c.product.ensures) (sym c.in-Some-size_product.is ∙ c.size_product.ensures)
@@ -65,5 +85,7 @@ invariant_of-result c = subst (λ n. IsFitting (ratio n c.in-Some-size_product.d
 
 pub returns : goal.returns
 returns c =
-    subst (λ (f : Fraction). Ok (ratio (to_z w128 (of_z w128 c.in-Some.num)) c.in-Some-size_product.den) ≡ mul_of f c.args.other) c.self.view_is (subst (λ (f : Fraction). Ok (ratio (to_z w128 (of_z w128 c.in-Some.num)) c.in-Some-size_product.den) ≡ mul_of (ratio c.self.inside.num c.self.inside.den) f) c.other.view_is
+    subst (λ (f : Fraction). Ok (ratio (to_z w128 (of_z w128 c.in-Some.num)) c.in-Some-size_product.den) ≡ mul_of f c.args.other) c.self.view_is
+    (subst (λ (f : Fraction). Ok (ratio (to_z w128 (of_z w128 c.in-Some.num)) c.in-Some-size_product.den)
+    ≡ mul_of (ratio c.self.inside.num c.self.inside.den) f) c.other.view_is
     (ap (λ n. Ok (ratio n c.in-Some-size_product.den)) (plain c) ∙ (computed c).1))

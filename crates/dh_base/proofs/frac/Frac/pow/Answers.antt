@@ -12,17 +12,23 @@ use Rattle.dh_base.proofs.frac.Frac.pow.Goals as goal
 told : (x : Fraction) (n : ℕ) → IsReduced x → FitsSigned w128 x.num → ratio (int_pow (to_z w128 (of_z w128 x.num)) n) (x.den ^ n) ≡ power_of x n
 told x n reduced fits = ap (λ z. ratio (int_pow z n) (x.den ^ n)) (to_z-of_z w128 x.num fits) ∙ power-ratio x n reduced
 
-numbers-In_default : (c : goal.In_default) → ratio (int_pow (to_z w128 (of_z w128 c.self.inside.num)) c.args.n) (c.self.inside.den ^ c.args.n) ≡ power_of (ratio c.self.inside.num c.self.inside.den) c.args.n
+numbers-In_default : (c : goal.In_default)
+    → ratio (int_pow (to_z w128 (of_z w128 c.self.inside.num)) c.args.n) (c.self.inside.den ^ c.args.n)
+    ≡ power_of (ratio c.self.inside.num c.self.inside.den) c.args.n
 numbers-In_default c =
     let fits : FitsSigned w128 c.self.inside.num = search rules in
     told (ratio c.self.inside.num c.self.inside.den) c.args.n c.self.invariant.reduced fits
 
-numbers-In_default-size_power : (c : goal.In_default-size_power) → ratio (int_pow (to_z w128 (of_z w128 c.self.inside.num)) c.args.n) (c.self.inside.den ^ c.args.n) ≡ power_of (ratio c.self.inside.num c.self.inside.den) c.args.n
+numbers-In_default-size_power : (c : goal.In_default-size_power)
+    → ratio (int_pow (to_z w128 (of_z w128 c.self.inside.num)) c.args.n) (c.self.inside.den ^ c.args.n)
+    ≡ power_of (ratio c.self.inside.num c.self.inside.den) c.args.n
 numbers-In_default-size_power c =
     let fits : FitsSigned w128 c.self.inside.num = search rules in
     told (ratio c.self.inside.num c.self.inside.den) c.args.n c.self.invariant.reduced fits
 
-numbers-In-Some-size_power : (c : goal.In-Some-size_power) → ratio (int_pow (to_z w128 (of_z w128 c.self.inside.num)) c.args.n) (c.self.inside.den ^ c.args.n) ≡ power_of (ratio c.self.inside.num c.self.inside.den) c.args.n
+numbers-In-Some-size_power : (c : goal.In-Some-size_power)
+    → ratio (int_pow (to_z w128 (of_z w128 c.self.inside.num)) c.args.n) (c.self.inside.den ^ c.args.n)
+    ≡ power_of (ratio c.self.inside.num c.self.inside.den) c.args.n
 numbers-In-Some-size_power c =
     let fits : FitsSigned w128 c.self.inside.num = search rules in
     told (ratio c.self.inside.num c.self.inside.den) c.args.n c.self.invariant.reduced fits
@@ -37,7 +43,9 @@ returns-in_default-size_power c =
     subst (λ (f : Fraction). Err Wide ≡ pow_of f c.args.n) c.self.view_is
     (wide_den_answer _ _ _ (numbers-In_default-size_power c) (sym c.in_default-size_power.is ∙ c.size_power.ensures))
 
-computed : (c : goal.In-Some-size_power) → IsFitting (ratio c.in-Some.num c.in-Some-size_power.den) × (Ok (ratio c.in-Some.num c.in-Some-size_power.den) ≡ fitting (power_of (ratio c.self.inside.num c.self.inside.den) c.args.n))
+computed : (c : goal.In-Some-size_power)
+    → IsFitting (ratio c.in-Some.num c.in-Some-size_power.den)
+    × (Ok (ratio c.in-Some.num c.in-Some-size_power.den) ≡ fitting (power_of (ratio c.self.inside.num c.self.inside.den) c.args.n))
 computed c =
     parts_answer _ _ _ (numbers-In-Some-size_power c) (power_of-IsReduced _ c.args.n c.self.invariant.reduced.positive)
     c.in-Some.num c.in-Some-size_power.den (sym c.in-Some.is ∙ c.power.ensures) (sym c.in-Some-size_power.is ∙ c.size_power.ensures)

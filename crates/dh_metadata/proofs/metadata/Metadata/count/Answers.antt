@@ -5,4 +5,5 @@ use Rattle.dh_metadata.proofs.metadata.Metadata.count.Goals as goal
 
 pub returns : goal.returns
 returns c =
-    c.count.ensures ∙ ap length (c.self.invariant.ids c.args.kind) ∙ ids_count c.self.inside.records c.args.kind ∙ ap (λ s. count_of s c.args.kind) c.self.view_is
+    c.count.ensures ∙ ap length (c.self.invariant.ids c.args.kind) ∙ ids_count c.self.inside.records c.args.kind
+    ∙ ap (λ s. count_of s c.args.kind) c.self.view_is

@@ -14,6 +14,7 @@ pub returns : goal.returns
 returns c =
     let within : c.args.set < length c.self.inside.records.data_sets = subst (λ s. c.args.set < length s.data_sets) (sym c.self.view_is) c.requires in
     c.has.ensures
-    ∙ searched_has (λ (set : DataSet). set.data_set_elements) c.self.inside.records.data_sets c.self.inside.set_elements.items c.list_at.result.now c.args.set c.args.element
+    ∙ searched_has (λ (set : DataSet). set.data_set_elements) c.self.inside.records.data_sets c.self.inside.set_elements.items c.list_at.result.now c.args.set
+    c.args.element
     c.self.invariant.set_elements within (c.list_at.ensures ∙ ap (λ l. get_or l c.args.set []) c.as_slice.ensures.value)
     ∙ ap (λ s. has_element s c.args.set c.args.element) c.self.view_is

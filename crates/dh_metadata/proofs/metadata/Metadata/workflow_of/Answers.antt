@@ -6,12 +6,14 @@ use Rattle.dh_metadata.proofs.metadata.Metadata.workflow_of.Goals as goal
 
 pub workflow_at-requires : goal.workflow_at-requires
 workflow_at-requires c =
-    let within : c.args.element < length c.self.inside.records.data_elements = subst (λ s. c.args.element < length s.data_elements) (sym c.self.view_is) c.requires in
+    let within : c.args.element < length c.self.inside.records.data_elements =
+    subst (λ s. c.args.element < length s.data_elements) (sym c.self.view_is) c.requires in
     omega (arith, c.self.invariant.workflows.same_length, ap length c.as_slice.ensures.value)
 
 pub returns-clause-value : goal.returns-clause-value
 returns-clause-value c =
-    let within : c.args.element < length c.self.inside.records.data_elements = subst (λ s. c.args.element < length s.data_elements) (sym c.self.view_is) c.requires in
+    let within : c.args.element < length c.self.inside.records.data_elements =
+    subst (λ s. c.args.element < length s.data_elements) (sym c.self.view_is) c.requires in
     c.workflow_at.ensures ∙ ap (λ l. get_or l c.args.element None) c.as_slice.ensures.value
     ∙ c.self.invariant.workflows.each c.args.element within ∙ ap (λ s. workflow_of s.data_sets c.args.element) c.self.view_is
 

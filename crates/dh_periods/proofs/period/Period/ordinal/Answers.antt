@@ -12,5 +12,6 @@ returns-clause-place c =
 
 pub returns-clause-next : goal.returns-clause-next
 returns-clause-next c =
-    let P : PeriodName → Type 0 = λ q. (p : PeriodName) → is_listed p ≡ true → p.kind ≡ q.kind → ordinal_of p ≡ ordinal_of q + 1 → first_day p ≡ last_day q +ℤ pos 1 in
+    let P : PeriodName → Type 0 = λ q. (p : PeriodName) → is_listed p ≡ true → p.kind ≡ q.kind → ordinal_of p ≡ ordinal_of q + 1
+    → first_day p ≡ last_day q +ℤ pos 1 in
     subst P c.self.view_is (λ p h same next. ordinal_of-next c.self.inside.name p c.self.invariant.0 h same next)

@@ -15,7 +15,8 @@ invariant_of-self g c = record {
 }
 
 pub returns-clause-step : goal.returns-clause-step
-returns-clause-step g c = (c.requires, c.drop_staged.ensures.state c.self.inside.log.changes ∙ ap (λ (s : Seen). after_drop s.state c.args.ticket) c.self.view_is)
+returns-clause-step g c =
+    (c.requires, c.drop_staged.ensures.state c.self.inside.log.changes ∙ ap (λ (s : Seen). after_drop s.state c.args.ticket) c.self.view_is)
 
 pub returns-clause-sound : goal.returns-clause-sound
 returns-clause-sound g c = record {

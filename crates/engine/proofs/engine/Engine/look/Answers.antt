@@ -5,3 +5,6 @@ returns-clause-step g c = rw (← c.self.view_is) (c.look.ensures.step c.self.in
 
 pub returns-clause-tables : goal.returns-clause-tables
 returns-clause-tables g c = rw (← c.self.view_is) (c.look.ensures.tables _ _ c.self.invariant.tables)
+
+pub returns-clause-published : goal.returns-clause-published
+returns-clause-published g c = rw (← c.self.view_is) c.look.ensures.published

@@ -13,4 +13,6 @@ unfolding element_references
 returns-clause-told c =
     (c.in_ok-sharing.ensures.told
     ∙ ap (λ m. after c.args.ids.now m (sharing_references kind.DataElement c.args.self.now.place c.args.self.now.sharing)) c.in_ok-category_combo.ensures.told
-    ∙ sym (after_append c.args.ids.now c.args.unknown.now (one (field_path kind.DataElement c.args.self.now.place (codes "categoryCombo")) kind.CategoryCombo c.args.self.now.category_combo) (sharing_references kind.DataElement c.args.self.now.place c.args.self.now.sharing)))
+    ∙ sym (after_append c.args.ids.now c.args.unknown.now
+    (one (field_path kind.DataElement c.args.self.now.place (codes "categoryCombo")) kind.CategoryCombo c.args.self.now.category_combo)
+    (sharing_references kind.DataElement c.args.self.now.place c.args.self.now.sharing)))

@@ -13,4 +13,6 @@ unfolding indicator_references
 returns-clause-told c =
     (c.in_ok-sharing.ensures.told
     ∙ ap (λ m. after c.args.ids.now m (sharing_references kind.Indicator c.args.self.now.place c.args.self.now.sharing)) c.in_ok-indicator_type.ensures.told
-    ∙ sym (after_append c.args.ids.now c.args.unknown.now (one (field_path kind.Indicator c.args.self.now.place (codes "indicatorType")) kind.IndicatorType c.args.self.now.indicator_type) (sharing_references kind.Indicator c.args.self.now.place c.args.self.now.sharing)))
+    ∙ sym (after_append c.args.ids.now c.args.unknown.now
+    (one (field_path kind.Indicator c.args.self.now.place (codes "indicatorType")) kind.IndicatorType c.args.self.now.indicator_type)
+    (sharing_references kind.Indicator c.args.self.now.place c.args.self.now.sharing)))

@@ -12,5 +12,8 @@ pub returns-clause-told : goal.returns-clause-told
 unfolding option_combo_references
 returns-clause-told c =
     (c.in_ok-category_options.ensures.told
-    ∙ ap (λ m. after c.args.ids.now m (several (field_path kind.CategoryOptionCombo c.args.self.now.place (codes "categoryOptions")) kind.CategoryOption c.args.self.now.category_options)) c.in_ok-category_combo.ensures.told
-    ∙ sym (after_append c.args.ids.now c.args.unknown.now (one (field_path kind.CategoryOptionCombo c.args.self.now.place (codes "categoryCombo")) kind.CategoryCombo c.args.self.now.category_combo) (several (field_path kind.CategoryOptionCombo c.args.self.now.place (codes "categoryOptions")) kind.CategoryOption c.args.self.now.category_options)))
+    ∙ ap (λ m. after c.args.ids.now m (several (field_path kind.CategoryOptionCombo c.args.self.now.place (codes "categoryOptions")) kind.CategoryOption
+    c.args.self.now.category_options)) c.in_ok-category_combo.ensures.told
+    ∙ sym (after_append c.args.ids.now c.args.unknown.now
+    (one (field_path kind.CategoryOptionCombo c.args.self.now.place (codes "categoryCombo")) kind.CategoryCombo c.args.self.now.category_combo)
+    (several (field_path kind.CategoryOptionCombo c.args.self.now.place (codes "categoryOptions")) kind.CategoryOption c.args.self.now.category_options)))

@@ -13,4 +13,6 @@ unfolding program_indicator_references
 returns-clause-told c =
     (c.in_ok-sharing.ensures.told
     ∙ ap (λ m. after c.args.ids.now m (sharing_references kind.ProgramIndicator c.args.self.now.place c.args.self.now.sharing)) c.in_ok-program.ensures.told
-    ∙ sym (after_append c.args.ids.now c.args.unknown.now (one (field_path kind.ProgramIndicator c.args.self.now.place (codes "program")) kind.Program c.args.self.now.program) (sharing_references kind.ProgramIndicator c.args.self.now.place c.args.self.now.sharing)))
+    ∙ sym (after_append c.args.ids.now c.args.unknown.now
+    (one (field_path kind.ProgramIndicator c.args.self.now.place (codes "program")) kind.Program c.args.self.now.program)
+    (sharing_references kind.ProgramIndicator c.args.self.now.place c.args.self.now.sharing)))

@@ -12,7 +12,17 @@ pub returns-clause-told : goal.returns-clause-told
 unfolding program_references
 returns-clause-told c =
     (c.in_ok-sharing.ensures.told
-    ∙ ap (λ m. after c.args.ids.now m (sharing_references kind.Program c.args.self.now.place c.args.self.now.sharing)) (c.in_ok-program_tracked_entity_attributes.ensures.told
-    ∙ ap (λ m. after c.args.ids.now m (several_in (field_path kind.Program c.args.self.now.place (codes "programTrackedEntityAttributes")) (codes "trackedEntityAttribute") kind.TrackedEntityAttribute c.args.self.now.program_tracked_entity_attributes)) c.in_ok-tracked_entity_type.ensures.told
-    ∙ sym (after_append c.args.ids.now c.args.unknown.now (optional (field_path kind.Program c.args.self.now.place (codes "trackedEntityType")) kind.TrackedEntityType c.args.self.now.tracked_entity_type) (several_in (field_path kind.Program c.args.self.now.place (codes "programTrackedEntityAttributes")) (codes "trackedEntityAttribute") kind.TrackedEntityAttribute c.args.self.now.program_tracked_entity_attributes)))
-    ∙ sym (after_append c.args.ids.now c.args.unknown.now ((optional (field_path kind.Program c.args.self.now.place (codes "trackedEntityType")) kind.TrackedEntityType c.args.self.now.tracked_entity_type) ++ (several_in (field_path kind.Program c.args.self.now.place (codes "programTrackedEntityAttributes")) (codes "trackedEntityAttribute") kind.TrackedEntityAttribute c.args.self.now.program_tracked_entity_attributes)) (sharing_references kind.Program c.args.self.now.place c.args.self.now.sharing)))
+    ∙ ap (λ m. after c.args.ids.now m (sharing_references kind.Program c.args.self.now.place c.args.self.now.sharing))
+    (c.in_ok-program_tracked_entity_attributes.ensures.told
+    ∙ ap (λ m. after c.args.ids.now m (several_in (field_path kind.Program c.args.self.now.place (codes "programTrackedEntityAttributes"))
+    (codes "trackedEntityAttribute") kind.TrackedEntityAttribute c.args.self.now.program_tracked_entity_attributes))
+    c.in_ok-tracked_entity_type.ensures.told
+    ∙ sym (after_append c.args.ids.now c.args.unknown.now
+    (optional (field_path kind.Program c.args.self.now.place (codes "trackedEntityType")) kind.TrackedEntityType c.args.self.now.tracked_entity_type)
+    (several_in (field_path kind.Program c.args.self.now.place (codes "programTrackedEntityAttributes")) (codes "trackedEntityAttribute")
+    kind.TrackedEntityAttribute c.args.self.now.program_tracked_entity_attributes)))
+    ∙ sym (after_append c.args.ids.now c.args.unknown.now
+    ((optional (field_path kind.Program c.args.self.now.place (codes "trackedEntityType")) kind.TrackedEntityType c.args.self.now.tracked_entity_type)
+    ++ (several_in (field_path kind.Program c.args.self.now.place (codes "programTrackedEntityAttributes")) (codes "trackedEntityAttribute")
+    kind.TrackedEntityAttribute c.args.self.now.program_tracked_entity_attributes))
+    (sharing_references kind.Program c.args.self.now.place c.args.self.now.sharing)))

@@ -12,5 +12,9 @@ pub returns-clause-told : goal.returns-clause-told
 unfolding stage_references
 returns-clause-told c =
     (c.in_ok-program_stage_data_elements.ensures.told
-    ∙ ap (λ m. after c.args.ids.now m (several_in (field_path kind.ProgramStage c.args.self.now.place (codes "programStageDataElements")) (codes "dataElement") kind.DataElement c.args.self.now.program_stage_data_elements)) c.in_ok-program.ensures.told
-    ∙ sym (after_append c.args.ids.now c.args.unknown.now (one (field_path kind.ProgramStage c.args.self.now.place (codes "program")) kind.Program c.args.self.now.program) (several_in (field_path kind.ProgramStage c.args.self.now.place (codes "programStageDataElements")) (codes "dataElement") kind.DataElement c.args.self.now.program_stage_data_elements)))
+    ∙ ap (λ m. after c.args.ids.now m (several_in (field_path kind.ProgramStage c.args.self.now.place (codes "programStageDataElements")) (codes "dataElement")
+    kind.DataElement c.args.self.now.program_stage_data_elements)) c.in_ok-program.ensures.told
+    ∙ sym (after_append c.args.ids.now c.args.unknown.now
+    (one (field_path kind.ProgramStage c.args.self.now.place (codes "program")) kind.Program c.args.self.now.program)
+    (several_in (field_path kind.ProgramStage c.args.self.now.place (codes "programStageDataElements")) (codes "dataElement") kind.DataElement
+    c.args.self.now.program_stage_data_elements)))

@@ -11,7 +11,8 @@ returns-then-level-from c =
     let unit = c.args.unit in
     let h : unit < length us = subst (λ (v : List UnitRow). unit < length v) (sym c.self.view_is) c.requires in
     sym (ap (λ (v : List UnitRow). ancestor_of v unit c.args.level) (sym c.self.view_is)
-    ∙ ancestor-low us unit c.args.level c.index-from.result.now (level_read us c.self.inside.levels.items unit c.index-from.result.now held.levels_length held.levels h c.index-from.ensures) c.if-level-from.true)
+    ∙ ancestor-low us unit c.args.level c.index-from.result.now
+    (level_read us c.self.inside.levels.items unit c.index-from.result.now held.levels_length held.levels h c.index-from.ensures) c.if-level-from.true)
 
 pub returns : goal.returns
 returns c =
@@ -23,4 +24,5 @@ returns c =
     let h : unit < length us = subst (λ (v : List UnitRow). unit < length v) (sym c.self.view_is) c.requires in
     c.raised.ensures ∙ ap (λ (v : List UnitRow). climb (from - level) v unit) c.deref.ensures.value
     ∙ sym (ap (λ (v : List UnitRow). ancestor_of v unit level) (sym c.self.view_is)
-    ∙ ancestor-high us unit level from (level_read us c.self.inside.levels.items unit from held.levels_length held.levels h c.index-from.ensures) c.if-level-from.false)
+    ∙ ancestor-high us unit level from (level_read us c.self.inside.levels.items unit from held.levels_length held.levels h c.index-from.ensures)
+    c.if-level-from.false)

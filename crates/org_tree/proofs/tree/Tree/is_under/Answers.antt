@@ -12,7 +12,8 @@ overflow_add-result c =
     let held = c.self.invariant in
     let y = c.args.y in
     let h : y < length us = subst (λ (v : List UnitRow). y < length v) (sym c.self.view_is) c.requires.y_in in
-    let order : c.index-first.result.now ≡ order_of us y = order_read us c.self.inside.orders.items y c.index-first.result.now held.orders h c.index-first.ensures in
+    let order : c.index-first.result.now ≡ order_of us y =
+    order_read us c.self.inside.orders.items y c.index-first.result.now held.orders h c.index-first.ensures in
     let size : c.index.result.now ≡ size_of us y = size_read us c.self.inside.sizes.items y c.index.result.now held.sizes h c.index.ensures in
     let end = order-end us held.is_tree y h in
     let few = held.is_tree.few in

@@ -11,7 +11,8 @@ returns-clause-in_range c =
     let us = units_of c.self.inside in
     let held = c.self.invariant in
     let h : c.args.unit < length us = subst (λ (v : List UnitRow). c.args.unit < length v) (sym c.self.view_is) c.requires in
-    let order : c.index.result.now ≡ order_of us c.args.unit = order_read us c.self.inside.orders.items c.args.unit c.index.result.now held.orders h c.index.ensures in
+    let order : c.index.result.now ≡ order_of us c.args.unit =
+    order_read us c.self.inside.orders.items c.args.unit c.index.result.now held.orders h c.index.ensures in
     subst (λ (v : List UnitRow). c.index.result.now < length v) c.self.view_is
     (subst (λ (v : ℕ). v < length us) (sym order) (order-lt us held.is_tree c.args.unit h))
 

@@ -14,8 +14,10 @@ unfolding Rattle.record_index.specs.World.facts
 returns c =
     let index = c.self.inside.index in
     subst (λ w. c.put_in_order.result ≡ hanging (λ id. enrollment_parent (enrollment_held w.held id)) (keys_of w.held.enrollments) c.args.entity) c.self.view_is
-    (hanging-is (λ id. enrollment_parent (enrollment_held (contents index) id)) (keys_of index.enrollments.entries) c.args.entity (covers-entries enrollment_parent refl index.enrollments.entries c.args.entity)
+    (hanging-is (λ id. enrollment_parent (enrollment_held (contents index) id)) (keys_of index.enrollments.entries) c.args.entity
+    (covers-entries enrollment_parent refl index.enrollments.entries c.args.entity)
     c.put_in_order.result c.put_in_order.ensures.ascending
     (λ id. c.put_in_order.ensures.same id ∙ ap (list_any (λ other. same_id id other)) c.in_ok-found.ensures
-    ∙ any-hanging index.enrollments_of (λ other. enrollment_parent (enrollment_held (contents index) other)) c.args.entity (held same_id [] index.enrollments_of c.args.entity)
+    ∙ any-hanging index.enrollments_of (λ other. enrollment_parent (enrollment_held (contents index) other)) c.args.entity
+    (held same_id [] index.enrollments_of c.args.entity)
     (λ other. refl) c.self.invariant.0.enrollments id))

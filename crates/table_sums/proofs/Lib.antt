@@ -1,0 +1,6 @@
+pub mod ColumnLemmas
+pub mod BoundLemmas
+pub mod SumLemmas
+pub mod PartLemmas
+pub mod JumpLemmas
+pub mod StoreLemmas

@@ -1,0 +1,4 @@
+pub mod Columns
+pub mod Bounds
+pub mod Running
+pub mod Parts

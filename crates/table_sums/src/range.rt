@@ -1,0 +1,254 @@
+//! The rows of a group between two orders, one approved position after the other.
+ghost use Rattle.std.specs.Prelude.{◌≡◌, ◌+◌, ◌*◌, ◌≤◌, ◌<◌, ◌^◌, ◌++◌, ◌∷◌, [], ℕ, true, All, max, length, take, drop, get_or, OnOk, IfOk};
+ghost use Rattle.std.specs.List.{filter};
+ghost use Rattle.dh_base.specs.declared.plain.Need.TheVariants as need;
+ghost use Rattle.table_rows.specs.declared.row.Row.{Row};
+ghost use Rattle.table_sums.specs.declared.range.Part.{Part};
+ghost use Rattle.table_rows.specs.Order.{row_cmp};
+ghost use Rattle.table_rows.specs.Rows.{wanted_rows};
+ghost use Rattle.table_rows.specs.Store.{rises};
+ghost use Rattle.table_rows.specs.Sums.{sum_of_rows, joined, IsSized};
+ghost use Rattle.table_sums.specs.Bounds.{is_before, IsCut};
+ghost use Rattle.table_sums.specs.Parts.{is_upto, bound_of};
+ghost use Rattle.table_sums.specs.Running.{IsPlaced};
+
+use crate::rows::Rows;
+use crate::running::RunningRows;
+use crate::search::{Bound, place_of};
+use crate::steps::Steps;
+use dh_base::items::Items;
+use dh_base::memory::Memory;
+use dh_base::plain::Need;
+use std::alloc::Global;
+use std::sync::ledger::Ledger;
+use table_rows::{Group, Row, RowKey, Sum};
+
+/// The rows of a group whose order is from `from` up to below `to`.
+#[derive(Clone, Copy)]
+pub struct Part {
+    pub group: Group,
+    pub from: u32,
+    pub to: u32,
+}
+
+fn bound_of(part: &Part, position: u16, order: u32) -> Bound
+    ensures { result ≡ bound_of part.now position order }
+{
+    Bound::Key(RowKey {
+        group: part.group,
+        position,
+        order,
+    })
+}
+
+// Where the rows of the part at a position begin and end.
+fn run_of<L: Ledger>(
+    rows: &Rows,
+    part: &Part,
+    position: u16,
+    steps: &mut Steps<L>,
+) -> (usize, usize)
+    requires { rises row_cmp rows.now ≡ true }
+    ensures low { IsCut (is_before (bound_of part.now position part.now.from)) rows.now result.0 }
+    ensures high { IsCut (is_before (bound_of part.now position (max part.now.to part.now.from))) rows.now result.1 }
+    ensures cost { (d : ℕ) → length rows.now < 2 ^ d → steps.new ≤ steps.old + 2 * d }
+{
+    let low = place_of(rows, &bound_of(part, position, part.from), steps);
+    let high = place_of(
+        rows,
+        &bound_of(part, position, part.to.max(part.from)),
+        steps,
+    );
+    (low, high)
+}
+
+fn joined_sums(first: &Sum, more: &Sum) -> Sum
+    requires first { IsSized first.now }
+    requires more { IsSized more.now }
+    ensures { result ≡ joined first.now more.now }
+{
+    first.join(more)
+}
+
+// The sum of the rows up to this position, from the sum of those before it.
+fn add_position<L: Ledger>(
+    list: &RunningRows,
+    part: &Part,
+    position: u16,
+    sum: &Sum,
+    steps: &mut Steps<L>,
+) -> Sum
+    requires { sum.now ≡ sum_of_rows (filter (is_upto part.now position) list.now) }
+    ensures sum { result ≡ sum_of_rows (filter (is_upto part.now (position + 1)) list.now) }
+    ensures size { IsSized result }
+    ensures cost { (d : ℕ) → length list.now < 2 ^ d → steps.new ≤ steps.old + 2 * d }
+{
+    let (low, high) = run_of(list.rows(), part, position, steps);
+    joined_sums(sum, &list.sum_between(low, high))
+}
+
+fn sum_upto<L: Ledger>(list: &RunningRows, part: &Part, positions: u16, steps: &mut Steps<L>) -> Sum
+    ensures sum { result ≡ sum_of_rows (filter (is_upto part.now positions) list.now) }
+    ensures size { IsSized result }
+    ensures cost { (d : ℕ) → length list.now < 2 ^ d → steps.new ≤ steps.old + 2 * d * positions }
+{
+    let mut sum = Sum::none();
+    for position in 0..positions {
+        sum = add_position(list, part, position, &sum, steps);
+    }
+    sum
+}
+
+// How many positions are up to this one, of those at which rows stand.
+fn positions_to(list: &RunningRows, most: u8) -> u16
+    ensures few { All (IsPlaced 8) list.now → result ≤ 8 }
+    ensures rows { (part : Part) → filter (is_upto part result) list.now ≡ wanted_rows part.group (need.Upto most) part.from part.to list.now }
+{
+    (u16::from(most) + 1).min(list.positions())
+}
+
+fn sum_to<L: Ledger>(list: &RunningRows, part: &Part, most: u8, steps: &mut Steps<L>) -> Sum
+    ensures sum { result ≡ sum_of_rows (wanted_rows part.now.group (need.Upto most) part.now.from part.now.to list.now) }
+    ensures size { IsSized result }
+    ensures cost { (d : ℕ) → All (IsPlaced 8) list.now → length list.now < 2 ^ d → steps.new ≤ steps.old + 18 * d }
+{
+    let positions = positions_to(list, most);
+    sum_upto(list, part, positions, steps)
+}
+
+fn sum_of_all<L: Ledger>(list: &RunningRows, part: &Part, steps: &mut Steps<L>) -> Sum
+    ensures sum { result ≡ sum_of_rows (wanted_rows part.now.group need.All part.now.from part.now.to list.now) }
+    ensures size { IsSized result }
+    ensures cost { (d : ℕ) → All (IsPlaced 8) list.now → length list.now < 2 ^ d → steps.new ≤ steps.old + 18 * d }
+{
+    let positions = list.positions();
+    let sum = sum_upto(list, part, positions, steps);
+    add_position(list, part, 256, &sum, steps)
+}
+
+/// The sum of the rows of the part that meet the need. It reads at most eighteen times as many rows as the number of
+/// rows has binary digits, where approved positions are below eight.
+pub fn sum_of_part<L: Ledger>(
+    list: &RunningRows,
+    part: &Part,
+    need: Need,
+    steps: &mut Steps<L>,
+) -> Sum
+    ensures sum { result ≡ sum_of_rows (wanted_rows part.now.group need part.now.from part.now.to list.now) }
+    ensures size { IsSized result }
+    ensures cost { (d : ℕ) → All (IsPlaced 8) list.now → length list.now < 2 ^ d → steps.new ≤ steps.old + 18 * d }
+{
+    match need {
+        Need::All => sum_of_all(list, part, steps),
+        Need::Upto(most) => sum_to(list, part, most, steps),
+    }
+}
+
+fn push_row<L: Ledger>(
+    found: &mut Vec<Row>,
+    rows: &Rows,
+    place: usize,
+    steps: &mut Steps<L>,
+) -> Result<(), Memory>
+    requires { place < length rows.now }
+    ensures { OnOk result ((d : Row) → found.new.items ≡ found.old.items ++ get_or rows.now place d ∷ []) }
+{
+    found.push(rows.row(place, steps))?;
+    Ok(())
+}
+
+// Adds the rows between two places.
+fn push_rows<L: Ledger>(
+    found: &mut Vec<Row>,
+    rows: &Rows,
+    low: usize,
+    high: usize,
+    steps: &mut Steps<L>,
+) -> Result<(), Memory>
+    requires upto { low ≤ high }
+    requires within { high ≤ length rows.now }
+    ensures { OnOk result (found.new.items ≡ found.old.items ++ drop low (take high rows.now)) }
+{
+    for place in low..high {
+        push_row(found, rows, place, steps)?;
+    }
+    Ok(())
+}
+
+fn push_position<L: Ledger>(
+    found: &mut Vec<Row>,
+    rows: &Rows,
+    part: &Part,
+    position: u16,
+    steps: &mut Steps<L>,
+) -> Result<(), Memory>
+    requires rise { rises row_cmp rows.now ≡ true }
+    requires found { found.old.items ≡ filter (is_upto part.now position) rows.now }
+    ensures { OnOk result (found.new.items ≡ filter (is_upto part.now (position + 1)) rows.now) }
+{
+    let (low, high) = run_of(rows, part, position, steps);
+    push_rows(found, rows, low, high, steps)?;
+    Ok(())
+}
+
+fn rows_upto<L: Ledger>(
+    alloc: Global,
+    rows: &Rows,
+    part: &Part,
+    positions: u16,
+    steps: &mut Steps<L>,
+) -> Result<Vec<Row>, Memory>
+    requires { rises row_cmp rows.now ≡ true }
+    ensures { IfOk result (λ found. found.items ≡ filter (is_upto part.now positions) rows.now) }
+{
+    let mut found: Vec<Row> = Vec::new(alloc);
+    for position in 0..positions {
+        push_position(&mut found, rows, part, position, steps)?;
+    }
+    Ok(found)
+}
+
+fn rows_to<L: Ledger>(
+    alloc: Global,
+    list: &RunningRows,
+    part: &Part,
+    most: u8,
+    steps: &mut Steps<L>,
+) -> Result<Vec<Row>, Memory>
+    ensures { IfOk result (λ found. found.items ≡ wanted_rows part.now.group (need.Upto most) part.now.from part.now.to list.now) }
+{
+    let positions = positions_to(list, most);
+    let found = rows_upto(alloc, list.rows(), part, positions, steps)?;
+    Ok(found)
+}
+
+fn rows_of_all<L: Ledger>(
+    alloc: Global,
+    list: &RunningRows,
+    part: &Part,
+    steps: &mut Steps<L>,
+) -> Result<Vec<Row>, Memory>
+    ensures { IfOk result (λ found. found.items ≡ wanted_rows part.now.group need.All part.now.from part.now.to list.now) }
+{
+    let positions = list.positions();
+    let mut found = rows_upto(alloc, list.rows(), part, positions, steps)?;
+    push_position(&mut found, list.rows(), part, 256, steps)?;
+    Ok(found)
+}
+
+/// The rows of the part that meet the need, in row order.
+pub fn rows_of_part<L: Ledger>(
+    alloc: Global,
+    list: &RunningRows,
+    part: &Part,
+    need: Need,
+    steps: &mut Steps<L>,
+) -> Result<Items<Row>, Memory>
+    ensures { IfOk result (λ found. found ≡ wanted_rows part.now.group need part.now.from part.now.to list.now) }
+{
+    let found = match need {
+        Need::All => rows_of_all(alloc, list, part, steps)?,
+        Need::Upto(most) => rows_to(alloc, list, part, most, steps)?,
+    };
+    Ok(Items::from(found))
+}

@@ -1,0 +1,14 @@
+//! What values and completions are judged by.
+
+use dh_metadata::metadata::Metadata;
+use record_index::outcome::Who;
+use record_index::world::World;
+
+/// What values and completions are judged by: the log, the metadata, who asks, and the day.
+#[derive(Clone, Copy)]
+pub struct Asking<'a> {
+    pub world: &'a World,
+    pub meta: &'a Metadata,
+    pub who: Who,
+    pub today: i32,
+}
