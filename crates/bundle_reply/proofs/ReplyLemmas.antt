@@ -1,5 +1,5 @@
 -- Replies by cases.
-use Rattle.std.proofs.Common.{◌≡◌, ◌∙◌, ℕ, ℤ, ◌<◌, ◌≤◌, true, false, List, length, nat_lt, cond, Option, None, Some, refl, sym, ap, arith, Result, Ok, Err}
+use Rattle.std.proofs.Common.{◌≡◌, ◌∙◌, ℕ, ◌<◌, ◌≤◌, true, false, List, length, nat_lt, cond, Option, None, Some, refl, sym, ap, arith, Result, Ok, Err}
 use Rattle.std.proofs.Common.{IfOk}
 use Rattle.meta_parts.specs.declared.held.Records.{Records}
 use Rattle.json_read.specs.Bytes.{document_of}
@@ -19,7 +19,8 @@ use Rattle.bundle_reply.specs.Answer.{reply_with_values}
 use Rattle.bundle_reply.specs.Bytes.{Asked, values_of, values_in, reply_over, reply_to}
 use Rattle.bundle_reply.specs.Steps.{IsOverParts, IsOverForm, IsOverDocument}
 use Rattle.dh_base.specs.declared.memory.Memory.{Memory}
-use Rattle.meta_reader.specs.Faults.{metadata_of, Answers}
+use Rattle.dh_base.specs.Memory.{Answers}
+use Rattle.meta_reader.specs.Faults.{metadata_of, meta_cause}
 use Rattle.meta_parts.specs.declared.parts.MetaParts.{MetaParts}
 use Rattle.json_read.specs.Forms.{Formed}
 use Rattle.json_read.specs.Given.{Gives}
@@ -71,7 +72,8 @@ pub over_made : (ask : Asked) (parts : MetaParts) (given : Result (List SetValue
 over_made ask parts given r (Ok reply) is made = λ formed gives. made formed gives ∙ ap (λ (m : Result Records MetaFault). reply_over ask formed m) (sym is)
 over_made ask parts given r (Err memory) is made = tt
 
-refused : (parts : MetaParts) (found : MetaFault) → (found ≡ fault.Memory → ⊥) → Answers (Err found) (metadata_of parts) → metadata_of parts ≡ Err found
+refused : (parts : MetaParts) (found : MetaFault) → (found ≡ fault.Memory → ⊥)
+    → Answers meta_cause (metadata_of parts) (Err found) → metadata_of parts ≡ Err found
 refused parts fault.Memory other is = absurd (other refl)
 refused parts fault.NotJson other is = is
 refused parts (fault.Shape path) other is = is
@@ -83,7 +85,7 @@ refused parts (fault.Limit limit) other is = is
 
 -- metadata are refused, and that is the reply
 pub over_refused : (ask : Asked) (parts : MetaParts) (given : Result (List SetValue) FormFault) (found : MetaFault) (result : Result Reply Memory)
-    → (found ≡ fault.Memory → ⊥) → Answers (Err found) (metadata_of parts) → IfOk result (λ reply. reply ≡ meta_refused (line_of found))
+    → (found ≡ fault.Memory → ⊥) → Answers meta_cause (metadata_of parts) (Err found) → IfOk result (λ reply. reply ≡ meta_refused (line_of found))
     → IfOk result (λ reply. (formed : Formed (List SetValue)) → Gives formed given → IsOverParts ask parts formed reply)
 over_refused ask parts given found (Ok reply) other answers is = λ formed gives.
     is ∙ ap (λ (m : Result Records MetaFault). reply_over ask formed m) (sym (refused parts found other answers))

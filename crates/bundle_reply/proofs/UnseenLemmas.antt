@@ -12,7 +12,7 @@ use Rattle.query_forms.specs.declared.plain.Query.{Query}
 use Rattle.query_lang.specs.Query.{query_of}
 use Rattle.query_answer.proofs.UnseenLemmas.{answer_of-same}
 use Rattle.engine.specs.MetaAfter.{meta_after}
-use Rattle.seen_rows.specs.Seen.{SameSeen}
+use Rattle.cell_values.specs.Seen.{SameSeen}
 use Rattle.value_forms.specs.declared.set.SetValue.{SetValue}
 use Rattle.bundle_reply.specs.Reply.{answer_reply}
 use Rattle.bundle_reply.specs.Load.{log_of}

@@ -11,11 +11,11 @@ use Rattle.dh_metadata.specs.Objects.{find_of}
 use Rattle.meta_reader.specs.Line.{line_of}
 use Rattle.meta_reader.specs.declared.fault.MetaFault.TheVariants.{Shape}
 use Rattle.dh_periods.specs.Moment.{day_of}
-use Rattle.reply_bodies.specs.Bodies.{error_text}
+use Rattle.wire_replies.specs.Bodies.{error_text}
 use Rattle.value_forms.specs.declared.set.SetValue.{SetValue}
 use Rattle.query_forms.specs.declared.plain.Query.{Query}
 use Rattle.query_lang.specs.Query.{query_of}
-use Rattle.seen_rows.specs.Seen.{SeenRecords, seen_of}
+use Rattle.cell_values.specs.Seen.{SeenRecords, seen_of}
 use Rattle.query_answer.specs.Answer.{answer_of}
 use Rattle.engine.specs.declared.machine.Report.{Report}
 use Rattle.engine.specs.Tables.{tables_of}

@@ -5,7 +5,7 @@ use Rattle.serde_json.specs.Written.{compact_text}
 use Rattle.dh_base.specs.declared.codes.Code.{Code}
 use Rattle.dh_base.specs.declared.codes.Code.TheVariants.{F18}
 use Rattle.dh_base.specs.declared.codes.Refusal.{Refusal}
-use Rattle.reply_bodies.specs.Bodies.{error_text}
+use Rattle.wire_replies.specs.Bodies.{error_text}
 use Rattle.bundle_reply.specs.declared.reply.Ending.TheVariants as ending
 use Rattle.bundle_reply.specs.declared.reply.Reply.{Reply}
 

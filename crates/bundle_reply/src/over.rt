@@ -11,7 +11,7 @@ ghost use Rattle.query_answer.specs.Answer.{answer_of};
 ghost use Rattle.query_answer.specs.Asked.{CanAnswer};
 ghost use Rattle.query_lang.specs.Query.{query_of};
 ghost use Rattle.table_rows.specs.Store.{contents_in};
-ghost use Rattle.seen_rows.specs.Seen.{seen_of};
+ghost use Rattle.cell_values.specs.Seen.{seen_of};
 ghost use Rattle.value_forms.specs.declared.set.SetValue.{SetValue as Given};
 ghost use Rattle.bundle_reply.specs.Load.{asked_for};
 ghost use Rattle.bundle_reply.specs.Reply.{answer_reply};
@@ -22,6 +22,7 @@ ghost use Rattle.bundle_reply.specs.Steps.{IsOverParts};
 use crate::bytes::Forms;
 use crate::load::request_of;
 use crate::reply::{Reply, answered, data_refused, meta_refused, query_refused, refusal};
+use cell_values::Seer;
 use dh_base::codes::{Code, Refusal};
 use dh_base::items::Items;
 use dh_base::memory::Memory;
@@ -36,10 +37,9 @@ use meta_reader::fault::MetaFault;
 use query_answer::{AnswerFault, answer};
 use query_forms::{Query, QueryFault};
 use query_lang::read_query;
-use reply_bodies::error_body;
-use seen_rows::Seer;
 use std::alloc::Global;
 use value_forms::set::SetValue;
+use wire_replies::error_body;
 
 // The most cells of a query.
 const MOST_CELLS: u64 = 100_000;

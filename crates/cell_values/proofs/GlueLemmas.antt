@@ -27,16 +27,16 @@ use Rattle.table_rows.specs.Store.{rises}
 use Rattle.table_rows.specs.Sums.{sum_over}
 use Rattle.table_rows.proofs.CellLemmas.{filter-same, cell-sum}
 use Rattle.table_rows.proofs.GatherLemmas.{cell-gathered}
-use Rattle.agg_types.specs.declared.sample.Sample.{Sample}
-use Rattle.agg_types.specs.RowSamples.{sample_of}
-use Rattle.agg_types.specs.Samples.{numbered, total, weighted}
-use Rattle.agg_types.specs.Values.{value_by, mean, if_any, unless_none, sum_of_samples}
-use Rattle.agg_types.proofs.CellValueLemmas.{cell-Sum, cell-Average, cell-Count, cell-weighted, sum_of_samples-rows}
-use Rattle.agg_types.proofs.OrderFreeLemmas.{value_by-permutation}
-use Rattle.agg_types.proofs.TotalLemmas.{sum-plain}
-use Rattle.seen_rows.specs.Held.{AreSeenOrders}
-use Rattle.seen_rows.specs.Places.{is_at_some}
-use Rattle.seen_rows.specs.Seen.{is_viewed, sees_attribute, need_for, is_seen, seen}
+use Rattle.table_rows.specs.declared.sample.Sample.{Sample}
+use Rattle.table_rows.specs.RowSamples.{sample_of}
+use Rattle.table_rows.specs.Samples.{numbered, total, weighted}
+use Rattle.table_rows.specs.Values.{value_by, mean, if_any, unless_none, sum_of_samples}
+use Rattle.table_rows.proofs.CellValueLemmas.{cell-Sum, cell-Average, cell-Count, cell-weighted, sum_of_samples-rows}
+use Rattle.table_rows.proofs.OrderFreeLemmas.{value_by-permutation}
+use Rattle.table_rows.proofs.TotalLemmas.{sum-plain}
+use Rattle.cell_values.specs.Held.{AreSeenOrders}
+use Rattle.cell_values.specs.Places.{is_at_some}
+use Rattle.cell_values.specs.Seen.{is_viewed, sees_attribute, need_for, is_seen, seen}
 use Rattle.cell_values.specs.Cells.{cell_of, is_named, is_in_some, lies_in, samples_of, days_in, aggregate_of}
 use Rattle.cell_values.specs.Parts.{value_in, is_group_asked, is_row_asked, parts_of, group_sum, group_weight, ranged_rows, value_of_totals, is_sum_type}
 use Rattle.cell_values.proofs.PartLemmas.{all-once, filter_short, groups-ranged}

@@ -1,3 +1,6 @@
+pub mod PlaceLemmas
+pub mod CutLemmas
+pub mod RightLemmas
 pub mod SpanLemmas
 pub mod DayLemmas
 pub mod PartLemmas

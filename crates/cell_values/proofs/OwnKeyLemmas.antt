@@ -22,11 +22,11 @@ use Rattle.table_rows.specs.Order.{row_cmp, period_cmp}
 use Rattle.table_rows.specs.Rows.{same_place}
 use Rattle.table_rows.specs.Store.{rises, rises_from, have_own_places}
 use Rattle.table_rows.proofs.DifferLemmas.{differ-distinct}
-use Rattle.agg_types.specs.contracts.sample.SeriesOrd.TheImpl.Laws as series
-use Rattle.agg_types.specs.declared.sample.Sample.{Sample}
-use Rattle.agg_types.specs.RowSamples.{sample_of}
-use Rattle.agg_types.specs.Samples.{sample_cmp, series_cmp, same_series, in_series_order}
-use Rattle.agg_types.proofs.SumValueLemmas.{in_series_order-from_rises}
+use Rattle.table_rows.specs.contracts.sample.SeriesOrd.TheImpl.Laws as series
+use Rattle.table_rows.specs.declared.sample.Sample.{Sample}
+use Rattle.table_rows.specs.RowSamples.{sample_of}
+use Rattle.table_rows.specs.Samples.{sample_cmp, series_cmp, same_series, in_series_order}
+use Rattle.table_rows.proofs.SumValueLemmas.{in_series_order-from_rises}
 use Rattle.cell_values.specs.Parts.{HaveOwnKeys, is_row_asked, ranged_rows}
 use Rattle.cell_values.proofs.GlueLemmas.{asked_rows}
 

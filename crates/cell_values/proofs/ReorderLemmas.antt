@@ -11,11 +11,11 @@ use Rattle.meta_parts.specs.declared.held.Records.{Records}
 use Rattle.meta_parts.specs.declared.kind.Kind.TheVariants as kind
 use Rattle.meta_parts.specs.declared.records.Element.{Element}
 use Rattle.dh_metadata.specs.Objects.{find_of}
-use Rattle.agg_types.specs.declared.sample.Sample.{Sample}
-use Rattle.agg_types.specs.Values.{value_by}
-use Rattle.agg_types.proofs.OrderFreeLemmas.{value_by-permutation}
-use Rattle.agg_types.proofs.ShuffleLemmas.{IsClosed, closed-permutation, closed-filter}
-use Rattle.seen_rows.specs.Seen.{SeenRecords, SameSeen}
+use Rattle.table_rows.specs.declared.sample.Sample.{Sample}
+use Rattle.table_rows.specs.Values.{value_by}
+use Rattle.table_rows.proofs.OrderFreeLemmas.{value_by-permutation}
+use Rattle.table_rows.proofs.ShuffleLemmas.{IsClosed, closed-permutation, closed-filter}
+use Rattle.cell_values.specs.Seen.{SeenRecords, SameSeen}
 use Rattle.cell_values.specs.Cells.{Cell, cell_of, lies_in, samples_of, days_in, aggregate_of}
 use Rattle.cell_values.specs.Items.{named_combo, element_value, item_value_of}
 

@@ -12,8 +12,8 @@ use Rattle.org_tree.proofs.OrderLemmas.{order-lt}
 use Rattle.meta_parts.specs.declared.held.Records.{Records}
 use Rattle.dh_metadata.specs.Approval.{unit_rows}
 use Rattle.dh_metadata.specs.Linked.{AreBelow}
-use Rattle.seen_rows.specs.Cuts.{HoldsBoth}
-use Rattle.seen_rows.specs.Places.{is_at_some, AreOrdersAt}
+use Rattle.cell_values.specs.Cuts.{HoldsBoth}
+use Rattle.cell_values.specs.Places.{is_at_some, AreOrdersAt}
 use Rattle.cell_values.specs.Items.{is_group_unit, units_in}
 use Rattle.cell_values.specs.Spans.{covered}
 use Rattle.cell_values.proofs.SpanLemmas.{covered-count}

@@ -4,7 +4,7 @@ use Rattle.std.proofs.Math.Nat.{mul-le-mul_left}
 use Rattle.std.proofs.Math.IntN.{+ℤ_assoc, +ℤ_idl, +ℤ_idr}
 use Rattle.std.proofs.lemmas.List.{drop_more, drop_all}
 use Rattle.dh_base.proofs.FractionLemmas.{abs_times}
-use Rattle.agg_types.specs.Samples.{total}
+use Rattle.table_rows.specs.Samples.{total}
 
 pub record WeightSoFar {X : Type 0} (f : X → ℤ) (xs : List X) (i : ℕ) (sum : ℤ) : Type 0 where
   pub is : total f xs ≡ sum +ℤ total f (drop i xs)

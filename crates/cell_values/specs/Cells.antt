@@ -9,9 +9,9 @@ use Rattle.org_tree.specs.Count.{count_below}
 use Rattle.meta_parts.specs.declared.held.Records.{Records}
 use Rattle.meta_parts.specs.declared.records.Element.{Element}
 use Rattle.dh_metadata.specs.Approval.{unit_rows}
-use Rattle.agg_types.specs.declared.sample.Sample.{Sample}
-use Rattle.agg_types.specs.Values.{value_by}
-use Rattle.seen_rows.specs.Places.{is_at_some}
+use Rattle.table_rows.specs.declared.sample.Sample.{Sample}
+use Rattle.table_rows.specs.Values.{value_by}
+use Rattle.cell_values.specs.Places.{is_at_some}
 use Rattle.dh_base.specs.declared.limits.TheConstants.{COUNTED_DAYS}
 
 -- what is asked: an element, its option combination and attribute option combination where they are named, periods and

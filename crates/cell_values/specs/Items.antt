@@ -11,9 +11,9 @@ use Rattle.meta_parts.specs.declared.records.Constant.{Constant}
 use Rattle.meta_parts.specs.declared.records.UnitGroup.{UnitGroup}
 use Rattle.dh_metadata.specs.Approval.{unit_rows}
 use Rattle.dh_metadata.specs.Objects.{find_of}
-use Rattle.agg_types.specs.declared.sample.Sample.{Sample}
-use Rattle.seen_rows.specs.Places.{is_at_some}
-use Rattle.seen_rows.specs.Seen.{SeenRecords}
+use Rattle.table_rows.specs.declared.sample.Sample.{Sample}
+use Rattle.cell_values.specs.Places.{is_at_some}
+use Rattle.cell_values.specs.Seen.{SeenRecords}
 use Rattle.cell_values.specs.Cells.{cell_of, days_in, aggregate_of}
 
 abbrev pub whole : ℕ → Fraction

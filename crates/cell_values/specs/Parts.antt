@@ -18,11 +18,11 @@ use Rattle.table_rows.specs.declared.sum.Sum.{Sum}
 use Rattle.table_rows.specs.Cells.{Part, part_sum, gathered}
 use Rattle.table_rows.specs.Rows.{meets, wanted_rows}
 use Rattle.table_rows.specs.Sums.{sum_over}
-use Rattle.agg_types.specs.declared.sample.Sample.{Sample}
-use Rattle.agg_types.specs.RowSamples.{sample_of}
-use Rattle.agg_types.specs.Samples.{days_of, total, sample_cmp}
-use Rattle.agg_types.specs.Values.{mean, unless_none, value_by, value_of_sum}
-use Rattle.seen_rows.specs.Seen.{sees_attribute}
+use Rattle.table_rows.specs.declared.sample.Sample.{Sample}
+use Rattle.table_rows.specs.RowSamples.{sample_of}
+use Rattle.table_rows.specs.Samples.{days_of, total, sample_cmp}
+use Rattle.table_rows.specs.Values.{mean, unless_none, value_by, value_of_sum}
+use Rattle.cell_values.specs.Seen.{sees_attribute}
 use Rattle.cell_values.specs.declared.aggregated.Key.{Key}
 use Rattle.cell_values.specs.Cells.{is_named, is_in_some}
 

@@ -1,14 +1,14 @@
 //! The value of samples in any order.
 ghost use Rattle.std.specs.Prelude.{◌≡◌, ◌≤◌, ◌<◌, length, IfOk};
-ghost use Rattle.agg_types.specs.Values.{value_by};
+ghost use Rattle.table_rows.specs.Values.{value_by};
 ghost use Rattle.cell_values.specs.Parts.{key_of, HaveOwnKeys};
 ghost use Rattle.dh_base.specs.declared.limits.TheConstants.{MOST_RECORDS};
 
-use agg_types::{Sample, Series, aggregate};
 use dh_base::frac::Frac;
 use dh_base::memory::Memory;
 use dh_base::plain::AggType;
 use dh_periods::Period;
+use table_rows::{Sample, Series, aggregate};
 
 /// What samples are ordered by, field by field.
 #[derive(Clone, Copy, PartialEq, Eq, PartialOrd, Ord)]

@@ -1,15 +1,14 @@
 //! The samples of a cell, for the types that need each of them.
 ghost use Rattle.std.specs.Prelude.{◌≡◌, ◌≤◌, ◌<◌, ◌++◌, length, map, IsPermutation, OnOk, OnErr, IfOk};
 ghost use Rattle.table_rows.specs.Cells.{gathered};
-ghost use Rattle.agg_types.specs.RowSamples.{sample_of};
+ghost use Rattle.table_rows.specs.RowSamples.{sample_of};
 ghost use Rattle.cell_values.specs.Parts.{range_rows, ranged_rows};
 
-use agg_types::Sample;
 use dh_base::items::Items;
 use dh_base::memory::Memory;
 use dh_base::plain::Need;
 use std::alloc::{AllocError, Global};
-use table_rows::{Group, Row, RowStore};
+use table_rows::{Group, Row, RowStore, Sample};
 
 fn rows_in<S: RowStore>(
     alloc: Global,

@@ -3,15 +3,15 @@ ghost use Rattle.std.specs.Prelude.{◌≡◌, IfOk, IsTrue};
 ghost use Rattle.std.specs.List.{filter};
 ghost use Rattle.table_rows.specs.Groups.{groups_of};
 ghost use Rattle.table_rows.specs.Store.{is_store};
-ghost use Rattle.seen_rows.specs.Held.{IsSeer};
+ghost use Rattle.cell_values.specs.Held.{IsSeer};
 ghost use Rattle.cell_values.specs.Cells.{is_named, is_in_some};
 ghost use Rattle.cell_values.specs.Parts.{is_group_asked};
 
+use crate::seer::Seer;
 use dh_base::memory::Memory;
 use dh_metadata::metadata::Metadata;
 use dh_periods::Period;
 use meta_parts::kind::Kind;
-use seen_rows::Seer;
 use std::alloc::{AllocError, Global};
 use table_rows::{Group, RowStore};
 

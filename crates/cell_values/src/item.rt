@@ -4,12 +4,15 @@ ghost use Rattle.dh_base.specs.Fractions.{fraction_of};
 ghost use Rattle.meta_parts.specs.declared.kind.Kind.TheVariants as kind;
 ghost use Rattle.dh_metadata.specs.Linked.{AreBelow};
 ghost use Rattle.dh_metadata.specs.Objects.{find_of};
-ghost use Rattle.seen_rows.specs.Held.{IsSeer};
-ghost use Rattle.seen_rows.specs.Seen.{seen, seen_of, contents_of};
+ghost use Rattle.cell_values.specs.Held.{IsSeer};
+ghost use Rattle.cell_values.specs.Seen.{seen, seen_of, contents_of};
 ghost use Rattle.cell_values.specs.Items.{whole, named_combo, units_in, constant_value, group_value, element_value, item_value_of};
 
+use crate::cuts::cut;
 use crate::element::element_value;
 use crate::period_days::{covered, days};
+use crate::places::unit_ranges;
+use crate::seer::Seer;
 use dh_base::frac::Frac;
 use dh_base::memory::Memory;
 use dh_base::uid::Uid;
@@ -17,7 +20,6 @@ use dh_metadata::metadata::Metadata;
 use dh_periods::Period;
 use expr_lang::Item;
 use meta_parts::kind::Kind;
-use seen_rows::{Seer, cut, unit_ranges};
 use std::alloc::Global;
 use table_rows::RowStore;
 
@@ -140,7 +142,7 @@ fn group_item(
 /// The value of an item over the rows that the user sees, inside some of the periods and under some
 /// of the units. With `alone` a unit has only itself under it. Items of programs and reporting rates
 /// have no value here.
-#[tactic(auto, unfolding(crate::specs::Items::item_value_of, seen_rows::specs::Seen::seen_of))]
+#[tactic(auto, unfolding(crate::specs::Items::item_value_of, crate::specs::Seen::seen_of))]
 pub fn item_value<S: RowStore>(
     alloc: Global,
     meta: &Metadata,

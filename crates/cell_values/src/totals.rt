@@ -2,16 +2,15 @@
 ghost use Rattle.std.specs.Prelude.{◌≡◌, ◌≤◌, ◌<◌, ◌+◌, ◌*◌, ◌^◌, ◌+ℤ◌, ◌*ℤ◌, pos, unsigned_abs, length};
 ghost use Rattle.dh_sharing.specs.Ranges.{AreApart};
 ghost use Rattle.table_rows.specs.Sums.{sum_over, IsSized};
-ghost use Rattle.agg_types.specs.Samples.{days_of, total};
-ghost use Rattle.agg_types.specs.Values.{mean};
+ghost use Rattle.table_rows.specs.Samples.{days_of, total};
+ghost use Rattle.table_rows.specs.Values.{mean};
 ghost use Rattle.cell_values.specs.Parts.{range_sum, group_sum, group_weight, value_of_totals};
 ghost use Rattle.dh_base.specs.declared.limits.TheConstants.{MOST_RECORDS};
 
-use agg_types::value_of_sum;
 use dh_base::frac::Frac;
 use dh_base::plain::{AggType, Need};
 use dh_periods::Period;
-use table_rows::{Group, RowStore, Sum};
+use table_rows::{Group, RowStore, Sum, value_of_sum};
 
 /// The sum over some rows, and the sum of their numbers times the days of their periods.
 #[derive(Clone, Copy)]
@@ -42,7 +41,7 @@ fn group_sum<S: RowStore>(store: &S, group: &Group, need: Need, ranges: &[(u32, 
     sum
 }
 
-#[tactic(auto, using(agg_types::proofs::TotalLemmas::days_told), unfolding(agg_types::specs::Samples::days_of))]
+#[tactic(auto, using(table_rows::proofs::TotalLemmas::days_told), unfolding(table_rows::specs::Samples::days_of))]
 fn days_of(period: &Period) -> u32
     ensures { result ≡ days_of period.now }
 {

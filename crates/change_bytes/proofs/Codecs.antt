@@ -21,11 +21,11 @@ use Rattle.dh_changes.specs.declared.change.Write.{Write}
 use Rattle.dh_changes.specs.declared.change.Write.TheVariants.{ValueSet, ValueCleared, EventWritten, EventDeleted, EnrollmentWritten, EnrollmentDeleted}
 use Rattle.dh_changes.specs.declared.change.Write.TheVariants.{EntityWritten, EntityDeleted, Approve, Unapprove, Accept, Unaccept, Complete, Uncomplete}
 use Rattle.dh_changes.specs.declared.change.Change.{Change}
-use Rattle.byte_codec.specs.Reading.{Reads, ◌⊗◌, mapped, number_at, text_at, times_at}
-use Rattle.byte_codec.specs.Writing.{number, signed, text, listed, optional_id, IsId}
-use Rattle.byte_codec.proofs.Codecs.{IsBytes, Takes, Takes-then, IsCodec, and_then-some, map-some, both_codec, refined_codec, mapped_codec, wide8, wide16}
-use Rattle.byte_codec.proofs.Codecs.{wide32, wide64, number_codec, signed_codec, text_codec, times_takes, times_again, listed_codec, id_codec}
-use Rattle.byte_codec.proofs.Codecs.{optional_id_codec, id_text_codec}
+use Rattle.change_bytes.specs.ReadWords.{Reads, ◌⊗◌, mapped, number_at, text_at, times_at}
+use Rattle.change_bytes.specs.Words.{number, signed, text, listed, optional_id, IsId}
+use Rattle.change_bytes.proofs.WordCodecs.{IsBytes, Takes, Takes-then, IsCodec, and_then-some, map-some, both_codec, refined_codec, mapped_codec, wide8, wide16}
+use Rattle.change_bytes.proofs.WordCodecs.{wide32, wide64, number_codec, signed_codec, text_codec, times_takes, times_again, listed_codec, id_codec}
+use Rattle.change_bytes.proofs.WordCodecs.{optional_id_codec, id_text_codec}
 use Rattle.change_bytes.specs.Fields.{period_bytes, no_day, day_number, day_bytes, value_key_bytes, approval_key_bytes, reg_key_bytes, state_bytes}
 use Rattle.change_bytes.specs.Fields.{event_bytes, enrollment_bytes, entity_bytes}
 use Rattle.change_bytes.specs.Bytes.{write_bytes, body_bytes}

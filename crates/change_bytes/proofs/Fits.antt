@@ -5,7 +5,7 @@ use Rattle.dh_changes.specs.declared.change.Write.{Write}
 use Rattle.dh_changes.specs.declared.change.Write.TheVariants.{ValueSet, ValueCleared, EventWritten, EventDeleted, EnrollmentWritten, EnrollmentDeleted}
 use Rattle.dh_changes.specs.declared.change.Write.TheVariants.{EntityWritten, EntityDeleted, Approve, Unapprove, Accept, Unaccept, Complete, Uncomplete}
 use Rattle.dh_changes.specs.declared.change.Change.{Change}
-use Rattle.byte_codec.specs.Writing.{IsIdText}
+use Rattle.change_bytes.specs.Words.{IsIdText}
 use Rattle.change_bytes.specs.Forms.{ArePairs, PairsFit, IsWrite, WriteFits, IsChange, ChangeFits}
 
 pairs_fit : (pairs : List (List ℕ × List ℕ)) → ArePairs pairs → PairsFit pairs

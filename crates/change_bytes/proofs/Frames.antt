@@ -7,9 +7,9 @@ use Rattle.std.proofs.lemmas.Bool.{eqb-true, cases_lt, lt-ltb, le-ltb, ltb-false
 use Rattle.std.proofs.lemmas.List.{append-nil, get_or-append-add, length-append, length-drop, length-take-le, take-take, take_at, nil_from_length}
 use Rattle.dh_base.specs.declared.memory.Memory.{Memory}
 use Rattle.dh_changes.specs.declared.change.Change.{Change}
-use Rattle.byte_codec.specs.Reading.{bytes_at, number_at, text_at}
-use Rattle.byte_codec.specs.Writing.{number, text}
-use Rattle.byte_codec.proofs.Codecs.{IsBytes, IsBytes-front, and_then-some, wide32, text_codec}
+use Rattle.change_bytes.specs.ReadWords.{bytes_at, number_at, text_at}
+use Rattle.change_bytes.specs.Words.{number, text}
+use Rattle.change_bytes.proofs.WordCodecs.{IsBytes, IsBytes-front, and_then-some, wide32, text_codec}
 use Rattle.change_bytes.specs.declared.decoded.Decoded.{Decoded}
 use Rattle.change_bytes.specs.declared.decoded.Decoded.TheVariants.{Whole, Short, Bad}
 use Rattle.change_bytes.specs.Bytes.{body_bytes, change_bytes}

@@ -1,5 +1,8 @@
 pub mod TextLengths
 pub mod Sizes
+pub mod Counting
+pub mod WordCodecs
+pub mod Growing
 pub mod Codecs
 pub mod Frames
 pub mod Fits

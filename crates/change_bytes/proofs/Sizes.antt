@@ -2,7 +2,7 @@
 use Rattle.std.proofs.Common.{◌≡◌, ℕ, ◌+◌, length, arith, length-append}
 use Rattle.std.specs.Int.{w32}
 use Rattle.dh_changes.specs.declared.change.Change.{Change}
-use Rattle.byte_codec.specs.Writing.{listed, capped}
+use Rattle.change_bytes.specs.Words.{listed, capped}
 use Rattle.change_bytes.specs.Bytes.{write_bytes, head_bytes, body_bytes}
 
 pub body-length : (number : ℕ) (change : Change) (head writes whole : ℕ) → head ≡ length (head_bytes number change)

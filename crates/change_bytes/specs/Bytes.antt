@@ -5,7 +5,7 @@ use Rattle.dh_changes.specs.declared.change.Write.{Write}
 use Rattle.dh_changes.specs.declared.change.Write.TheVariants.{ValueSet, ValueCleared, EventWritten, EventDeleted, EnrollmentWritten, EnrollmentDeleted}
 use Rattle.dh_changes.specs.declared.change.Write.TheVariants.{EntityWritten, EntityDeleted, Approve, Unapprove, Accept, Unaccept, Complete, Uncomplete}
 use Rattle.dh_changes.specs.declared.change.Change.{Change}
-use Rattle.byte_codec.specs.Writing.{number, signed, text, listed, optional_id}
+use Rattle.change_bytes.specs.Words.{number, signed, text, listed, optional_id}
 use Rattle.change_bytes.specs.Fields.{value_key_bytes, approval_key_bytes, reg_key_bytes, event_bytes, enrollment_bytes, entity_bytes}
 
 -- a write is its kind and the fields of that kind

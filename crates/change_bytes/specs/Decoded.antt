@@ -5,7 +5,7 @@ use Rattle.dh_base.specs.declared.memory.Memory.{Memory}
 use Rattle.dh_changes.specs.declared.change.Change.{Change}
 use Rattle.change_bytes.specs.declared.decoded.Decoded.{Decoded}
 use Rattle.change_bytes.specs.declared.decoded.Decoded.TheVariants.{Whole, Short, Bad}
-use Rattle.byte_codec.specs.Reading.{text_at}
+use Rattle.change_bytes.specs.ReadWords.{text_at}
 use Rattle.change_bytes.specs.Bytes.{change_bytes}
 use Rattle.change_bytes.specs.Forms.{IsChange}
 use Rattle.change_bytes.specs.Reading.{change_of}

@@ -9,7 +9,7 @@ use Rattle.dh_changes.specs.declared.keys.RegKey.{RegKey}
 use Rattle.dh_changes.specs.declared.tracker.Event.{Event}
 use Rattle.dh_changes.specs.declared.tracker.Enrollment.{Enrollment}
 use Rattle.dh_changes.specs.declared.tracker.Entity.{Entity}
-use Rattle.byte_codec.specs.Writing.{number, signed, text, listed, optional_id, id_text}
+use Rattle.change_bytes.specs.Words.{number, signed, text, listed, optional_id, id_text}
 
 -- the text of a period after its length of one byte
 unfoldable pub period_bytes : PeriodName → List ℕ

@@ -15,7 +15,7 @@ use Rattle.dh_changes.specs.declared.change.Write.{Write}
 use Rattle.dh_changes.specs.declared.change.Write.TheVariants.{ValueSet, ValueCleared, EventWritten, EventDeleted, EnrollmentWritten, EnrollmentDeleted}
 use Rattle.dh_changes.specs.declared.change.Write.TheVariants.{EntityWritten, EntityDeleted, Approve, Unapprove, Accept, Unaccept, Complete, Uncomplete}
 use Rattle.dh_changes.specs.declared.change.Change.{Change}
-use Rattle.byte_codec.specs.Writing.{IsId, IsIdText}
+use Rattle.change_bytes.specs.Words.{IsId, IsIdText}
 use Rattle.dh_base.specs.Limits.{is_day}
 use Rattle.change_bytes.specs.Bytes.{body_bytes}
 

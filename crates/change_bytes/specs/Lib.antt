@@ -1,3 +1,6 @@
+pub mod Words
+pub mod ReadWords
+pub mod Given
 pub mod Fields
 pub mod Bytes
 pub mod Forms

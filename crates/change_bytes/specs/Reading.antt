@@ -14,7 +14,7 @@ use Rattle.dh_changes.specs.declared.change.Write.{Write}
 use Rattle.dh_changes.specs.declared.change.Write.TheVariants.{ValueSet, ValueCleared, EventWritten, EventDeleted, EnrollmentWritten, EnrollmentDeleted}
 use Rattle.dh_changes.specs.declared.change.Write.TheVariants.{EntityWritten, EntityDeleted, Approve, Unapprove, Accept, Unaccept, Complete, Uncomplete}
 use Rattle.dh_changes.specs.declared.change.Change.{Change}
-use Rattle.byte_codec.specs.Reading.{Reads, ◌⊗◌, mapped, refined, number_at, signed_at, text_at, times_at, listed_at, id_at, optional_id_at, id_text_at}
+use Rattle.change_bytes.specs.ReadWords.{Reads, ◌⊗◌, mapped, refined, number_at, signed_at, text_at, times_at, listed_at, id_at, optional_id_at, id_text_at}
 use Rattle.change_bytes.specs.Fields.{no_day}
 use Rattle.change_bytes.specs.Forms.{event_statuses, enrollment_statuses}
 use Rattle.dh_base.specs.Limits.{is_day}

@@ -1,6 +1,6 @@
 ghost use Rattle.std.specs.Prelude.{◌≡◌, ◌||◌, ◌==◌};
-ghost use Rattle.byte_codec.specs.Reading.{times_at};
-ghost use Rattle.byte_codec.specs.Given.{Gives};
+ghost use Rattle.change_bytes.specs.ReadWords.{times_at};
+ghost use Rattle.change_bytes.specs.Given.{Gives};
 ghost use Rattle.change_bytes.specs.Reading.{value_set_at, complete_at, is_deletion, value_write_at, tracker_write_at, deletion_at, approval_at};
 ghost use Rattle.change_bytes.specs.Reading.{registration_at, fields_at, write_at, writes_at, same_number_at, head_at, change_at};
 
@@ -8,8 +8,8 @@ use crate::decode_fields::{
     read_approval_key, read_enrollment, read_entity, read_event, read_given_day, read_reg_key,
     read_value_key,
 };
-use byte_codec::fault::ReadFault;
-use byte_codec::read::{
+use crate::fault::ReadFault;
+use crate::read_words::{
     read_i64, read_id, read_optional_id, read_owned_text, read_u8, read_u32, read_u64,
 };
 use dh_base::items::Items;

@@ -1,14 +1,14 @@
 ghost use Rattle.std.specs.Prelude.{◌≡◌, bytes_eq, nat_lt, Some, None};
 ghost use Rattle.dh_periods.specs.Texts.{period_text, period_of};
-ghost use Rattle.byte_codec.specs.Given.{Gives};
+ghost use Rattle.change_bytes.specs.Given.{Gives};
 ghost use Rattle.dh_base.specs.Limits.{is_day};
 ghost use Rattle.change_bytes.specs.Reading.{canonical_of, day_of, period_at, day_at, given_day_at, status_at, two_ids_at, three_ids_at, value_key_at};
 ghost use Rattle.change_bytes.specs.Reading.{approval_key_at, reg_key_at, days_at, state_at, event_ids_at, event_at, enrollment_at, entity_at};
 ghost use Rattle.change_bytes.specs.Forms.{event_statuses, enrollment_statuses};
 
+use crate::fault::ReadFault;
 use crate::periods::period_len;
-use byte_codec::fault::ReadFault;
-use byte_codec::read::{
+use crate::read_words::{
     read_i32, read_id, read_id_texts, read_optional_id, read_short_text, read_u8,
 };
 use dh_base::limits::is_day;

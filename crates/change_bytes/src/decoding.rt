@@ -8,8 +8,8 @@ ghost use Rattle.change_bytes.specs.Decoded.{Decodes, is_short, read_as, decoded
 
 use crate::decode_body::read_change;
 use crate::decoded::Decoded;
-use byte_codec::fault::ReadFault;
-use byte_codec::read::read_long_text;
+use crate::fault::ReadFault;
+use crate::read_words::read_long_text;
 use dh_base::memory::Memory;
 use dh_changes::change::Change;
 use std::alloc::Global;

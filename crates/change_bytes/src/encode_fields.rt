@@ -1,14 +1,14 @@
 ghost use Rattle.std.specs.Prelude.{◌≡◌, ◌++◌, ◌<◌, ◌^◌, length, IsTrue, IfSome, OnOk};
 ghost use Rattle.std.specs.Int.{w8, w16, w32};
 ghost use Rattle.dh_periods.specs.Days.{is_listed};
-ghost use Rattle.byte_codec.specs.Writing.{IsId, optional_id, listed, id_text};
+ghost use Rattle.change_bytes.specs.Words.{IsId, optional_id, listed, id_text};
 ghost use Rattle.change_bytes.specs.Fields.{period_bytes, day_bytes, value_key_bytes, approval_key_bytes, reg_key_bytes, state_bytes, event_bytes};
 ghost use Rattle.change_bytes.specs.Fields.{enrollment_bytes, entity_bytes};
 ghost use Rattle.change_bytes.specs.Forms.{IsPeriod, IsDay, IsValueKey, IsApprovalKey, IsRegKey, StateFits, IsState, PairsFit, ArePairs, IsEvent};
 ghost use Rattle.change_bytes.specs.Forms.{IsEnrollment, IsEntity, event_statuses, enrollment_statuses};
 
 use crate::periods::period_len;
-use byte_codec::write::{
+use crate::write_words::{
     put_bytes, put_i32, put_id, put_id_texts, put_optional_id, put_short_text, put_u8,
 };
 use dh_base::items::Items;

@@ -3,7 +3,7 @@ ghost use Rattle.std.specs.List.{All, flat_map};
 ghost use Rattle.std.specs.Int.{w8, w16, w32, w64};
 ghost use Rattle.std.specs.Int.RustNames.{FitsSigned};
 ghost use Rattle.dh_changes.specs.declared.change.Write.TheVariants.{ValueSet, Complete};
-ghost use Rattle.byte_codec.specs.Writing.{number, text, listed, IsId};
+ghost use Rattle.change_bytes.specs.Words.{number, text, listed, IsId};
 ghost use Rattle.change_bytes.specs.Fields.{value_key_bytes, approval_key_bytes, reg_key_bytes, event_bytes, enrollment_bytes, entity_bytes};
 ghost use Rattle.change_bytes.specs.Bytes.{write_bytes, head_bytes, body_bytes, change_bytes};
 ghost use Rattle.change_bytes.specs.Forms.{WriteFits, ChangeFits, IsWrite, IsChange, IsDay, IsValueKey, IsApprovalKey, IsRegKey, IsEvent, IsEnrollment};
@@ -13,7 +13,7 @@ use crate::encode_fields::{
     put_approval_key, put_enrollment, put_entity, put_event, put_reg_key, put_value_key,
 };
 use crate::lengths::body_len;
-use byte_codec::write::{
+use crate::write_words::{
     put_i32, put_i64, put_id, put_optional_id, put_text, put_u8, put_u32, put_u64,
 };
 use dh_base::memory::Memory;

@@ -2,12 +2,12 @@
 ghost use Rattle.std.specs.Prelude.{◌≡◌, ◌≤◌, ◌<◌, ◌+◌, ◌^◌, ◌++◌, ℕ, length};
 ghost use Rattle.std.specs.List.{flat_map};
 ghost use Rattle.std.specs.Int.{w8, w16, w32, w64};
-ghost use Rattle.byte_codec.specs.Writing.{number, text, listed, optional_id, capped};
+ghost use Rattle.change_bytes.specs.Words.{number, text, listed, optional_id, capped};
 ghost use Rattle.change_bytes.specs.Fields.{period_bytes, value_key_bytes, approval_key_bytes, reg_key_bytes, event_bytes, enrollment_bytes, entity_bytes};
 ghost use Rattle.change_bytes.specs.Bytes.{write_bytes, head_bytes, body_bytes, change_bytes};
 
 use crate::periods::period_len;
-use byte_codec::write::{id_len, id_texts_len};
+use crate::write_words::{id_len, id_texts_len};
 use dh_base::uid::Uid;
 use dh_changes::change::{Change, Write};
 use dh_changes::keys::{ApprovalKey, RegKey, ValueKey};

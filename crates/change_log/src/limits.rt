@@ -1,3 +1,4 @@
+//! The limits of a log, and why a change is not taken.
 ghost use Rattle.std.specs.Prelude.{◌≡◌};
 
 use dh_base::memory::Memory;

@@ -1,16 +1,19 @@
 -- The status of each report.
-use Rattle.std.proofs.Common.{◌≡◌, ◌∙◌, ap, ℤ, Bool, true, false, cond, List, Result, Ok, refl}
+use Rattle.std.proofs.Common.{◌≡◌, ◌∙◌, ap, ℤ, Bool, true, false, cond, List, Result, Ok, Err, refl}
+use Rattle.dh_approvals.specs.Decisions.{decided}
+use Rattle.dh_approvals.specs.declared.act.ApprovalFault.{ApprovalFault}
 use Rattle.dh_base.specs.declared.codes.Refusal.{Refusal}
 use Rattle.dh_changes.specs.declared.change.Write.{Write}
 use Rattle.meta_parts.specs.declared.held.Records.{Records}
 use Rattle.record_index.specs.declared.outcome.Verdict.{Verdict}
 use Rattle.record_index.specs.declared.outcome.Who.{Who}
+use Rattle.record_index.specs.declared.outcome.Who.TheVariants as who
 use Rattle.record_index.specs.Facts.{Facts, facts_in}
-use Rattle.reply_bodies.specs.Summary.{is_clean}
+use Rattle.change_requests.specs.Summary.{is_clean}
 use Rattle.value_import.specs.Verdicts.{verdict_of, completions_verdict_of}
-use Rattle.change_requests.specs.Requests.{Asked, import_report, judged, judged_by, is_report_status}
+use Rattle.change_requests.specs.Requests.{Asked, import_report, approval_report, by_decision, judged, judged_by, is_report_status}
 use Rattle.change_requests.specs.declared.request.ChangeRequest.{ChangeRequest}
-use Rattle.change_requests.specs.declared.request.ChangeRequest.TheVariants.{Values, Completion}
+use Rattle.change_requests.specs.declared.request.ChangeRequest.TheVariants.{Values, Completion, Approval}
 use Rattle.change_requests.specs.declared.request.Judged.{Judged}
 
 of-clean : (clean : Bool) → is_report_status (cond clean 200 409) ≡ true
@@ -23,6 +26,12 @@ of-import verdict found meant made is =
     let e : found ≡ import_report verdict = cc in
     ap (λ (j : Judged). is_report_status j.status) e ∙ of-clean (is_clean verdict)
 
+of-decision : (decision : Result Write ApprovalFault) (found : Judged) → by_decision decision ≡ Ok found → is_report_status found.status ≡ true
+of-decision (Ok write) found is =
+    let e : found ≡ approval_report write = cc in
+    ap (λ (j : Judged). is_report_status j.status) e
+of-decision (Err fault) found is = absurd (cc)
+
 by-kind : (facts : Facts) (meta : Records) (who : Who) (moment : ℤ) (request : ChangeRequest) (found : Judged)
     → judged_by facts meta who moment request ≡ Ok found
     → is_report_status found.status ≡ true
@@ -30,6 +39,8 @@ by-kind facts meta who moment (Values set) found is =
     of-import (verdict_of facts meta who moment set) found (judged_by facts meta who moment (Values set)) refl is
 by-kind facts meta who moment (Completion list) found is =
     of-import (completions_verdict_of facts meta who moment list) found (judged_by facts meta who moment (Completion list)) refl is
+by-kind facts meta (who.User user) moment (Approval act) found is = of-decision (decided facts meta user act) found is
+by-kind facts meta who.Loader moment (Approval act) found is = absurd (cc)
 
 pub report-status : (meta : Records) (writes : List Write) (asked : Asked) (found : Judged) → judged meta writes asked ≡ Ok found
     → is_report_status found.status ≡ true

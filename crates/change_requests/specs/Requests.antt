@@ -1,5 +1,10 @@
 -- What a request to change comes to: the writes and the report's body and status, or a refusal.
-use Rattle.std.specs.Prelude.{◌≡◌, ◌||◌, ⊤, ℕ, ℤ, Bool, nat_eq, List, slice_get, Option, None, option_map, Result, Ok, Err}
+use Rattle.std.specs.Prelude.{◌≡◌, ◌||◌, ⊤, ℕ, ℤ, Bool, nat_eq, List, [], ◌∷◌, codes, slice_get, Option, None, Some, option_map, Result, Ok, Err}
+use Rattle.dh_approvals.specs.Decisions.{decided}
+use Rattle.dh_approvals.specs.declared.act.ApprovalAct.{ApprovalAct}
+use Rattle.dh_approvals.specs.declared.act.ApprovalFault.{ApprovalFault}
+use Rattle.dh_approvals.specs.declared.act.ApprovalFault.TheVariants as approval
+use Rattle.dh_base.specs.declared.codes.Code.TheVariants as code
 use Rattle.dh_base.specs.declared.codes.Refusal.{Refusal}
 use Rattle.dh_changes.specs.declared.change.Write.{Write}
 use Rattle.meta_parts.specs.declared.held.Records.{Records}
@@ -9,9 +14,9 @@ use Rattle.record_index.specs.declared.outcome.Who.TheVariants as who
 use Rattle.record_index.specs.declared.outcome.Verdict.{Verdict}
 use Rattle.record_index.specs.Facts.{Facts, facts_in}
 use Rattle.value_import.specs.Verdicts.{verdict_of, completions_verdict_of}
-use Rattle.reply_bodies.specs.Summary.{summary_text, summary_status_of}
+use Rattle.change_requests.specs.Summary.{summary_text, summary_status_of}
 use Rattle.change_requests.specs.declared.request.ChangeRequest.{ChangeRequest}
-use Rattle.change_requests.specs.declared.request.ChangeRequest.TheVariants.{Values, Completion}
+use Rattle.change_requests.specs.declared.request.ChangeRequest.TheVariants.{Values, Completion, Approval}
 use Rattle.change_requests.specs.declared.request.Judged.{Judged}
 use Rattle.change_requests.specs.declared.request.JudgeFault.{JudgeFault}
 use Rattle.change_requests.specs.declared.request.JudgeFault.TheVariants as fault
@@ -31,20 +36,50 @@ maker_of meta who.Loader = None
 abbrev pub import_report : Verdict → Judged
 import_report verdict = record { writes = verdict.writes; body = summary_text verdict; status = summary_status_of verdict }
 
+-- the body of the report on an approval
+unfoldable pub approval_body : List ℕ
+approval_body = codes "{\"httpStatus\":\"OK\",\"httpStatusCode\":200,\"status\":\"OK\"}"
+
+abbrev pub approval_report : Write → Judged
+approval_report write = record { writes = write ∷ []; body = approval_body; status = 200 }
+
+-- how a refused act is reported
+abbrev pub refusal_of : ApprovalFault → Refusal
+refusal_of approval.NoRight = record { code = code.F40; detail = [] }
+refusal_of (approval.NotReady unit) = record { code = code.F41; detail = unit }
+refusal_of approval.AlreadyApproved = record { code = code.F42; detail = [] }
+refusal_of approval.NotApproved = record { code = code.F43; detail = [] }
+refusal_of (approval.ApprovedAbove unit) = record { code = code.F44; detail = unit }
+refusal_of (approval.NotAccepted unit) = record { code = code.F45; detail = unit }
+
+abbrev pub by_decision : Result Write ApprovalFault → Result Judged Refusal
+by_decision (Ok write) = Ok (approval_report write)
+by_decision (Err fault) = Err (refusal_of fault)
+
+-- only users approve
+abbrev pub approval_by : Facts → Records → Who → ApprovalAct → Result Judged Refusal
+approval_by facts meta (who.User user) act = by_decision (decided facts meta user act)
+approval_by facts meta who.Loader act = Err (refusal_of approval.NoRight)
+
 -- by the request's kind; an import is never refused as a whole
 abbrev pub judged_by : Facts → Records → Who → ℤ → ChangeRequest → Result Judged Refusal
 judged_by facts meta asker moment (Values set) = Ok (import_report (verdict_of facts meta asker moment set))
 judged_by facts meta asker moment (Completion list) = Ok (import_report (completions_verdict_of facts meta asker moment list))
+judged_by facts meta asker moment (Approval act) = approval_by facts meta asker act
 
 -- over a log of these writes
 unfoldable pub judged : Records → List Write → Asked → Result Judged Refusal
 judged meta writes asked = judged_by (facts_in writes) meta asked.who asked.moment asked.request
 
--- the call found this, unless memory ran out
-abbrev pub Judges : Result Judged Refusal → Result Judged JudgeFault → Type 0
-Judges meant (Ok found) = meant ≡ Ok found
-Judges meant (Err (fault.Refused refused)) = meant ≡ Err refused
-Judges meant (Err fault.Memory) = ⊤
+-- why a request comes to no report; running out of memory has no cause
+abbrev pub cause_of : JudgeFault → Option Refusal
+cause_of (fault.Refused refused) = Some refused
+cause_of fault.Memory = None
+
+-- the fault is this refusal, or memory ran out
+abbrev pub IsRefusal : Refusal → JudgeFault → Type 0
+IsRefusal meant (fault.Refused refused) = refused ≡ meant
+IsRefusal meant fault.Memory = ⊤
 
 -- a report's status
 abbrev pub is_report_status : ℕ → Bool

@@ -1,18 +1,20 @@
 //! What a request comes to.
 ghost use Rattle.std.specs.Prelude.{◌≡◌, IfOk};
 ghost use Rattle.std.specs.List.{All};
+ghost use Rattle.dh_base.specs.Memory.{Answers};
 ghost use Rattle.change_bytes.specs.Forms.{WriteFits};
 ghost use Rattle.record_index.specs.World.{facts};
 ghost use Rattle.value_import.specs.Outcomes.{IsKnown};
-ghost use Rattle.change_requests.specs.Requests.{import_report, judged_by, Judges};
+ghost use Rattle.change_requests.specs.Requests.{cause_of, import_report, judged_by};
 
+use crate::approval::judge_approval;
 use crate::request::{ChangeRequest, JudgeFault, Judged};
+use crate::summary::{summary_body, summary_status};
 use dh_base::items::Items;
 use dh_base::memory::Memory;
 use dh_metadata::metadata::Metadata;
 use record_index::outcome::{Verdict, Who};
 use record_index::world::World;
-use reply_bodies::{summary_body, summary_status};
 use std::alloc::Global;
 use value_import::verdict::{judge_completions, verdict};
 
@@ -41,7 +43,7 @@ pub fn judge(
     request: &ChangeRequest,
 ) -> Result<Judged, JudgeFault>
     requires { IsKnown meta.now who }
-    ensures value { Judges (judged_by (facts world.now) meta.now who moment request.now) result }
+    ensures value { Answers cause_of (judged_by (facts world.now) meta.now who moment request.now) result }
     ensures fits { IfOk result (λ judged. All WriteFits judged.writes) }
 {
     match request {
@@ -53,5 +55,6 @@ pub fn judge(
             let found = judge_completions(alloc, world, meta, who, moment, list.as_slice())?;
             Ok(import_report(alloc, found)?)
         }
+        ChangeRequest::Approval(act) => judge_approval(alloc, world, meta, who, act),
     }
 }

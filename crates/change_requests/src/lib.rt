@@ -2,10 +2,12 @@
 //! into is not here.
 #![tactic(auto)]
 
+mod approval;
 mod kinds;
 mod laws;
 mod maker;
 pub mod request;
+mod summary;
 
 pub use kinds::judge;
 pub use laws::report_statuses;

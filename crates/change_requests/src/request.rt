@@ -1,6 +1,7 @@
 //! What may be asked to be changed, and what it comes to.
 ghost use Rattle.std.specs.Prelude.{◌≡◌};
 
+use dh_approvals::ApprovalAct;
 use dh_base::codes::Refusal;
 use dh_base::items::Items;
 use dh_base::memory::Memory;
@@ -15,6 +16,8 @@ pub enum ChangeRequest {
     Values(ValueSet),
     /// Data sets are registered as complete, or no longer.
     Completion(Items<Completion>),
+    /// Data is approved or accepted, or no longer.
+    Approval(ApprovalAct),
 }
 
 /// The writes that a request comes to, and the body and status of the report on it.

@@ -8,9 +8,9 @@ use Rattle.org_tree.specs.Units.{UnitRow, level_of}
 use Rattle.meta_parts.specs.declared.held.Records.{Records}
 use Rattle.meta_parts.specs.declared.records.Workflow.{Workflow}
 use Rattle.dh_metadata.specs.Users.{has_authority, view_units_of}
-use Rattle.meta_rules.specs.Trees.{tree_rows}
-use Rattle.meta_rules.specs.Categories as rules
-use Rattle.meta_rules.specs.Levels.{positions_of}
+use Rattle.meta_parts.specs.Rows.{tree_rows}
+use Rattle.meta_parts.specs.Rows as rows
+use Rattle.meta_parts.specs.Positions.{positions_of}
 
 -- a unit's identifier and its parent
 abbrev pub unit_rows : Records → List UnitRow
@@ -18,7 +18,7 @@ unit_rows r = tree_rows r.organisation_units
 
 -- an option combination's category combination and its options
 abbrev pub option_combo_rows : Records → List (ℕ × List ℕ)
-option_combo_rows r = rules.option_combo_rows r.category_option_combos
+option_combo_rows r = rows.option_combo_rows r.category_option_combos
 
 -- a level of the tree as a small number; those of a metadata file are from 1 to 12
 abbrev pub tree_level : ℤ → ℕ

@@ -2,9 +2,9 @@
 use Rattle.std.specs.Prelude.{◌≡◌, ℤ, ◌<◌, ◌≤◌, ◌^◌, List, length, map}
 use Rattle.meta_parts.specs.declared.held.Records.{Records}
 use Rattle.meta_parts.specs.declared.kind.Kind.{Kind}
-use Rattle.meta_rules.specs.declared.held.Held.{Held}
-use Rattle.meta_rules.specs.Levels.{positions_of}
-use Rattle.meta_rules.specs.Workflows.{AreWorkflows}
+use Rattle.meta_parts.specs.declared.structure.Structure.{Structure}
+use Rattle.meta_parts.specs.Positions.{positions_of}
+use Rattle.meta_parts.specs.Workflows.{AreWorkflows}
 use Rattle.dh_metadata.specs.declared.made.Made.{Made}
 use Rattle.dh_metadata.specs.declared.sets.SetLists.{SetLists}
 use Rattle.dh_metadata.specs.Approval.{unit_rows, option_combo_rows, tree_level}
@@ -20,7 +20,7 @@ AreFew r = (kind : Kind) → count_of r kind < 2 ^ 32
 
 -- the rules hand on the tree of the units, the option combinations, the workflows of the elements, and the
 -- positions of the workflows, which are at most eight
-pub record HaveRules (r : Records) (held : Held) : Type 0 where
+pub record HaveRules (r : Records) (held : Structure) : Type 0 where
   pub tree : held.tree ≡ unit_rows r
   pub combos : held.combos ≡ option_combo_rows r
   pub workflows : AreWorkflows r.data_sets (length r.data_elements) held.workflows.items

@@ -1,7 +1,7 @@
 -- Objects by number and by identifier.
 use Rattle.std.specs.Prelude.{◌≡◌, ℕ, Bool, true, false, List, length, map, slice_get, Option, None, option_map}
-use Rattle.meta_ids.specs.Places.{place_of}
-use Rattle.meta_ids.specs.Ids.{ids_at}
+use Rattle.meta_parts.specs.Places.{place_of}
+use Rattle.meta_parts.specs.Ids.{ids_at}
 use Rattle.dh_sharing.specs.declared.rule.Sharing.{Sharing}
 use Rattle.meta_parts.specs.declared.held.Records.{Records}
 use Rattle.meta_parts.specs.declared.kind.Kind.{Kind}

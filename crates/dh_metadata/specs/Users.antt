@@ -13,7 +13,7 @@ use Rattle.meta_parts.specs.declared.held.Records.{Records}
 use Rattle.meta_parts.specs.declared.records.Role.{Role}
 use Rattle.meta_parts.specs.declared.records.User.{User}
 use Rattle.meta_parts.specs.declared.records.UserGroup.{UserGroup}
-use Rattle.meta_ids.specs.Places.{same_id}
+use Rattle.meta_parts.specs.Places.{same_id}
 use Rattle.dh_metadata.specs.Members.{holders}
 use Rattle.dh_metadata.specs.Objects.{sharing_of}
 

@@ -8,7 +8,7 @@ ghost use Rattle.dh_metadata.specs.Linked.{IsLinkedUserGroup};
 ghost use Rattle.dh_metadata.specs.Objects.{count_of, find_of, is_shared, sharing_of, HaveIds};
 ghost use Rattle.dh_metadata.specs.Sets.{has_element, is_assigned, sets_with};
 ghost use Rattle.dh_metadata.specs.Users.{facts_of, has_authority, may_of, user_of, view_units_of};
-ghost use Rattle.meta_rules.specs.Workflows.{workflow_of};
+ghost use Rattle.meta_parts.specs.Workflows.{workflow_of};
 
 use crate::authorities::is_granted;
 use crate::made::{Made, make};
@@ -21,15 +21,15 @@ use dh_base::uid::Uid;
 use dh_categories::combos::Combos;
 use dh_sharing::access::Right;
 use dh_sharing::rule::{Sharing, UserFacts, may};
-use meta_ids::ids::Ids;
 use meta_parts::held::Records;
+use meta_parts::ids::Ids;
 use meta_parts::kind::Kind;
 use meta_parts::records::{
     ApprovalLevel, Attribute, Category, CategoryCombo, CategoryOption, Constant, DataSet, Element,
     EntityType, Indicator, IndicatorType, OptionCombo, Program, ProgramIndicator, Role, Rule,
     Stage, Unit, UnitGroup, User, UserGroup, Workflow,
 };
-use meta_rules::held::Held;
+use meta_parts::structure::Structure;
 use org_tree::tree::Tree;
 use std::alloc::Global;
 use std::collections::HashMap;
@@ -70,7 +70,12 @@ impl Model for Metadata {
 
 impl Metadata {
     /// Metadata of these records, where the rules between them are kept.
-    pub fn of(alloc: Global, records: Records, ids: Ids, held: Held) -> Result<Metadata, Memory>
+    pub fn of(
+        alloc: Global,
+        records: Records,
+        ids: Ids,
+        held: Structure,
+    ) -> Result<Metadata, Memory>
         requires few { AreFew records }
         requires linked { IsLinked records }
         requires ids { HaveIds records ids }
@@ -448,7 +453,7 @@ impl Metadata {
 }
 
 // Metadata of these records and what was looked up of them.
-fn with(records: Records, ids: Ids, held: Held, made: Made) -> Metadata
+fn with(records: Records, ids: Ids, held: Structure, made: Made) -> Metadata
     requires linked { IsLinked records }
     requires ids { HaveIds records ids }
     requires held { HaveRules records held }

@@ -15,7 +15,7 @@ use Rattle.meta_parts.specs.declared.records.Element.{Element}
 use Rattle.meta_parts.specs.declared.records.ApprovalLevel.{ApprovalLevel}
 use Rattle.meta_parts.specs.declared.records.Workflow.{Workflow}
 use Rattle.meta_parts.specs.declared.records.DataSet.{DataSet}
-use Rattle.meta_rules.specs.Levels.{positions_of, ordered}
+use Rattle.meta_parts.specs.Positions.{positions_of, ordered}
 use Rattle.record_index.specs.Facts.{Facts}
 use Rattle.record_index.specs.declared.said.ApprovalState.TheVariants as state
 use Rattle.dh_changes.specs.declared.keys.ApprovalKey.{ApprovalKey}

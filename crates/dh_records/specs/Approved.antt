@@ -10,7 +10,7 @@ use Rattle.meta_parts.specs.declared.held.Records.{Records}
 use Rattle.meta_parts.specs.declared.records.Unit.{Unit}
 use Rattle.meta_parts.specs.declared.records.Workflow.{Workflow}
 use Rattle.dh_metadata.specs.Approval.{levels_at}
-use Rattle.meta_rules.specs.Workflows.{workflow_of}
+use Rattle.meta_parts.specs.Workflows.{workflow_of}
 use Rattle.dh_metadata.specs.Objects.{find_of}
 use Rattle.meta_parts.specs.declared.kind.Kind.TheVariants.{OrganisationUnit, DataElement}
 use Rattle.record_index.specs.Facts.{Facts}

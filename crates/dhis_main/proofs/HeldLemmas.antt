@@ -1,14 +1,18 @@
 -- Sessions over a metadata file, told as what a run of the command may do.
-use Rattle.std.proofs.Common.{◌≡◌, ◌≢◌, ◌∙◌, ◌<◌, inr, ℕ, ℤ, zero, suc, List, [], ◌∷◌, length, Option, None, Some, IfSome, refl, sym, ap, subst, arith}
+use Rattle.std.proofs.Common.{◌≡◌, ◌≢◌, ◌<◌, inr, ℕ, ℤ, true, false, zero, suc, List, [], ◌∷◌, length, Option, None, Some, IfSome, refl, sym, ap, subst}
+use Rattle.std.proofs.Common.{arith}
 use Rattle.dh_outside.specs.Faults.{Rose}
 use Rattle.request_session.specs.declared.ended.Ended.{Ended}
 use Rattle.request_session.specs.declared.ended.Ended.TheVariants as ended
-use Rattle.offline_session.specs.OverFile.{SessionOver, SessionOverAll}
-use Rattle.offline_session.specs.declared.over_file.SessionEnd.{SessionEnd}
-use Rattle.offline_session.specs.declared.over_file.SessionEnd.TheVariants as end
-use Rattle.offline_session.proofs.OverLemmas.{over_told}
+use Rattle.request_replies.specs.OverFile.{SessionOver, SessionOverAll}
+use Rattle.request_replies.specs.declared.over_file.SessionEnd.{SessionEnd}
+use Rattle.request_replies.specs.declared.over_file.SessionEnd.TheVariants as end
+use Rattle.request_replies.specs.SessionText.{is_over, WritesOne}
+use Rattle.request_replies.proofs.OverLemmas.{over_told}
+use Rattle.request_replies.proofs.TextLemmas.{text_over}
 use Rattle.dhis_main.specs.Shown.{Shown}
 use Rattle.dhis_main.specs.Session.{status_of, status_over, Came, SessionRuns, SessionAnswers}
+use Rattle.dhis_main.specs.declared.status.Outcome.{Outcome}
 use Rattle.dhis_main.specs.declared.status.Status.{Status}
 use Rattle.dhis_main.specs.declared.status.Status.TheVariants as status
 
@@ -65,16 +69,31 @@ long_file most (Some bytes) long = (bytes, refl, long)
 
 -- ---- over bytes that are told
 
+is-over : (outcome : Outcome) (how : SessionEnd) → status.Done outcome ≡ status_over how → is_over how ≡ true
+is-over outcome end.Refused is = refl
+is-over outcome end.Unwritten is = absurd (cc)
+is-over outcome (end.Ended ended.Closed) is = refl
+is-over outcome (end.Ended ended.Limit) is = refl
+is-over outcome (end.Ended ended.Truncated) is = refl
+is-over outcome (end.Ended (ended.Refused code)) is = refl
+is-over outcome (end.Ended ended.ReadFault) is = absurd (cc)
+is-over outcome (end.Ended ended.WriteFault) is = absurd (cc)
+is-over outcome (end.Ended ended.Memory) is = absurd (cc)
+is-over outcome end.Memory is = absurd (cc)
+
+no-fault : (how : SessionEnd) → is_over how ≡ true → how ≢ end.Ended ended.ReadFault
+no-fault how over is = absurd (let same : is_over how ≡ false = ap is_over is in cc)
+
 told-over : (shows : ℤ → Type 0) (file left left' written written' : Option (List ℕ)) (bytes : List ℕ) (how : SessionEnd) (result : Status)
-    → IfSome file (λ all. bytes ≡ all) → how ≢ end.Ended ended.ReadFault → result ≡ status_over how → SessionOver shows bytes left left' written written' how
-    → IfSome file (λ b. IfSome left (λ all. (h : SessionEnd) × SessionOverAll shows b all written written' h × (result ≡ status_over h)))
-told-over shows None left left' written written' bytes how result told other is over = tt
-told-over shows (Some file) None left' written written' bytes how result told other is over = tt
-told-over shows (Some file) (Some all) left' written written' bytes how result told other is over = (
-  how,
-  subst (λ b. SessionOverAll shows b all written written' how) told (over_told shows bytes (Some all) left' written written' how all refl other over),
-  is,
-)
+    → IfSome file (λ all. bytes ≡ all) → is_over how ≡ true → result ≡ status_over how → SessionOver shows bytes left left' written written' how
+    → IfSome file (λ b. IfSome left (λ all.
+    ((h : SessionEnd) × SessionOverAll shows b all written written' h × (result ≡ status_over h)) × WritesOne shows b all written written'))
+told-over shows None left left' written written' bytes how result told over_is is over = tt
+told-over shows (Some file) None left' written written' bytes how result told over_is is over = tt
+told-over shows (Some file) (Some all) left' written written' bytes how result told over_is is over =
+    let whole = subst (λ b. SessionOverAll shows b all written written' how) told
+    (over_told shows bytes (Some all) left' written written' how all refl (no-fault how over_is) over) in
+    ((how, whole, is), text_over shows file all written written' how over_is whole)
 
 -- a session that is done over a file and an input that are told
 pub session_answers : (shows : ℤ → Type 0) (name : List ℕ) (shown : Shown) (result : Status) → SessionRuns shows name shown result
@@ -82,10 +101,7 @@ pub session_answers : (shows : ℤ → Type 0) (name : List ℕ) (shown : Shown)
 session_answers shows name shown (status.Done outcome) came =
     told-over shows (shown.files.file name) shown.input.before shown.input.after shown.output.before shown.output.after came.bytes came.how
     (status.Done outcome)
-    came.told (λ is. no_fault (came.status_is ∙ ap status_over is)) came.status_is came.over
-  where
-    no_fault : status.Done outcome ≡ status.ReadFault → ⊥
-    no_fault is = cc
+    came.told (is-over outcome came.how came.status_is) came.status_is came.over
 session_answers shows name shown status.ReadFault came = tt
 session_answers shows name shown status.WriteFault came = tt
 session_answers shows name shown status.Memory came = tt

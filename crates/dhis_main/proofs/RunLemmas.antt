@@ -11,8 +11,8 @@ use Rattle.bundle_reply.specs.declared.reply.Ending.{Ending}
 use Rattle.bundle_reply.specs.declared.reply.Ending.TheVariants as ending
 use Rattle.request_session.specs.declared.ended.Ended.{Ended}
 use Rattle.request_session.specs.declared.ended.Ended.TheVariants as ended
-use Rattle.offline_session.specs.declared.over_file.SessionEnd.{SessionEnd}
-use Rattle.offline_session.specs.declared.over_file.SessionEnd.TheVariants as end
+use Rattle.request_replies.specs.declared.over_file.SessionEnd.{SessionEnd}
+use Rattle.request_replies.specs.declared.over_file.SessionEnd.TheVariants as end
 use Rattle.dhis_main.specs.Words.{command_of}
 use Rattle.dhis_main.specs.Outcome.{word_at, help_reply, version_reply, usage_reply, outcome_of, IsQueryReplyNow, IsReportNow}
 use Rattle.dhis_main.specs.Shown.{Side, Shown}

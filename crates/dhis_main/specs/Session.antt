@@ -4,9 +4,10 @@ use Rattle.std.specs.Io.KnownBytes.{Keeps}
 use Rattle.dh_outside.specs.Faults.{Rose}
 use Rattle.request_session.specs.declared.ended.Ended.{Ended}
 use Rattle.request_session.specs.declared.ended.Ended.TheVariants as ended
-use Rattle.offline_session.specs.OverFile.{SessionOver, SessionOverAll}
-use Rattle.offline_session.specs.declared.over_file.SessionEnd.{SessionEnd}
-use Rattle.offline_session.specs.declared.over_file.SessionEnd.TheVariants as end
+use Rattle.request_replies.specs.OverFile.{SessionOver, SessionOverAll}
+use Rattle.request_replies.specs.SessionText.{WritesOne}
+use Rattle.request_replies.specs.declared.over_file.SessionEnd.{SessionEnd}
+use Rattle.request_replies.specs.declared.over_file.SessionEnd.TheVariants as end
 use Rattle.dhis_main.specs.Shown.{Shown}
 use Rattle.dhis_main.specs.declared.status.Outcome.TheVariants as outcome
 use Rattle.dhis_main.specs.declared.status.Status.{Status}
@@ -53,10 +54,12 @@ SessionRuns shows name shown status.WriteFault =
     Rose shown.output.faults shown.output.faults_after × Came shows name shown status.WriteFault
 SessionRuns shows name shown status.Memory = IsIdle shown ⊎ Came shows name shown status.Memory
 
--- over a file and an input that are told whole, a run that is done is the session over them
+-- over a file and an input that are told whole, a run that is done is the session over them; and it wrote the one text of both at the
+-- moments of its requests, or what goes along it up to a reply which says that memory ran out
 abbrev pub SessionAnswers : (ℤ → Type 0) → List ℕ → Shown → Status → Type 0
 SessionAnswers shows name shown (status.Done outcome) = IfSome (shown.files.file name) (λ bytes. IfSome shown.input.before (λ all.
-    (how : SessionEnd) × SessionOverAll shows bytes all shown.output.before shown.output.after how × (status.Done outcome ≡ status_over how)))
+    ((how : SessionEnd) × SessionOverAll shows bytes all shown.output.before shown.output.after how × (status.Done outcome ≡ status_over how))
+    × WritesOne shows bytes all shown.output.before shown.output.after))
 SessionAnswers shows name shown status.ReadFault = ⊤
 SessionAnswers shows name shown status.WriteFault = ⊤
 SessionAnswers shows name shown status.Memory = ⊤

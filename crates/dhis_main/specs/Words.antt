@@ -65,14 +65,18 @@ generate_words [] = command.Bad 2
 generate_words (count ∷ []) = counted (count_of count)
 generate_words (count ∷ other ∷ rest) = one_too_many (count_of count)
 
+-- a word that stands alone
+abbrev pub flag_of : List ℕ → List (List ℕ) → Command
+flag_of first rest =
+    cond (is_word first (codes "--help") && is_last rest) command.Help
+    (cond (is_word first (codes "--version") && is_last rest) command.Version (command.Bad 1))
+
 -- the words after the first
 abbrev pub command_behind : List ℕ → List (List ℕ) → Command
 command_behind first rest =
     cond (is_word first (codes "query")) (query_words rest)
     (cond (is_word first (codes "session")) (session_words rest)
-    (cond (is_word first (codes "generate")) (generate_words rest)
-    (cond (is_word first (codes "--help") && is_last rest) command.Help
-    (cond (is_word first (codes "--version") && is_last rest) command.Version (command.Bad 1)))))
+    (cond (is_word first (codes "generate")) (generate_words rest) (flag_of first rest)))
 
 unfoldable pub command_of : List (List ℕ) → Command
 command_of [] = command.Bad 1

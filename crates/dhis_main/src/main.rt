@@ -31,50 +31,101 @@ struct CommandLine {
     is_text: bool,
 }
 
-fn command_line<R: Env>(rt: &R, alloc: Global) -> Result<CommandLine, AllocError> {
-    let mut words = Vec::new(alloc);
-    let mut room = vec![in alloc; 0u8; LONGEST_WORD]?;
+// What stands at a place of the command line.
+#[derive(Drop)]
+enum Word {
+    Missing,
+    NotText,
+    Text(String),
+}
+
+fn text_of(alloc: Global, bytes: &[u8]) -> Result<Word, AllocError> {
+    match String::from_utf8(bytes.to_vec(alloc)?) {
+        Ok(text) => Ok(Word::Text(text)),
+        Err(_) => Ok(Word::NotText),
+    }
+}
+
+fn word_at<R: Env>(
+    rt: &R,
+    alloc: Global,
+    place: usize,
+    room: &mut [u8],
+) -> Result<Word, AllocError> {
+    match rt.arg(place, room) {
+        Ok(count) => text_of(alloc, &room[..count]),
+        Err(FillError::NotPresent) => Ok(Word::Missing),
+        Err(FillError::TooLong) => Ok(Word::NotText),
+    }
+}
+
+// Puts the words into the list, and says whether all are text.
+fn push_words<R: Env>(
+    rt: &R,
+    alloc: Global,
+    room: &mut [u8],
+    words: &mut Vec<String>,
+) -> Result<bool, AllocError> {
     for place in 1..MOST_WORDS {
-        match rt.arg(place, &mut room) {
-            Err(FillError::NotPresent) => break,
-            Err(FillError::TooLong) => {
-                return Ok(CommandLine {
-                    words,
-                    is_text: false,
-                });
-            }
-            Ok(count) => match String::from_utf8(room[..count].to_vec(alloc)?) {
-                Ok(word) => words.push(word)?,
-                Err(_) => {
-                    return Ok(CommandLine {
-                        words,
-                        is_text: false,
-                    });
-                }
-            },
+        match word_at(rt, alloc, place, room)? {
+            Word::Text(word) => words.push(word)?,
+            Word::Missing => return Ok(true),
+            Word::NotText => return Ok(false),
         }
     }
-    Ok(CommandLine {
-        words,
-        is_text: true,
-    })
+    Ok(true)
+}
+
+fn command_line<R: Env>(rt: &R, alloc: Global) -> Result<CommandLine, AllocError> {
+    let mut room = vec![in alloc; 0u8; LONGEST_WORD]?;
+    let mut words = Vec::new(alloc);
+    let is_text = push_words(rt, alloc, &mut room, &mut words)?;
+    Ok(CommandLine { words, is_text })
+}
+
+fn texts_of(alloc: Global, words: &[String]) -> Result<Vec<&str>, AllocError> {
+    let mut texts = Vec::new(alloc);
+    for word in words {
+        texts.push(word.as_str())?;
+    }
+    Ok(texts)
+}
+
+// Carries out the words over the standard input and output, with two handles for the files and the clock.
+fn run_with(
+    rt: &HostRuntime,
+    alloc: Global,
+    words: &[&str],
+    files: HostRuntime,
+    clock: HostRuntime,
+) -> Status {
+    let mut input = StdIn::new(rt.reader());
+    let mut output = StdOut::new(io::writer(rt));
+    let mut files = RealFiles::new(files);
+    let clock = SystemClock::new(clock);
+    run_offline(alloc, words, &mut input, &mut output, &mut files, &clock)
+}
+
+fn refuse(rt: &HostRuntime, alloc: Global, words: &[&str]) -> Status {
+    let mut output = StdOut::new(io::writer(rt));
+    refuse_word(alloc, words, &mut output)
+}
+
+fn run_text(rt: &HostRuntime, alloc: Global, words: &[&str]) -> Result<Status, AllocError> {
+    let files = rt.clone()?;
+    let clock = rt.clone()?;
+    Ok(run_with(rt, alloc, words, files, clock))
 }
 
 fn start(rt: &HostRuntime) -> Result<Status, AllocError> {
     let alloc = rt.alloc();
     let line = command_line(rt, alloc)?;
-    let mut words = Vec::new(alloc);
-    for word in &line.words {
-        words.push(word.as_str())?;
+    let words = texts_of(alloc, &line.words)?;
+    if line.is_text {
+        run_text(rt, alloc, &words)
+    } else {
+        Ok(refuse(rt, alloc, &words))
     }
-    let mut output = StdOut::new(io::writer(rt));
-    if !line.is_text {
-        return Ok(refuse_word(alloc, &words, &mut output));
-    }
-    let mut input = StdIn::new(rt.reader());
-    let mut files = RealFiles::new(rt.clone()?);
-    let clock = SystemClock::new(rt.clone()?);
-    Ok(run_offline(alloc, &words, &mut input, &mut output, &mut files, &clock))
 }
 
 fn main(rt: HostRuntime) -> ExitCode {

@@ -1,4 +1,4 @@
-ghost use Rattle.std.specs.Prelude.{◌≡◌, ◌<◌, ◌≤◌, ◌++◌, ℕ, ℤ, List, length, IfOk, OnOk};
+ghost use Rattle.std.specs.Prelude.{◌≡◌, ◌<◌, ◌≤◌, ◌++◌, ℕ, ℤ, List, length, IfOk};
 ghost use Rattle.meta_reader.specs.File.{most_bytes};
 ghost use Rattle.dhis_main.specs.Outcome.{line, usage_reply, usage_lines, command_lines, flag_lines, help_reply, version_reply, outcome_of, told_as};
 ghost use Rattle.dhis_main.specs.Outcome.{IsQueryReply, IsReport};
@@ -111,44 +111,24 @@ pub fn version_reply(alloc: Global) -> Result<Reply, Memory>
     })
 }
 
-#[tactic(auto, unfolding(crate::specs::Outcome::usage_lines))]
-fn push_usage(text: &mut Vec<u8>) -> Result<(), Memory>
-    ensures { OnOk result (text.new.items ≡ text.old.items ++ usage_lines) }
-{
-    push_line(text, "usage: dhis query USER QUERY < BUNDLE")?;
-    push_line(text, "       dhis session META < REQUESTS")?;
-    push_line(text, "       dhis generate N")?;
-    push_line(text, "       dhis --help")?;
-    push_line(text, "       dhis --version")?;
-    Ok(())
-}
+// How each command is written, what it does, and what the other words do.
+const HELP: &str = "usage: dhis query USER QUERY < BUNDLE
+       dhis session META < REQUESTS
+       dhis generate N
+       dhis --help
+       dhis --version
+query reads a bundle of metadata and values, and writes the analytics body of QUERY for USER.
+session reads the metadata file META, answers the HTTP requests of its input, and writes the replies.
+generate brings N values of its own, from 1 to 200000, and writes what they come to.
+--help writes this text.
+--version writes the version.
+";
 
-#[tactic(auto, unfolding(crate::specs::Outcome::command_lines))]
-fn push_commands(text: &mut Vec<u8>) -> Result<(), Memory>
-    ensures { OnOk result (text.new.items ≡ text.old.items ++ command_lines) }
+#[tactic(auto, unfolding(crate::specs::Outcome::usage_lines, crate::specs::Outcome::command_lines, crate::specs::Outcome::flag_lines))]
+fn help_text(alloc: Global) -> Result<Vec<u8>, Memory>
+    ensures { IfOk result (λ text. text.items ≡ usage_lines ++ command_lines ++ flag_lines) }
 {
-    push_line(
-        text,
-        "query reads a bundle of metadata and values, and writes the analytics body of QUERY for USER.",
-    )?;
-    push_line(
-        text,
-        "session reads the metadata file META, answers the HTTP requests of its input, and writes the replies.",
-    )?;
-    push_line(
-        text,
-        "generate brings N values of its own, from 1 to 200000, and writes what they come to.",
-    )?;
-    Ok(())
-}
-
-#[tactic(auto, unfolding(crate::specs::Outcome::flag_lines))]
-fn push_flags(text: &mut Vec<u8>) -> Result<(), Memory>
-    ensures { OnOk result (text.new.items ≡ text.old.items ++ flag_lines) }
-{
-    push_line(text, "--help writes this text.")?;
-    push_line(text, "--version writes the version.")?;
-    Ok(())
+    Ok(HELP.as_bytes().to_vec(alloc)?)
 }
 
 /// How each command is written, and what it does.
@@ -156,10 +136,7 @@ fn push_flags(text: &mut Vec<u8>) -> Result<(), Memory>
 pub fn help_reply(alloc: Global) -> Result<Reply, Memory>
     ensures { IfOk result (λ reply. reply ≡ help_reply) }
 {
-    let mut text = Vec::new(alloc);
-    push_usage(&mut text)?;
-    push_commands(&mut text)?;
-    push_flags(&mut text)?;
+    let text = help_text(alloc)?;
     Ok(Reply {
         outcome: Outcome::Ok,
         text: Items::from(text),
@@ -175,14 +152,6 @@ pub fn report_reply(alloc: Global, count: u32, moment: i64) -> Result<Reply, Mem
         outcome: Outcome::Ok,
         text: generated(alloc, count, moment)?,
     })
-}
-
-fn push_line(text: &mut Vec<u8>, added: &str) -> Result<(), Memory>
-    ensures { OnOk result (text.new.items ≡ text.old.items ++ line added.now) }
-{
-    text.extend_from_slice(added.as_bytes())?;
-    text.push(b'\n')?;
-    Ok(())
 }
 
 // The reply to a query over these bytes.

@@ -5,7 +5,7 @@ ghost use Rattle.dhis_main.specs.Session.{status_of, status_over, SessionRuns};
 use crate::status::{Outcome, Status};
 use dh_base::limits::MOST_INPUT_BYTES;
 use dh_outside::{Clock, FileFault, FileSet, Sink, Source};
-use offline_session::{SessionEnd, refuse_long, session_over};
+use request_replies::{SessionEnd, refuse_long, session_over};
 use request_session::Ended;
 use std::alloc::Global;
 

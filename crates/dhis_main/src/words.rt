@@ -3,7 +3,7 @@ ghost use Rattle.std.specs.List.{list_all};
 ghost use Rattle.std.specs.Char.{is_ascii_digit};
 ghost use Rattle.std.specs.Str.Parse.{digits_value};
 ghost use Rattle.dhis_main.specs.Words.{fits_query, query_words, session_words, generate_words, counted, one_too_many, command_behind, command_of};
-ghost use Rattle.dhis_main.specs.Words.{begins_with_zero, is_plain_number, count_of, count_within, IsFit};
+ghost use Rattle.dhis_main.specs.Words.{begins_with_zero, is_plain_number, count_of, count_within, IsFit, is_word, flag_of};
 
 /// A command of the command line.
 #[derive(Clone, Copy, Drop)]
@@ -165,24 +165,37 @@ pub fn read_words(words: &[&str]) -> Command
     }
 }
 
+fn is_word(word: &str, expected: &str) -> bool
+    ensures { result ≡ is_word word.now expected.now }
+{
+    word == expected
+}
+
+// The command of a word that stands alone.
+fn flag(first: &str, rest: &[&str]) -> Command
+    ensures command { result ≡ flag_of first.now (map (λ word. word.now) rest.now) }
+    ensures fits { (words : ℕ) → IsFit result words }
+{
+    if is_word(first, "--help") && rest.is_empty() {
+        Command::Help
+    } else if is_word(first, "--version") && rest.is_empty() {
+        Command::Version
+    } else {
+        Command::Bad(1)
+    }
+}
+
 fn beyond(first: &str, rest: &[&str]) -> Command
     ensures command { result ≡ command_behind first.now (map (λ word. word.now) rest.now) }
     ensures fits { IsFit result (length rest.now + 1) }
 {
-    if first == "query" {
-        return query_words(rest);
+    if is_word(first, "query") {
+        query_words(rest)
+    } else if is_word(first, "session") {
+        session_words(rest)
+    } else if is_word(first, "generate") {
+        generate_words(rest)
+    } else {
+        flag(first, rest)
     }
-    if first == "session" {
-        return session_words(rest);
-    }
-    if first == "generate" {
-        return generate_words(rest);
-    }
-    if first == "--help" && rest.is_empty() {
-        return Command::Help;
-    }
-    if first == "--version" && rest.is_empty() {
-        return Command::Version;
-    }
-    Command::Bad(1)
 }

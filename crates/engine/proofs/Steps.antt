@@ -14,12 +14,15 @@ use Rattle.record_index.specs.Facts.{Facts, facts_in}
 use Rattle.meta_parts.specs.declared.held.Records.{Records}
 use Rattle.change_log.specs.declared.limits.Limits.{Limits}
 use Rattle.change_log.specs.Log.{LogSeen, IsWhole, Appends, with_change, writes_of, passed, over}
-use Rattle.change_requests.specs.Requests.{Asked, judged, judged_by, maker_of}
+use Rattle.dh_base.specs.Memory.{IsCause}
+use Rattle.change_requests.specs.declared.request.JudgeFault.{JudgeFault}
+use Rattle.change_requests.specs.declared.request.JudgeFault.TheVariants as judge
+use Rattle.change_requests.specs.Requests.{Asked, judged, judged_by, maker_of, cause_of}
 use Rattle.change_requests.specs.declared.request.Judged.{Judged}
 use Rattle.engine.specs.Histories.{IsInOrder}
 use Rattle.engine.specs.Machine.{State, Step, StepBy, IsReplyBy, log_by, has_writes, grown, judged_in, change_of, change_lacks, report_of}
 use Rattle.engine.specs.Machine.Act.{changed}
-use Rattle.engine.specs.Seen.{seen_of, state_of, AreParts, Puts, BringsBy, BringsIf, Brings, Brought}
+use Rattle.engine.specs.Seen.{seen_of, state_of, AreParts, Puts, BringsBy, BringsIf, Brings, Brought, fault_by}
 use Rattle.engine.specs.Tables.{tables_of}
 use Rattle.engine.specs.declared.updates.Shown.{Shown}
 use Rattle.engine.specs.declared.machine.Report.{Report}
@@ -86,6 +89,11 @@ pub brings-refused : (meta : Records) (log : LogSeen) (asked : Asked) (facts : F
 brings-refused meta log asked facts refused f h =
     subst (λ (v : Result Judged Refusal). BringsBy meta log asked v (Err (change.Refused refused)) log) (sym h
     ∙ judged-is meta log.changes asked facts f) (refl, refl)
+
+pub brings-fault : (meta : Records) (log : LogSeen) (asked : Asked) (facts : Facts) (met : JudgeFault) → facts ≡ facts_in (writes_of log.changes)
+    → IsCause (judged_by facts meta asked.who asked.moment asked.request) (cause_of met) → Brings meta log asked (Err (fault_by met)) log
+brings-fault meta log asked facts (judge.Refused refused) f h = brings-refused meta log asked facts refused f h
+brings-fault meta log asked facts judge.Memory f h = refl
 
 -- ---- the same beside the tables
 

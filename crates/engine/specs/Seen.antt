@@ -11,6 +11,8 @@ use Rattle.meta_parts.specs.declared.held.Records.{Records}
 use Rattle.change_bytes.specs.Log.{log_bytes}
 use Rattle.change_log.specs.declared.limits.Limits.{Limits}
 use Rattle.change_log.specs.Log.{LogSeen, IsWhole}
+use Rattle.change_requests.specs.declared.request.JudgeFault.{JudgeFault}
+use Rattle.change_requests.specs.declared.request.JudgeFault.TheVariants as judge
 use Rattle.change_requests.specs.Requests.{Asked}
 use Rattle.change_requests.specs.declared.request.Judged.{Judged}
 use Rattle.engine.specs.declared.updates.Shown.{Shown}
@@ -111,6 +113,11 @@ Puts old c found (Err change.StoreFault) new =
     × (Rose old.faults new.faults × ((old.faults ≤ new.faults) × (new ≡ record old { faults = new.faults })))
 Puts old c found (Err (change.Refused refused)) new = ⊥
 Puts old c found (Err change.Memory) new = new ≡ old
+
+-- why a change isn't made, by why its request came to nothing
+abbrev pub fault_by : JudgeFault → ChangeFault
+fault_by (judge.Refused refused) = change.Refused refused
+fault_by judge.Memory = change.Memory
 
 -- what a request does to the log by what it comes to
 abbrev pub BringsBy : Records → LogSeen → Asked → Result Judged Refusal → Result Report ChangeFault → LogSeen → Type 0

@@ -6,7 +6,7 @@ ghost use Rattle.change_log.specs.Log.{IsWhole, NeverFails};
 ghost use Rattle.value_import.specs.Outcomes.{IsKnown};
 ghost use Rattle.engine.specs.Machine.{Step};
 ghost use Rattle.engine.specs.Machine.Act.{changed};
-ghost use Rattle.engine.specs.Seen.{seen_of, state_of, AreParts, Puts, Brings, Brought};
+ghost use Rattle.engine.specs.Seen.{seen_of, state_of, AreParts, Puts, Brings, Brought, fault_by};
 
 use crate::machine::{ChangeFault, Report};
 use crate::updates::Shown;
@@ -58,6 +58,16 @@ fn put<K: Keeper>(
     }
 }
 
+// Why a change isn't made, by why its request came to nothing.
+fn fault_by(met: JudgeFault) -> ChangeFault
+    ensures { result ≡ fault_by met }
+{
+    match met {
+        JudgeFault::Refused(refusal) => ChangeFault::Refused(refusal),
+        JudgeFault::Memory => ChangeFault::Memory,
+    }
+}
+
 // The reply's body is made before the keeper is called.
 fn bring<K: Keeper>(
     alloc: Global,
@@ -76,8 +86,7 @@ fn bring<K: Keeper>(
     let user = maker_of(meta, who);
     match judge(alloc, log.world(), meta, who, moment, request) {
         Ok(found) => put(alloc, log, user, moment, found),
-        Err(JudgeFault::Refused(refusal)) => Err(ChangeFault::Refused(refusal)),
-        Err(JudgeFault::Memory) => Err(ChangeFault::Memory),
+        Err(met) => Err(fault_by(met)),
     }
 }
 

@@ -21,7 +21,7 @@ use Rattle.expr_grammar.specs.Grammar.{Form, Number, Item, Arguments, Apply, IsB
 use Rattle.expr_grammar.specs.Grammar.{spelled, applied}
 use Rattle.expr_grammar.proofs.Words.{both}
 use Rattle.expr_grammar.proofs.Steps.{At, Goes, at_past}
-use Rattle.expr_grammar.proofs.Moves.{rd, IsOpen, Comes, inner_unary, name_move, close_move, more_move, plain_number, plain_item}
+use Rattle.expr_grammar.proofs.Moves.{rd, IsOpen, Comes, name_move, close_move, more_move, plain_number, plain_item}
 use Rattle.expr_grammar.proofs.Completed.{Told, told_in, told_of, Tells, Follows, calm_follows, close_calm, comma_calm, place_past, tells_known, evals_one}
 use Rattle.expr_grammar.proofs.Completed.{evals_two, evals_number, evals_item}
 use Rattle.expr_grammar.proofs.Operands.{known_of, known_any}
@@ -196,7 +196,7 @@ module _ (p : Place) (days : List (List ℕ)) (text : List ℕ) where
       let k = at + length b in
       let cf = call_frame k name 0 in
       let more = spelled F (symbol_text g symbol.Close rest) in
-      let w = name_move p text e fs ns o c q at b name d more h (inner_unary q name one.does) blank is blank' here in
+      let w = name_move p text e fs ns o c q at b name d more h blank is blank' here in
       let r = rd expect.Operand (frame.Call cf ∷ fs) ns (o + 1) w.0 q in
       let there : Goes p text (rd e fs ns o c q) at (spelled (Apply b name d F g) rest) r w.1.0 more =
       subst (λ (x : Expect). Goes p text (rd e fs ns o c q) at (spelled (Apply b name d F g) rest) (rd x (frame.Call cf ∷ fs) ns (o + 1) w.0 q) w.1.0 more)
@@ -243,7 +243,7 @@ module _ (p : Place) (days : List (List ℕ)) (text : List ℕ) where
       let k = at + length b in
       let cf = call_frame k name 0 in
       let more = spelled F (symbol_text g symbol.Close rest) in
-      let w = name_move p text e fs ns o c q at b name d more h (inner_unary q name one.does) blank is blank' here in
+      let w = name_move p text e fs ns o c q at b name d more h blank is blank' here in
       let r = rd expect.Operand (frame.Call cf ∷ fs) ns (o + 1) w.0 q in
       let there : Goes p text (rd e fs ns o c q) at (spelled (Apply b name d F g) rest) r w.1.0 more =
       subst (λ (x : Expect). Goes p text (rd e fs ns o c q) at (spelled (Apply b name d F g) rest) (rd x (frame.Call cf ∷ fs) ns (o + 1) w.0 q) w.1.0 more)

@@ -113,7 +113,7 @@ module _ (p : Place) (days : List (List ℕ)) (text : List ℕ) where
       let first = spelled test (symbol_text f symbol.Comma second) in
       let k = at + length b in
       let cf = call_frame k call.If 0 in
-      let w = name_move p text e fs ns o c q at b call.If d first h tt is.1 is.0 is.2 here in
+      let w = name_move p text e fs ns o c q at b call.If d first h is.1 is.0 is.2 here in
       let x = then_comma test iht cf fs ns (o + 1) w.0 q w.1.0 f second is.3 is.4 (omega arith) w.1.1.stands in
       let y = then_comma one iho (counted_of cf) fs (ns ++ x.own) x.opened x.crowded q x.comes.0 g third is.5 is.6 (omega arith) x.comes.1.stands in
       let z =
@@ -140,7 +140,7 @@ module _ (p : Place) (days : List (List ℕ)) (text : List ℕ) where
       let first = spelled one (symbol_text f symbol.Comma second) in
       let k = at + length b in
       let cf = call_frame k call.DaysBetween 0 in
-      let w = name_move p text e fs ns o c q at b call.DaysBetween d first h tt is.1 is.0 is.2 here in
+      let w = name_move p text e fs ns o c q at b call.DaysBetween d first h is.1 is.0 is.2 here in
       let x = then_comma one iho cf fs ns (o + 1) w.0 q w.1.0 f second is.3 is.4 (omega arith) w.1.1.stands in
       let z = then_close other ihe (counted_of cf) fs (ns ++ x.own) x.opened x.crowded q x.comes.0 g rest is.5 is.6 (omega arith) x.comes.1.stands in
       let s = spot_of k (node.Binary binary.DaysBetween) in
@@ -168,7 +168,7 @@ module _ (p : Place) (days : List (List ℕ)) (text : List ℕ) where
       let quote = symbol_text f symbol.Quote first in
       let k = at + length b in
       let cf = call_frame k call.Condition 0 in
-      let w = name_move p text e fs ns o c false at b call.Condition d quote h refl is.2 is.0 is.3 here in
+      let w = name_move p text e fs ns o c false at b call.Condition d quote h is.2 is.0 is.3 here in
       let r1 = rd expect.Quote (frame.Call cf ∷ fs) ns (o + 1) w.0 false in
       let v = quote_move p text (frame.Call cf ∷ fs) ns (o + 1) w.0 w.1.0 f first is.4 w.1.1.stands in
       let r2 = rd expect.Operand (frame.Quote ∷ frame.Call cf ∷ fs) ns (o + 1) w.0 true in

@@ -1,4 +1,4 @@
--- The bytes before a fault of syntax begin a text of the grammar.
+-- The bytes before a fault of syntax begin a text of the grammar, or so inside a quoted text.
 use Rattle.std.proofs.Common.{◌≡◌, ℕ, zero, suc, ◌+◌, ◌-◌, ◌<◌, ◌≤◌, Bool, true, false, cond, List, [], ◌∷◌, ◌++◌, length, take, drop, Option, Some, None}
 use Rattle.std.proofs.Common.{Result, Ok, Err, refl, sym, ap, subst, ◌⊎◌, ◌∙◌, inl, inr, append_assoc, length-append, arith}
 use Rattle.std.specs.Prelude.{◌&&◌, ◌||◌, nat_eq, nat_lt, nat_le, codes, slice_index}
@@ -21,10 +21,11 @@ use Rattle.expr_lang.specs.Reading.{nodes_reduced, ended, go_on, may_end_in, rea
 use Rattle.expr_lang.specs.Token.{is_allowed_of, fits_of, front_of, better_of, longest_from, longest_of, no_front, digit_count, digits_of_front, number_of}
 use Rattle.expr_lang.specs.Token.{exponent_of}
 use Rattle.expr_lang.specs.Words.{text_of}
-use Rattle.expr_grammar.specs.Continues.{GoesOn, GoesOnAt}
+use Rattle.expr_grammar.specs.Continues.{GoesOn, EndsInQuote, GoesOnAt}
 use Rattle.expr_grammar.specs.Grammar.{IsBlank, IsDigits, IsWord, IsAmong, number_value}
-use Rattle.expr_grammar.proofs.Finished.{finish_stage}
-use Rattle.expr_grammar.proofs.Stages.{Stage, Wants, spelled_stage, expect_of, stage_frames, stage_quoted, Valid, Like, Next}
+use Rattle.expr_grammar.proofs.Finished.{stage_text}
+use Rattle.expr_grammar.proofs.Quoted.{ends_in_quote}
+use Rattle.expr_grammar.proofs.Stages.{Stage, Wants, spelled_stage, expect_of, stage_frames, stage_quoted, parts_of, nests, Valid, Like, Next}
 use Rattle.expr_grammar.proofs.Moves.{rd}
 use Rattle.expr_grammar.proofs.Sound.{token_next}
 use Rattle.expr_grammar.proofs.Steps.{read_is, read_none}
@@ -299,39 +300,42 @@ module _ (p : Place) where
   abbrev Spelled : Stage → List ℕ → Type 0
   Spelled s before = (rest : List ℕ) → before ++ rest ≡ spelled_stage s rest
 
+  -- these bytes begin a text, or end in a quoted one
+  abbrev Reaches : List ℕ → Type 0
+  Reaches before = GoesOn p before ⊎ EndsInQuote p before
+
+  -- what is read begins a text, or ends in a quoted one, where a piece of it and then its tail come after what was read before
+  stage_goes : (s x : Stage) (before piece tail w : List ℕ) → IsBlank w → Valid p x → (nests x ≡ true → parts_of x ≡ parts_of s) → Spelled s before
+      → ((rest : List ℕ) → before ++ (piece ++ (tail ++ rest)) ≡ spelled_stage x (w ++ rest)) → Reaches (before ++ piece)
+  stage_goes s x before piece tail w blank v same spell next =
+      (elim (nests x) as (λ t. nests x ≡ t → Reaches (before ++ piece)) [
+        | true ↦ λ e. inr (ends_in_quote p s x before piece tail w blank (same e) spell next v e)
+        | false ↦ λ e.
+            let f = stage_text p x w blank v e in
+            inl (tail ++ f.0, f.1, (f.3, f.2, f.4, append_assoc before piece (tail ++ f.0) ∙ next f.0 ∙ f.5))
+      ]) refl
+
   -- where blanks follow
-  blanks_go_on : (s : Stage) (before b : List ℕ) → Valid p s → Spelled s before → IsBlank b → GoesOn p (before ++ b)
-  blanks_go_on s before b v spell blank =
-      let f = finish_stage p s b blank v in
-      (f.more, f.form, (f.whole, f.beyond, f.blank, append_assoc before b f.more ∙ spell (b ++ f.more) ∙ f.same))
+  blanks_go_on : (s : Stage) (before b : List ℕ) → Valid p s → Spelled s before → IsBlank b → Reaches (before ++ b)
+  blanks_go_on s before b v spell blank = stage_goes s s before b [] b blank v (λ e. refl) spell (λ rest. spell (b ++ rest))
 
   -- where blanks and the front of a token follow
   front_goes_on : (s : Stage) (r : Reader) (at : ℕ) (before b bytes : List ℕ) (n : ℕ) → Like s r → Valid p s → Spelled s before → IsBlank b
-      → Begun r.expect r.frames r.quoted p bytes n → GoesOn p (before ++ (b ++ take n bytes))
+      → Begun r.expect r.frames r.quoted p bytes n → Reaches (before ++ (b ++ take n bytes))
   front_goes_on s r at before b bytes n like v spell blank g =
       let word = take n bytes in
       let x = next_of p s r at b g.begun (word ++ g.tail) like v blank g.may g.is in
-      let f = finish_stage p x.stage [] tt x.valid in (
-        g.tail ++ f.more,
-        f.form,
-        (
-          f.whole,
-          f.beyond,
-          f.blank,
-          append_assoc before (b ++ word) (g.tail ++ f.more)
-              ∙ ap (λ (l : List ℕ). before ++ l) (append_assoc b word (g.tail ++ f.more) ∙ ap (λ (l : List ℕ). b ++ l) (sym (append_assoc word g.tail f.more)))
-              ∙ spell (b ++ ((word ++ g.tail) ++ f.more))
-              ∙ x.spell f.more
-              ∙ f.same,
-        ),
-      )
+      stage_goes s x.stage before (b ++ word) g.tail [] tt x.valid x.kept spell (λ rest.
+      ap (λ (l : List ℕ). before ++ l)
+      (append_assoc b word (g.tail ++ rest) ∙ ap (λ (l : List ℕ). b ++ l) (sym (append_assoc word g.tail rest)))
+      ∙ spell (b ++ ((word ++ g.tail) ++ rest)) ∙ x.spell rest)
 
   -- the place of a fault, and the bytes before it
   record Stops (before bytes : List ℕ) (e : ℕ) : Type 0 where
     far : ℕ
     at : e ≡ length before + far
     within : far ≤ length bytes
-    goes : GoesOn p (before ++ take far bytes)
+    goes : Reaches (before ++ take far bytes)
 
   abbrev Faults : ℕ → Type 0
   Faults n = (s : Stage) (r : Reader) (at : ℕ) (before bytes : List ℕ) (e : ℕ) → Like s r → Valid p s → Spelled s before → at ≡ length before
@@ -351,7 +355,7 @@ module _ (p : Place) where
     far = length b;
     at = is;
     within = omega (arith, length-append b rest);
-    goes = subst (λ (l : List ℕ). GoesOn p (before ++ l)) (sym (take_front b rest)) (blanks_go_on s before b v spell blank);
+    goes = subst (λ (l : List ℕ). Reaches (before ++ l)) (sym (take_front b rest)) (blanks_go_on s before b v spell blank);
   }
 
   take_both : (xs ys : List ℕ) (n : ℕ) → take (length xs + n) (xs ++ ys) ≡ xs ++ take n ys
@@ -370,7 +374,7 @@ module _ (p : Place) where
           far = length b + m;
           at = omega arith;
           within = omega (arith, length-append b rest, g.within);
-          goes = subst (λ (l : List ℕ). GoesOn p (before ++ l)) (sym (take_both b rest m)) (front_goes_on s r at before b rest m like v spell blank g);
+          goes = subst (λ (l : List ℕ). Reaches (before ++ l)) (sym (take_both b rest m)) (front_goes_on s r at before b rest m like v spell blank g);
         }
       ]
   go_stops n ih s r at before b rest e (Ok f) like v spell blank here found done =
@@ -391,7 +395,7 @@ module _ (p : Place) where
         at = omega (arith, z.at, length-append b t.0);
         within = omega (arith, z.within, ap length all, length-append word t.1);
         goes =
-            subst (λ (l : List ℕ). GoesOn p l) (append_assoc before word (take z.far t.1)
+            subst (λ (l : List ℕ). Reaches l) (append_assoc before word (take z.far t.1)
             ∙ ap (λ (l : List ℕ). before ++ l) (sym (ap (take (length word + z.far)) all ∙ take_both word t.1 z.far))) z.goes;
       }
 
@@ -430,4 +434,4 @@ module _ (p : Place) where
   text_stops text e h =
       let z = faults most_words (Wants []) new_reader 0 [] text e (record { expect = refl; frames = refl; quoted = refl }) tt (λ rest. refl) refl h in
       let same : z.far ≡ e = omega (arith, z.at) in
-      (omega (arith, z.within), subst (λ (k : ℕ). GoesOn p (take k text)) same z.goes)
+      (omega (arith, z.within), subst (λ (k : ℕ). Reaches (take k text)) same z.goes)

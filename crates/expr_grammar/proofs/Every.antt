@@ -16,7 +16,7 @@ use Rattle.expr_lang.specs.Words.{text_of}
 use Rattle.expr_grammar.specs.Grammar.{Form, Number, Item, Bracket, Power, Sign, Chain, Arguments, If, Condition, DaysBetween, Apply, IsBlank, IsCall}
 use Rattle.expr_grammar.specs.Grammar.{IsForm, is_item, all_plain, after_blanks, symbol_text, spelled, applied}
 use Rattle.expr_grammar.proofs.Steps.{At, Goes}
-use Rattle.expr_grammar.proofs.Moves.{rd, IsOpen, inner_unary, name_move, last_move, lone_move, lone_item}
+use Rattle.expr_grammar.proofs.Moves.{rd, IsOpen, name_move, last_move, lone_move, lone_item}
 use Rattle.expr_grammar.proofs.Completed.{told_in, told_of, calm_follows, close_calm, evals_item}
 use Rattle.expr_grammar.proofs.Productions.{Reading, Reads, both_come, reads_number, reads_item, reads_bracket, reads_power, reads_sign, reads_chain}
 use Rattle.expr_grammar.proofs.Calls.{reads_if, reads_between, reads_condition, Lists, lists_one, lists_more}
@@ -31,7 +31,7 @@ module _ (p : Place) (days : List (List ℕ)) (text : List ℕ) where
       → Reading p days text L fs ns q (rd e fs ns o c q) at (spelled (Apply b call.FirstNonNull d F g) rest) rest
       (told_of days (length text) (Apply b call.FirstNonNull d F g) rest)
   apply_plain b d F g L e fs ns o c q at rest h is blank blank' form plain blank'' here =
-      let w = name_move p text e fs ns o c q at b call.FirstNonNull d (spelled F (symbol_text g symbol.Close rest)) h tt blank is blank' here in
+      let w = name_move p text e fs ns o c q at b call.FirstNonNull d (spelled F (symbol_text g symbol.Close rest)) h blank is blank' here in
       close w.1.0 w.1.1 (plains p days text F (at + length b) fs ns (o + 1) w.0 q w.1.0 (symbol_text g symbol.Close rest) plain form
       (calm_follows g (text_of symbol.Close) rest blank'' close_calm) w.1.1.stands)
     where
@@ -63,7 +63,7 @@ module _ (p : Place) (days : List (List ℕ)) (text : List ℕ) where
       let k = at + length b in
       let cf = call_frame k name 0 in
       let more = after_blanks a word (symbol_text g symbol.Close rest) in
-      let w = name_move p text e fs ns o c q at b name d more h (inner_unary q name one.does) blank is blank' here in
+      let w = name_move p text e fs ns o c q at b name d more h blank is blank' here in
       let r = rd expect.Item (frame.Call cf ∷ fs) ns (o + 1) w.0 q in
       let there : Goes p text (rd e fs ns o c q) at (spelled (Apply b name d (Item a f word) g) rest) r w.1.0 more =
       subst (λ (x : Expect). Goes p text (rd e fs ns o c q) at (spelled (Apply b name d (Item a f word) g) rest) (rd x (frame.Call cf ∷ fs) ns (o + 1) w.0 q)

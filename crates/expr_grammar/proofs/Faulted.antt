@@ -1,6 +1,6 @@
--- Where an answer is a fault of syntax, the bytes before it begin a text of the grammar.
+-- Where an answer is a fault of syntax, the bytes before it begin a text of the grammar, or so inside a quoted text.
 use Rattle.std.proofs.Common.{◌≡◌, ℕ, ◌<◌, ◌≤◌, zero, suc, Bool, true, false, cond, List, [], ◌∷◌, ◌++◌, length, take, Option, Some, None, Result, Ok, Err}
-use Rattle.std.proofs.Common.{refl, ap, subst, ◌∙◌, arith}
+use Rattle.std.proofs.Common.{refl, ap, subst, ◌⊎◌, ◌∙◌, inl, inr, arith}
 use Rattle.std.specs.Prelude.{IfErr, nat_le, nat_lt}
 use Rattle.std.proofs.lemmas.Bool.Decides.{nat_tests}
 use Rattle.expr_lang.specs.declared.tree.Place.{Place}
@@ -14,7 +14,7 @@ use Rattle.expr_lang.specs.Faults.{IfSyntax}
 use Rattle.expr_lang.specs.Parse.{accepted, Accepts, cut_short, nodes_of_text, judged_text, brackets_judged}
 use Rattle.expr_lang.specs.Reading.{read_text}
 use Rattle.expr_lang.specs.Survey.{survey_of, misfit_of}
-use Rattle.expr_grammar.specs.Continues.{GoesOn, GoesOnAt}
+use Rattle.expr_grammar.specs.Continues.{GoesOn, EndsInQuote, GoesOnAt}
 use Rattle.expr_grammar.proofs.Continued.{text_stops}
 use Rattle.expr_grammar.proofs.Sound.{text_sound}
 
@@ -46,7 +46,7 @@ module _ (p : Place) (text : List ℕ) where
   cut_stops (Ok nodes) at long read e =
       let is : 4096 ≡ at = err_is 4096 at e in
       let F = text_sound p (take 4096 text) nodes read in
-      subst (GoesOnAt p text) is (omega arith, ([], F.0, (F.1.0, F.1.1, F.1.2, nothing_behind (take 4096 text) ∙ F.1.3)))
+      subst (GoesOnAt p text) is (omega arith, inl ([], F.0, (F.1.0, F.1.1, F.1.2, nothing_behind (take 4096 text) ∙ F.1.3)))
     where
       err_is : (a b : ℕ) → ◌≡◌ {A = Result Nodes ℕ} (Err a) (Err b) → a ≡ b
       err_is a b e = cc
@@ -54,7 +54,7 @@ module _ (p : Place) (text : List ℕ) where
       let is : k ≡ at = err_is k at e in
       let z = text_stops p (take 4096 text) k read in
       let few : k ≤ 4096 = omega (arith, z.0, take_long 4096 text (omega arith)) in
-      subst (GoesOnAt p text) is (omega arith, subst (GoesOn p) (take_short 4096 k text few) z.1)
+      subst (GoesOnAt p text) is (omega arith, subst (λ (l : List ℕ). GoesOn p l ⊎ EndsInQuote p l) (take_short 4096 k text few) z.1)
     where
       err_is : (a b : ℕ) → ◌≡◌ {A = Result Nodes ℕ} (Err a) (Err b) → a ≡ b
       err_is a b e = cc

@@ -16,7 +16,7 @@ use Rattle.expr_grammar.proofs.Printed.{item_may_start}
 use Rattle.expr_grammar.proofs.Parts.{Part, InChain, InSign, InBracket, InQuote, InIf, InThen, InElse, InYes, InNo, InFirst, InSecond, InOne, InMore}
 use Rattle.expr_grammar.proofs.Parts.{spelled_parts, quoted_of, hole, IsUsual, IsMany, Fit, weaken, hole_small}
 use Rattle.expr_grammar.proofs.Stages.{Stage, Wants, Named, Quoting, WantsItem, PlainFirst, PlainNext, Plain, Lone, Raised, Has, Tested, Whole}
-use Rattle.expr_grammar.proofs.Stages.{spelled_stage, IsItemCall, Valid}
+use Rattle.expr_grammar.proofs.Stages.{spelled_stage, nests, IsItemCall, Valid}
 
 -- what is written so begins a text, where blanks come next
 pub record Ends (p : Place) (w : List ℕ) (write : List ℕ → List ℕ) : Type 0 where
@@ -24,7 +24,7 @@ pub record Ends (p : Place) (w : List ℕ) (write : List ℕ → List ℕ) : Typ
   pub form : Form
   pub beyond : List ℕ
   pub blank : IsBlank beyond
-  pub whole : IsWhole p form
+  pub is : IsForm p false 1 form
   pub same : write (w ++ more) ≡ spelled form beyond
 
 -- ---- a number and an item
@@ -100,7 +100,7 @@ many_takes name F h = absurd h
 pub finish_parts : (p : Place) (ps : List Part) (F : Form) (w : List ℕ) → IsBlank w → Fit p ps → IsForm p (quoted_of ps) (hole ps) F
     → Ends p w (λ rest. spelled_parts ps (spelled F rest))
 finish_parts p [] F w blank fit is =
-    record { more = []; form = F; beyond = w ++ []; blank = subst IsBlank (sym (nothing w)) blank; whole = whole_is p F is; same = refl }
+    record { more = []; form = F; beyond = w ++ []; blank = subst IsBlank (sym (nothing w)) blank; is = is; same = refl }
   where
     nothing : (xs : List ℕ) → xs ++ [] ≡ xs
     nothing [] = refl
@@ -109,7 +109,7 @@ finish_parts p (InChain left b op k ∷ ps) F w blank fit is = finish_parts p ps
 finish_parts p (InSign b sign k ∷ ps) F w blank fit is = finish_parts p ps (Sign b sign F) w blank fit.2 (hole_small p ps fit.2, fit.0, fit.1, is)
 finish_parts p (InBracket b ∷ ps) F w blank fit is =
     let r = finish_parts p ps (Bracket b F w) [] tt fit.1 (fit.0, is, blank) in
-    record { more = text_of symbol.Close ++ r.more; form = r.form; beyond = r.beyond; blank = r.blank; whole = r.whole; same = r.same }
+    record { more = text_of symbol.Close ++ r.more; form = r.form; beyond = r.beyond; blank = r.blank; is = r.is; same = r.same }
 finish_parts p (InQuote b c d k ∷ ps) F w blank fit is =
     let G = Condition b c d F w [] (zero_form []) [] (zero_form []) [] in
     let r =
@@ -135,7 +135,7 @@ finish_parts p (InQuote b c d k ∷ ps) F w blank fit is =
       beyond =
           r.beyond;
       blank = r.blank;
-      whole = r.whole;
+      is = r.is;
       same = r.same;
     }
 finish_parts p (InIf b c k ∷ ps) F w blank fit is =
@@ -148,7 +148,7 @@ finish_parts p (InIf b c k ∷ ps) F w blank fit is =
           r.form;
       beyond = r.beyond;
       blank = r.blank;
-      whole = r.whole;
+      is = r.is;
       same = r.same;
     }
 finish_parts p (InThen b c test d k ∷ ps) F w blank fit is =
@@ -160,12 +160,12 @@ finish_parts p (InThen b c test d k ∷ ps) F w blank fit is =
       beyond = r.beyond;
       blank =
           r.blank;
-      whole = r.whole;
+      is = r.is;
       same = r.same;
     }
 finish_parts p (InElse b c test d one e k ∷ ps) F w blank fit is =
     let r = finish_parts p ps (If b c test d one e F w) [] tt fit.7 (fit.0, fit.1, fit.2, fit.3, fit.4, fit.5, fit.6, is, blank) in
-    record { more = text_of symbol.Close ++ r.more; form = r.form; beyond = r.beyond; blank = r.blank; whole = r.whole; same = r.same }
+    record { more = text_of symbol.Close ++ r.more; form = r.form; beyond = r.beyond; blank = r.blank; is = r.is; same = r.same }
 finish_parts p (InYes b c d test e f k ∷ ps) F w blank fit is =
     let G = Condition b c d test e f F w (zero_form []) [] in
     let r = finish_parts p ps G [] tt fit.8 (fit.0, fit.1, fit.2, fit.3, fit.4, fit.5, fit.6, fit.7, is, blank, zero_is p (quoted_of ps) 1 [] tt, tt) in
@@ -175,13 +175,13 @@ finish_parts p (InYes b c d test e f k ∷ ps) F w blank fit is =
       beyond = r.beyond;
       blank =
           r.blank;
-      whole = r.whole;
+      is = r.is;
       same = r.same;
     }
 finish_parts p (InNo b c d test e f one g k ∷ ps) F w blank fit is =
     let r =
     finish_parts p ps (Condition b c d test e f one g F w) [] tt fit.10 (fit.0, fit.1, fit.2, fit.3, fit.4, fit.5, fit.6, fit.7, fit.8, fit.9, is, blank) in
-    record { more = text_of symbol.Close ++ r.more; form = r.form; beyond = r.beyond; blank = r.blank; whole = r.whole; same = r.same }
+    record { more = text_of symbol.Close ++ r.more; form = r.form; beyond = r.beyond; blank = r.blank; is = r.is; same = r.same }
 finish_parts p (InFirst b c k ∷ ps) F w blank fit is =
     let r = finish_parts p ps (DaysBetween b c F w (zero_form []) []) [] tt fit.3 (fit.0, fit.1, fit.2, is, blank, zero_is p (quoted_of ps) 1 [] tt, tt) in
     record {
@@ -190,16 +190,16 @@ finish_parts p (InFirst b c k ∷ ps) F w blank fit is =
       beyond = r.beyond;
       blank =
           r.blank;
-      whole = r.whole;
+      is = r.is;
       same = r.same;
     }
 finish_parts p (InSecond b c one d k ∷ ps) F w blank fit is =
     let r = finish_parts p ps (DaysBetween b c one d F w) [] tt fit.5 (fit.0, fit.1, fit.2, fit.3, fit.4, is, blank) in
-    record { more = text_of symbol.Close ++ r.more; form = r.form; beyond = r.beyond; blank = r.blank; whole = r.whole; same = r.same }
+    record { more = text_of symbol.Close ++ r.more; form = r.form; beyond = r.beyond; blank = r.blank; is = r.is; same = r.same }
 finish_parts p (InOne b name c k ∷ ps) F w blank fit is =
     let t = usual_takes name F fit.1 in
     let r = finish_parts p ps (Apply b name c F w) [] tt fit.4 (fit.0, fit.2, fit.3, weaken p (quoted_of ps) 1 (arguments_level name) F t.0 is, t.1, blank) in
-    record { more = text_of symbol.Close ++ r.more; form = r.form; beyond = r.beyond; blank = r.blank; whole = r.whole; same = r.same }
+    record { more = text_of symbol.Close ++ r.more; form = r.form; beyond = r.beyond; blank = r.blank; is = r.is; same = r.same }
 finish_parts p (InMore b name c first d k n ∷ ps) F w blank fit is =
     let G = Arguments first d F in
     let t = many_takes name G fit.1 in
@@ -212,7 +212,7 @@ finish_parts p (InMore b name c first d k n ∷ ps) F w blank fit is =
       t.1,
       blank,
     ) in
-    record { more = text_of symbol.Close ++ r.more; form = r.form; beyond = r.beyond; blank = r.blank; whole = r.whole; same = r.same }
+    record { more = text_of symbol.Close ++ r.more; form = r.form; beyond = r.beyond; blank = r.blank; is = r.is; same = r.same }
 
 -- ---- wherever the reader stands
 
@@ -240,15 +240,20 @@ named_ends p ps b name w blank fit is blank' takes =
       beyond = r.beyond;
       blank =
           r.blank;
-      whole = r.whole;
+      is = r.is;
       same = r.same;
     }
 
-pub finish_stage : (p : Place) (s : Stage) (w : List ℕ) → IsBlank w → Valid p s → Ends p w (spelled_stage s)
-finish_stage p (Wants ps) w blank v =
+-- a count is read as a whole text
+abbrev pub IsInside : Stage → Type 0
+IsInside (Whole F) = ⊥
+IsInside _ = Unit {0}
+
+pub finish_stage : (p : Place) (s : Stage) (w : List ℕ) → IsBlank w → Valid p s → IsInside s → nests s ≡ false → Ends p w (spelled_stage s)
+finish_stage p (Wants ps) w blank v inside plain =
     let r = finish_parts p ps (zero_form w) [] tt v (zero_is p (quoted_of ps) (hole ps) w blank) in
-    record { more = codes "0" ++ r.more; form = r.form; beyond = r.beyond; blank = r.blank; whole = r.whole; same = r.same }
-finish_stage p (Named ps b call.If k) w blank v =
+    record { more = codes "0" ++ r.more; form = r.form; beyond = r.beyond; blank = r.blank; is = r.is; same = r.same }
+finish_stage p (Named ps b call.If k) w blank v inside plain =
     let zero = zero_is p (quoted_of ps) 1 [] tt in
     let r = finish_parts p ps (If b w (zero_form []) [] (zero_form []) [] (zero_form []) []) [] tt v.0 (v.1, v.2, blank, zero, tt, zero, tt, zero, tt) in
     record {
@@ -259,10 +264,10 @@ finish_stage p (Named ps b call.If k) w blank v =
           = r.form;
       beyond = r.beyond;
       blank = r.blank;
-      whole = r.whole;
+      is = r.is;
       same = r.same;
     }
-finish_stage p (Named ps b call.DaysBetween k) w blank v =
+finish_stage p (Named ps b call.DaysBetween k) w blank v inside plain =
     let zero = zero_is p (quoted_of ps) 1 [] tt in
     let r = finish_parts p ps (DaysBetween b w (zero_form []) [] (zero_form []) []) [] tt v.0 (v.1, v.2, blank, zero, tt, zero, tt) in
     record {
@@ -272,15 +277,15 @@ finish_stage p (Named ps b call.DaysBetween k) w blank v =
           r.form;
       beyond = r.beyond;
       blank = r.blank;
-      whole = r.whole;
+      is = r.is;
       same = r.same;
     }
-finish_stage p (Named ps b call.Condition k) w blank v =
+finish_stage p (Named ps b call.Condition k) w blank v inside plain =
     let zero = zero_is p (quoted_of ps) 1 [] tt in
     let r =
     finish_parts p ps (Condition b w [] (zero_form []) [] [] (zero_form []) [] (zero_form []) []) [] tt v.0 (
       v.1,
-      v.3,
+      plain,
       v.2,
       blank,
       tt,
@@ -300,23 +305,23 @@ finish_stage p (Named ps b call.Condition k) w blank v =
       form = r.form;
       beyond = r.beyond;
       blank = r.blank;
-      whole = r.whole;
+      is = r.is;
       same = r.same;
     }
-finish_stage p (Named ps b call.IsNull k) w blank v = named_ends p ps b call.IsNull w blank v.0 v.1 v.2 refl
-finish_stage p (Named ps b call.IsNotNull k) w blank v = named_ends p ps b call.IsNotNull w blank v.0 v.1 v.2 refl
-finish_stage p (Named ps b call.HasValue k) w blank v = named_ends p ps b call.HasValue w blank v.0 v.1 v.2 refl
-finish_stage p (Named ps b call.FirstNonNull k) w blank v = named_ends p ps b call.FirstNonNull w blank v.0 v.1 v.2 refl
-finish_stage p (Named ps b call.Greatest k) w blank v = named_ends p ps b call.Greatest w blank v.0 v.1 v.2 tt
-finish_stage p (Named ps b call.Least k) w blank v = named_ends p ps b call.Least w blank v.0 v.1 v.2 tt
-finish_stage p (Named ps b call.Zing k) w blank v = named_ends p ps b call.Zing w blank v.0 v.1 v.2 tt
-finish_stage p (Named ps b call.Oizp k) w blank v = named_ends p ps b call.Oizp w blank v.0 v.1 v.2 tt
-finish_stage p (Quoting ps b c k) w blank v =
+finish_stage p (Named ps b call.IsNull k) w blank v inside plain = named_ends p ps b call.IsNull w blank v.0 v.1 v.2 refl
+finish_stage p (Named ps b call.IsNotNull k) w blank v inside plain = named_ends p ps b call.IsNotNull w blank v.0 v.1 v.2 refl
+finish_stage p (Named ps b call.HasValue k) w blank v inside plain = named_ends p ps b call.HasValue w blank v.0 v.1 v.2 refl
+finish_stage p (Named ps b call.FirstNonNull k) w blank v inside plain = named_ends p ps b call.FirstNonNull w blank v.0 v.1 v.2 refl
+finish_stage p (Named ps b call.Greatest k) w blank v inside plain = named_ends p ps b call.Greatest w blank v.0 v.1 v.2 tt
+finish_stage p (Named ps b call.Least k) w blank v inside plain = named_ends p ps b call.Least w blank v.0 v.1 v.2 tt
+finish_stage p (Named ps b call.Zing k) w blank v inside plain = named_ends p ps b call.Zing w blank v.0 v.1 v.2 tt
+finish_stage p (Named ps b call.Oizp k) w blank v inside plain = named_ends p ps b call.Oizp w blank v.0 v.1 v.2 tt
+finish_stage p (Quoting ps b c k) w blank v inside plain =
     let zero = zero_is p (quoted_of ps) 1 [] tt in
     let r =
     finish_parts p ps (Condition b c w (zero_form []) [] [] (zero_form []) [] (zero_form []) []) [] tt v.0 (
       v.1,
-      v.4,
+      plain,
       v.2,
       v.3,
       blank,
@@ -337,10 +342,10 @@ finish_stage p (Quoting ps b c k) w blank v =
       beyond =
           r.beyond;
       blank = r.blank;
-      whole = r.whole;
+      is = r.is;
       same = r.same;
     }
-finish_stage p (WantsItem ps b name c k) w blank v =
+finish_stage p (WantsItem ps b name c k) w blank v inside plain =
     let r =
     finish_parts p ps (Apply b name c (item_form w) []) [] tt v.0 (
       v.1,
@@ -355,22 +360,22 @@ finish_stage p (WantsItem ps b name c k) w blank v =
       form = r.form;
       beyond = r.beyond;
       blank = r.blank;
-      whole = r.whole;
+      is = r.is;
       same =
           r.same;
     }
-finish_stage p (PlainFirst ps b c k) w blank v =
+finish_stage p (PlainFirst ps b c k) w blank v inside plain =
     let r = finish_parts p ps (Apply b call.FirstNonNull c (item_form w) []) [] tt v.0 (v.1, v.2, v.3, item_is p (quoted_of ps) 0 w blank, refl, tt) in
     record {
       more = codes "C{aaaaaaaaaaa}" ++ symbol_text [] symbol.Close r.more;
       form = r.form;
       beyond = r.beyond;
       blank = r.blank;
-      whole = r.whole;
+      is = r.is;
       same =
           r.same;
     }
-finish_stage p (PlainNext ps b c k first d n) w blank v =
+finish_stage p (PlainNext ps b c k first d n) w blank v inside plain =
     let r = finish_parts p ps (Apply b call.FirstNonNull c (Arguments first d (item_form w)) []) [] tt v.0
     (v.1, v.2, v.3, (refl, v.4, v.6, item_is p (quoted_of ps) 1 w blank), plain_more first v.5, tt) in
     record {
@@ -378,26 +383,26 @@ finish_stage p (PlainNext ps b c k first d n) w blank v =
       form = r.form;
       beyond = r.beyond;
       blank = r.blank;
-      whole = r.whole;
+      is = r.is;
       same =
           r.same;
     }
-finish_stage p (Plain ps b c k F n) w blank v =
+finish_stage p (Plain ps b c k F n) w blank v inside plain =
     let r = finish_parts p ps (Apply b call.FirstNonNull c F w) [] tt v.0 (v.1, v.2, v.3, v.4, v.5, blank) in
-    record { more = text_of symbol.Close ++ r.more; form = r.form; beyond = r.beyond; blank = r.blank; whole = r.whole; same = r.same }
-finish_stage p (Lone ps b name c k F) w blank v =
+    record { more = text_of symbol.Close ++ r.more; form = r.form; beyond = r.beyond; blank = r.blank; is = r.is; same = r.same }
+finish_stage p (Lone ps b name c k F) w blank v inside plain =
     let t = item_takes name F v.4 v.6 in
     let r = finish_parts p ps (Apply b name c F w) [] tt v.0 (v.1, v.2, v.3, subst (λ (n : ℕ). IsForm p (quoted_of ps) n F) (sym t.0) v.5, t.1, blank) in
-    record { more = text_of symbol.Close ++ r.more; form = r.form; beyond = r.beyond; blank = r.blank; whole = r.whole; same = r.same }
-finish_stage p (Raised ps F b k) w blank v =
+    record { more = text_of symbol.Close ++ r.more; form = r.form; beyond = r.beyond; blank = r.blank; is = r.is; same = r.same }
+finish_stage p (Raised ps F b k) w blank v inside plain =
     let zero : IsExponent (codes "0") = record { some = omega arith; few = omega arith; whole = (refl, tt); small = omega arith } in
     let small = hole_small p ps v.0 in
     let r = finish_parts p ps (Power F b w (codes "0")) [] tt v.0 (omega arith, v.1, v.2, blank, zero) in
-    record { more = codes "0" ++ r.more; form = r.form; beyond = r.beyond; blank = r.blank; whole = r.whole; same = r.same }
-finish_stage p (Has ps F power) w blank v =
+    record { more = codes "0" ++ r.more; form = r.form; beyond = r.beyond; blank = r.blank; is = r.is; same = r.same }
+finish_stage p (Has ps F power) w blank v inside plain =
     let small = hole_small p ps v.0 in
     finish_parts p ps F w blank v.0 (weaken p (quoted_of ps) 7 (hole ps) F (omega arith) v.1)
-finish_stage p (Tested ps b c d test e k) w blank v =
+finish_stage p (Tested ps b c d test e k) w blank v inside plain =
     let zero = zero_is p (quoted_of ps) 1 [] tt in
     let r =
     finish_parts p ps (Condition b c d test e w (zero_form []) [] (zero_form []) []) [] tt v.0 (
@@ -421,11 +426,22 @@ finish_stage p (Tested ps b c d test e k) w blank v =
           r.form;
       beyond = r.beyond;
       blank = r.blank;
-      whole = r.whole;
+      is = r.is;
       same = r.same;
     }
-finish_stage p (Whole F) w blank v = record { more = []; form = F; beyond = w ++ []; blank = subst IsBlank (sym (nothing w)) blank; whole = v; same = refl }
+finish_stage p (Whole F) w blank v inside plain = absurd inside
+
+-- What is written so begins a text of the grammar.
+pub ends_text : (p : Place) (w : List ℕ) (write : List ℕ → List ℕ) → Ends p w write
+    → (more : List ℕ) × (form : Form) × (blanks : List ℕ) × IsWhole p form × IsBlank blanks × (write (w ++ more) ≡ spelled form blanks)
+ends_text p w write r = (r.more, r.form, r.beyond, whole_is p r.form r.is, r.blank, r.same)
+
+-- Unless a quoted text is nested, all that is read begins a text of the grammar.
+pub stage_text : (p : Place) (s : Stage) (w : List ℕ) → IsBlank w → Valid p s → nests s ≡ false
+    → (more : List ℕ) × (form : Form) × (blanks : List ℕ) × IsWhole p form × IsBlank blanks × (spelled_stage s (w ++ more) ≡ spelled form blanks)
+stage_text p (Whole F) w blank v plain = ([], F, w ++ [], v, subst IsBlank (sym (nothing w)) blank, refl)
   where
     nothing : (xs : List ℕ) → xs ++ [] ≡ xs
     nothing [] = refl
     nothing (x ∷ xs) = ap (λ (l : List ℕ). x ∷ l) (nothing xs)
+stage_text p s w blank v plain = ends_text p w (spelled_stage s) (finish_stage p s w blank v tt plain)

@@ -24,6 +24,7 @@ pub mod Turns
 pub mod Sound
 pub mod Answered
 pub mod Finished
+pub mod Quoted
 pub mod Listed
 pub mod Continued
 pub mod Faulted

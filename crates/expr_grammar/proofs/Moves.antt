@@ -30,7 +30,7 @@ use Rattle.expr_lang.specs.declared.reading.Expect.TheVariants as expect
 use Rattle.expr_lang.specs.declared.reading.Token.TheVariants as token
 use Rattle.expr_lang.specs.declared.reading.Reader.{Reader}
 use Rattle.expr_lang.specs.Item.{uid_from, item_from}
-use Rattle.expr_lang.specs.Reading.{level_of, enclosing_of, compares, least_arguments, most_arguments, allowed_in, all_allowed, quotes_allowed}
+use Rattle.expr_lang.specs.Reading.{level_of, enclosing_of, compares, least_arguments, most_arguments, allowed_in, all_allowed}
 use Rattle.expr_lang.specs.Reading.{allowed_after, words_for, takes_number, frames_reduced, nodes_reduced, spot_of, is_count_of, with_leaf, with_sign}
 use Rattle.expr_lang.specs.Reading.{with_operator, first_argument, with_open, call_frame, with_call, joined, node_of_call, counted_of, later_argument}
 use Rattle.expr_lang.specs.Reading.{comma_in, with_comma, closed, with_close, with_quote, with_word, with_exponent, with_token, crowded_at}
@@ -78,47 +78,14 @@ all_may symbol.Caret = refl
 all_may symbol.Minus = refl
 all_may symbol.Bang = refl
 all_may (symbol.Operator o) = refl
-all_may (symbol.Call c) = call_may c
-  where
-    call_may : (c : Call) → is_allowed_of all_allowed (symbol.Call c) ≡ true
-    call_may call.Condition = refl
-    call_may c = refl
+all_may (symbol.Call c) = refl
 all_may (symbol.Item f) = refl
 
--- a quoted text has no `d2:condition`
-abbrev pub IsInner : Bool → Symbol → Type 0
-IsInner q (symbol.Call call.Condition) = q ≡ false
-IsInner q _ = Unit {0}
-
-inner_may : (q : Bool) (w : Symbol) → IsInner q w → is_allowed_of (quotes_allowed q) w ≡ true
-inner_may q symbol.Open h = refl
-inner_may q symbol.Close h = refl
-inner_may q symbol.Comma h = refl
-inner_may q symbol.Quote h = refl
-inner_may q symbol.Caret h = refl
-inner_may q symbol.Minus h = refl
-inner_may q symbol.Bang h = refl
-inner_may q (symbol.Operator o) h = refl
-inner_may q (symbol.Call call.Condition) h = ap not h
-inner_may q (symbol.Call c) h = refl
-inner_may q (symbol.Item f) h = refl
-
-pub may_inner : (q : Bool) (w : Symbol) → is_allowed_of (quotes_allowed q) w ≡ true → IsInner q w
-may_inner false (symbol.Call call.Condition) h = refl
-may_inner true (symbol.Call call.Condition) h = absurd cc
-may_inner q (symbol.Call c) h = tt
-may_inner q w h = tt
-
--- a call of one value or of a list isn't `d2:condition`
-pub inner_unary : (q : Bool) (name : Call) → node_of_call name ≡ node.Unary (applied name) → IsInner q (symbol.Call name)
-inner_unary q call.Condition e = absurd cc
-inner_unary q name e = tt
-
-pub may_open : (e : Expect) (fs : List Frame) (q : Bool) (p : Place) (w : Symbol) → IsOpen e → IsInner q w → IsAmong w (operands_of p)
+pub may_open : (e : Expect) (fs : List Frame) (q : Bool) (p : Place) (w : Symbol) → IsOpen e → IsAmong w (operands_of p)
     → May e fs q p (token.Word w)
-may_open expect.Start fs q p w h inner g = (among_start p w g, all_may w)
-may_open expect.Operand fs q p w h inner g = (g, inner_may q w inner)
-may_open e fs q p w h inner g = absurd h
+may_open expect.Start fs q p w h g = (among_start p w g, all_may w)
+may_open expect.Operand fs q p w h g = (g, all_may w)
+may_open e fs q p w h g = absurd h
 
 number_open : (e : Expect) → IsOpen e → (takes_number e ≡ true) × ¬ IsRaised e
 number_open expect.Start h = (refl, λ r. r)
@@ -323,7 +290,7 @@ module _ (p : Place) (text : List ℕ) where
       (item_token e (at + length b) f fs ns o c q h
       ∙ ap (λ (x : Bool). rd (cond x expect.End (expect.Operator true)) fs (ns ++ spot_of (at + length b) (node.Item f) ∷ []) o c q) (no_count p f among))
       (step p text (rd e fs ns o c q) at (token.Word (symbol.Item f)) b word rest blank
-      (may_open e fs q p (symbol.Item f) h tt (is_operand p (symbol.Item f) among)) is (λ no. absurd cc) here)
+      (may_open e fs q p (symbol.Item f) h (is_operand p (symbol.Item f) among)) is (λ no. absurd cc) here)
 
   pub open_move : (e : Expect) (fs : List Frame) (ns : List Spot) (o : ℕ) (c : Option ℕ) (q : Bool) (at : ℕ) (b rest : List ℕ) → IsOpen e → IsBlank b
       → At text at (symbol_text b symbol.Open rest)
@@ -331,7 +298,7 @@ module _ (p : Place) (text : List ℕ) where
       (rd expect.Operand (frame.Bracket ∷ fs) ns (o + 1) (crowded_at (rd e fs ns o c q) (at + length b)) q) rest
   open_move e fs ns o c q at b rest h blank here =
       moved (rd e fs ns o c q) at (symbol_text b symbol.Open rest) _ _ _ rest (open_token e (at + length b) fs ns o c q h)
-      (word_step p text (rd e fs ns o c q) at symbol.Open b rest blank tt (may_open e fs q p symbol.Open h tt (is_opening p)) (λ no. absurd cc) here)
+      (word_step p text (rd e fs ns o c q) at symbol.Open b rest blank tt (may_open e fs q p symbol.Open h (is_opening p)) (λ no. absurd cc) here)
 
   minus_move : (e : Expect) (fs : List Frame) (ns : List Spot) (o : ℕ) (c : Option ℕ) (q : Bool) (at : ℕ) (b rest : List ℕ) → IsOpen e → IsBlank b
       → At text at (symbol_text b symbol.Minus rest)
@@ -339,7 +306,7 @@ module _ (p : Place) (text : List ℕ) where
       (rd expect.Operand (frame.Pending (spot_of (at + length b) (node.Unary unary.Negate)) ∷ fs) ns o c q) rest
   unfolding with_token with_word with_sign
   minus_move e fs ns o c q at b rest h blank here =
-      (_, word_step p text (rd e fs ns o c q) at symbol.Minus b rest blank tt (may_open e fs q p symbol.Minus h tt (is_minus p)) (λ no. absurd cc) here)
+      (_, word_step p text (rd e fs ns o c q) at symbol.Minus b rest blank tt (may_open e fs q p symbol.Minus h (is_minus p)) (λ no. absurd cc) here)
 
   bang_move : (e : Expect) (fs : List Frame) (ns : List Spot) (o : ℕ) (c : Option ℕ) (q : Bool) (at : ℕ) (b rest : List ℕ) → IsOpen e → IsBlank b
       → At text at (symbol_text b symbol.Bang rest)
@@ -347,7 +314,7 @@ module _ (p : Place) (text : List ℕ) where
       (rd expect.Operand (frame.Pending (spot_of (at + length b) (node.Unary unary.Not)) ∷ fs) ns o c q) rest
   unfolding with_token with_word with_sign
   bang_move e fs ns o c q at b rest h blank here =
-      (_, word_step p text (rd e fs ns o c q) at symbol.Bang b rest blank tt (may_open e fs q p symbol.Bang h tt (is_bang p)) (λ no. absurd cc) here)
+      (_, word_step p text (rd e fs ns o c q) at symbol.Bang b rest blank tt (may_open e fs q p symbol.Bang h (is_bang p)) (λ no. absurd cc) here)
 
   pub caret_move : (fs : List Frame) (ns : List Spot) (o : ℕ) (c : Option ℕ) (q : Bool) (at : ℕ) (b rest : List ℕ) → IsBlank b
       → At text at (symbol_text b symbol.Caret rest)
@@ -394,15 +361,15 @@ module _ (p : Place) (text : List ℕ) where
 
   -- a call's name and its bracket
   pub name_move : (e : Expect) (fs : List Frame) (ns : List Spot) (o : ℕ) (c : Option ℕ) (q : Bool) (at : ℕ) (b : List ℕ) (name : Call) (d rest : List ℕ)
-      → IsOpen e → IsInner q (symbol.Call name) → IsBlank b → IsCall p name → IsBlank d
+      → IsOpen e → IsBlank b → IsCall p name → IsBlank d
       → At text at (symbol_text b (symbol.Call name) (symbol_text d symbol.Open rest))
       → (more : Option ℕ) × Comes (rd e fs ns o c q) at (symbol_text b (symbol.Call name) (symbol_text d symbol.Open rest))
       (rd (first_argument name) (frame.Call (call_frame (at + length b) name 0) ∷ fs) ns (o + 1) more q) rest
   unfolding with_token with_word with_call with_open
-  name_move e fs ns o c q at b name d rest h inner blank is blank' here =
+  name_move e fs ns o c q at b name d rest h blank is blank' here =
       let one =
       word_step p text (rd e fs ns o c q) at (symbol.Call name) b (symbol_text d symbol.Open rest) blank tt
-      (may_open e fs q p (symbol.Call name) h inner is) (λ no. absurd cc) here in
+      (may_open e fs q p (symbol.Call name) h is) (λ no. absurd cc) here in
       let r = rd expect.Bracket (frame.Call (call_frame (at + length b) name 0) ∷ fs) ns o c q in
       let two =
       word_step p text r (at + length b + length (text_of (symbol.Call name))) symbol.Open d rest blank' tt (

@@ -29,7 +29,8 @@ use Rattle.expr_lang.specs.Words.{operands_of, start_of, followers, marks_of, br
 use Rattle.expr_grammar.proofs.Words.{all_of, among_all, IsRaised}
 use Rattle.expr_grammar.proofs.Tokens.{IsLexeme, May}
 use Rattle.expr_grammar.proofs.Steps.{IsPlainWord}
-use Rattle.expr_grammar.proofs.Moves.{rd, caret_in, among_start, is_operand, no_count, IsInner, may_inner, all_may}
+use Rattle.expr_grammar.proofs.Completed.{not_true}
+use Rattle.expr_grammar.proofs.Moves.{rd, caret_in, among_start, is_operand, no_count}
 use Rattle.expr_grammar.proofs.Parts.{Part, InChain, InSign, spelled_parts, frames_of, quoted_of, hole, Fit, weaken, Below, Reduced, reduced, above_same}
 use Rattle.expr_grammar.proofs.Parts.{enclosing_same, hole_small}
 use Rattle.expr_grammar.proofs.Stages.{as_written, wants_open, wants_minus, wants_bang, wants_call, wants_number, wants_item, wants_count, named_open}
@@ -134,23 +135,23 @@ unfolding nothing_of
 nothing_is w h = h
 
 module _ (p : Place) (ns : List Spot) (o : ℕ) (c : Option ℕ) (at : ℕ) (b : List ℕ) (blank : IsBlank b) where
-  operand_next : (ps : List Part) (w : Symbol) (lexeme : List ℕ) → Fit p ps → IsAmong w (operands_of p) → IsInner (quoted_of ps) w
+  operand_next : (ps : List Part) (w : Symbol) (lexeme : List ℕ) → Fit p ps → IsAmong w (operands_of p)
       → IsLexeme (token.Word w) lexeme → After p ns o c at b blank (Wants ps) (token.Word w) lexeme
-  operand_next ps symbol.Minus lexeme fit among inner is =
+  operand_next ps symbol.Minus lexeme fit among is =
       as_written p ns o c at b blank (Wants ps) symbol.Minus lexeme tt is (wants_minus p ns o c at b blank ps fit)
-  operand_next ps symbol.Bang lexeme fit among inner is =
+  operand_next ps symbol.Bang lexeme fit among is =
       as_written p ns o c at b blank (Wants ps) symbol.Bang lexeme tt is (wants_bang p ns o c at b blank ps fit)
-  operand_next ps symbol.Open lexeme fit among inner is =
+  operand_next ps symbol.Open lexeme fit among is =
       as_written p ns o c at b blank (Wants ps) symbol.Open lexeme tt is (wants_open p ns o c at b blank ps fit)
-  operand_next ps (symbol.Call name) lexeme fit among inner is =
-      as_written p ns o c at b blank (Wants ps) (symbol.Call name) lexeme tt is (wants_call p ns o c at b blank ps name fit among inner)
-  operand_next ps (symbol.Item f) lexeme fit among inner is =
+  operand_next ps (symbol.Call name) lexeme fit among is =
+      as_written p ns o c at b blank (Wants ps) (symbol.Call name) lexeme tt is (wants_call p ns o c at b blank ps name fit among)
+  operand_next ps (symbol.Item f) lexeme fit among is =
       (let items = among_items p f among in wants_item p ns o c at b blank ps f lexeme fit items (no_count p f items) is)
-  operand_next ps symbol.Close lexeme fit among inner is = (let no = among_all operand_word (operands_of p) symbol.Close (all_operands p) among in absurd cc)
-  operand_next ps symbol.Comma lexeme fit among inner is = (let no = among_all operand_word (operands_of p) symbol.Comma (all_operands p) among in absurd cc)
-  operand_next ps symbol.Quote lexeme fit among inner is = (let no = among_all operand_word (operands_of p) symbol.Quote (all_operands p) among in absurd cc)
-  operand_next ps symbol.Caret lexeme fit among inner is = (let no = among_all operand_word (operands_of p) symbol.Caret (all_operands p) among in absurd cc)
-  operand_next ps (symbol.Operator op) lexeme fit among inner is =
+  operand_next ps symbol.Close lexeme fit among is = (let no = among_all operand_word (operands_of p) symbol.Close (all_operands p) among in absurd cc)
+  operand_next ps symbol.Comma lexeme fit among is = (let no = among_all operand_word (operands_of p) symbol.Comma (all_operands p) among in absurd cc)
+  operand_next ps symbol.Quote lexeme fit among is = (let no = among_all operand_word (operands_of p) symbol.Quote (all_operands p) among in absurd cc)
+  operand_next ps symbol.Caret lexeme fit among is = (let no = among_all operand_word (operands_of p) symbol.Caret (all_operands p) among in absurd cc)
+  operand_next ps (symbol.Operator op) lexeme fit among is =
       (let no = among_all operand_word (operands_of p) (symbol.Operator op) (all_operands p) among in absurd cc)
 
   count_next : (w : Symbol) (lexeme : List ℕ) → IsAmong w (start_of p) → count_word w ≡ true → IsLexeme (token.Word w) lexeme
@@ -158,13 +159,10 @@ module _ (p : Place) (ns : List Spot) (o : ℕ) (c : Option ℕ) (at : ℕ) (b :
   count_next (symbol.Item f) lexeme among count is = wants_count p ns o c at b blank f lexeme among count is
   count_next w lexeme among count is = absurd cc
 
-  never_quoted : (w : Symbol) → IsInner false w
-  never_quoted w = may_inner false w (all_may w)
-
   start_next : (w : Symbol) (lexeme : List ℕ) → IsAmong w (start_of p) → IsLexeme (token.Word w) lexeme
       → After p ns o c at b blank (Wants []) (token.Word w) lexeme
   start_next w lexeme among is =
-      elim (start_cases p w among) [ inl h ↦ operand_next [] w lexeme tt h (never_quoted w) is | inr h ↦ count_next w lexeme among h is ]
+      elim (start_cases p w among) [ inl h ↦ operand_next [] w lexeme tt h is | inr h ↦ count_next w lexeme among h is ]
 
   -- an item, where only items are words
   item_next : (s : Stage) (w : Symbol) (lexeme : List ℕ) → IsAmong w (items_of_place p) → IsLexeme (token.Word w) lexeme
@@ -237,14 +235,15 @@ module _ (p : Place) (ns : List Spot) (o : ℕ) (c : Option ℕ) (at : ℕ) (b :
   word_next : (s : Stage) (w : Symbol) (lexeme : List ℕ) → Valid p s → May (expect_of s) (stage_frames s) (stage_quoted s) p (token.Word w)
       → IsLexeme (token.Word w) lexeme → After p ns o c at b blank s (token.Word w) lexeme
   word_next (Wants []) w lexeme v may is = start_next w lexeme may.0 is
-  word_next (Wants (x ∷ ps)) w lexeme v may is = operand_next (x ∷ ps) w lexeme v may.0 (may_inner (quoted_of (x ∷ ps)) w may.1) is
+  word_next (Wants (x ∷ ps)) w lexeme v may is = operand_next (x ∷ ps) w lexeme v may.0 is
   word_next (Named ps d name k) w lexeme v may is =
       let e = bracket_is w may.0 in
       subst (λ (y : Symbol). After p ns o c at b blank (Named ps d name k) (token.Word y) lexeme) (sym e)
       (as_written p ns o c at b blank (Named ps d name k) symbol.Open lexeme tt (subst (λ (y : Symbol). IsWord (text_of y) lexeme) e is)
       (named_open p ns o c at b blank ps d name k v))
   word_next (Quoting ps d e k) w lexeme v may is =
-      mark_next (Quoting ps d e k) w lexeme may.0 may.1 is (λ no. absurd cc) (λ no. absurd cc) (λ yes. quoting_quote p ns o c at b blank ps d e k v)
+      mark_next (Quoting ps d e k) w lexeme may.0 may.1 is (λ no. absurd cc) (λ no. absurd cc) (λ yes.
+      quoting_quote p ns o c at b blank ps d e k v (not_true (quoted_of ps) yes))
   word_next (WantsItem ps d name e k) w lexeme v may is =
       item_next (WantsItem ps d name e k) w lexeme may.0 is (λ f among is. lone_item p ns o c at b blank ps d name e k f lexeme v among is)
   word_next (PlainFirst ps d e k) w lexeme v may is =

@@ -27,7 +27,7 @@ use Rattle.expr_lang.specs.Reading.{with_exponent}
 use Rattle.expr_lang.specs.Words.{start_of}
 use Rattle.expr_grammar.proofs.Tokens.{IsLexeme}
 use Rattle.expr_grammar.proofs.Steps.{only, IsPlainWord}
-use Rattle.expr_grammar.proofs.Moves.{rd, IsOpen, IsInner, item_token, spot_token, open_token}
+use Rattle.expr_grammar.proofs.Moves.{rd, IsOpen, item_token, spot_token, open_token}
 use Rattle.expr_grammar.proofs.Parts.{Part, InSign, InBracket, InQuote, InIf, InYes, InFirst, InOne, spelled_parts, frames_of, quoted_of, Fit, weaken}
 
 -- how far a form is read: what is begun, and what comes next
@@ -114,8 +114,8 @@ IsItemCall _ = ⊥
 
 abbrev pub Valid : Place → Stage → Type 0
 Valid p (Wants ps) = Fit p ps
-Valid p (Named ps b name k) = Fit p ps × IsCall p name × IsBlank b × IsInner (quoted_of ps) (symbol.Call name)
-Valid p (Quoting ps b c k) = Fit p ps × IsCall p call.Condition × IsBlank b × IsBlank c × (quoted_of ps ≡ false)
+Valid p (Named ps b name k) = Fit p ps × IsCall p name × IsBlank b
+Valid p (Quoting ps b c k) = Fit p ps × IsCall p call.Condition × IsBlank b × IsBlank c
 Valid p (WantsItem ps b name c k) = Fit p ps × IsCall p name × IsBlank b × IsBlank c × IsItemCall name
 Valid p (PlainFirst ps b c k) = Fit p ps × IsCall p call.FirstNonNull × IsBlank b × IsBlank c
 Valid p (PlainNext ps b c k first d n) =
@@ -127,6 +127,27 @@ Valid p (Has ps F power) = Fit p ps × IsForm p (quoted_of ps) 7 F × (power ≡
 Valid p (Tested ps b c d test e k) =
     Fit p ps × (quoted_of ps ≡ false) × IsCall p call.Condition × IsBlank b × IsBlank c × IsBlank d × IsForm p true 1 test × IsBlank e
 Valid p (Whole F) = IsWhole p F
+
+-- what is begun around it
+abbrev pub parts_of : Stage → List Part
+parts_of (Wants ps) = ps
+parts_of (Named ps b name k) = ps
+parts_of (Quoting ps b c k) = ps
+parts_of (WantsItem ps b name c k) = ps
+parts_of (PlainFirst ps b c k) = ps
+parts_of (PlainNext ps b c k first d n) = ps
+parts_of (Plain ps b c k F n) = ps
+parts_of (Lone ps b name c k F) = ps
+parts_of (Raised ps F b k) = ps
+parts_of (Has ps F power) = ps
+parts_of (Tested ps b c d test e k) = ps
+parts_of (Whole F) = []
+
+-- whether a second `d2:condition` stands in a quoted text: then no form has all that is read
+abbrev pub nests : Stage → Bool
+nests (Named ps b call.Condition k) = quoted_of ps
+nests (Quoting ps b c k) = quoted_of ps
+nests _ = false
 
 -- the reader stands so
 pub record Like (s : Stage) (r : Reader) : Type 0 where
@@ -140,6 +161,7 @@ pub record Next (p : Place) (s : Stage) (r : Reader) (b lexeme : List ℕ) : Typ
   pub like : Like stage r
   pub valid : Valid p stage
   pub spell : (rest : List ℕ) → spelled_stage s (b ++ (lexeme ++ rest)) ≡ spelled_stage stage rest
+  pub kept : nests stage ≡ true → parts_of stage ≡ parts_of s
 
 -- an atom that is read
 pub atom_level : (p : Place) (ps : List Part) (F : Form) → IsForm p (quoted_of ps) 8 F → IsForm p (quoted_of ps) 7 F
@@ -170,6 +192,7 @@ module _ (p : Place) (ns : List Spot) (o : ℕ) (c : Option ℕ) (at : ℕ) (b :
         valid =
             (blank, fit);
         spell = λ rest. refl;
+        kept = λ e. absurd cc;
       }
 
   pub wants_minus : (ps : List Part) → Fit p ps → After (Wants ps) (token.Word symbol.Minus) (text_of symbol.Minus)
@@ -181,6 +204,7 @@ module _ (p : Place) (ns : List Spot) (o : ℕ) (c : Option ℕ) (at : ℕ) (b :
         valid = (blank, tt, fit);
         spell =
             λ rest. refl;
+        kept = λ e. absurd cc;
       }
 
   pub wants_bang : (ps : List Part) → Fit p ps → After (Wants ps) (token.Word symbol.Bang) (text_of symbol.Bang)
@@ -192,18 +216,20 @@ module _ (p : Place) (ns : List Spot) (o : ℕ) (c : Option ℕ) (at : ℕ) (b :
         valid = (blank, tt, fit);
         spell =
             λ rest. refl;
+        kept = λ e. absurd cc;
       }
 
-  pub wants_call : (ps : List Part) (name : Call) → Fit p ps → IsCall p name → IsInner (quoted_of ps) (symbol.Call name)
+  pub wants_call : (ps : List Part) (name : Call) → Fit p ps → IsCall p name
       → After (Wants ps) (token.Word (symbol.Call name)) (text_of (symbol.Call name))
   unfolding with_token with_word with_call
-  wants_call ps name fit is inner =
+  wants_call ps name fit is =
       record {
         stage = Named ps b name at;
         like = record { expect = refl; frames = refl; quoted = refl };
-        valid = (fit, is, blank, inner);
+        valid = (fit, is, blank);
         spell =
             λ rest. refl;
+        kept = λ e. refl;
       }
 
   pub wants_number : (ps : List Part) (n : ℕ) (lexeme : List ℕ) → Fit p ps → IsLexeme (token.Number n) lexeme → After (Wants ps) (token.Number n) lexeme
@@ -214,6 +240,7 @@ module _ (p : Place) (ns : List Spot) (o : ℕ) (c : Option ℕ) (at : ℕ) (b :
         like = record { expect = ap (λ (r : Reader). r.expect) e; frames = ap (λ (r : Reader). r.frames) e; quoted = ap (λ (r : Reader). r.quoted) e };
         valid = (fit, (blank, is.3), λ t. (blank, is.3));
         spell = λ rest. ap (λ (l : List ℕ). spelled_parts ps (b ++ (l ++ rest))) is.2;
+        kept = λ e. absurd cc;
       }
 
   pub wants_item : (ps : List Part) (f : ItemForm) (lexeme : List ℕ) → Fit p ps → IsAmong (symbol.Item f) (items_of_place p) → is_count_of (node.Item f) ≡ false
@@ -226,6 +253,7 @@ module _ (p : Place) (ns : List Spot) (o : ℕ) (c : Option ℕ) (at : ℕ) (b :
         like = record { expect = ap (λ (r : Reader). r.expect) e; frames = ap (λ (r : Reader). r.frames) e; quoted = ap (λ (r : Reader). r.quoted) e };
         valid = (fit, (blank, among, is), λ t. (blank, among, is));
         spell = λ rest. refl;
+        kept = λ e. absurd cc;
       }
 
   pub wants_count : (f : ItemForm) (lexeme : List ℕ) → IsAmong (symbol.Item f) (start_of p) → is_count_of (node.Item f) ≡ true
@@ -238,6 +266,7 @@ module _ (p : Place) (ns : List Spot) (o : ℕ) (c : Option ℕ) (at : ℕ) (b :
         like = record { expect = ap (λ (r : Reader). r.expect) e; frames = ap (λ (r : Reader). r.frames) e; quoted = ap (λ (r : Reader). r.quoted) e };
         valid = (blank, among, is);
         spell = λ rest. refl;
+        kept = λ e. absurd cc;
       }
 
   -- ---- after a name, a quote, a caret
@@ -252,14 +281,16 @@ module _ (p : Place) (ns : List Spot) (o : ℕ) (c : Option ℕ) (at : ℕ) (b :
         valid = (v.1, v.2, blank, v.0);
         spell =
             λ rest. refl;
+        kept = λ e. absurd cc;
       }
   named_open ps d call.Condition k v =
       record {
         stage = Quoting ps d b k;
         like = record { expect = refl; frames = refl; quoted = refl };
-        valid = (v.0, v.1, v.2, blank, v.3);
+        valid = (v.0, v.1, v.2, blank);
         spell =
             λ rest. refl;
+        kept = λ e. refl;
       }
   named_open ps d call.DaysBetween k v =
       record {
@@ -268,6 +299,7 @@ module _ (p : Place) (ns : List Spot) (o : ℕ) (c : Option ℕ) (at : ℕ) (b :
         valid = (v.1, v.2, blank, v.0);
         spell =
             λ rest. refl;
+        kept = λ e. absurd cc;
       }
   named_open ps d call.IsNull k v =
       record {
@@ -276,6 +308,7 @@ module _ (p : Place) (ns : List Spot) (o : ℕ) (c : Option ℕ) (at : ℕ) (b :
         valid =
             (v.0, v.1, v.2, blank, tt);
         spell = λ rest. refl;
+        kept = λ e. absurd cc;
       }
   named_open ps d call.IsNotNull k v =
       record {
@@ -284,6 +317,7 @@ module _ (p : Place) (ns : List Spot) (o : ℕ) (c : Option ℕ) (at : ℕ) (b :
         valid =
             (v.0, v.1, v.2, blank, tt);
         spell = λ rest. refl;
+        kept = λ e. absurd cc;
       }
   named_open ps d call.HasValue k v =
       record {
@@ -292,6 +326,7 @@ module _ (p : Place) (ns : List Spot) (o : ℕ) (c : Option ℕ) (at : ℕ) (b :
         valid =
             (v.0, v.1, v.2, blank, tt);
         spell = λ rest. refl;
+        kept = λ e. absurd cc;
       }
   named_open ps d call.FirstNonNull k v =
       record {
@@ -300,6 +335,7 @@ module _ (p : Place) (ns : List Spot) (o : ℕ) (c : Option ℕ) (at : ℕ) (b :
         valid = (v.0, v.1, v.2, blank);
         spell =
             λ rest. refl;
+        kept = λ e. absurd cc;
       }
   named_open ps d call.Greatest k v =
       record {
@@ -308,6 +344,7 @@ module _ (p : Place) (ns : List Spot) (o : ℕ) (c : Option ℕ) (at : ℕ) (b :
         valid =
             (v.1, tt, v.2, blank, v.0);
         spell = λ rest. refl;
+        kept = λ e. absurd cc;
       }
   named_open ps d call.Least k v =
       record {
@@ -316,6 +353,7 @@ module _ (p : Place) (ns : List Spot) (o : ℕ) (c : Option ℕ) (at : ℕ) (b :
         valid =
             (v.1, tt, v.2, blank, v.0);
         spell = λ rest. refl;
+        kept = λ e. absurd cc;
       }
   named_open ps d call.Zing k v =
       record {
@@ -324,6 +362,7 @@ module _ (p : Place) (ns : List Spot) (o : ℕ) (c : Option ℕ) (at : ℕ) (b :
         valid =
             (v.1, tt, v.2, blank, v.0);
         spell = λ rest. refl;
+        kept = λ e. absurd cc;
       }
   named_open ps d call.Oizp k v =
       record {
@@ -332,18 +371,20 @@ module _ (p : Place) (ns : List Spot) (o : ℕ) (c : Option ℕ) (at : ℕ) (b :
         valid =
             (v.1, tt, v.2, blank, v.0);
         spell = λ rest. refl;
+        kept = λ e. absurd cc;
       }
 
-  pub quoting_quote : (ps : List Part) (d e : List ℕ) (k : ℕ) → Valid p (Quoting ps d e k)
+  pub quoting_quote : (ps : List Part) (d e : List ℕ) (k : ℕ) → Valid p (Quoting ps d e k) → quoted_of ps ≡ false
       → After (Quoting ps d e k) (token.Word symbol.Quote) (text_of symbol.Quote)
   unfolding with_token with_word with_quote
-  quoting_quote ps d e k v =
+  quoting_quote ps d e k v outer =
       record {
         stage = Wants (InQuote d e b k ∷ ps);
         like = record { expect = refl; frames = refl; quoted = refl };
         valid =
-            (v.1, v.4, v.2, v.3, blank, v.0);
+            (v.1, outer, v.2, v.3, blank, v.0);
         spell = λ rest. refl;
+        kept = λ e. absurd cc;
       }
 
   pub raised_number : (ps : List Part) (F : Form) (d : List ℕ) (k n : ℕ) (lexeme : List ℕ) → Valid p (Raised ps F d k) → IsLexeme (token.Exponent n) lexeme
@@ -356,6 +397,7 @@ module _ (p : Place) (ns : List Spot) (o : ℕ) (c : Option ℕ) (at : ℕ) (b :
         valid =
             (v.0, (omega arith, v.1, v.2, blank, is.0), λ t. absurd cc);
         spell = λ rest. refl;
+        kept = λ e. absurd cc;
       }
 
   pub tested_comma : (ps : List Part) (d e f : List ℕ) (test : Form) (g : List ℕ) (k : ℕ) → Valid p (Tested ps d e f test g k)
@@ -368,6 +410,7 @@ module _ (p : Place) (ns : List Spot) (o : ℕ) (c : Option ℕ) (at : ℕ) (b :
         valid =
             (v.2, v.1, v.3, v.4, v.5, v.6, v.7, blank, v.0);
         spell = λ rest. refl;
+        kept = λ e. absurd cc;
       }
 
   -- ---- items and numbers alone
@@ -383,6 +426,7 @@ module _ (p : Place) (ns : List Spot) (o : ℕ) (c : Option ℕ) (at : ℕ) (b :
         valid =
             (v.0, v.1, v.2, v.3, v.4, (blank, among, is), refl);
         spell = λ rest. refl;
+        kept = λ e. absurd cc;
       }
 
   item_takes : (name : Call) (F : Form) → IsItemCall name → is_item F ≡ true → (arguments_level name ≡ 1) × Takes name F
@@ -407,6 +451,7 @@ module _ (p : Place) (ns : List Spot) (o : ℕ) (c : Option ℕ) (at : ℕ) (b :
         valid =
             (v.0, form 7, λ x. form 8);
         spell = λ rest. refl;
+        kept = λ e. absurd cc;
       }
 
   pub plain_close : (ps : List Part) (d e : List ℕ) (k : ℕ) (F : Form) (n : ℕ) → Valid p (Plain ps d e k F n)
@@ -420,6 +465,7 @@ module _ (p : Place) (ns : List Spot) (o : ℕ) (c : Option ℕ) (at : ℕ) (b :
         valid =
             (v.0, form 7, λ x. form 8);
         spell = λ rest. refl;
+        kept = λ e. absurd cc;
       }
 
   pub plain_comma : (ps : List Part) (d e : List ℕ) (k : ℕ) (F : Form) (n : ℕ) → Valid p (Plain ps d e k F n)
@@ -432,6 +478,7 @@ module _ (p : Place) (ns : List Spot) (o : ℕ) (c : Option ℕ) (at : ℕ) (b :
             record { expect = refl; frames = refl; quoted = refl };
         valid = (v.0, v.1, v.2, v.3, v.4, v.5, blank);
         spell = λ rest. refl;
+        kept = λ e. absurd cc;
       }
 
   pub first_number : (ps : List Part) (d e : List ℕ) (k n : ℕ) (lexeme : List ℕ) → Valid p (PlainFirst ps d e k) → IsLexeme (token.Number n) lexeme
@@ -444,6 +491,7 @@ module _ (p : Place) (ns : List Spot) (o : ℕ) (c : Option ℕ) (at : ℕ) (b :
         valid =
             (v.0, v.1, v.2, v.3, (blank, is.3), refl);
         spell = λ rest. ap (λ (l : List ℕ). spelled_stage (PlainFirst ps d e k) (b ++ (l ++ rest))) is.2;
+        kept = λ e. absurd cc;
       }
 
   pub first_item : (ps : List Part) (d e : List ℕ) (k : ℕ) (f : ItemForm) (lexeme : List ℕ) → Valid p (PlainFirst ps d e k)
@@ -456,6 +504,7 @@ module _ (p : Place) (ns : List Spot) (o : ℕ) (c : Option ℕ) (at : ℕ) (b :
         valid =
             (v.0, v.1, v.2, v.3, (blank, among, is), refl);
         spell = λ rest. refl;
+        kept = λ e. absurd cc;
       }
 
   plain_more : (first : Form) → all_plain first ≡ true → all_plain first && true ≡ true
@@ -472,6 +521,7 @@ module _ (p : Place) (ns : List Spot) (o : ℕ) (c : Option ℕ) (at : ℕ) (b :
             (v.0, v.1, v.2, v.3, (refl, v.4, v.6, (blank, is.3)), plain_more first v.5);
         spell =
             λ rest. ap (λ (l : List ℕ). spelled_stage (PlainNext ps d e k first f m) (b ++ (l ++ rest))) is.2;
+        kept = λ e. absurd cc;
       }
 
   pub next_item : (ps : List Part) (d e : List ℕ) (k : ℕ) (first : Form) (f : List ℕ) (m : ℕ) (i : ItemForm) (lexeme : List ℕ)
@@ -485,4 +535,5 @@ module _ (p : Place) (ns : List Spot) (o : ℕ) (c : Option ℕ) (at : ℕ) (b :
         valid =
             (v.0, v.1, v.2, v.3, (refl, v.4, v.6, (blank, among, is)), plain_more first v.5);
         spell = λ rest. refl;
+        kept = λ e. absurd cc;
       }

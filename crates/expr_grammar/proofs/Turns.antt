@@ -28,7 +28,7 @@ use Rattle.expr_lang.specs.Token.{is_comparison_of}
 use Rattle.expr_grammar.proofs.Parts.{Part, InChain, InSign, InBracket, InQuote, InIf, InThen, InElse, InYes, InNo, InFirst, InSecond, InOne, InMore}
 use Rattle.expr_grammar.proofs.Parts.{spelled_parts, frames_of, quoted_of, hole, IsUsual, IsMany, Fit, weaken, Above, Below, Reduced, reduced, above_same}
 use Rattle.expr_grammar.proofs.Parts.{above_compared, enclosing_same, below_hole, hole_small}
-use Rattle.expr_grammar.proofs.Stages.{Stage, Wants, Raised, Has, Tested, spelled_stage, expect_of, stage_frames, stage_quoted, Valid, After}
+use Rattle.expr_grammar.proofs.Stages.{Stage, Wants, Raised, Has, Tested, spelled_stage, expect_of, stage_frames, stage_quoted, nests, Valid, After}
 
 not_true : (b : Bool) → not b ≡ true → b ≡ false
 not_true true e = absurd cc
@@ -58,7 +58,13 @@ module _ (p : Place) (ns : List Spot) (o : ℕ) (c : Option ℕ) (at : ℕ) (b :
       → After p ns o c at b blank (Has ps F true) (token.Word symbol.Caret) (text_of symbol.Caret)
   unfolding with_token with_word
   has_caret ps F v =
-      record { stage = Raised ps F b at; like = record { expect = refl; frames = refl; quoted = refl }; valid = (v.0, v.2 refl, blank); spell = λ rest. refl }
+      record {
+        stage = Raised ps F b at;
+        like = record { expect = refl; frames = refl; quoted = refl };
+        valid = (v.0, v.2 refl, blank);
+        spell = λ rest. refl;
+        kept = λ e. absurd cc;
+      }
 
   above : (ps : List Part) (power : Bool) (op : Binary) → 1 ≤ level_of op
       → (allowed_in (enclosing_of (frames_of ps)) power (not (compares (frames_of ps)))).comparison || not (is_comparison_of op) ≡ true
@@ -95,6 +101,7 @@ module _ (p : Place) (ns : List Spot) (o : ℕ) (c : Option ℕ) (at : ℕ) (b :
         like = record { expect = refl; frames = ap (λ (l : List Frame). frame.Pending (spot_of at (node.Binary op)) ∷ l) r.frames; quoted = sym r.quoted };
         valid = (some, below_hole p (level_of op) r.parts some r.fit r.low, r.is, blank, r.fit);
         spell = λ rest. r.spell (symbol_text b (symbol.Operator op) rest);
+        kept = λ e. absurd cc;
       }
     where
       left_small : (op : Binary) → left_level_of op ≤ 6
@@ -233,6 +240,7 @@ module _ (p : Place) (ns : List Spot) (o : ℕ) (c : Option ℕ) (at : ℕ) (b :
               like = record { expect = refl; frames = ap rest_of r.frames ∙ x.frames; quoted = sym (x.quoted ∙ r.quoted) };
               valid = (x.fit, x.is 7, λ t. x.is 8);
               spell = λ rest. r.spell (symbol_text b symbol.Close rest) ∙ x.spell rest;
+              kept = λ e. absurd cc;
             }
 
   -- the quote that ends a quoted text
@@ -243,6 +251,7 @@ module _ (p : Place) (ns : List Spot) (o : ℕ) (c : Option ℕ) (at : ℕ) (b :
     quoted : false ≡ stage_quoted stage
     valid : Valid p stage
     spell : (rest : List ℕ) → spelled_parts parts (spelled G (symbol_text b symbol.Quote rest)) ≡ spelled_stage stage rest
+    plain : ¬ (nests stage ≡ true)
 
   unquotes : (parts : List Part) (G : Form) (power x : Bool) → Fit p parts → IsForm p (quoted_of parts) 1 G → Below 1 parts
       → (allowed_in (enclosing_of (frames_of parts)) power x).quote ≡ true → Unquotes parts G
@@ -258,6 +267,7 @@ module _ (p : Place) (ns : List Spot) (o : ℕ) (c : Option ℕ) (at : ℕ) (b :
         valid =
             (fit.5, fit.1, fit.0, fit.2, fit.3, fit.4, is, blank);
         spell = λ rest. refl;
+        plain = λ e. absurd cc;
       }
   unquotes (y ∷ ps) G power x fit is low e = absurd cc
 
@@ -371,6 +381,7 @@ module _ (p : Place) (ns : List Spot) (o : ℕ) (c : Option ℕ) (at : ℕ) (b :
               };
               valid = x.fit;
               spell = λ rest. r.spell (symbol_text b symbol.Comma rest) ∙ x.spell rest;
+              kept = λ e. absurd cc;
             }
 
     pub has_quote : is_allowed_of (allowed_after (frames_of ps) power) symbol.Quote ≡ true
@@ -388,4 +399,5 @@ module _ (p : Place) (ns : List Spot) (o : ℕ) (c : Option ℕ) (at : ℕ) (b :
               like = record { expect = sym x.expect; frames = ap rest_of r.frames ∙ x.frames; quoted = x.quoted };
               valid = x.valid;
               spell = λ rest. r.spell (symbol_text b symbol.Quote rest) ∙ x.spell rest;
+              kept = λ e. absurd (x.plain e);
             }

@@ -5,7 +5,9 @@ ghost use Rattle.expr_grammar.specs.Continues.{GoesOnAt, EndsAt};
 ghost use Rattle.expr_grammar.specs.Items.{items_of, Different, ListsItems};
 ghost use Rattle.expr_grammar.specs.Laws.{OneTree};
 ghost use Rattle.expr_grammar.specs.Limits.{AnswersBy};
-ghost use Rattle.expr_lang.specs.Expr.{parse_of, Answers};
+ghost use Rattle.dh_base.specs.Memory.{Answers};
+ghost use Rattle.expr_lang.specs.Causes.{cause_of};
+ghost use Rattle.expr_lang.specs.Expr.{parse_of};
 ghost use Rattle.expr_lang.specs.Faults.{IfSyntax};
 
 use dh_base::uid::Uid;
@@ -16,10 +18,10 @@ use std::alloc::Global;
 /// are days.
 pub fn parse(alloc: Global, text: &[u8], place: Place, days: &[Uid]) -> Result<Expr, ExprFault>
     // The answer is what the text means, unless memory runs out.
-    ensures value { Answers result (parse_of place days.now None text.now) }
+    ensures value { Answers cause_of (parse_of place days.now None text.now) result }
     // What it means is the tree of a form of the grammar, or why no form is accepted, and where.
     ensures read { AnswersBy place days.now None text.now (parse_of place days.now None text.now) }
-    // The bytes before a fault of syntax begin a text of the grammar, and with the byte there none does.
+    // The bytes before a fault of syntax begin a text of the grammar, or so inside a quoted text; with the byte there none does.
     ensures before { IfErr (parse_of place days.now None text.now) (λ fault. IfSyntax fault (GoesOnAt place text.now)) }
     ensures ends { IfErr (parse_of place days.now None text.now) (λ fault. IfSyntax fault (EndsAt place text.now)) }
     // All forms that the text is have one tree.
@@ -40,7 +42,7 @@ pub fn parse_sorted(
     days: &[Uid],
     wanted: Sort,
 ) -> Result<Expr, ExprFault>
-    ensures value { Answers result (parse_of place days.now (Some wanted) text.now) }
+    ensures value { Answers cause_of (parse_of place days.now (Some wanted) text.now) result }
     ensures read { AnswersBy place days.now (Some wanted) text.now (parse_of place days.now (Some wanted) text.now) }
     ensures before { IfErr (parse_of place days.now (Some wanted) text.now) (λ fault. IfSyntax fault (GoesOnAt place text.now)) }
     ensures ends { IfErr (parse_of place days.now (Some wanted) text.now) (λ fault. IfSyntax fault (EndsAt place text.now)) }

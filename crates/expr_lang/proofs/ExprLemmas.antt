@@ -19,7 +19,9 @@ use Rattle.expr_lang.specs.declared.expr.Expr.{Expr}
 use Rattle.expr_lang.specs.declared.fault.ExprFault.{ExprFault}
 use Rattle.expr_lang.specs.declared.fault.ExprFault.TheVariants as fault
 use Rattle.expr_lang.specs.Expression.{Expression}
-use Rattle.expr_lang.specs.Expr.{IsOf, expression_of, expression_from, parse_of, Answers}
+use Rattle.dh_base.specs.Memory.{Answers}
+use Rattle.expr_lang.specs.Causes.{cause_of}
+use Rattle.expr_lang.specs.Expr.{IsOf, expression_of, expression_from, parse_of}
 use Rattle.expr_lang.specs.Items.{Occurrence, occurrences, ListsFrom, Lists, item_key, is_one_key, is_one, listed_from, listed}
 use Rattle.expr_lang.specs.Parse.{accepted, Accepts}
 
@@ -170,7 +172,7 @@ IsOf-is text days expr nodes is = λ i.
     }
 
 accepts_so : (text : List ℕ) (days : List (List ℕ)) (r : Result Expr ExprFault) (answer : Result Nodes ExprFault)
-    → Accepts (λ expr nodes. IsOf text days expr nodes) r answer → Answers r (expression_from text days answer)
+    → Accepts (λ expr nodes. IsOf text days expr nodes) r answer → Answers cause_of (expression_from text days answer) r
 accepts_so text days (Ok expr) (Ok nodes) is = ap (λ (e : Expression). Ok e) (sym (IsOf-is text days expr nodes is))
 accepts_so text days (Ok expr) (Err f) is = absurd is
 accepts_so text days (Err fault.Memory) answer is = tt
@@ -179,6 +181,6 @@ accepts_so text days (Err (fault.TooDeep at)) answer is = ap (expression_from te
 accepts_so text days (Err (fault.Sort at)) answer is = ap (expression_from text days) is
 
 pub parse_answers : (place : Place) (days : List (List ℕ)) (wanted : Option Sort) (text : List ℕ) (r : Result Expr ExprFault)
-    → Accepts (λ expr nodes. IsOf text days expr nodes) r (accepted place days wanted text) → Answers r (parse_of place days wanted text)
+    → Accepts (λ expr nodes. IsOf text days expr nodes) r (accepted place days wanted text) → Answers cause_of (parse_of place days wanted text) r
 unfolding parse_of
 parse_answers place days wanted text r is = accepts_so text days r (accepted place days wanted text) is

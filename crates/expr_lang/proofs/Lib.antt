@@ -5,3 +5,4 @@ pub mod Decimals
 pub mod Listing
 pub mod Local
 pub mod ExprLemmas
+pub mod Letters

@@ -1,12 +1,11 @@
 -- The expression that a text is.
-use Rattle.std.specs.Prelude.{◌≡◌, ℕ, List, Option, Result, Ok, Err, ⊤}
+use Rattle.std.specs.Prelude.{◌≡◌, ℕ, List, Option, Result, Ok, Err}
 use Rattle.expr_lang.specs.declared.tree.Item.{Item}
 use Rattle.expr_lang.specs.declared.tree.Place.{Place}
 use Rattle.expr_lang.specs.declared.tree.Sort.{Sort}
 use Rattle.expr_lang.specs.declared.reading.Nodes.{Nodes}
 use Rattle.expr_lang.specs.declared.expr.Expr.{Expr}
 use Rattle.expr_lang.specs.declared.fault.ExprFault.{ExprFault}
-use Rattle.expr_lang.specs.declared.fault.ExprFault.TheVariants as fault
 use Rattle.expr_lang.specs.Build.{built}
 use Rattle.expr_lang.specs.Expression.{Expression}
 use Rattle.expr_lang.specs.Items.{occurrences, Lists, listed}
@@ -39,8 +38,3 @@ expression_from text days (Err f) = Err f
 -- the expression that a text is in its place, of a sort or of any, or the first fault
 unfoldable pub parse_of : Place → List (List ℕ) → Option Sort → List ℕ → Result Expression ExprFault
 parse_of place days wanted text = expression_from text days (accepted place days wanted text)
-
--- what was meant is answered, unless memory ran out
-abbrev pub Answers : Result Expr ExprFault → Result Expression ExprFault → Type 0
-Answers (Err fault.Memory) meant = ⊤
-Answers result meant = meant ≡ result

@@ -1,4 +1,5 @@
 pub mod Stack
+pub mod Causes
 pub mod Words
 pub mod Token
 pub mod Item

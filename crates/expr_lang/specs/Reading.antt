@@ -88,7 +88,7 @@ most_arguments _ = 1
 
 abbrev pub allow : Bool → Bool → Bool → Bool → Bool → Allowed
 allow with_caret with_close with_comma with_quote with_comparison =
-    record { caret = with_caret; close = with_close; comma = with_comma; quote = with_quote; comparison = with_comparison; condition = true }
+    record { caret = with_caret; close = with_close; comma = with_comma; quote = with_quote; comparison = with_comparison }
 
 abbrev pub allowed_in : Option Frame → Bool → Bool → Allowed
 allowed_in (Some frame.Bracket) with_caret with_comparison = allow with_caret true false false with_comparison
@@ -103,10 +103,6 @@ allowed_after frames with_caret = allowed_in (enclosing_of frames) with_caret (n
 
 abbrev pub all_allowed : Allowed
 all_allowed = allow true true true true true
-
--- a quoted text has no other in it
-abbrev pub quotes_allowed : Bool → Allowed
-quotes_allowed quoted = record all_allowed { condition = not quoted }
 
 -- the words of which the next may be one
 abbrev pub words_for : Expect → Place → List Symbol
@@ -123,11 +119,10 @@ words_for expect.Close place = marks_of
 words_for expect.More place = marks_of
 words_for expect.End place = nothing_of
 
--- and which of these are allowed
+-- and which of these are allowed; a quoted text has no other in it
 abbrev pub allowed_for : Expect → List Frame → Bool → Allowed
 allowed_for (expect.Operator with_caret) frames quoted = allowed_after frames with_caret
-allowed_for expect.Operand frames quoted = quotes_allowed quoted
-allowed_for expect.Quote frames quoted = allow false false false true false
+allowed_for expect.Quote frames quoted = allow false false false (not quoted) false
 allowed_for expect.Comma frames quoted = allow false false true false false
 allowed_for expect.Close frames quoted = allow false true false false false
 allowed_for expect.More frames quoted = allow false true true false false
@@ -380,9 +375,3 @@ most_words = 4097
 
 unfoldable pub read_text : Place → List ℕ → Result Nodes ℕ
 read_text place bytes = read_rest place most_words new_reader 0 bytes
-
--- what a function returned is what reading gives, unless memory ran out
-abbrev pub Gives : Result Nodes ReadFault → Result Nodes ℕ → Type 0
-Gives (Ok nodes) read = read ≡ Ok nodes
-Gives (Err (fault.Syntax at)) read = read ≡ Err at
-Gives (Err fault.Memory) read = Unit {0}

@@ -7,7 +7,6 @@ use Rattle.expr_lang.specs.declared.tree.Binary.{Binary}
 use Rattle.expr_lang.specs.declared.tree.Binary.TheVariants as binary
 use Rattle.expr_lang.specs.declared.words.Symbol.{Symbol}
 use Rattle.expr_lang.specs.declared.words.Symbol.TheVariants as symbol
-use Rattle.expr_lang.specs.declared.words.Call.TheVariants as call
 use Rattle.expr_lang.specs.declared.token.Allowed.{Allowed}
 use Rattle.expr_lang.specs.declared.token.Front.{Front}
 use Rattle.expr_lang.specs.Words.{text_of}
@@ -27,7 +26,6 @@ is_allowed_of allowed symbol.Close = allowed.close
 is_allowed_of allowed symbol.Comma = allowed.comma
 is_allowed_of allowed symbol.Quote = allowed.quote
 is_allowed_of allowed (symbol.Operator operator) = allowed.comparison || not (is_comparison_of operator)
-is_allowed_of allowed (symbol.Call call.Condition) = allowed.condition
 is_allowed_of allowed _ = true
 
 -- whether a byte may stand where a word has this letter

@@ -1,6 +1,6 @@
 -- The words of the language. In a word `@` stands for a letter and `$` for a letter or a digit, so
 -- `@$$$$$$$$$$` is an identifier.
-use Rattle.std.specs.Prelude.{ℕ, List, [], ◌∷◌, codes}
+use Rattle.std.specs.Prelude.{ℕ, List, [], ◌∷◌, codes, slice_index}
 use Rattle.dh_base.specs.declared.plain.Rate.{Rate}
 use Rattle.dh_base.specs.declared.plain.Rate.TheVariants as rates
 use Rattle.expr_lang.specs.declared.tree.Binary.{Binary}
@@ -78,6 +78,10 @@ text_of symbol.Bang = codes "!"
 text_of (symbol.Operator operator) = operator_text_of operator
 text_of (symbol.Call call) = call_text_of call
 text_of (symbol.Item form) = item_text_of form
+
+-- the first letter of a word
+abbrev pub letter_of : Symbol → ℕ
+letter_of word = slice_index (text_of word) 0
 
 -- the items of each place
 unfoldable pub items_of_place : Place → List Symbol

@@ -1,10 +1,10 @@
 //! Reading expressions.
 
-ghost use Rattle.std.specs.Prelude.{◌≡◌, Some, None, IfOk, IfErr};
-ghost use Rattle.expr_lang.specs.Expr.{IsOf, parse_of, Answers};
-ghost use Rattle.expr_lang.specs.Faults.{FaultsAtOnce, IfSyntax};
+ghost use Rattle.std.specs.Prelude.{◌≡◌, Some, None, IfOk};
+ghost use Rattle.dh_base.specs.Memory.{Answers};
+ghost use Rattle.expr_lang.specs.Causes.{cause_of, stop_of};
+ghost use Rattle.expr_lang.specs.Expr.{IsOf, parse_of};
 ghost use Rattle.expr_lang.specs.Parse.{nodes_of_text, judged, accepted, Accepts};
-ghost use Rattle.expr_lang.specs.Reading.{Gives};
 ghost use Rattle.expr_lang.specs.Survey.{survey_of};
 
 use crate::build::{build, list_items};
@@ -24,7 +24,7 @@ const MOST_DEPTH: u64 = 512;
 /// The nodes of a text of at most 4,096 bytes.
 #[tactic(auto, unfolding(crate::specs::Parse::nodes_of_text))]
 fn nodes_of(alloc: Global, text: &[u8], place: Place) -> Result<Nodes, ReadFault>
-    ensures { Gives result (nodes_of_text place text.now) }
+    ensures { Answers stop_of (nodes_of_text place text.now) result }
 {
     if text.len() <= MOST_BYTES {
         return read(alloc, text, place);
@@ -59,7 +59,7 @@ fn accept(
     days: &[Uid],
     wanted: Option<Sort>,
 ) -> Result<Nodes, ExprFault>
-    ensures { Accepts (λ nodes answer. nodes ≡ answer) result (accepted place days.now wanted text.now) }
+    ensures { Answers cause_of (accepted place days.now wanted text.now) result }
 {
     match nodes_of(alloc, text, place) {
         Err(ReadFault::Syntax(at)) => Err(ExprFault::Syntax { at }),
@@ -97,10 +97,7 @@ fn whole(
 /// The expression that a text is, of any sort. `days` has the elements and attributes whose values
 /// are days.
 pub fn parse(alloc: Global, text: &[u8], place: Place, days: &[Uid]) -> Result<Expr, ExprFault>
-    ensures accepted { Accepts (λ expr nodes. IsOf text.now days.now expr nodes) result (accepted place days.now None text.now) }
-    // A fault of syntax stands at the first byte with which no text goes on that is read.
-    ensures first { IfErr result (λ fault. IfSyntax fault (FaultsAtOnce place days.now None text.now)) }
-    ensures value { Answers result (parse_of place days.now None text.now) }
+    ensures { Answers cause_of (parse_of place days.now None text.now) result }
 {
     whole(alloc, text, place, days, None)
 }
@@ -113,9 +110,7 @@ pub fn parse_sorted(
     days: &[Uid],
     wanted: Sort,
 ) -> Result<Expr, ExprFault>
-    ensures accepted { Accepts (λ expr nodes. IsOf text.now days.now expr nodes) result (accepted place days.now (Some wanted) text.now) }
-    ensures first { IfErr result (λ fault. IfSyntax fault (FaultsAtOnce place days.now (Some wanted) text.now)) }
-    ensures value { Answers result (parse_of place days.now (Some wanted) text.now) }
+    ensures { Answers cause_of (parse_of place days.now (Some wanted) text.now) result }
 {
     whole(alloc, text, place, days, Some(wanted))
 }

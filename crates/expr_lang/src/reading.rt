@@ -1,15 +1,18 @@
 //! Reading a text from left to right.
 
-ghost use Rattle.std.specs.Prelude.{◌≡◌, ◌≤◌, ◌<◌, ◌^◌, length, drop, List, OnOk, IfErr, MatchResult, Err, true};
-ghost use Rattle.expr_lang.specs.Reading.{level_of, node_level, enclosing_of, compares, least_arguments, most_arguments, allow, all_allowed, quotes_allowed};
+ghost use Rattle.std.specs.Prelude.{◌≡◌, ◌≤◌, ◌<◌, ◌^◌, length, map, drop, List, OnOk, IfErr, MatchResult, Err, true};
+ghost use Rattle.dh_base.specs.Memory.{Answers, IsCause};
+ghost use Rattle.expr_lang.specs.Causes.{stop_of};
+ghost use Rattle.expr_lang.specs.Reading.{level_of, node_level, enclosing_of, compares, least_arguments, most_arguments, allow, all_allowed};
 ghost use Rattle.expr_lang.specs.Reading.{allowed_in, allowed_after, words_for, allowed_for, takes_number, token_from, binding_of, frames_reduced};
 ghost use Rattle.expr_lang.specs.Reading.{nodes_reduced, after_leaf_of, is_count_of, with_leaf, with_sign, with_operator, first_argument, after_open_of};
 ghost use Rattle.expr_lang.specs.Reading.{with_open, with_call, is_list_of, counted_of, joined, node_of_call, later_argument, with_comma, with_close};
-ghost use Rattle.expr_lang.specs.Reading.{with_quote, with_word, with_exponent, with_token, is_blank_of, blank_count, may_end_in, new_reader, ended, Gives};
+ghost use Rattle.expr_lang.specs.Reading.{with_quote, with_word, with_exponent, with_token, is_blank_of, blank_count, may_end_in, new_reader, ended};
 ghost use Rattle.expr_lang.specs.Reading.{read_text};
 ghost use Rattle.expr_lang.specs.Reading.{number_found as specs_number_found, exponent_found as specs_exponent_found, word_found as specs_word_found};
 ghost use Rattle.expr_lang.specs.Reading.{most_words as words_limit};
 ghost use Rattle.expr_lang.specs.Stack.{top_of};
+ghost use Rattle.expr_lang.specs.Words.{letter_of};
 ghost use Rattle.expr_lang.specs.Token.{number_of, exponent_of};
 
 use crate::fault::ReadFault;
@@ -185,7 +188,6 @@ fn allowing(caret: bool, close: bool, comma: bool, quote: bool, comparison: bool
         comma,
         quote,
         comparison,
-        condition: true,
     }
 }
 
@@ -227,24 +229,28 @@ fn words_at(expect: Expect, place: Place) -> &'static [Symbol]
     }
 }
 
-/// An operand of a quoted text has no other quoted text in it.
-fn within_quotes(quoted: bool) -> Allowed
-    ensures { result ≡ quotes_allowed quoted }
+/// The first letters of these.
+fn letters_at(expect: Expect, place: Place) -> &'static [u8]
+    ensures { result.now ≡ map letter_of (words_for expect place) }
 {
-    Allowed {
-        condition: !quoted,
-        ..allowing(true, true, true, true, true)
+    match expect {
+        Expect::Start => words::start_letters(place),
+        Expect::Operand => words::operand_letters(place),
+        Expect::Item | Expect::Plain => words::item_letters(place),
+        Expect::Bracket => words::bracket_letters(),
+        Expect::Operator(_) => words::follower_letters(),
+        Expect::Quote | Expect::Comma | Expect::Close | Expect::More => words::mark_letters(),
+        Expect::Exponent(_) | Expect::End => words::no_letters(),
     }
 }
 
-/// And which of these are allowed.
+/// And which of these are allowed. A quoted text has no other quoted text in it.
 fn allowed(expect: Expect, frames: &Stack<Frame>, quoted: bool) -> Allowed
     ensures { result ≡ allowed_for expect frames.now quoted }
 {
     match expect {
         Expect::Operator(caret) => allowed_at(frames, caret),
-        Expect::Operand => within_quotes(quoted),
-        Expect::Quote => allowing(false, false, false, true, false),
+        Expect::Quote => allowing(false, false, false, !quoted, false),
         Expect::Comma => allowing(false, false, true, false, false),
         Expect::Close => allowing(false, true, false, false, false),
         Expect::More => allowing(false, true, true, false, false),
@@ -312,6 +318,7 @@ fn token_at(
     }
     word_found(longest(
         allowed(expect, frames, quoted),
+        letters_at(expect, place),
         words_at(expect, place),
         bytes,
     ))
@@ -651,7 +658,7 @@ pub struct Nodes {
 /// Moves what is pending at the end of a text to the nodes.
 fn settle(reader: &mut Reader, at: usize) -> Result<(), ReadFault>
     ensures whole { OnOk result (may_end_in reader.old.expect reader.old.frames ≡ true) }
-    ensures cut { IfErr result (λ fault. Gives (Err fault) (ended reader.old at)) }
+    ensures cut { IfErr result (λ fault. IsCause (ended reader.old at) (stop_of fault)) }
     ensures nodes { OnOk result (reader.new.nodes ≡ nodes_reduced 1 reader.old.frames reader.old.nodes) }
     ensures crowded { reader.new.crowded ≡ reader.old.crowded }
 {
@@ -664,7 +671,7 @@ fn settle(reader: &mut Reader, at: usize) -> Result<(), ReadFault>
 
 #[tactic(auto)]
 fn finish(mut reader: Reader, at: usize) -> Result<Nodes, ReadFault>
-    ensures { Gives result (ended reader at) }
+    ensures { Answers stop_of (ended reader at) result }
 {
     match settle(&mut reader, at) {
         Ok(()) => Ok(Nodes {
@@ -698,7 +705,7 @@ fn most_words() -> usize
 /// Reads a whole text.
 #[tactic(auto, unfolding(crate::specs::Reading::read_text, crate::specs::Reading::read_rest))]
 pub fn read(alloc: Global, text: &[u8], place: Place) -> Result<Nodes, ReadFault>
-    ensures { Gives result (read_text place text.now) }
+    ensures { Answers stop_of (read_text place text.now) result }
 {
     let mut reader = Reader::new(alloc);
     let mut at = 0;

@@ -1,11 +1,12 @@
 //! The next word of a text.
 
-ghost use Rattle.std.specs.Prelude.{◌≡◌, ◌≤◌, ◌<◌, ◌^◌, ◌-◌, length, MatchResult};
+ghost use Rattle.std.specs.Prelude.{◌≡◌, ◌≤◌, ◌<◌, ◌^◌, ◌-◌, length, map, slice_index, MatchResult, if◌then◌else◌};
+ghost use Rattle.expr_lang.specs.Words.{letter_of};
 ghost use Rattle.expr_lang.specs.Token.{is_comparison_of, is_allowed_of, fits_of, front_of, better_of, longest_of, digit_count, digits_of_front, number_of};
 ghost use Rattle.expr_lang.specs.Token.{exponent_of};
 
 use crate::tree::Binary;
-use crate::words::{self, Call, Symbol};
+use crate::words::{self, Symbol};
 
 /// Which words are allowed, of those that aren't everywhere.
 #[derive(Clone, Copy)]
@@ -15,8 +16,6 @@ pub struct Allowed {
     pub comma: bool,
     pub quote: bool,
     pub comparison: bool,
-    /// `d2:condition`, which a quoted text doesn't have.
-    pub condition: bool,
 }
 
 /// The longest front of some words with which a text begins, and the word that it is, if it is one.
@@ -49,7 +48,6 @@ fn is_allowed(allowed: Allowed, symbol: Symbol) -> bool
         Symbol::Comma => allowed.comma,
         Symbol::Quote => allowed.quote,
         Symbol::Operator(operator) => allowed.comparison || !is_comparison(operator),
-        Symbol::Call(Call::Condition) => allowed.condition,
         _ => true,
     }
 }
@@ -93,8 +91,21 @@ fn better(best: Front, symbol: Symbol, bytes: &[u8]) -> Front
     }
 }
 
+fn better_if_allowed(best: Front, allowed: Allowed, symbol: Symbol, bytes: &[u8]) -> Front
+    ensures value { result ≡ (if is_allowed_of allowed symbol then better_of best symbol bytes.now else best) }
+    ensures within { best.len ≤ length bytes.now → result.len ≤ length bytes.now }
+{
+    if is_allowed(allowed, symbol) {
+        better(best, symbol, bytes)
+    } else {
+        best
+    }
+}
+
+/// Only words that begin with the text's first byte are looked at.
 #[tactic(auto, unfolding(crate::specs::Token::longest_of))]
-pub fn longest(allowed: Allowed, symbols: &[Symbol], bytes: &[u8]) -> Front
+pub fn longest(allowed: Allowed, letters: &[u8], symbols: &[Symbol], bytes: &[u8]) -> Front
+    requires { letters.now ≡ map letter_of symbols.now }
     ensures value { result ≡ longest_of allowed symbols.now bytes.now }
     ensures within { result.len ≤ length bytes.now }
 {
@@ -102,12 +113,20 @@ pub fn longest(allowed: Allowed, symbols: &[Symbol], bytes: &[u8]) -> Front
         len: 0,
         symbol: None,
     };
-    for symbol in symbols {
-        if is_allowed(allowed, *symbol) {
-            best = better(best, *symbol, bytes);
+    let first = first_byte(bytes);
+    for n in 0..letters.len() {
+        if letters[n] == first {
+            best = better_if_allowed(best, allowed, symbols[n], bytes);
         }
     }
     best
+}
+
+/// The first byte, or 0.
+fn first_byte(bytes: &[u8]) -> u8
+    ensures { result ≡ slice_index bytes.now 0 }
+{
+    if bytes.is_empty() { 0 } else { bytes[0] }
 }
 
 /// The digits at the front, at most so many: the number that they write, and how many there are.

@@ -1,6 +1,7 @@
 //! The words of the language, and which of them may come where.
 
-ghost use Rattle.std.specs.Prelude.{◌≡◌};
+ghost use Rattle.std.specs.Prelude.{◌≡◌, map};
+ghost use Rattle.expr_lang.specs.Words.{letter_of};
 ghost use Rattle.expr_lang.specs.Words.{text_of, operator_text_of, call_text_of, item_text_of, rate_text_of, operands_of, start_of, items_of_place};
 ghost use Rattle.expr_lang.specs.Words.{followers, marks_of, bracket_of, nothing_of};
 
@@ -320,4 +321,66 @@ pub fn none() -> &'static [Symbol]
     ensures { result.now ≡ nothing_of }
 {
     &MARKS[..0]
+}
+
+/// The first letters of the words with which an operand may begin.
+#[tactic(auto, unfolding(crate::specs::Words::operands_of, crate::specs::Words::text_of))]
+pub fn operand_letters(place: Place) -> &'static [u8]
+    ensures { result.now ≡ map letter_of (operands_of place) }
+{
+    match place {
+        Place::Aggregate => b"-!(iiifgl###CO[RRRRR",
+        Place::Program => b"-!(iglddddd#ACVV",
+    }
+}
+
+/// Those of the words with which a whole expression may begin.
+#[tactic(auto, unfolding(crate::specs::Words::start_of, crate::specs::Words::text_of))]
+pub fn start_letters(place: Place) -> &'static [u8]
+    ensures { result.now ≡ map letter_of (start_of place) }
+{
+    match place {
+        Place::Aggregate => b"-!(iiifgl###CO[RRRRR",
+        Place::Program => b"-!(iglddddd#ACVVVVV",
+    }
+}
+
+/// Those of the items.
+#[tactic(auto, unfolding(crate::specs::Words::items_of_place, crate::specs::Words::text_of))]
+pub fn item_letters(place: Place) -> &'static [u8]
+    ensures { result.now ≡ map letter_of (items_of_place place) }
+{
+    match place {
+        Place::Aggregate => b"###CO[RRRRR",
+        Place::Program => b"#ACVV",
+    }
+}
+
+/// Those of the words that may follow an operand.
+#[tactic(auto, unfolding(crate::specs::Words::followers, crate::specs::Words::text_of))]
+pub fn follower_letters() -> &'static [u8]
+    ensures { result.now ≡ map letter_of followers }
+{
+    b"^),'|&=!<<>>+-*/%"
+}
+
+#[tactic(auto, unfolding(crate::specs::Words::marks_of, crate::specs::Words::text_of))]
+pub fn mark_letters() -> &'static [u8]
+    ensures { result.now ≡ map letter_of marks_of }
+{
+    b"),'"
+}
+
+#[tactic(auto, unfolding(crate::specs::Words::bracket_of, crate::specs::Words::text_of))]
+pub fn bracket_letters() -> &'static [u8]
+    ensures { result.now ≡ map letter_of bracket_of }
+{
+    b"("
+}
+
+#[tactic(auto, unfolding(crate::specs::Words::nothing_of))]
+pub fn no_letters() -> &'static [u8]
+    ensures { result.now ≡ map letter_of nothing_of }
+{
+    b""
 }

@@ -21,8 +21,8 @@ use Rattle.wire_head.specs.declared.plan.Plan.TheVariants.{Sized, Chunked}
 use Rattle.dh_base.specs.declared.codes.Code.TheVariants.{F3}
 use Rattle.http_wire.specs.Next.{waiting, complete, by_chunks, body_of}
 use Rattle.http_wire.specs.Reads.{Gathers, GivesBody, ReadsBody, GivesChunks, IsShort, IsWaiting, is_stop}
-use Rattle.http_wire.specs.declared.request.WireFault.{WireFault}
-use Rattle.http_wire.specs.declared.request.WireFault.TheVariants as fault
+use Rattle.http_wire.specs.declared.fault.WireFault.{WireFault}
+use Rattle.http_wire.specs.declared.fault.WireFault.TheVariants as fault
 
 -- ---- chunks
 

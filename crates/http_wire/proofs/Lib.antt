@@ -4,5 +4,4 @@ pub mod BodyLemmas
 pub mod FrontLemmas
 pub mod NextLaws
 pub mod OpeningLaws
-pub mod ReplyLemmas
 pub mod RestLemmas

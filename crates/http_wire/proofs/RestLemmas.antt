@@ -9,7 +9,7 @@ use Rattle.dh_outside.specs.Pieces.{IsSpent}
 use Rattle.dh_outside.specs.Talk.{Talk, Paced}
 use Rattle.dh_outside.proofs.TalkLemmas.{paced_none, paced_on, paced_rebase, paced_shut}
 use Rattle.wire_head.specs.Lines.{blank_length, opening_of}
-use Rattle.wire_head.specs.Head.{Says, Answers}
+use Rattle.wire_head.specs.Head.{Says, Tells}
 use Rattle.wire_head.specs.declared.head.Head.{Head}
 use Rattle.wire_head.specs.declared.head.HeadFault.{HeadFault}
 use Rattle.wire_head.specs.declared.head.HeadFault.TheVariants as head_fault
@@ -17,9 +17,9 @@ use Rattle.wire_head.specs.declared.lines.Opening.TheVariants.{Nothing, Whole}
 use Rattle.http_wire.specs.Faults.{comes_from}
 use Rattle.http_wire.specs.Next.{Found, ended, cut, refused, whole, beyond, with_body, request_of, IsFoundBy, skipped, IsNext, IsOpen}
 use Rattle.http_wire.specs.Reads.{RestSeen, seen, IsCutBehind, IsWaiting, Gives, Reads, Opens, Skims, IsBehind, GivesBehind, ReadsBehind, GivesBody, ReadsBody}
-use Rattle.http_wire.specs.declared.request.Request.{Request}
-use Rattle.http_wire.specs.declared.request.WireFault.{WireFault}
-use Rattle.http_wire.specs.declared.request.WireFault.TheVariants as fault
+use Rattle.wire_head.specs.declared.request.Request.{Request}
+use Rattle.http_wire.specs.declared.fault.WireFault.{WireFault}
+use Rattle.http_wire.specs.declared.fault.WireFault.TheVariants as fault
 use Rattle.http_wire.proofs.FrontLemmas.{skip_zero, next_by}
 use Rattle.http_wire.proofs.NextLaws.{next_unique, IsDecided}
 use Rattle.http_wire.proofs.OpeningLaws.{skip_still, opening_head, opening_more, opening_nothing}
@@ -75,13 +75,13 @@ reads_behind_stop {left} {left'} {talk} {talk'} {held} {held'} {read} {read'} {e
   paced = paced_cut held reads.taken end head within says reads.paced;
 }
 
-head_stop : (f : HeadFault) (held : List ℕ) (end : ℕ) (Spent : Type 0) → Answers (Err f) (Says (take end held))
+head_stop : (f : HeadFault) (held : List ℕ) (end : ℕ) (Spent : Type 0) → Tells (Says (take end held)) (Err f)
     → GivesBehind held held end Spent (Err (comes_from f))
 head_stop (head_fault.Refused code) held end Spent says = (Err code, says, refl)
 head_stop head_fault.Memory held end Spent says = refl
 
 pub reads_behind_head : (left : Option (List ℕ)) (talk : Option Talk) (held : List ℕ) (read end : ℕ) (f : HeadFault) (e : WireFault) → e ≡ comes_from f
-    → Answers (Err f) (Says (take end held))
+    → Tells (Says (take end held)) (Err f)
     → ReadsBehind left left talk talk held held read read end (Err e)
 reads_behind_head left talk held read end f e same says = record {
   taken = [];

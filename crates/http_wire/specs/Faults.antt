@@ -1,8 +1,8 @@
 -- The fault of a request whose head is at fault.
 use Rattle.wire_head.specs.declared.head.HeadFault.{HeadFault}
 use Rattle.wire_head.specs.declared.head.HeadFault.TheVariants as head
-use Rattle.http_wire.specs.declared.request.WireFault.{WireFault}
-use Rattle.http_wire.specs.declared.request.WireFault.TheVariants.{Refused, Memory}
+use Rattle.http_wire.specs.declared.fault.WireFault.{WireFault}
+use Rattle.http_wire.specs.declared.fault.WireFault.TheVariants.{Refused, Memory}
 
 abbrev pub comes_from : HeadFault → WireFault
 comes_from (head.Refused code) = Refused code

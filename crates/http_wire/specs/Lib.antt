@@ -4,4 +4,3 @@ pub mod Line
 pub mod Faults
 pub mod Next
 pub mod Reads
-pub mod Reply

@@ -11,7 +11,7 @@ use Rattle.wire_head.specs.declared.plan.Plan.{Plan}
 use Rattle.wire_head.specs.declared.plan.Plan.TheVariants.{Sized, Chunked}
 use Rattle.http_wire.specs.Chunks.{Outcome, open_at, chunked}
 use Rattle.http_wire.specs.Chunks as body
-use Rattle.http_wire.specs.declared.request.Request.{Request}
+use Rattle.wire_head.specs.declared.request.Request.{Request}
 
 -- a request of this head and body
 abbrev pub request_of : Head → List ℕ → Request

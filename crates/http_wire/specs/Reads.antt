@@ -14,9 +14,9 @@ use Rattle.http_wire.specs.Chunks.{chunked}
 use Rattle.http_wire.specs.Chunks as body
 use Rattle.http_wire.specs.declared.chunks.Chunks.{Chunks}
 use Rattle.http_wire.specs.Next.{Found, ended, cut, refused, whole, complete, waiting, wrong, by_chunks, body_of, behind_head, skipped, IsNext, IsOpen}
-use Rattle.http_wire.specs.declared.request.Request.{Request}
-use Rattle.http_wire.specs.declared.request.WireFault.{WireFault}
-use Rattle.http_wire.specs.declared.request.WireFault.TheVariants as fault
+use Rattle.wire_head.specs.declared.request.Request.{Request}
+use Rattle.http_wire.specs.declared.fault.WireFault.{WireFault}
+use Rattle.http_wire.specs.declared.fault.WireFault.TheVariants as fault
 
 -- the bytes that were read and not yet used, and how many bytes were read of the source in all
 pub record RestSeen : Type 0 where

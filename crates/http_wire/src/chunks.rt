@@ -1,3 +1,4 @@
+//! A body in chunks (RFC 9112, section 7.1), which goes on with each piece of the input.
 ghost use Rattle.std.specs.Prelude.{◌≡◌, ◌≤◌, ◌<◌, ◌+◌, ◌++◌, IfOk, OnOk, length, drop, cond, nat_eq, nat_lt, false};
 ghost use Rattle.http_wire.specs.Chunks.{frame_limit, step, sized, expect, is_content, advanced, run, at_first, IsSound, GoesSound};
 ghost use Rattle.http_wire.specs.Fed.{FedTo, Comes};
@@ -16,7 +17,7 @@ const CONTENT_LIMIT: u64 = 16_777_216;
 const FRAME_LIMIT: u64 = 33_554_432;
 
 /// A place in a body of chunks.
-#[derive(Clone, Copy, Drop, PartialEq, Eq)]
+#[derive(Clone, Copy, Drop)]
 pub enum Place {
     /// In the line before a chunk.
     Size(SizePlace),
@@ -35,7 +36,7 @@ pub enum Place {
 }
 
 /// What one more byte comes to.
-#[derive(Clone, Copy, Drop, PartialEq, Eq)]
+#[derive(Clone, Copy, Drop)]
 pub enum Step {
     /// The body goes on.
     Goes(Place),

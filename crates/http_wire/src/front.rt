@@ -1,13 +1,13 @@
-// The front of the bytes held: dropping it, and what stands there.
+//! Reading on until a head stands at the front of the bytes that are held.
 ghost use Rattle.std.specs.Prelude.{◌≡◌, ◌⊎◌, ◌≤◌, ◌<◌, ◌-◌, ◌^◌, Ok, Err, IfErr, OnErr, true, false, length, drop, take};
 ghost use Rattle.dh_outside.specs.Faults.{Rose};
 ghost use Rattle.dh_outside.specs.Pieces.{Gains, IsSpent};
 ghost use Rattle.wire_head.specs.Lines.{blank_length, opening_of, IsPassed};
 ghost use Rattle.http_wire.specs.Next.{skipped};
 ghost use Rattle.http_wire.specs.Reads.{Skims, Opens};
-ghost use Rattle.http_wire.specs.declared.request.WireFault.TheVariants.{ReadFault, Memory};
+ghost use Rattle.http_wire.specs.declared.fault.WireFault.TheVariants.{ReadFault, Memory};
 
-use crate::request::WireFault;
+use crate::fault::WireFault;
 use dh_base::codes::Code;
 use dh_outside::{Piece, Source, take_piece};
 use wire_head::lines::{Opening, blank_length, find_opening};

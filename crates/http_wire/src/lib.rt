@@ -1,15 +1,12 @@
-//! Requests of HTTP/1.1 from a source of bytes, and the heads of replies (RFC 9112).
+//! Reads requests of HTTP/1.1 (RFC 9112) from a source of bytes: heads, and bodies that are sized or in chunks.
 #![tactic(auto)]
 
 mod body;
 pub mod chunks;
+mod fault;
 mod front;
 pub mod line;
-pub mod reply;
-mod request;
 mod rest;
-mod written;
 
-pub use request::{Request, WireFault};
+pub use fault::WireFault;
 pub use rest::{Rest, next_request};
-pub use written::Head;

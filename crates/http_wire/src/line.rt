@@ -1,3 +1,4 @@
+//! The line with the size of a chunk (RFC 9112, section 7.1), byte by byte.
 ghost use Rattle.std.specs.Prelude.{◌≡◌, ◌<◌, ◌+◌, ◌*◌, ◌^◌};
 ghost use Rattle.std.specs.Char.{digit_value};
 ghost use Rattle.http_wire.specs.Line.{behind_digits, size_step, IsSized, GoesSized};
@@ -6,7 +7,7 @@ ghost use Rattle.http_wire.specs.declared.line.SizePlace.TheVariants.{Digits, Ex
 use httparse::parse_hex_digit;
 
 /// A place in the line before a chunk, with the size so far.
-#[derive(Clone, Copy, Drop, PartialEq, Eq)]
+#[derive(Clone, Copy, Drop)]
 pub enum SizePlace {
     /// After so many digits.
     Digits(u32, u64),
@@ -19,7 +20,7 @@ pub enum SizePlace {
 }
 
 /// What one more byte of the line comes to.
-#[derive(Clone, Copy, Drop, PartialEq, Eq)]
+#[derive(Clone, Copy, Drop)]
 pub enum SizeStep {
     /// The line goes on.
     Goes(SizePlace),

@@ -1,18 +1,21 @@
+//! Reading the next request after the bytes that are held.
 ghost use Rattle.std.specs.Prelude.{◌≡◌, ◌≤◌, ◌^◌, ℕ, Ok, Err, [], length, take};
 ghost use Rattle.dh_base.specs.declared.codes.Code.{Code};
 ghost use Rattle.dh_outside.specs.Faults.{Rose};
-ghost use Rattle.http_wire.specs.Next.{whole, refused, IsNext};
-ghost use Rattle.http_wire.specs.declared.request.Request.{Request as Asked};
+ghost use Rattle.http_wire.specs.Next.{request_of, whole, refused, IsNext};
+ghost use Rattle.wire_head.specs.declared.request.Request.{Request as Asked};
 ghost use Rattle.http_wire.specs.Reads.{Reads, ReadsBehind, seen};
-ghost use Rattle.wire_head.specs.Head.{Says, Answers};
-ghost use Rattle.http_wire.specs.declared.request.WireFault.TheVariants.{ReadFault};
+ghost use Rattle.wire_head.specs.Head.{Says, Tells};
+ghost use Rattle.http_wire.specs.declared.fault.WireFault.TheVariants.{ReadFault};
 
 use crate::body::read_body;
+use crate::fault::{WireFault, fault_of};
 use crate::front::find_head;
-use crate::request::{Request, WireFault, fault_of, request_of};
+use dh_base::items::Items;
 use dh_outside::Source;
 use std::alloc::Global;
 use std::marker::Model;
+use wire_head::Request;
 use wire_head::head::{Head, HeadFault, read_head};
 
 /// The bytes that were read of one source and not yet used.
@@ -48,10 +51,25 @@ impl Rest {
 // The head at the front of the bytes.
 fn head_at(alloc: Global, bytes: &Vec<u8>, end: usize) -> Result<Head, HeadFault>
     requires { end ≤ length bytes.now.items }
-    ensures { Answers result (Says (take end bytes.now.items)) }
+    ensures { Tells (Says (take end bytes.now.items)) result }
 {
     let bytes = bytes.as_slice();
     read_head(alloc, &bytes[..end])
+}
+
+// The request of a head and a body.
+fn request_of(head: Head, body: Items<u8>) -> Request
+    ensures { result ≡ request_of head body }
+{
+    Request {
+        method: head.method,
+        path: head.path,
+        query: head.query,
+        token: head.token,
+        asked: head.asked,
+        body,
+        keep: head.keep,
+    }
 }
 
 // Reads the body after a head of so many bytes.

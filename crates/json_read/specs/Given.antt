@@ -1,16 +1,20 @@
 -- What a reader of a form answers.
-use Rattle.std.specs.Prelude.{◌≡◌, ℕ, List, [], Option, None, is_some, true, Result, Ok, Err, ⊤}
+use Rattle.std.specs.Prelude.{◌≡◌, ℕ, List, [], Option, None, Some, is_some, true, Result, Ok, Err, ⊤}
 use Rattle.serde_json.specs.Data.{Data}
 use Rattle.serde_json.specs.Find.{as_object}
+use Rattle.dh_base.specs.Memory.{Answers}
 use Rattle.json_read.specs.Forms.{after_step}
 use Rattle.json_read.specs.declared.fault.FormFault.{FormFault}
 use Rattle.json_read.specs.declared.fault.FormFault.TheVariants as fault
 
+-- the path of a fault; running out of memory has none
+abbrev pub path_of : FormFault → Option (List ℕ)
+path_of (fault.At path) = Some path
+path_of fault.Memory = None
+
 -- the value that is meant, or the path of the first fault, or that memory ran out
 abbrev pub Gives : {A : Type 0} → Result A (List ℕ) → Result A FormFault → Type 0
-Gives meant (Ok value) = meant ≡ Ok value
-Gives meant (Err (fault.At path)) = meant ≡ Err path
-Gives meant (Err fault.Memory) = ⊤
+Gives meant result = Answers path_of meant result
 
 -- a fault as it is seen from before a step
 abbrev pub IsSeenFrom : List ℕ → FormFault → FormFault → Type 0

@@ -1,3 +1,5 @@
+//! Why JSON data wasn't read.
+
 ghost use Rattle.std.specs.Prelude.{◌≡◌};
 ghost use Rattle.json_read.specs.declared.fault.FormFault.TheVariants.{Memory as OutOfMemory};
 

@@ -1,13 +1,16 @@
+//! Records from JSON data: what each form reads, fields of an object, and lists of records.
+
 ghost use Rattle.std.specs.Prelude.{◌≡◌, ℕ, ◌+◌, ◌<◌, ◌^◌, List, [], ◌∷◌, ◌++◌, Result, Ok, Err, IfOk, map, drop};
 ghost use Rattle.std.specs.Fmt.{decimal};
 ghost use Rattle.serde_json.specs.Data.{Data};
 ghost use Rattle.json_read.specs.Views.{data_of, items_data};
 ghost use Rattle.serde_json.specs.Find.{get};
-ghost use Rattle.json_read.specs.Forms.{after_step, at_step, text_of, truth_of, identifier_of, each_of, list_of, field_of, optional_of, listed_of, field_or_of};
-ghost use Rattle.json_read.specs.Given.{Gives, IsSeenFrom, IsAt, IsObject};
+ghost use Rattle.json_read.specs.Forms.{at_step, text_of, truth_of, identifier_of, each_of, list_of, field_of, optional_of, listed_of, field_or_of};
+ghost use Rattle.json_read.specs.Given.{Gives, IsObject};
 
 use crate::fault::FormFault;
 use crate::look::{is_object, items, member, text, truth};
+use crate::path::{at_key, here, seen_from};
 use dh_base::items::Items;
 use dh_base::uid::Uid;
 use json::Value;
@@ -21,37 +24,6 @@ pub trait ReadJson: Sized + Drop {
     /// Reads the record.
     fn read(alloc: Global, value: &Value<'_>) -> Result<Self, FormFault>
         ensures { Gives (form (data_of value.now)) result };
-}
-
-// The path of the data itself.
-fn here(alloc: Global) -> FormFault
-    ensures { result ≡ FormFault.At [] }
-{
-    FormFault::At(Items::new(alloc))
-}
-
-// A fault as it is seen from before a step.
-fn seen_from(alloc: Global, step: &[u8], fault: FormFault) -> FormFault
-    ensures { IsSeenFrom step.now fault result }
-{
-    match fault {
-        FormFault::Memory => FormFault::Memory,
-        FormFault::At(path) => match joined(alloc, step, path.as_slice()) {
-            Ok(path) => FormFault::At(Items::from(path)),
-            Err(_) => FormFault::Memory,
-        },
-    }
-}
-
-fn joined(alloc: Global, step: &[u8], path: &[u8]) -> Result<Vec<u8>, AllocError>
-    ensures { IfOk result (λ v. v.items ≡ after_step step.now path.now) }
-{
-    let mut all = step.to_vec(alloc)?;
-    if !path.is_empty() {
-        all.push(b'.')?;
-        all.extend_from_slice(path)?;
-    }
-    Ok(all)
 }
 
 impl ReadJson for Items<u8> {
@@ -133,8 +105,8 @@ pub fn read_list<T: ReadJson>(alloc: Global, value: &Value<'_>) -> Result<Items<
     }
 }
 
-// What stands after a key.
-fn read_behind<T: ReadJson>(alloc: Global, key: &str, value: &Value<'_>) -> Result<T, FormFault>
+// What stands under a key.
+fn read_under<T: ReadJson>(alloc: Global, key: &str, value: &Value<'_>) -> Result<T, FormFault>
     ensures { Gives (at_step key.now (T.form (data_of value.now))) result }
 {
     match T::read(alloc, value) {
@@ -143,23 +115,13 @@ fn read_behind<T: ReadJson>(alloc: Global, key: &str, value: &Value<'_>) -> Resu
     }
 }
 
-// The fault that a key is absent.
-fn absent(alloc: Global, key: &str) -> FormFault
-    ensures { IsAt key.now result }
-{
-    match key.as_bytes().to_vec(alloc) {
-        Ok(path) => FormFault::At(Items::from(path)),
-        Err(_) => FormFault::Memory,
-    }
-}
-
 /// A field that has to be there.
 pub fn field<T: ReadJson>(alloc: Global, value: &Value<'_>, key: &str) -> Result<T, FormFault>
     ensures { Gives (field_of key.now T.form (data_of value.now)) result }
 {
     match member(value, key) {
-        Some(found) => read_behind(alloc, key, found),
-        None => Err(absent(alloc, key)),
+        Some(found) => read_under(alloc, key, found),
+        None => Err(at_key(alloc, key)),
     }
 }
 
@@ -173,7 +135,7 @@ pub fn field_or<T: ReadJson>(
     ensures { Gives (field_or_of key.now T.form default (data_of value.now)) result }
 {
     match member(value, key) {
-        Some(found) => read_behind(alloc, key, found),
+        Some(found) => read_under(alloc, key, found),
         None => Ok(default),
     }
 }
@@ -187,7 +149,7 @@ pub fn optional<T: ReadJson>(
     ensures { Gives (optional_of key.now T.form (data_of value.now)) result }
 {
     match member(value, key) {
-        Some(found) => Ok(Some(read_behind(alloc, key, found)?)),
+        Some(found) => Ok(Some(read_under(alloc, key, found)?)),
         None => Ok(None),
     }
 }
@@ -233,6 +195,6 @@ pub fn required_list<T: ReadJson>(
             Ok(read) => Ok(read),
             Err(fault) => Err(seen_from(alloc, key.as_bytes(), fault)),
         },
-        None => Err(absent(alloc, key)),
+        None => Err(at_key(alloc, key)),
     }
 }

@@ -1,3 +1,5 @@
+//! A reference to another object, as JSON writes it.
+
 ghost use Rattle.json_read.specs.Given.{Gives};
 
 use crate::fault::FormFault;

@@ -1,4 +1,3 @@
 pub mod ReadLemmas
 pub mod MadeLemmas
 pub mod StageLemmas
-pub mod ExpressionLemmas

@@ -1,8 +1,8 @@
 -- The objects that items name.
 use Rattle.std.specs.Prelude.{ℕ, Bool, false, not, ◌||◌, List, Option, is_some}
 use Rattle.std.specs.Option.{option_map_or}
-use Rattle.meta_ids.specs.Places.{place_of}
-use Rattle.meta_ids.specs.Ids.{ids_at}
+use Rattle.meta_parts.specs.Places.{place_of}
+use Rattle.meta_parts.specs.Ids.{ids_at}
 use Rattle.meta_parts.specs.declared.kind.Kind.{Kind}
 use Rattle.meta_parts.specs.declared.kind.Kind.TheVariants as kind
 use Rattle.expr_lang.specs.declared.tree.Item.{Item}

@@ -1,6 +1,6 @@
 -- The expressions of objects.
-use Rattle.std.specs.Prelude.{◌≡◌, ℕ, List, [], ◌∷◌, Option, None, Some, Result, Ok, Err, option_map, ⊤}
-use Rattle.std.specs.Option.{option_or, option_and_then}
+use Rattle.std.specs.Prelude.{ℕ, List, [], ◌∷◌, Option, None, Some, option_map}
+use Rattle.std.specs.Option.{option_or}
 use Rattle.expr_lang.specs.declared.tree.Place.{Place}
 use Rattle.expr_lang.specs.declared.tree.Place.TheVariants.{Aggregate, Program}
 use Rattle.expr_lang.specs.declared.tree.Sort.{Sort}
@@ -19,13 +19,12 @@ use Rattle.meta_exprs.specs.declared.fault.ExprFault.{ExprFault}
 use Rattle.meta_exprs.specs.declared.fault.ExprError.{ExprError}
 use Rattle.meta_exprs.specs.declared.fault.ExprError.TheVariants.{Unread, Memory}
 use Rattle.meta_exprs.specs.Names.{KindIds}
-use Rattle.meta_exprs.specs.Read.{unread_at, IsExprOf, expr_in}
+use Rattle.meta_exprs.specs.Read.{unread_at, expr_in}
 
--- the answer is the expression that isn't read; where each is, so much holds of what is handed on
-abbrev pub Unless : {X : Type 0} → Option ExprFault → (X → Type 0) → Result X ExprError → Type 0
-Unless fault Is (Ok x) = (fault ≡ None) × Is x
-Unless fault Is (Err (Unread found)) = fault ≡ Some found
-Unless fault Is (Err Memory) = ⊤
+-- what a fault carries; running out of memory carries nothing
+abbrev pub expr_cause : ExprError → Option ExprFault
+expr_cause (Unread fault) = Some fault
+expr_cause Memory = None
 
 -- a text of an object isn't read
 unfoldable pub unread : KindIds → List (List ℕ) → List ℕ → Place → Sort → List ℕ → Option ExprFault
@@ -55,88 +54,57 @@ abbrev pub program_indicator_unread : KindIds → List (List ℕ) → RawProgram
 program_indicator_unread ids days raw =
     option_or (unread ids days raw.id Program Number raw.expression) (filter_unread ids days raw.id raw.filter)
 
--- each object of a list is made of what stands at its place in two others
-abbrev pub AllMade : {A B C : Type 0} → (A → B → C → Type 0) → List A → List B → List C → Type 0
-AllMade IsMade [] [] [] = ⊤
-AllMade IsMade (a ∷ as') (b ∷ bs) (c ∷ cs) = IsMade a b c × AllMade IsMade as' bs cs
-AllMade IsMade _ _ _ = ⊥
-
--- an indicator has what the file says, its references and its expressions
-pub record IsIndicator (days : List (List ℕ)) (raw : RawIndicator) (links : IndicatorLinks) (made : Indicator) : Type 0 where
-  pub id : made.id ≡ raw.id
-  pub name : made.name ≡ raw.name
-  pub numerator : IsExprOf days Aggregate Number raw.numerator made.numerator
-  pub denominator : IsExprOf days Aggregate Number raw.denominator made.denominator
-  pub indicator_type : made.indicator_type ≡ links.indicator_type
-  pub annualized : made.annualized ≡ raw.annualized
-  pub decimals : made.decimals ≡ raw.decimals
-  pub sharing : made.sharing ≡ links.sharing
-
-pub record IsRule (days : List (List ℕ)) (raw : RawRule) (links : Sharing) (made : Rule) : Type 0 where
-  pub id : made.id ≡ raw.id
-  pub name : made.name ≡ raw.name
-  pub operator : made.operator ≡ raw.operator
-  pub period_type : made.period_type ≡ raw.period_type
-  pub left : IsExprOf days Aggregate Number raw.left_side.0 made.left_side.0
-  pub left_strategy : made.left_side.1 ≡ raw.left_side.1
-  pub right : IsExprOf days Aggregate Number raw.right_side.0 made.right_side.0
-  pub right_strategy : made.right_side.1 ≡ raw.right_side.1
-  pub sharing : made.sharing ≡ links
-
-abbrev pub IsFilter : List (List ℕ) → Option (List ℕ) → Option Expr → Type 0
-IsFilter days None None = ⊤
-IsFilter days (Some text) (Some expr) = IsExprOf days Program Truth text expr
-IsFilter days _ _ = ⊥
-
-pub record IsProgramIndicator (days : List (List ℕ)) (raw : RawProgramIndicator) (links : ProgramIndicatorLinks) (made : ProgramIndicator) : Type 0 where
-  pub id : made.id ≡ raw.id
-  pub name : made.name ≡ raw.name
-  pub program : made.program ≡ links.program
-  pub expression : IsExprOf days Program Number raw.expression made.expression
-  pub filter : IsFilter days raw.filter made.filter
-  pub aggregation_type : made.aggregation_type ≡ raw.aggregation_type
-  pub analytics_type : made.analytics_type ≡ raw.analytics_type
-  pub decimals : made.decimals ≡ raw.decimals
-  pub sharing : made.sharing ≡ links.sharing
-
--- an indicator of a file, with its references and its expressions
-abbrev pub indicator_in : List (List ℕ) → RawIndicator → IndicatorLinks → Indicator
-indicator_in days raw links = record {
+-- an indicator of a file, with these expressions and references
+abbrev pub indicator_with : RawIndicator → List ℕ → Expr → Expr → IndicatorLinks → Indicator
+indicator_with raw name numerator denominator links = record {
   id = raw.id;
-  name = raw.name;
-  numerator = expr_in days Aggregate Number raw.numerator;
-  denominator = expr_in days Aggregate Number raw.denominator;
+  name = name;
+  numerator = numerator;
+  denominator = denominator;
   indicator_type = links.indicator_type;
   annualized = raw.annualized;
   decimals = raw.decimals;
   sharing = links.sharing;
 }
 
+-- an indicator of a file, with its references and its expressions
+abbrev pub indicator_in : List (List ℕ) → RawIndicator → IndicatorLinks → Indicator
+indicator_in days raw links =
+    indicator_with raw raw.name (expr_in days Aggregate Number raw.numerator) (expr_in days Aggregate Number raw.denominator) links
+
 -- a validation rule
-abbrev pub rule_in : List (List ℕ) → RawRule → Sharing → Rule
-rule_in days raw links = record {
+abbrev pub rule_with : RawRule → List ℕ → Expr → Expr → Sharing → Rule
+rule_with raw name left right links = record {
   id = raw.id;
-  name = raw.name;
+  name = name;
   operator = raw.operator;
   period_type = raw.period_type;
-  left_side = (expr_in days Aggregate Number raw.left_side.0, raw.left_side.1);
-  right_side = (expr_in days Aggregate Number raw.right_side.0, raw.right_side.1);
+  left_side = (left, raw.left_side.1);
+  right_side = (right, raw.right_side.1);
   sharing = links;
 }
 
+abbrev pub rule_in : List (List ℕ) → RawRule → Sharing → Rule
+rule_in days raw links =
+    rule_with raw raw.name (expr_in days Aggregate Number raw.left_side.0) (expr_in days Aggregate Number raw.right_side.0) links
+
 -- a program indicator
-abbrev pub program_indicator_in : List (List ℕ) → RawProgramIndicator → ProgramIndicatorLinks → ProgramIndicator
-program_indicator_in days raw links = record {
+abbrev pub program_indicator_with : RawProgramIndicator → List ℕ → Expr → Option Expr → ProgramIndicatorLinks → ProgramIndicator
+program_indicator_with raw name expression filter links = record {
   id = raw.id;
-  name = raw.name;
+  name = name;
   program = links.program;
-  expression = expr_in days Program Number raw.expression;
-  filter = option_map (expr_in days Program Truth) raw.filter;
+  expression = expression;
+  filter = filter;
   aggregation_type = raw.aggregation_type;
   analytics_type = raw.analytics_type;
   decimals = raw.decimals;
   sharing = links.sharing;
 }
+
+abbrev pub program_indicator_in : List (List ℕ) → RawProgramIndicator → ProgramIndicatorLinks → ProgramIndicator
+program_indicator_in days raw links =
+    program_indicator_with raw raw.name (expr_in days Program Number raw.expression) (option_map (expr_in days Program Truth) raw.filter) links
 
 -- each object made of what stands at its place in two lists
 abbrev pub made_of : {A B C : Type 0} → (A → B → C) → List A → List B → List C

@@ -1,9 +1,8 @@
 -- Whether a text is an expression whose objects are there.
-use Rattle.std.specs.Prelude.{◌≡◌, ℕ, Bool, cond, List, [], ◌∷◌, Option, None, Some, Result, Ok, Err, ⊤}
+use Rattle.std.specs.Prelude.{ℕ, Bool, cond, List, [], ◌∷◌, Option, None, Some, Result, Ok, Err}
 use Rattle.expr_lang.specs.declared.tree.Item.{Item}
 use Rattle.expr_lang.specs.declared.tree.Place.{Place}
 use Rattle.expr_lang.specs.declared.tree.Sort.{Sort}
-use Rattle.expr_lang.specs.declared.expr.Expr.{Expr}
 use Rattle.expr_lang.specs.declared.fault.ExprFault.{ExprFault}
 use Rattle.expr_lang.specs.declared.fault.ExprFault.TheVariants as syntax_fault
 use Rattle.expr_lang.specs.declared.tree.Leaf.TheVariants as leaf
@@ -40,17 +39,12 @@ wrong_at ids (Ok expression) = missing_place (is_missing ids) expression.items e
 unfoldable pub unread_at : KindIds → List (List ℕ) → Place → Sort → List ℕ → Option ℕ
 unread_at ids days place wanted text = wrong_at ids (parse_of place days (Some wanted) text)
 
--- the expression is the text's
-abbrev pub IsExprOf : List (List ℕ) → Place → Sort → List ℕ → Expr → Type 0
-IsExprOf days place wanted text expr = parse_of place days (Some wanted) text ≡ Ok expr
+-- what a fault carries; running out of memory carries nothing
+abbrev pub text_cause : TextFault → Option ℕ
+text_cause (At at) = Some at
+text_cause Memory = None
 
--- the text's expression, or the byte at which it is wrong
-abbrev pub ReadAs : KindIds → List (List ℕ) → Place → Sort → List ℕ → Result Expr TextFault → Type 0
-ReadAs ids days place wanted text (Ok expr) = (unread_at ids days place wanted text ≡ None) × IsExprOf days place wanted text expr
-ReadAs ids days place wanted text (Err (At at)) = unread_at ids days place wanted text ≡ Some at
-ReadAs ids days place wanted text (Err Memory) = ⊤
-
--- the number 0 where nothing is read
+-- the number 0 if nothing is read
 abbrev pub read_or_zero : Result Expression ExprFault → Expression
 read_or_zero (Ok expression) = expression
 read_or_zero (Err fault) = record { tree = Operand (leaf.Number 0); items = []; places = [] }

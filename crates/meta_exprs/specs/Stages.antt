@@ -2,14 +2,14 @@
 use Rattle.std.specs.Prelude.{ℕ, Bool, true, false, not, cond, ◌==◌, ◌||◌, List, [], ◌∷◌, Option, None, Some, slice_get}
 use Rattle.std.specs.List.{list_any}
 use Rattle.std.specs.Option.{option_map_or, option_or}
-use Rattle.meta_ids.specs.Places.{place_of}
+use Rattle.meta_parts.specs.Places.{place_of}
 use Rattle.dh_base.specs.declared.plain.AggType.{AggType}
 use Rattle.dh_base.specs.declared.plain.AggType.TheVariants.{Sum, Average, Count, Min, Max}
 use Rattle.expr_lang.specs.Expr.{items_in}
 use Rattle.expr_lang.specs.declared.expr.Expr.{Expr}
 use Rattle.expr_lang.specs.declared.tree.Item.{Item}
 use Rattle.expr_lang.specs.declared.tree.Item.TheVariants.{StageElement}
-use Rattle.meta_ids.specs.Ids.{ids_at}
+use Rattle.meta_parts.specs.Ids.{ids_at}
 use Rattle.meta_parts.specs.declared.kind.Kind.TheVariants.{ProgramStage}
 use Rattle.meta_parts.specs.declared.records.Stage.{Stage}
 use Rattle.meta_parts.specs.declared.records.ProgramIndicator.{ProgramIndicator}

@@ -2,8 +2,9 @@
 
 ghost use Rattle.std.specs.Prelude.{◌≡◌, length};
 ghost use Rattle.meta_exprs.specs.Days.{days_of};
-ghost use Rattle.meta_exprs.specs.Objects.{Unless};
-ghost use Rattle.meta_exprs.specs.All.{expressions_unread, HaveExpressions};
+ghost use Rattle.dh_base.specs.Memory.{Finds};
+ghost use Rattle.meta_exprs.specs.Objects.{expr_cause};
+ghost use Rattle.meta_exprs.specs.All.{expressions_unread, expressions_of};
 
 use crate::days::days_of;
 use crate::fault::ExprError;
@@ -12,7 +13,7 @@ use crate::program_indicators::program_indicators;
 use crate::rules::rules;
 use dh_base::items::Items;
 use dh_sharing::rule::Sharing;
-use meta_ids::ids::Ids;
+use meta_parts::ids::Ids;
 use meta_parts::parts::MetaParts;
 use meta_parts::records::{
     Indicator, IndicatorLinks, ProgramIndicator, ProgramIndicatorLinks, Rule,
@@ -45,7 +46,7 @@ pub fn read_all(
     requires indicators { length parts.now.indicators ≡ length links.indicators }
     requires validation_rules { length parts.now.validation_rules ≡ length links.validation_rules }
     requires program_indicators { length parts.now.program_indicators ≡ length links.program_indicators }
-    ensures { Unless (expressions_unread ids.now parts.now) (HaveExpressions parts.now links) result }
+    ensures { Finds expr_cause (expressions_unread ids.now parts.now) (λ made. made ≡ expressions_of parts.now links) result }
 {
     let days = days_of(alloc, parts)?;
     let Unread {

@@ -1,17 +1,62 @@
 //! The expressions of indicators.
 
 ghost use Rattle.std.specs.Prelude.{◌≡◌, length};
-ghost use Rattle.meta_exprs.specs.Objects.{Unless, first_unread, indicator_unread, AllMade, IsIndicator};
+ghost use Rattle.dh_base.specs.Memory.{Finds};
+ghost use Rattle.expr_lang.specs.declared.tree.Place.TheVariants.{Aggregate};
+ghost use Rattle.expr_lang.specs.declared.tree.Sort.TheVariants.{Number};
+ghost use Rattle.meta_exprs.specs.Read.{expr_in};
+ghost use Rattle.meta_exprs.specs.Objects.{expr_cause, first_unread, indicator_unread, indicator_with, indicator_in, made_of};
 
 use crate::fault::ExprError;
-use crate::object::{copied, read_number};
+use crate::object::{copied, read_numbers};
 use crate::waiting::{next, waiting};
 use dh_base::items::Items;
 use dh_base::uid::Uid;
-use meta_ids::ids::Ids;
+use expr_lang::Expr;
+use meta_parts::ids::Ids;
 use meta_parts::raw::RawIndicator;
 use meta_parts::records::{Indicator, IndicatorLinks};
 use std::alloc::Global;
+
+fn texts(
+    alloc: Global,
+    ids: &Ids,
+    days: &[Uid],
+    raw: &RawIndicator,
+) -> Result<(Items<u8>, (Expr, Expr)), ExprError>
+    ensures { Finds expr_cause (indicator_unread ids.now days.now raw.now) (λ texts. (texts.0 ≡ raw.now.name)
+        × (texts.1.0 ≡ expr_in days.now Aggregate Number raw.now.numerator) × (texts.1.1 ≡ expr_in days.now Aggregate Number raw.now.denominator)) result }
+{
+    let read = read_numbers(
+        alloc,
+        ids,
+        days,
+        raw.id,
+        raw.numerator.as_slice(),
+        raw.denominator.as_slice(),
+    )?;
+    Ok((copied(alloc, raw.name.as_slice())?, read))
+}
+
+fn with_links(
+    raw: &RawIndicator,
+    texts: (Items<u8>, (Expr, Expr)),
+    links: IndicatorLinks,
+) -> Indicator
+    ensures { result ≡ indicator_with raw.now texts.0 texts.1.0 texts.1.1 links }
+{
+    let (name, (numerator, denominator)) = texts;
+    Indicator {
+        id: raw.id,
+        name,
+        numerator,
+        denominator,
+        indicator_type: links.indicator_type,
+        annualized: raw.annualized,
+        decimals: raw.decimals,
+        sharing: links.sharing,
+    }
+}
 
 /// An indicator with its expressions.
 pub fn indicator(
@@ -21,21 +66,15 @@ pub fn indicator(
     raw: &RawIndicator,
     links: IndicatorLinks,
 ) -> Result<Indicator, ExprError>
-    ensures { Unless (indicator_unread ids.now days.now raw.now) (IsIndicator days.now raw.now links) result }
+    ensures { Finds expr_cause (indicator_unread ids.now days.now raw.now) (λ made. made ≡ indicator_in days.now raw.now links) result }
 {
-    let numerator = read_number(alloc, ids, days, raw.id, raw.numerator.as_slice())?;
-    let denominator = read_number(alloc, ids, days, raw.id, raw.denominator.as_slice())?;
-    let name = copied(alloc, raw.name.as_slice())?;
-    Ok(Indicator {
-        id: raw.id,
-        name,
-        numerator,
-        denominator,
-        indicator_type: links.indicator_type,
-        annualized: raw.annualized,
-        decimals: raw.decimals,
-        sharing: links.sharing,
-    })
+    match texts(alloc, ids, days, raw) {
+        Ok(texts) => Ok(with_links(raw, texts, links)),
+        Err(fault) => {
+            drop(links);
+            Err(fault)
+        }
+    }
 }
 
 /// All indicators with their expressions. `links` has the references of each.
@@ -47,7 +86,8 @@ pub fn indicators(
     links: Items<IndicatorLinks>,
 ) -> Result<Vec<Indicator>, ExprError>
     requires { length raw.now ≡ length links }
-    ensures { Unless (first_unread (indicator_unread ids.now days.now) raw.now) (λ made. AllMade (IsIndicator days.now) raw.now links made.items) result }
+    ensures { Finds expr_cause (first_unread (indicator_unread ids.now days.now) raw.now)
+        (λ made. made.items ≡ made_of (indicator_in days.now) raw.now links) result }
 {
     let mut rest = waiting(alloc, links.items)?;
     let mut made = Vec::with_capacity(alloc, raw.len())?;

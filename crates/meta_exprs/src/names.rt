@@ -5,7 +5,7 @@ ghost use Rattle.meta_exprs.specs.Names.{is_there, is_absent_combo, is_missing};
 
 use dh_base::uid::Uid;
 use expr_lang::Item;
-use meta_ids::ids::Ids;
+use meta_parts::ids::Ids;
 use meta_parts::kind::Kind;
 
 fn is_there(ids: &Ids, kind: Kind, id: Uid) -> bool

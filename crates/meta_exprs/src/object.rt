@@ -3,15 +3,17 @@
 ghost use Rattle.std.specs.Prelude.{◌≡◌, IfOk};
 ghost use Rattle.expr_lang.specs.declared.tree.Place.TheVariants.{Aggregate};
 ghost use Rattle.expr_lang.specs.declared.tree.Sort.TheVariants.{Number};
-ghost use Rattle.meta_exprs.specs.Read.{IsExprOf};
-ghost use Rattle.meta_exprs.specs.Objects.{Unless, unread};
+ghost use Rattle.std.specs.Option.{option_or};
+ghost use Rattle.dh_base.specs.Memory.{Finds};
+ghost use Rattle.meta_exprs.specs.Read.{expr_in};
+ghost use Rattle.meta_exprs.specs.Objects.{expr_cause, unread};
 
 use crate::fault::{ExprError, ExprFault, TextFault};
 use crate::read::read;
 use dh_base::items::Items;
 use dh_base::uid::Uid;
 use expr_lang::{Expr, Place, Sort};
-use meta_ids::ids::Ids;
+use meta_parts::ids::Ids;
 use std::alloc::{AllocError, Global};
 
 /// The expression that a text of an object is.
@@ -25,7 +27,7 @@ pub fn read_of(
     place: Place,
     wanted: Sort,
 ) -> Result<Expr, ExprError>
-    ensures { Unless (unread ids.now days.now uid place wanted text.now) (IsExprOf days.now place wanted text.now) result }
+    ensures { Finds expr_cause (unread ids.now days.now uid place wanted text.now) (λ expr. expr ≡ expr_in days.now place wanted text.now) result }
 {
     match read(alloc, ids, days, text, place, wanted) {
         Ok(expr) => Ok(expr),
@@ -42,9 +44,26 @@ pub fn read_number(
     uid: Uid,
     text: &[u8],
 ) -> Result<Expr, ExprError>
-    ensures { Unless (unread ids.now days.now uid Aggregate Number text.now) (IsExprOf days.now Aggregate Number text.now) result }
+    ensures { Finds expr_cause (unread ids.now days.now uid Aggregate Number text.now) (λ expr. expr ≡ expr_in days.now Aggregate Number text.now) result }
 {
     read_of(alloc, ids, days, uid, text, Place::Aggregate, Sort::Number)
+}
+
+/// The numbers over aggregate data that two texts of an object are.
+pub fn read_numbers(
+    alloc: Global,
+    ids: &Ids,
+    days: &[Uid],
+    uid: Uid,
+    first: &[u8],
+    second: &[u8],
+) -> Result<(Expr, Expr), ExprError>
+    ensures { Finds expr_cause (option_or (unread ids.now days.now uid Aggregate Number first.now) (unread ids.now days.now uid Aggregate Number second.now))
+        (λ pair. (pair.0 ≡ expr_in days.now Aggregate Number first.now) × (pair.1 ≡ expr_in days.now Aggregate Number second.now)) result }
+{
+    let first = read_number(alloc, ids, days, uid, first)?;
+    let second = read_number(alloc, ids, days, uid, second)?;
+    Ok((first, second))
 }
 
 /// A copy of a name.

@@ -1,7 +1,12 @@
 //! The expressions of program indicators.
 
-ghost use Rattle.std.specs.Prelude.{◌≡◌, length};
-ghost use Rattle.meta_exprs.specs.Objects.{Unless, first_unread, program_indicator_unread, AllMade, IsProgramIndicator, filter_unread, IsFilter};
+ghost use Rattle.std.specs.Prelude.{◌≡◌, length, option_map};
+ghost use Rattle.dh_base.specs.Memory.{Finds};
+ghost use Rattle.expr_lang.specs.declared.tree.Place.TheVariants.{Program};
+ghost use Rattle.expr_lang.specs.declared.tree.Sort.TheVariants.{Number, Truth};
+ghost use Rattle.meta_exprs.specs.Read.{expr_in};
+ghost use Rattle.meta_exprs.specs.Objects.{expr_cause, first_unread, program_indicator_unread, program_indicator_with};
+ghost use Rattle.meta_exprs.specs.Objects.{program_indicator_in, filter_unread, made_of};
 
 use crate::fault::ExprError;
 use crate::object::{copied, read_of};
@@ -9,7 +14,7 @@ use crate::waiting::{next, waiting};
 use dh_base::items::Items;
 use dh_base::uid::Uid;
 use expr_lang::{Expr, Place, Sort};
-use meta_ids::ids::Ids;
+use meta_parts::ids::Ids;
 use meta_parts::raw::RawProgramIndicator;
 use meta_parts::records::{ProgramIndicator, ProgramIndicatorLinks};
 use std::alloc::Global;
@@ -21,7 +26,7 @@ fn read_filter(
     uid: Uid,
     filter: &Option<Items<u8>>,
 ) -> Result<Option<Expr>, ExprError>
-    ensures { Unless (filter_unread ids.now days.now uid filter.now) (IsFilter days.now filter.now) result }
+    ensures { Finds expr_cause (filter_unread ids.now days.now uid filter.now) (λ read. read ≡ option_map (expr_in days.now Program Truth) filter.now) result }
 {
     match filter {
         None => Ok(None),
@@ -37,15 +42,14 @@ fn read_filter(
     }
 }
 
-/// A program indicator with its expressions.
-pub fn program_indicator(
+fn texts(
     alloc: Global,
     ids: &Ids,
     days: &[Uid],
     raw: &RawProgramIndicator,
-    links: ProgramIndicatorLinks,
-) -> Result<ProgramIndicator, ExprError>
-    ensures { Unless (program_indicator_unread ids.now days.now raw.now) (IsProgramIndicator days.now raw.now links) result }
+) -> Result<(Items<u8>, (Expr, Option<Expr>)), ExprError>
+    ensures { Finds expr_cause (program_indicator_unread ids.now days.now raw.now) (λ texts. (texts.0 ≡ raw.now.name)
+        × (texts.1.0 ≡ expr_in days.now Program Number raw.now.expression) × (texts.1.1 ≡ option_map (expr_in days.now Program Truth) raw.now.filter)) result }
 {
     let expression = read_of(
         alloc,
@@ -57,8 +61,18 @@ pub fn program_indicator(
         Sort::Number,
     )?;
     let filter = read_filter(alloc, ids, days, raw.id, &raw.filter)?;
-    let name = copied(alloc, raw.name.as_slice())?;
-    Ok(ProgramIndicator {
+    Ok((copied(alloc, raw.name.as_slice())?, (expression, filter)))
+}
+
+fn with_links(
+    raw: &RawProgramIndicator,
+    texts: (Items<u8>, (Expr, Option<Expr>)),
+    links: ProgramIndicatorLinks,
+) -> ProgramIndicator
+    ensures { result ≡ program_indicator_with raw.now texts.0 texts.1.0 texts.1.1 links }
+{
+    let (name, (expression, filter)) = texts;
+    ProgramIndicator {
         id: raw.id,
         name,
         program: links.program,
@@ -68,7 +82,26 @@ pub fn program_indicator(
         analytics_type: raw.analytics_type,
         decimals: raw.decimals,
         sharing: links.sharing,
-    })
+    }
+}
+
+/// A program indicator with its expressions.
+pub fn program_indicator(
+    alloc: Global,
+    ids: &Ids,
+    days: &[Uid],
+    raw: &RawProgramIndicator,
+    links: ProgramIndicatorLinks,
+) -> Result<ProgramIndicator, ExprError>
+    ensures { Finds expr_cause (program_indicator_unread ids.now days.now raw.now) (λ made. made ≡ program_indicator_in days.now raw.now links) result }
+{
+    match texts(alloc, ids, days, raw) {
+        Ok(texts) => Ok(with_links(raw, texts, links)),
+        Err(fault) => {
+            drop(links);
+            Err(fault)
+        }
+    }
 }
 
 /// All program indicators with their expressions. `links` has the references of each.
@@ -80,8 +113,8 @@ pub fn program_indicators(
     links: Items<ProgramIndicatorLinks>,
 ) -> Result<Vec<ProgramIndicator>, ExprError>
     requires { length raw.now ≡ length links }
-    ensures { Unless (first_unread (program_indicator_unread ids.now days.now) raw.now) (λ made. AllMade (IsProgramIndicator days.now) raw.now links made.items)
-        result }
+    ensures { Finds expr_cause (first_unread (program_indicator_unread ids.now days.now) raw.now)
+        (λ made. made.items ≡ made_of (program_indicator_in days.now) raw.now links) result }
 {
     let mut rest = waiting(alloc, links.items)?;
     let mut made = Vec::with_capacity(alloc, raw.len())?;

@@ -1,16 +1,17 @@
 //! Reading one expression.
 
 ghost use Rattle.std.specs.Prelude.{◌≡◌, length, Some};
+ghost use Rattle.dh_base.specs.Memory.{Finds};
 ghost use Rattle.expr_lang.specs.Expr.{items_in, places_in};
 ghost use Rattle.meta_exprs.specs.Names.{is_missing};
-ghost use Rattle.meta_exprs.specs.Read.{text_fault_of, missing_place, ReadAs};
+ghost use Rattle.meta_exprs.specs.Read.{text_fault_of, missing_place, unread_at, text_cause, expr_in};
 
 use crate::fault::TextFault;
 use crate::names::is_missing;
 use dh_base::uid::Uid;
 use expr_grammar::parse_sorted;
 use expr_lang::{Expr, Place, Sort};
-use meta_ids::ids::Ids;
+use meta_parts::ids::Ids;
 use std::alloc::Global;
 
 fn told(fault: expr_lang::ExprFault) -> TextFault
@@ -38,8 +39,8 @@ fn missing_at(ids: &Ids, expr: &Expr) -> Option<usize>
     None
 }
 
-/// The expression of this sort that a text is, where every object that it names is there.
-#[tactic(auto, unfolding(crate::specs::Read::unread_at))]
+/// The expression of this sort that a text is, if every object that it names is there.
+#[tactic(auto, unfolding(crate::specs::Read::unread_at, crate::specs::Read::expr_in))]
 pub fn read(
     alloc: Global,
     ids: &Ids,
@@ -48,7 +49,7 @@ pub fn read(
     place: Place,
     wanted: Sort,
 ) -> Result<Expr, TextFault>
-    ensures { ReadAs ids.now days.now place wanted text.now result }
+    ensures { Finds text_cause (unread_at ids.now days.now place wanted text.now) (λ expr. expr ≡ expr_in days.now place wanted text.now) result }
 {
     match parse_sorted(alloc, text, place, days, wanted) {
         Err(fault) => Err(told(fault)),

@@ -1,18 +1,58 @@
 //! The expressions of validation rules.
 
 ghost use Rattle.std.specs.Prelude.{◌≡◌, length};
-ghost use Rattle.meta_exprs.specs.Objects.{Unless, first_unread, rule_unread, AllMade, IsRule};
+ghost use Rattle.dh_base.specs.Memory.{Finds};
+ghost use Rattle.expr_lang.specs.declared.tree.Place.TheVariants.{Aggregate};
+ghost use Rattle.expr_lang.specs.declared.tree.Sort.TheVariants.{Number};
+ghost use Rattle.meta_exprs.specs.Read.{expr_in};
+ghost use Rattle.meta_exprs.specs.Objects.{expr_cause, first_unread, rule_unread, rule_with, rule_in, made_of};
 
 use crate::fault::ExprError;
-use crate::object::{copied, read_number};
+use crate::object::{copied, read_numbers};
 use crate::waiting::{next, waiting};
 use dh_base::items::Items;
 use dh_base::uid::Uid;
 use dh_sharing::rule::Sharing;
-use meta_ids::ids::Ids;
+use expr_lang::Expr;
+use meta_parts::ids::Ids;
 use meta_parts::raw::RawRule;
 use meta_parts::records::Rule;
 use std::alloc::Global;
+
+fn texts(
+    alloc: Global,
+    ids: &Ids,
+    days: &[Uid],
+    raw: &RawRule,
+) -> Result<(Items<u8>, (Expr, Expr)), ExprError>
+    ensures { Finds expr_cause (rule_unread ids.now days.now raw.now) (λ texts. (texts.0 ≡ raw.now.name)
+        × (texts.1.0 ≡ expr_in days.now Aggregate Number raw.now.left_side.0) × (texts.1.1 ≡ expr_in days.now Aggregate Number raw.now.right_side.0)) result }
+{
+    let read = read_numbers(
+        alloc,
+        ids,
+        days,
+        raw.id,
+        raw.left_side.0.as_slice(),
+        raw.right_side.0.as_slice(),
+    )?;
+    Ok((copied(alloc, raw.name.as_slice())?, read))
+}
+
+fn with_links(raw: &RawRule, texts: (Items<u8>, (Expr, Expr)), links: Sharing) -> Rule
+    ensures { result ≡ rule_with raw.now texts.0 texts.1.0 texts.1.1 links }
+{
+    let (name, (left, right)) = texts;
+    Rule {
+        id: raw.id,
+        name,
+        operator: raw.operator,
+        period_type: raw.period_type,
+        left_side: (left, raw.left_side.1),
+        right_side: (right, raw.right_side.1),
+        sharing: links,
+    }
+}
 
 /// A validation rule with its expressions.
 pub fn rule(
@@ -22,20 +62,15 @@ pub fn rule(
     raw: &RawRule,
     links: Sharing,
 ) -> Result<Rule, ExprError>
-    ensures { Unless (rule_unread ids.now days.now raw.now) (IsRule days.now raw.now links) result }
+    ensures { Finds expr_cause (rule_unread ids.now days.now raw.now) (λ made. made ≡ rule_in days.now raw.now links) result }
 {
-    let left = read_number(alloc, ids, days, raw.id, raw.left_side.0.as_slice())?;
-    let right = read_number(alloc, ids, days, raw.id, raw.right_side.0.as_slice())?;
-    let name = copied(alloc, raw.name.as_slice())?;
-    Ok(Rule {
-        id: raw.id,
-        name,
-        operator: raw.operator,
-        period_type: raw.period_type,
-        left_side: (left, raw.left_side.1),
-        right_side: (right, raw.right_side.1),
-        sharing: links,
-    })
+    match texts(alloc, ids, days, raw) {
+        Ok(texts) => Ok(with_links(raw, texts, links)),
+        Err(fault) => {
+            drop(links);
+            Err(fault)
+        }
+    }
 }
 
 /// All validation rules with their expressions. `links` has how each is shared.
@@ -47,7 +82,7 @@ pub fn rules(
     links: Items<Sharing>,
 ) -> Result<Vec<Rule>, ExprError>
     requires { length raw.now ≡ length links }
-    ensures { Unless (first_unread (rule_unread ids.now days.now) raw.now) (λ made. AllMade (IsRule days.now) raw.now links made.items) result }
+    ensures { Finds expr_cause (first_unread (rule_unread ids.now days.now) raw.now) (λ made. made.items ≡ made_of (rule_in days.now) raw.now links) result }
 {
     let mut rest = waiting(alloc, links.items)?;
     let mut made = Vec::with_capacity(alloc, raw.len())?;

@@ -8,7 +8,7 @@ ghost use Rattle.meta_exprs.specs.Stages.{is_stage_of, is_foreign, is_foreign_fi
 use dh_base::plain::AggType;
 use dh_base::uid::Uid;
 use expr_lang::{Expr, Item};
-use meta_ids::ids::Ids;
+use meta_parts::ids::Ids;
 use meta_parts::kind::Kind;
 use meta_parts::records::{ProgramIndicator, Stage};
 use meta_rules::fault::{BrokenRule, RuleFault};

@@ -30,7 +30,7 @@ use Rattle.meta_parts.specs.declared.raw.RawSharing.{RawSharing}
 use Rattle.meta_parts.specs.declared.parts.MetaParts.{MetaParts}
 use Rattle.meta_parts.specs.declared.kind.Kind.{Kind}
 use Rattle.meta_parts.specs.declared.kind.Kind.TheVariants as kind
-use Rattle.meta_ids.specs.Ids.{kinds}
+use Rattle.meta_parts.specs.Ids.{kinds}
 use Rattle.meta_links.specs.Reference.{Reference, step, field_path, one, optional, each, several, several_in}
 
 -- users or user groups that an object is shared with, by their keys

@@ -11,7 +11,7 @@ use crate::unknown::Unknown;
 use dh_base::items::Items;
 use dh_base::memory::Memory;
 use dh_base::uid::Uid;
-use meta_ids::ids::Ids;
+use meta_parts::ids::Ids;
 use meta_parts::kind::Kind;
 use std::alloc::Global;
 

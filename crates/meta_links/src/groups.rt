@@ -12,7 +12,7 @@ use crate::unknown::Unknown;
 use dh_base::items::Items;
 use dh_base::memory::Memory;
 use dh_sharing::rule::Sharing;
-use meta_ids::ids::Ids;
+use meta_parts::ids::Ids;
 use meta_parts::parts::MetaParts;
 use meta_parts::records::{
     ApprovalLevel, Attribute, Category, CategoryCombo, CategoryOption, Constant, DataSet, Element,

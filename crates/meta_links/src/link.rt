@@ -14,8 +14,8 @@ use crate::tokens::link_tokens;
 use crate::unknown::Unknown;
 use dh_base::items::Items;
 use dh_base::memory::Memory;
-use meta_ids::ids::Ids;
 use meta_parts::held::Links;
+use meta_parts::ids::Ids;
 use meta_parts::parts::MetaParts;
 use std::alloc::Global;
 

@@ -17,7 +17,7 @@ use crate::sharing::sharing;
 use crate::unknown::Unknown;
 use dh_base::memory::Memory;
 use dh_sharing::rule::Sharing;
-use meta_ids::ids::Ids;
+use meta_parts::ids::Ids;
 use meta_parts::kind::Kind;
 use meta_parts::raw::{
     RawApprovalLevel, RawAttribute, RawCategory, RawCategoryCombo, RawCategoryOption, RawConstant,

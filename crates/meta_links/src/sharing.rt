@@ -12,7 +12,7 @@ use dh_base::memory::Memory;
 use dh_base::uid::Uid;
 use dh_sharing::access::Access;
 use dh_sharing::rule::Sharing;
-use meta_ids::ids::Ids;
+use meta_parts::ids::Ids;
 use meta_parts::kind::Kind;
 use meta_parts::raw::RawSharing;
 use std::alloc::Global;

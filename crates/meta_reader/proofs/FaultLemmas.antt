@@ -1,27 +1,22 @@
 -- The first of several faults.
-use Rattle.std.proofs.Common.{◌≡◌, ◌∙◌, ℕ, List, Option, Some, None, refl, sym, ap, subst}
+use Rattle.std.proofs.Common.{◌≡◌, ◌∙◌, Option, Some, None, sym, ap, subst}
 use Rattle.std.specs.Option.{option_or}
+use Rattle.dh_base.specs.Memory.{IsFirst}
 use Rattle.meta_reader.specs.declared.fault.MetaFault.{MetaFault}
 use Rattle.meta_reader.specs.declared.fault.MetaFault.TheVariants as fault
-use Rattle.meta_reader.specs.Faults.{IsMet}
+use Rattle.meta_reader.specs.Faults.{meta_cause}
 
--- a fault that is met is met where it is the first of two
-pub met_first : (a b : Option MetaFault) (found : MetaFault) → IsMet a found → IsMet (option_or a b) found
-met_first a b fault.Memory is = tt
-met_first a b fault.NotJson is = ap (λ o. option_or o b) is
-met_first a b (fault.Shape path) is = ap (λ o. option_or o b) is
-met_first a b (fault.Unknown uid path) is = ap (λ o. option_or o b) is
-met_first a b (fault.Twice uid) is = ap (λ o. option_or o b) is
-met_first a b (fault.Expr uid at) is = ap (λ o. option_or o b) is
-met_first a b (fault.Rule uid which) is = ap (λ o. option_or o b) is
-met_first a b (fault.Limit which) is = ap (λ o. option_or o b) is
+-- a fault that is met is the first of two if it is the first one
+pub met_first : (a b cause : Option MetaFault) → IsFirst a cause → IsFirst (option_or a b) cause
+met_first a b None is = tt
+met_first a b (Some found) is = ap (λ o. option_or o b) is
 
--- and where the first of two isn't met
-pub met_then : (a b : Option MetaFault) (found : MetaFault) → a ≡ None → IsMet b found → IsMet (option_or a b) found
-met_then a b found none is = subst (λ o. IsMet (option_or o b) found) (sym none) is
+-- and if the first of two isn't met
+pub met_then : (a b cause : Option MetaFault) → a ≡ None → IsFirst b cause → IsFirst (option_or a b) cause
+met_then a b cause none is = subst (λ o. IsFirst (option_or o b) cause) (sym none) is
 
 -- a fault that is there is met
-pub met_some : (a : Option MetaFault) (found : MetaFault) → a ≡ Some found → IsMet a found
+pub met_some : (a : Option MetaFault) (found : MetaFault) → a ≡ Some found → IsFirst a (meta_cause found)
 met_some a fault.Memory is = tt
 met_some a fault.NotJson is = is
 met_some a (fault.Shape path) is = is

@@ -7,8 +7,8 @@ use Rattle.std.specs.Option.{option_or, option_map_or}
 use Rattle.std.proofs.lemmas.List.{length-map}
 use Rattle.std.proofs.lemmas.Bool.{cases_lt, lt-ltb}
 use Rattle.std.proofs.Math.ListN.{get_or-append}
-use Rattle.meta_ids.specs.Places.{repeat_of}
-use Rattle.meta_ids.proofs.DistinctLemmas.{repeat_of-differ}
+use Rattle.meta_parts.specs.Places.{repeat_of}
+use Rattle.meta_parts.proofs.DistinctLemmas.{repeat_of-differ}
 use Rattle.org_tree.specs.Units.{HasOwnIds, id_at}
 use Rattle.dh_categories.specs.Single.{CombosBelow}
 use Rattle.meta_parts.specs.declared.kind.Kind.{Kind}
@@ -17,7 +17,7 @@ use Rattle.meta_parts.specs.declared.parts.MetaParts.{MetaParts}
 use Rattle.meta_parts.specs.declared.held.Records.{Records}
 use Rattle.meta_parts.specs.declared.raw.RawUnit.{RawUnit}
 use Rattle.meta_parts.specs.declared.raw.RawOptionCombo.{RawOptionCombo}
-use Rattle.meta_ids.specs.Ids.{ids_of, ids_in, ids_at, kinds, joined, all_ids, repeated, user_of_repeated, twice_of}
+use Rattle.meta_parts.specs.Ids.{ids_of, ids_in, ids_at, kinds, joined, all_ids, repeated, user_of_repeated, twice_of}
 use Rattle.meta_links.specs.Reference.{Reference, one, several, number_of, field_path}
 use Rattle.meta_links.specs.Table.{option_combo_references, references_in, token_references, references}
 use Rattle.meta_links.specs.Held.{numbers_of, unit_held, unit_group_held, category_option_held, category_held, category_combo_held, option_combo_held}
@@ -25,66 +25,59 @@ use Rattle.meta_links.specs.Held.{element_held, approval_level_held, workflow_he
 use Rattle.meta_links.specs.Held.{rule_held, entity_type_held, attribute_held, program_held, stage_held, program_indicator_held, role_held, user_held}
 use Rattle.meta_links.specs.Held.{user_group_held, built_in_combo, built_in_option_combo, links_of}
 use lib.Chars.{codes}
-use Rattle.meta_rules.specs.Trees.{tree_rows}
-use Rattle.meta_rules.specs.Categories.{option_combo_rows}
+use Rattle.meta_parts.specs.Rows.{tree_rows, option_combo_rows}
 use Rattle.meta_rules.specs.declared.limits.LimitFault.{LimitFault}
 use Rattle.meta_rules.specs.declared.limits.LimitFault.TheVariants as limit
 use Rattle.meta_rules.specs.Limits.{limits, objects_of, passes, first_passed}
-use Rattle.meta_exprs.specs.declared.all.Expressions.{Expressions}
 use Rattle.meta_exprs.specs.Days.{days_of}
-use Rattle.meta_exprs.specs.Objects.{AllMade}
-use Rattle.meta_exprs.specs.All.{HaveExpressions}
+use Rattle.meta_exprs.specs.Objects.{made_of, indicator_in, rule_in, program_indicator_in}
 use Rattle.dh_metadata.specs.Objects.{HaveIds, count_of}
 use Rattle.dh_metadata.specs.Known.{AreFew}
 use Rattle.dh_metadata.specs.Linked.{Each}
 use Rattle.dh_metadata.proofs.IdLemmas.{ids_count}
-use Rattle.meta_reader.specs.Records.{unread_of, records_of, links_in}
+use Rattle.meta_reader.specs.Records.{links_in, records_in}
 use Rattle.meta_reader.proofs.KnownLemmas.{Ids, Known, known_parts, known_at, one_below, cons_each, none_each}
 
 map_held : {A B C : Type 0} (f : A → C) (g : B → C) (held : A → B) → ((a : A) → f a ≡ g (held a)) → (xs : List A) → map f xs ≡ map g (map held xs)
 map_held f g held same [] = refl
 map_held f g held same (x ∷ xs) = ap (λ y. y ∷ map f xs) (same x) ∙ ap (λ ys. g (held x) ∷ ys) (map_held f g held same xs)
 
-map_made : {A B C D : Type 0} (f : A → D) (g : C → D) (IsMade : A → B → C → Type 0) → ((a : A) (b : B) (c : C) → IsMade a b c → g c ≡ f a)
-    → (xs : List A) (ys : List B) (zs : List C) → AllMade IsMade xs ys zs → map f xs ≡ map g zs
-map_made f g IsMade same [] [] [] made = refl
-map_made f g IsMade same [] [] (c ∷ cs) made = absurd made
-map_made f g IsMade same [] (b ∷ bs) zs made = absurd made
-map_made f g IsMade same (a ∷ xs) [] zs made = absurd made
-map_made f g IsMade same (a ∷ xs) (b ∷ bs) [] made = absurd made
-map_made f g IsMade same (a ∷ xs) (b ∷ bs) (c ∷ cs) made =
-    ap (λ y. y ∷ map f xs) (sym (same a b c made.0)) ∙ ap (λ ys. g c ∷ ys) (map_made f g IsMade same xs bs cs made.1)
+map_made : {A B C D : Type 0} (f : A → D) (g : C → D) (make : A → B → C) (held : A → B) → ((a : A) → g (make a (held a)) ≡ f a)
+    → (xs : List A) → map f xs ≡ map g (made_of make xs (map held xs))
+map_made f g make held same [] = refl
+map_made f g make held same (x ∷ xs) =
+    ap (λ y. y ∷ map f xs) (sym (same x)) ∙ ap (λ ys. g (make x (held x)) ∷ ys) (map_made f g make held same xs)
 
 -- the identifiers of the objects are those of the file
-pub have_ids : (parts : MetaParts) (made : Expressions) → HaveExpressions parts (unread_of (links_in parts)) made
-    → HaveIds (records_of parts (links_in parts) made) (ids_of parts)
+pub have_ids : (parts : MetaParts) → HaveIds (records_in parts) (ids_of parts)
 unfolding ids_of links_of unit_held unit_group_held category_option_held category_held category_combo_held option_combo_held element_held approval_level_held
     workflow_held data_set_held constant_held indicator_type_held indicator_held rule_held entity_type_held attribute_held program_held stage_held
     program_indicator_held role_held user_held user_group_held built_in_combo built_in_option_combo
-have_ids parts made read kind.OrganisationUnit = map_held _ _ (unit_held (ids_of parts)) (λ a. refl) parts.organisation_units
-have_ids parts made read kind.OrganisationUnitGroup = map_held _ _ (unit_group_held (ids_of parts)) (λ a. refl) parts.organisation_unit_groups
-have_ids parts made read kind.CategoryOption = map_held _ _ (category_option_held (ids_of parts)) (λ a. refl) parts.category_options
-have_ids parts made read kind.Category = map_held _ _ (category_held (ids_of parts)) (λ a. refl) parts.categories
-have_ids parts made read kind.CategoryCombo =
+have_ids parts kind.OrganisationUnit = map_held _ _ (unit_held (ids_of parts)) (λ a. refl) parts.organisation_units
+have_ids parts kind.OrganisationUnitGroup = map_held _ _ (unit_group_held (ids_of parts)) (λ a. refl) parts.organisation_unit_groups
+have_ids parts kind.CategoryOption = map_held _ _ (category_option_held (ids_of parts)) (λ a. refl) parts.category_options
+have_ids parts kind.Category = map_held _ _ (category_held (ids_of parts)) (λ a. refl) parts.categories
+have_ids parts kind.CategoryCombo =
     ap (λ ids. built_in_combo.id ∷ ids) (map_held _ _ (category_combo_held (ids_of parts)) (λ a. refl) parts.category_combos)
-have_ids parts made read kind.CategoryOptionCombo =
+have_ids parts kind.CategoryOptionCombo =
     ap (λ ids. built_in_option_combo.id ∷ ids) (map_held _ _ (option_combo_held (ids_of parts)) (λ a. refl) parts.category_option_combos)
-have_ids parts made read kind.DataElement = map_held _ _ (element_held (ids_of parts)) (λ a. refl) parts.data_elements
-have_ids parts made read kind.ApprovalLevel = map_held _ _ (approval_level_held (ids_of parts)) (λ a. refl) parts.data_approval_levels
-have_ids parts made read kind.Workflow = map_held _ _ (workflow_held (ids_of parts)) (λ a. refl) parts.data_approval_workflows
-have_ids parts made read kind.DataSet = map_held _ _ (data_set_held (ids_of parts)) (λ a. refl) parts.data_sets
-have_ids parts made read kind.Constant = map_held _ _ (constant_held (ids_of parts)) (λ a. refl) parts.constants
-have_ids parts made read kind.IndicatorType = map_held _ _ (indicator_type_held (ids_of parts)) (λ a. refl) parts.indicator_types
-have_ids parts made read kind.Indicator = map_made _ _ _ (λ a b c is. is.id) parts.indicators _ made.indicators read.indicators
-have_ids parts made read kind.ValidationRule = map_made _ _ _ (λ a b c is. is.id) parts.validation_rules _ made.validation_rules read.validation_rules
-have_ids parts made read kind.TrackedEntityType = map_held _ _ (entity_type_held (ids_of parts)) (λ a. refl) parts.tracked_entity_types
-have_ids parts made read kind.TrackedEntityAttribute = map_held _ _ (attribute_held (ids_of parts)) (λ a. refl) parts.tracked_entity_attributes
-have_ids parts made read kind.Program = map_held _ _ (program_held (ids_of parts)) (λ a. refl) parts.programs
-have_ids parts made read kind.ProgramStage = map_held _ _ (stage_held (ids_of parts)) (λ a. refl) parts.program_stages
-have_ids parts made read kind.ProgramIndicator = map_made _ _ _ (λ a b c is. is.id) parts.program_indicators _ made.program_indicators read.program_indicators
-have_ids parts made read kind.UserRole = map_held _ _ (role_held (ids_of parts)) (λ a. refl) parts.user_roles
-have_ids parts made read kind.User = map_held _ _ (user_held (ids_of parts)) (λ a. refl) parts.users
-have_ids parts made read kind.UserGroup = map_held _ _ (user_group_held (ids_of parts)) (λ a. refl) parts.user_groups
+have_ids parts kind.DataElement = map_held _ _ (element_held (ids_of parts)) (λ a. refl) parts.data_elements
+have_ids parts kind.ApprovalLevel = map_held _ _ (approval_level_held (ids_of parts)) (λ a. refl) parts.data_approval_levels
+have_ids parts kind.Workflow = map_held _ _ (workflow_held (ids_of parts)) (λ a. refl) parts.data_approval_workflows
+have_ids parts kind.DataSet = map_held _ _ (data_set_held (ids_of parts)) (λ a. refl) parts.data_sets
+have_ids parts kind.Constant = map_held _ _ (constant_held (ids_of parts)) (λ a. refl) parts.constants
+have_ids parts kind.IndicatorType = map_held _ _ (indicator_type_held (ids_of parts)) (λ a. refl) parts.indicator_types
+have_ids parts kind.Indicator = map_made _ _ (indicator_in (days_of parts)) (indicator_held (ids_of parts)) (λ a. refl) parts.indicators
+have_ids parts kind.ValidationRule = map_made _ _ (rule_in (days_of parts)) (rule_held (ids_of parts)) (λ a. refl) parts.validation_rules
+have_ids parts kind.TrackedEntityType = map_held _ _ (entity_type_held (ids_of parts)) (λ a. refl) parts.tracked_entity_types
+have_ids parts kind.TrackedEntityAttribute = map_held _ _ (attribute_held (ids_of parts)) (λ a. refl) parts.tracked_entity_attributes
+have_ids parts kind.Program = map_held _ _ (program_held (ids_of parts)) (λ a. refl) parts.programs
+have_ids parts kind.ProgramStage = map_held _ _ (stage_held (ids_of parts)) (λ a. refl) parts.program_stages
+have_ids parts kind.ProgramIndicator =
+    map_made _ _ (program_indicator_in (days_of parts)) (program_indicator_held (ids_of parts)) (λ a. refl) parts.program_indicators
+have_ids parts kind.UserRole = map_held _ _ (role_held (ids_of parts)) (λ a. refl) parts.user_roles
+have_ids parts kind.User = map_held _ _ (user_held (ids_of parts)) (λ a. refl) parts.users
+have_ids parts kind.UserGroup = map_held _ _ (user_group_held (ids_of parts)) (λ a. refl) parts.user_groups
 
 -- so there are as many identifiers of each kind as objects
 pub counts : (ids : Ids) (r : Records) → HaveIds r ids → (of_kind : Kind) → length (ids_at ids of_kind) ≡ count_of r of_kind

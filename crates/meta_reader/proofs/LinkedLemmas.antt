@@ -27,10 +27,7 @@ use Rattle.meta_parts.specs.declared.raw.RawProgramIndicator.{RawProgramIndicato
 use Rattle.meta_parts.specs.declared.raw.RawUser.{RawUser}
 use Rattle.meta_parts.specs.declared.raw.RawUserGroup.{RawUserGroup}
 use Rattle.meta_parts.specs.declared.raw.RawSharing.{RawSharing}
-use Rattle.meta_parts.specs.declared.records.Indicator.{Indicator}
-use Rattle.meta_parts.specs.declared.records.Rule.{Rule}
-use Rattle.meta_parts.specs.declared.records.ProgramIndicator.{ProgramIndicator}
-use Rattle.meta_ids.specs.Ids.{ids_at, kinds}
+use Rattle.meta_parts.specs.Ids.{ids_at, kinds}
 use Rattle.meta_links.specs.Reference.{Reference, one, optional, each, several, several_in, number_of, step, field_path}
 use Rattle.meta_links.specs.Table.{entries, sharing_references, set_element, set_elements, unit_references, unit_group_references}
 use Rattle.meta_links.specs.Table.{category_option_references, category_references, category_combo_references, option_combo_references, element_references}
@@ -41,15 +38,13 @@ use Rattle.meta_links.specs.Held.{numbers_of, shared_with, sharing_held, unit_he
 use Rattle.meta_links.specs.Held.{category_combo_held, option_combo_held, element_held, workflow_held, data_set_held, indicator_held, rule_held}
 use Rattle.meta_links.specs.Held.{entity_type_held, program_held, stage_held, program_indicator_held, user_held, user_group_held, built_in_combo}
 use Rattle.meta_links.specs.Held.{built_in_option_combo, links_of}
-use Rattle.meta_exprs.specs.declared.all.Expressions.{Expressions}
 use Rattle.meta_exprs.specs.Days.{days_of}
-use Rattle.meta_exprs.specs.Objects.{AllMade, IsIndicator, IsRule, IsProgramIndicator}
-use Rattle.meta_exprs.specs.All.{HaveExpressions}
+use Rattle.meta_exprs.specs.Objects.{made_of, indicator_in, rule_in, program_indicator_in}
 use Rattle.dh_metadata.specs.Objects.{count_of}
 use Rattle.dh_metadata.specs.Linked.{AreBelow, IsBelow, Each, IsLinked, IsLinkedSharing, IsLinkedUnit, IsLinkedUnitGroup, IsLinkedOption, IsLinkedCategory}
 use Rattle.dh_metadata.specs.Linked.{IsLinkedCombo, IsLinkedOptionCombo, IsLinkedElement, IsLinkedWorkflow, IsLinkedDataSet, IsLinkedIndicator, IsLinkedRule}
 use Rattle.dh_metadata.specs.Linked.{IsLinkedEntityType, IsLinkedProgram, IsLinkedStage, IsLinkedProgramIndicator, IsLinkedUser, IsLinkedUserGroup}
-use Rattle.meta_reader.specs.Records.{unread_of, records_of}
+use Rattle.meta_reader.specs.Records.{records_from}
 use Rattle.meta_reader.proofs.KnownLemmas.{Ids, Known, known_parts, known_at, one_below, optional_below, several_below, several_in_below, entries_below}
 use Rattle.meta_reader.proofs.KnownLemmas.{each_below, none_below, cons_each, none_each, all_held}
 
@@ -213,43 +208,38 @@ user_group_linked : (ids : Ids) (r : Records) → Counts ids r → (raw : RawUse
 unfolding user_group_references user_group_held
 user_group_linked ids r same raw known = several_of ids r same _ kind.User raw.users known
 
-indicator_linked : (ids : Ids) (r : Records) → Counts ids r → (days : List (List ℕ)) (raw : RawIndicator) (made : Indicator)
-    → IsIndicator days raw (indicator_held ids raw) made → Known ids (indicator_references raw) → IsLinkedIndicator r made
+indicator_linked : (ids : Ids) (r : Records) → Counts ids r → (days : List (List ℕ)) (raw : RawIndicator) → Known ids (indicator_references raw)
+    → IsLinkedIndicator r (indicator_in days raw (indicator_held ids raw))
 unfolding indicator_references indicator_held
-indicator_linked ids r same days raw made is known =
+indicator_linked ids r same days raw known =
     let both = known_parts ids (one (field_path kind.Indicator raw.place (codes "indicatorType")) kind.IndicatorType raw.indicator_type) _ known in
     record {
-      indicator_type =
-          subst (λ n. n < count_of r kind.IndicatorType) (sym is.indicator_type) (one_of ids r same _ kind.IndicatorType raw.indicator_type both.0);
-      sharing = subst (IsLinkedSharing r) (sym is.sharing) (sharing_linked ids r same kind.Indicator raw.place raw.sharing both.1);
+      indicator_type = one_of ids r same _ kind.IndicatorType raw.indicator_type both.0;
+      sharing = sharing_linked ids r same kind.Indicator raw.place raw.sharing both.1;
     }
 
-rule_linked : (ids : Ids) (r : Records) → Counts ids r → (days : List (List ℕ)) (raw : RawRule) (made : Rule) → IsRule days raw (rule_held ids raw) made
-    → Known ids (rule_references raw) → IsLinkedRule r made
+rule_linked : (ids : Ids) (r : Records) → Counts ids r → (days : List (List ℕ)) (raw : RawRule) → Known ids (rule_references raw)
+    → IsLinkedRule r (rule_in days raw (rule_held ids raw))
 unfolding rule_references rule_held
-rule_linked ids r same days raw made is known =
-    subst (IsLinkedSharing r) (sym is.sharing) (sharing_linked ids r same kind.ValidationRule raw.place raw.sharing known)
+rule_linked ids r same days raw known = sharing_linked ids r same kind.ValidationRule raw.place raw.sharing known
 
-program_indicator_linked : (ids : Ids) (r : Records) → Counts ids r → (days : List (List ℕ)) (raw : RawProgramIndicator) (made : ProgramIndicator)
-    → IsProgramIndicator days raw (program_indicator_held ids raw) made → Known ids (program_indicator_references raw) → IsLinkedProgramIndicator r made
+program_indicator_linked : (ids : Ids) (r : Records) → Counts ids r → (days : List (List ℕ)) (raw : RawProgramIndicator)
+    → Known ids (program_indicator_references raw) → IsLinkedProgramIndicator r (program_indicator_in days raw (program_indicator_held ids raw))
 unfolding program_indicator_references program_indicator_held
-program_indicator_linked ids r same days raw made is known =
+program_indicator_linked ids r same days raw known =
     let both = known_parts ids (one (field_path kind.ProgramIndicator raw.place (codes "program")) kind.Program raw.program) _ known in
     record {
-      program = subst (λ n. n < count_of r kind.Program) (sym is.program) (one_of ids r same _ kind.Program raw.program both.0);
-      sharing = subst (IsLinkedSharing r) (sym is.sharing) (sharing_linked ids r same kind.ProgramIndicator raw.place raw.sharing both.1);
+      program = one_of ids r same _ kind.Program raw.program both.0;
+      sharing = sharing_linked ids r same kind.ProgramIndicator raw.place raw.sharing both.1;
     }
 
 -- what holds of each object that is made of one whose references are known holds of all
-all_made : {A B C : Type 0} (ids : Ids) (has : A → List Reference) (held : A → B) (IsMade : A → B → C → Type 0) (Holds : C → Type 0)
-    → ((a : A) (c : C) → IsMade a (held a) c → Known ids (has a) → Holds c) → (xs : List A) (zs : List C) → AllMade IsMade xs (map held xs) zs
-    → Known ids (flat_map has xs) → Each Holds zs
-all_made ids has held IsMade Holds each_made [] [] made known = none_each Holds
-all_made ids has held IsMade Holds each_made [] (c ∷ cs) made known = absurd made
-all_made ids has held IsMade Holds each_made (a ∷ xs) [] made known = absurd made
-all_made ids has held IsMade Holds each_made (a ∷ xs) (c ∷ cs) made known =
+all_made : {A B C : Type 0} (ids : Ids) (has : A → List Reference) (held : A → B) (make : A → B → C) (Holds : C → Type 0)
+    → ((a : A) → Known ids (has a) → Holds (make a (held a))) → (xs : List A) → Known ids (flat_map has xs) → Each Holds (made_of make xs (map held xs))
+all_made ids has held make Holds each_made [] known = none_each Holds
+all_made ids has held make Holds each_made (a ∷ xs) known =
     let both = known_parts ids (has a) (flat_map has xs) known in
-    cons_each Holds c cs (each_made a c made.0 both.0) (all_made ids has held IsMade Holds each_made xs cs made.1 both.1)
+    cons_each Holds (make a (held a)) (made_of make xs (map held xs)) (each_made a both.0) (all_made ids has held make Holds each_made xs both.1)
 
 same_numbers : (ids : Ids) (tokens : List (List ℕ × List ℕ))
     → map (λ (token : List ℕ × List ℕ). number_of ids kind.User token.1) tokens
@@ -277,11 +267,11 @@ unfolding built_in_option_combo
 built_in_option_linked r some = record { combo = some; options = none_below (length r.category_options) }
 
 -- references that are known are numbers of objects
-pub linked : (ids : Ids) (parts : MetaParts) (made : Expressions) → Counts ids (records_of parts (links_of ids parts) made) → Known ids (references parts)
-    → HaveExpressions parts (unread_of (links_of ids parts)) made → IsLinked (records_of parts (links_of ids parts) made)
+pub linked : (ids : Ids) (parts : MetaParts) → Counts ids (records_from parts (links_of ids parts)) → Known ids (references parts)
+    → IsLinked (records_from parts (links_of ids parts))
 unfolding links_of references
-linked ids parts made same known read =
-    let r : Records = records_of parts (links_of ids parts) made in
+linked ids parts same known =
+    let r : Records = records_from parts (links_of ids parts) in
     let days : List (List ℕ) = days_of parts in
     let both = known_parts ids (flat_map (references_in parts) kinds) (token_references parts.api_tokens) known in
     let of_kind : (n : ℕ) (k : Kind) → slice_get kinds n ≡ Some k → Known ids (references_in parts k) =
@@ -317,11 +307,11 @@ linked ids parts made same known read =
       data_sets =
           all_held ids data_set_references (data_set_held ids) (IsLinkedDataSet r) parts.data_sets (data_set_linked ids r same) (of_kind 9 kind.DataSet refl);
       indicators =
-          all_made ids indicator_references (indicator_held ids) (IsIndicator days) (IsLinkedIndicator r) (indicator_linked ids r same days) parts.indicators
-          made.indicators read.indicators (of_kind 12 kind.Indicator refl);
+          all_made ids indicator_references (indicator_held ids) (indicator_in days) (IsLinkedIndicator r) (indicator_linked ids r same days) parts.indicators
+          (of_kind 12 kind.Indicator refl);
       rules =
-          all_made ids rule_references (rule_held ids) (IsRule days) (IsLinkedRule r) (rule_linked ids r same days) parts.validation_rules made.validation_rules
-          read.validation_rules (of_kind 13 kind.ValidationRule refl);
+          all_made ids rule_references (rule_held ids) (rule_in days) (IsLinkedRule r) (rule_linked ids r same days) parts.validation_rules
+          (of_kind 13 kind.ValidationRule refl);
       entity_types =
           all_held ids entity_type_references (entity_type_held ids) (IsLinkedEntityType r) parts.tracked_entity_types (entity_type_linked ids r same)
           (of_kind 14 kind.TrackedEntityType refl);
@@ -330,8 +320,8 @@ linked ids parts made same known read =
       stages =
           all_held ids stage_references (stage_held ids) (IsLinkedStage r) parts.program_stages (stage_linked ids r same) (of_kind 17 kind.ProgramStage refl);
       program_indicators =
-          all_made ids program_indicator_references (program_indicator_held ids) (IsProgramIndicator days) (IsLinkedProgramIndicator r)
-          (program_indicator_linked ids r same days) parts.program_indicators made.program_indicators read.program_indicators
+          all_made ids program_indicator_references (program_indicator_held ids) (program_indicator_in days) (IsLinkedProgramIndicator r)
+          (program_indicator_linked ids r same days) parts.program_indicators
           (of_kind 18 kind.ProgramIndicator refl);
       users = all_held ids user_references (user_held ids) (IsLinkedUser r) parts.users (user_linked ids r same) (of_kind 20 kind.User refl);
       user_groups =

@@ -3,127 +3,112 @@ use Rattle.std.proofs.Common.{◌≡◌, ◌∙◌, ℕ, List, Option, Some, Non
 use Rattle.std.specs.Prelude.{Result, Ok, Err, ℤ}
 use Rattle.std.specs.Option.{option_or}
 use Rattle.std.proofs.lemmas.List.{length-map}
+use Rattle.dh_base.specs.Memory.{IsFirst, Finds}
 use Rattle.org_tree.specs.Units.{HasOwnIds}
 use Rattle.dh_categories.specs.Single.{CombosBelow}
 use Rattle.meta_parts.specs.declared.parts.MetaParts.{MetaParts}
 use Rattle.meta_parts.specs.declared.held.Links.{Links}
 use Rattle.meta_parts.specs.declared.held.Records.{Records}
-use Rattle.meta_ids.specs.Ids.{ids_of, twice_of}
+use Rattle.meta_parts.specs.Ids.{ids_of, twice_of}
 use Rattle.meta_links.specs.Table.{references}
 use Rattle.meta_links.specs.Reference.{first_unknown}
 use Rattle.meta_links.specs.Held.{links_of, indicator_held, rule_held, program_indicator_held}
-use Rattle.meta_rules.specs.declared.held.Held.{Held}
-use Rattle.meta_rules.specs.Categories.{option_combo_rows}
-use Rattle.meta_rules.specs.Trees.{tree_rows}
+use Rattle.meta_parts.specs.declared.structure.Structure.{Structure}
+use Rattle.meta_parts.specs.Rows.{tree_rows, option_combo_rows}
 use Rattle.meta_rules.specs.Held.{IsHeld}
 use Rattle.meta_rules.specs.Limits.{first_passed}
 use Rattle.meta_rules.specs.declared.limits.LimitFault.{LimitFault}
-use Rattle.meta_exprs.specs.Days.{days_of}
 use Rattle.meta_exprs.specs.Stages.{stages_broken}
 use Rattle.dh_metadata.specs.Objects.{HaveIds}
 use Rattle.dh_metadata.specs.Known.{AreFew, HaveRules}
 use Rattle.dh_metadata.specs.Linked.{IsLinked}
 use Rattle.meta_reader.specs.declared.fault.MetaFault.{MetaFault}
-use Rattle.meta_reader.specs.Records.{expressions_in, records_of, links_in, IsMetadata}
-use Rattle.meta_reader.specs.Stages.{stages_unfit}
-use Rattle.meta_reader.specs.Faults.{broken, passed, stage_fault, limit_fault, late_fault, paired, IsMet, Unless}
+use Rattle.meta_reader.specs.Records.{links_in, records_in}
+use Rattle.meta_reader.specs.Faults.{broken, passed, stage_fault, limit_fault, late_fault, paired, meta_cause}
 use Rattle.meta_reader.proofs.KnownLemmas.{Ids, Known}
 use Rattle.meta_reader.proofs.LinkedLemmas.{linked}
 use Rattle.meta_reader.proofs.IdLemmas.{have_ids, counts, are_few, few_positions, own_ids, combos_below}
-use Rattle.meta_reader.proofs.StageLemmas.{unfit_of}
-use Rattle.meta_reader.proofs.FaultLemmas.{met_first, met_then, met_some, none_of}
+use Rattle.meta_reader.proofs.FaultLemmas.{met_then, met_some, none_of}
 
-pub have_of : (parts : MetaParts) (r : Records) → IsMetadata parts r → HaveIds r (ids_of parts)
-have_of parts r is = subst (λ (x : Records). HaveIds x (ids_of parts)) (sym is.others) (have_ids parts (expressions_in r) is.made)
+pub linked_of : (parts : MetaParts) → Known (ids_of parts) (references parts) → IsLinked (records_in parts)
+linked_of parts known = linked (ids_of parts) parts (counts (ids_of parts) (records_in parts) (have_ids parts)) known
 
-pub linked_of : (parts : MetaParts) (r : Records) → IsMetadata parts r → Known (ids_of parts) (references parts) → IsLinked r
-linked_of parts r is known =
-    subst (λ (x : Records). IsLinked x) (sym is.others)
-    (linked (ids_of parts) parts (expressions_in r)
-    (counts (ids_of parts) (records_of parts (links_in parts) (expressions_in r)) (have_ids parts (expressions_in r) is.made)) known is.made)
-
-pub rules_of : (parts : MetaParts) (r : Records) (held : Held) → IsMetadata parts r → IsHeld (links_in parts) held
-    → first_passed parts held.positions.items ≡ None → HaveRules r held
-rules_of parts r held is ruled none =
-    subst (λ (x : Records). HaveRules x held) (sym is.others)
-    (record {
-      tree = ruled.tree;
-      combos = ruled.combos;
-      workflows = ruled.approvals.workflows;
-      positions = ruled.approvals.positions;
-      few_positions =
-          few_positions parts held.positions.items none;
-    })
+pub rules_of : (parts : MetaParts) (held : Structure) → IsHeld (links_in parts) held
+    → first_passed parts held.positions.items ≡ None → HaveRules (records_in parts) held
+rules_of parts held ruled none = record {
+  tree = ruled.tree;
+  combos = ruled.combos;
+  workflows = ruled.approvals.workflows;
+  positions = ruled.approvals.positions;
+  few_positions = few_positions parts held.positions.items none;
+}
 
 no_limit : (a : Option MetaFault) (b : Option LimitFault) → option_or a (option_map passed b) ≡ None → b ≡ None
 no_limit None None none = refl
 no_limit None (Some limit) none = absurd (cc)
 no_limit (Some fault) b none = absurd (cc)
 
-unfit_is : (parts : MetaParts) (r : Records) → IsMetadata parts r
-    → stages_broken (ids_of parts) r.program_stages r.program_indicators ≡ stages_unfit (ids_of parts) parts (links_in parts)
-unfolding stages_unfit links_of
-unfit_is parts r is =
-    ap (λ stages. stages_broken (ids_of parts) stages r.program_indicators) (ap (λ (x : Records). x.program_stages) is.others)
-    ∙ unfit_of (ids_of parts) (links_in parts).program_stages (days_of parts) parts.program_indicators r.program_indicators is.made.program_indicators
-
 -- the faults that are seen late, by what was made and by the file
-pub late_is : (parts : MetaParts) (r : Records) (held : Held) → IsMetadata parts r → IsHeld (links_in parts) held
-    → option_or (option_map broken (stages_broken (ids_of parts) r.program_stages r.program_indicators))
+pub late_is : (parts : MetaParts) (held : Structure) → IsHeld (links_in parts) held
+    → option_or (option_map broken (stages_broken (ids_of parts) (records_in parts).program_stages (records_in parts).program_indicators))
     (option_map passed (first_passed parts held.positions.items)) ≡ late_fault (ids_of parts) parts (links_in parts)
 unfolding stage_fault limit_fault
-late_is parts r held is ruled =
-    ap (λ o. option_or (option_map broken o) (option_map passed (first_passed parts held.positions.items))) (unfit_is parts r is)
-    ∙ ap (λ (ps : List (List ℤ)). option_or (option_map broken (stages_unfit (ids_of parts) parts (links_in parts)))
-    (option_map passed (first_passed parts ps))) ruled.approvals.positions
+late_is parts held ruled =
+    ap (λ (ps : List (List ℤ)). option_or (stage_fault (ids_of parts) parts (links_in parts)) (option_map passed (first_passed parts ps)))
+    ruled.approvals.positions
+
+-- the faults that are seen late, by what was made
+abbrev late_of : MetaParts → Ids → Records → Structure → Option MetaFault
+late_of parts ids r held =
+    option_or (option_map broken (stages_broken ids r.program_stages r.program_indicators)) (option_map passed (first_passed parts held.positions.items))
+
+late_at : (parts : MetaParts) (ids : Ids) (r : Records) (held : Structure) → ids ≡ ids_of parts → r ≡ records_in parts → IsHeld (links_in parts) held
+    → late_of parts ids r held ≡ late_fault (ids_of parts) parts (links_in parts)
+late_at parts ids r held same is ruled =
+    ap (λ (x : Ids). late_of parts x r held) same ∙ ap (λ (x : Records). late_of parts (ids_of parts) x held) is ∙ late_is parts held ruled
 
 -- a fault that is seen late is met
-pub late_met : (parts : MetaParts) (ids : Ids) (r : Records) (held : Held) (met : Option MetaFault) (found : MetaFault) → ids ≡ ids_of parts
-    → IsMetadata parts r → IsHeld (links_in parts) held
+pub late_met : (parts : MetaParts) (ids : Ids) (r : Records) (held : Structure) (met : Option MetaFault) (found : MetaFault) → ids ≡ ids_of parts
+    → r ≡ records_in parts → IsHeld (links_in parts) held
     → met ≡ option_or (option_map broken (stages_broken ids r.program_stages r.program_indicators))
     (option_map passed (first_passed parts held.positions.items)) → met ≡ Some found
-    → IsMet (late_fault (ids_of parts) parts (links_in parts)) found
+    → IsFirst (late_fault (ids_of parts) parts (links_in parts)) (meta_cause found)
 late_met parts ids r held met found same is ruled late some =
-    met_some (late_fault (ids_of parts) parts (links_in parts)) found
-    (sym (late
-    ∙ ap (λ (x : Ids). option_or (option_map broken (stages_broken x r.program_stages r.program_indicators))
-    (option_map passed (first_passed parts held.positions.items))) same ∙ late_is parts r held is ruled) ∙ some)
+    met_some (late_fault (ids_of parts) parts (links_in parts)) found (sym (late ∙ late_at parts ids r held same is ruled) ∙ some)
 
--- and where none is, the records are in order
-pub ready : (parts : MetaParts) (ids : Ids) (r : Records) (held : Held) (met : Option MetaFault) → ids ≡ ids_of parts → Known (ids_of parts) (references parts)
-    → IsMetadata parts r → IsHeld (links_in parts) held
+-- and if none is, the records are in order
+pub ready : (parts : MetaParts) (ids : Ids) (r : Records) (held : Structure) (met : Option MetaFault) → ids ≡ ids_of parts
+    → Known (ids_of parts) (references parts)
+    → r ≡ records_in parts → IsHeld (links_in parts) held
     → met ≡ option_or (option_map broken (stages_broken ids r.program_stages r.program_indicators))
     (option_map passed (first_passed parts held.positions.items)) → met ≡ None
     → (late_fault (ids_of parts) parts (links_in parts) ≡ None) × AreFew r × IsLinked r × HaveIds r ids × HaveRules r held
 ready parts ids r held met same known is ruled late none =
-    let all = late
-    ∙ ap (λ (x : Ids). option_or (option_map broken (stages_broken x r.program_stages r.program_indicators))
-    (option_map passed (first_passed parts held.positions.items))) same in
+    let all : late_fault (ids_of parts) parts (links_in parts) ≡ None = sym (late ∙ late_at parts ids r held same is ruled) ∙ none in
     let fits : first_passed parts held.positions.items ≡ None =
-    no_limit (option_map broken (stages_broken (ids_of parts) r.program_stages r.program_indicators)) (first_passed parts held.positions.items) (sym all
-    ∙ none) in (
-      sym (late_is parts r held is ruled) ∙ sym all ∙ none,
-      are_few parts held.positions.items r (have_of parts r is) fits,
-      linked_of parts r is known,
-      subst (HaveIds r) (sym same) (have_of parts r is),
-      rules_of parts r held is ruled fits,
+    no_limit (option_map broken (stages_broken ids r.program_stages r.program_indicators)) (first_passed parts held.positions.items) (sym late ∙ none) in (
+      all,
+      subst AreFew (sym is) (are_few parts held.positions.items (records_in parts) (have_ids parts) fits),
+      subst IsLinked (sym is) (linked_of parts known),
+      subst (λ (x : Records). HaveIds x ids) (sym is) (subst (HaveIds (records_in parts)) (sym same) (have_ids parts)),
+      subst (λ (x : Records). HaveRules x held) (sym is) (rules_of parts held ruled fits),
     )
 
--- the answer of what comes after is the answer where nothing was met before
-pub then_unless : {X : Type 0} (a b : Option MetaFault) (Is : X → Type 0) (result : Result X MetaFault) → a ≡ None → Unless b Is result
-    → Unless (option_or a b) Is result
-then_unless a b Is (Ok x) none is = (none_of a b none is.0, is.1)
-then_unless a b Is (Err found) none is = met_then a b found none is
+-- the answer of what comes after is the answer if nothing was met before
+pub then_found : {X : Type 0} (a b : Option MetaFault) (Is : X → Type 0) (result : Result X MetaFault) → a ≡ None → Finds meta_cause b Is result
+    → Finds meta_cause (option_or a b) Is result
+then_found a b Is (Ok x) none is = (none_of a b none is.0, is.1)
+then_found a b Is (Err found) none is = met_then a b (meta_cause found) none is
 
--- two answers, where nothing was met before the second one
-pub unless_both : {A B : Type 0} (a b : Option MetaFault) (Is : A → Type 0) (Other : B
-    → Type 0) (first : A) (second : Result B MetaFault) (result : Result (A × B) MetaFault) → a ≡ None → Is first → Unless b Other second
+-- two answers, if nothing was met before the second one
+pub found_both : {A B : Type 0} (a b : Option MetaFault) (Is : A → Type 0) (Other : B
+    → Type 0) (first : A) (second : Result B MetaFault) (result : Result (A × B) MetaFault) → a ≡ None → Is first → Finds meta_cause b Other second
     → result ≡ paired first second
-    → Unless (option_or a b) (λ pair. Is pair.0 × Other pair.1) result
-unless_both a b Is Other first (Ok second) result none is other made =
-    subst (λ r. Unless (option_or a b) (λ pair. Is pair.0 × Other pair.1) r) (sym made) (none_of a b none other.0, (is, other.1))
-unless_both a b Is Other first (Err found) result none is other made =
-    subst (λ r. Unless (option_or a b) (λ pair. Is pair.0 × Other pair.1) r) (sym made) (met_then a b found none other)
+    → Finds meta_cause (option_or a b) (λ pair. Is pair.0 × Other pair.1) result
+found_both a b Is Other first (Ok second) result none is other made =
+    subst (λ r. Finds meta_cause (option_or a b) (λ pair. Is pair.0 × Other pair.1) r) (sym made) (none_of a b none other.0, (is, other.1))
+found_both a b Is Other first (Err found) result none is other made =
+    subst (λ r. Finds meta_cause (option_or a b) (λ pair. Is pair.0 × Other pair.1) r) (sym made) (met_then a b (meta_cause found) none other)
 
 -- what linked objects need so that they can be tried
 pub linked_ready : (parts : MetaParts) (ids : Ids) (links : Links) → ids ≡ ids_of parts → twice_of parts ≡ None → first_unknown ids (references parts) ≡ None

@@ -1,25 +1,25 @@
 -- The first fault of what a metadata file says.
-use Rattle.std.specs.Prelude.{◌≡◌, ℕ, ℤ, List, map, Option, None, Some, Result, Ok, Err, option_map, ⊤}
+use Rattle.std.specs.Prelude.{ℕ, ℤ, List, map, Option, None, Some, Result, Ok, Err, option_map}
 use Rattle.std.specs.Option.{option_or}
 use Rattle.meta_parts.specs.declared.parts.MetaParts.{MetaParts}
 use Rattle.meta_parts.specs.declared.held.Links.{Links}
 use Rattle.meta_parts.specs.declared.held.Records.{Records}
-use Rattle.meta_ids.specs.Ids.{ids_of, twice_of}
+use Rattle.meta_parts.specs.Ids.{ids_of, twice_of}
 use Rattle.meta_links.specs.Reference.{first_unknown}
 use Rattle.meta_links.specs.Table.{references}
 use Rattle.meta_rules.specs.declared.fault.RuleFault.{RuleFault}
 use Rattle.meta_rules.specs.declared.limits.LimitFault.{LimitFault}
 use Rattle.meta_rules.specs.Held.{rules_broken}
-use Rattle.meta_rules.specs.Levels.{positions_of}
+use Rattle.meta_parts.specs.Positions.{positions_of}
 use Rattle.meta_rules.specs.Limits.{first_passed}
 use Rattle.meta_exprs.specs.declared.fault.ExprFault.{ExprFault}
 use Rattle.meta_exprs.specs.Names.{KindIds}
-use Rattle.meta_exprs.specs.All.{expressions_unread}
+use Rattle.meta_exprs.specs.All.{expressions_unread, expressions_of}
+use Rattle.meta_exprs.specs.Stages.{stages_broken}
 use Rattle.meta_reader.specs.declared.fault.MetaFault.{MetaFault}
 use Rattle.meta_reader.specs.declared.fault.MetaFault.TheVariants as fault
 use Rattle.meta_reader.specs.declared.fault.Which.TheVariants as which
-use Rattle.meta_reader.specs.Records.{links_in, IsMetadata, records_in}
-use Rattle.meta_reader.specs.Stages.{stages_unfit}
+use Rattle.meta_reader.specs.Records.{unread_of, links_in, records_in}
 
 abbrev pub twice : List ℕ → MetaFault
 twice uid = fault.Twice uid
@@ -56,9 +56,10 @@ unread_fault ids parts = option_map unread (expressions_unread ids parts)
 unfoldable pub rule_fault : MetaParts → Links → Option MetaFault
 rule_fault parts links = option_map broken (rules_broken parts links)
 
--- a program indicator that is unfit
+-- a program indicator that names a stage of another program, or is aggregated in a way that is none of its own
 unfoldable pub stage_fault : KindIds → MetaParts → Links → Option MetaFault
-stage_fault ids parts links = option_map broken (stages_unfit ids parts links)
+stage_fault ids parts links =
+    option_map broken (stages_broken ids links.program_stages (expressions_of parts (unread_of links)).program_indicators)
 
 -- a limit that is passed
 unfoldable pub limit_fault : MetaParts → Links → Option MetaFault
@@ -76,30 +77,15 @@ linked_fault ids parts links = option_or (option_or (unread_fault ids parts) (ru
 unfoldable pub fault_of : MetaParts → Option MetaFault
 fault_of parts = option_or (twice_fault parts) (option_or (unknown_fault (ids_of parts) parts) (linked_fault (ids_of parts) parts (links_in parts)))
 
--- the fault is met, unless memory ran out
-abbrev pub IsMet : Option MetaFault → MetaFault → Type 0
-IsMet meant fault.Memory = ⊤
-IsMet meant fault.NotJson = meant ≡ Some fault.NotJson
-IsMet meant (fault.Shape path) = meant ≡ Some (fault.Shape path)
-IsMet meant (fault.Unknown uid path) = meant ≡ Some (fault.Unknown uid path)
-IsMet meant (fault.Twice uid) = meant ≡ Some (fault.Twice uid)
-IsMet meant (fault.Expr uid at) = meant ≡ Some (fault.Expr uid at)
-IsMet meant (fault.Rule uid rule) = meant ≡ Some (fault.Rule uid rule)
-IsMet meant (fault.Limit limit) = meant ≡ Some (fault.Limit limit)
+-- the fault itself; running out of memory is none
+abbrev pub meta_cause : MetaFault → Option MetaFault
+meta_cause fault.Memory = None
+meta_cause found = Some found
 
--- the answer is the fault; where there is none, so much holds of what is handed on
-abbrev pub Unless : {X : Type 0} → Option MetaFault → (X → Type 0) → Result X MetaFault → Type 0
-Unless meant Is (Ok x) = (meant ≡ None) × Is x
-Unless meant Is (Err fault) = IsMet meant fault
-
--- a value and another, where that was made
+-- a value and another, if that was made
 abbrev pub paired : {A B : Type 0} → A → Result B MetaFault → Result (A × B) MetaFault
 paired first (Ok second) = Ok (first, second)
 paired first (Err fault) = Err fault
-
--- the metadata of what a file says, exactly where it has no fault; else the first fault, or that memory ran out
-abbrev pub Builds : MetaParts → Result Records MetaFault → Type 0
-Builds parts result = Unless (fault_of parts) (IsMetadata parts) result
 
 abbrev pub unless_fault : Option MetaFault → Records → Result Records MetaFault
 unless_fault None records = Ok records
@@ -109,8 +95,3 @@ unless_fault (Some fault) records = Err fault
 -- whether an approval has to be accepted; or the first fault.
 unfoldable pub metadata_of : MetaParts → Result Records MetaFault
 metadata_of parts = unless_fault (fault_of parts) (records_in parts)
-
--- what was meant is answered, unless memory ran out
-abbrev pub Answers : Result Records MetaFault → Result Records MetaFault → Type 0
-Answers (Err fault.Memory) meant = ⊤
-Answers result meant = meant ≡ result

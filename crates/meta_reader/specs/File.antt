@@ -1,5 +1,5 @@
 -- What the bytes of a metadata file say.
-use Rattle.std.specs.Prelude.{◌≡◌, ℕ, cond, List, length, nat_lt, Result, Ok, Err, ⊤}
+use Rattle.std.specs.Prelude.{ℕ, cond, List, length, nat_lt, Option, None, Some, Result, Ok, Err}
 use Rattle.std.specs.Option.{option_map_or}
 use Rattle.serde_json.specs.Data.{Data}
 use Rattle.json_read.specs.Bytes.{document_of}
@@ -26,10 +26,7 @@ most_bytes = MOST_INPUT_BYTES
 unfoldable pub file_of : List ℕ → Result MetaParts FileFault
 file_of bytes = cond (nat_lt most_bytes (length bytes)) (Err fault.TooLong) (option_map_or shaped_of (document_of bytes) (Err fault.NotJson))
 
--- what is meant, or that memory ran out
-abbrev pub GivesFile : Result MetaParts FileFault → Result MetaParts FileFault → Type 0
-GivesFile meant (Ok parts) = meant ≡ Ok parts
-GivesFile meant (Err fault.TooLong) = meant ≡ Err fault.TooLong
-GivesFile meant (Err fault.NotJson) = meant ≡ Err fault.NotJson
-GivesFile meant (Err (fault.Shape path)) = meant ≡ Err (fault.Shape path)
-GivesFile meant (Err fault.Memory) = ⊤
+-- the fault itself; running out of memory is none
+abbrev pub file_cause : FileFault → Option FileFault
+file_cause fault.Memory = None
+file_cause found = Some found

@@ -1,5 +1,4 @@
 pub mod Records
-pub mod Stages
 pub mod Faults
 pub mod Told
 pub mod File

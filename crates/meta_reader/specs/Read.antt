@@ -1,5 +1,5 @@
 -- Reading a metadata file.
-use Rattle.std.specs.Prelude.{ℕ, List, Result, Ok, Err, Some}
+use Rattle.std.specs.Prelude.{ℕ, List, Result, Ok, Err}
 use Rattle.meta_parts.specs.declared.parts.MetaParts.{MetaParts}
 use Rattle.meta_parts.specs.declared.held.Records.{Records}
 use Rattle.meta_reader.specs.declared.file_fault.FileFault.{FileFault}
@@ -7,7 +7,7 @@ use Rattle.meta_reader.specs.declared.file_fault.FileFault.TheVariants as file
 use Rattle.meta_reader.specs.declared.fault.MetaFault.{MetaFault}
 use Rattle.meta_reader.specs.declared.fault.MetaFault.TheVariants as fault
 use Rattle.meta_reader.specs.declared.fault.Which.TheVariants as which
-use Rattle.meta_reader.specs.Faults.{Builds, IsMet, metadata_of}
+use Rattle.meta_reader.specs.Faults.{metadata_of}
 use Rattle.meta_reader.specs.File.{file_of}
 
 -- a fault of a file's length, syntax or form
@@ -16,16 +16,6 @@ told file.TooLong = fault.Limit which.Bytes
 told file.NotJson = fault.NotJson
 told (file.Shape path) = fault.Shape path
 told file.Memory = fault.Memory
-
--- the file is refused with that fault, unless memory ran out
-abbrev pub Refuses : MetaFault → Result Records MetaFault → Type 0
-Refuses meant (Ok _) = ⊥
-Refuses meant (Err found) = IsMet (Some meant) found
-
--- what a file says makes metadata or has a first fault; a file that isn't in form is refused for that
-abbrev pub Reads : Result MetaParts FileFault → Result Records MetaFault → Type 0
-Reads (Ok parts) result = Builds parts result
-Reads (Err found) result = Refuses (told found) result
 
 abbrev pub metadata_from : Result MetaParts FileFault → Result Records MetaFault
 metadata_from (Ok parts) = metadata_of parts

@@ -1,12 +1,11 @@
 -- What metadata has of a file.
-use Rattle.std.specs.Prelude.{◌≡◌, ℕ, List}
 use Rattle.meta_parts.specs.declared.parts.MetaParts.{MetaParts}
 use Rattle.meta_parts.specs.declared.held.Links.{Links}
 use Rattle.meta_parts.specs.declared.held.Records.{Records}
 use Rattle.meta_exprs.specs.declared.all.Unread.{Unread}
 use Rattle.meta_exprs.specs.declared.all.Expressions.{Expressions}
-use Rattle.meta_exprs.specs.All.{HaveExpressions, expressions_of}
-use Rattle.meta_ids.specs.Ids.{ids_of}
+use Rattle.meta_exprs.specs.All.{expressions_of}
+use Rattle.meta_parts.specs.Ids.{ids_of}
 use Rattle.meta_links.specs.Held.{links_of}
 
 -- the references of the objects with expressions
@@ -17,15 +16,7 @@ unread_of links = record {
   program_indicators = links.program_indicators;
 }
 
--- the objects with expressions
-abbrev pub expressions_in : Records → Expressions
-expressions_in r = record {
-  indicators = r.indicators;
-  validation_rules = r.validation_rules;
-  program_indicators = r.program_indicators;
-}
-
--- the other objects are those that were linked
+-- the objects that were linked, with those that have expressions
 abbrev pub records_of : MetaParts → Links → Expressions → Records
 records_of parts links made = record {
   organisation_units = links.organisation_units;
@@ -54,20 +45,15 @@ records_of parts links made = record {
   acceptance_required = parts.acceptance_required;
 }
 
--- the objects with expressions have these and their references, and the others are those that were linked
-pub record AreRecords (parts : MetaParts) (links : Links) (r : Records) : Type 0 where
-  pub made : HaveExpressions parts (unread_of links) (expressions_in r)
-  pub others : r ≡ records_of parts links (expressions_in r)
-
 -- the objects of a file with their references as numbers
 abbrev pub links_in : MetaParts → Links
 links_in parts = links_of (ids_of parts) parts
 
+-- objects that were linked, with the expressions of the file
+abbrev pub records_from : MetaParts → Links → Records
+records_from parts links = records_of parts links (expressions_of parts (unread_of links))
+
 -- what metadata has of a file: its objects, each reference a number and each text an expression, with its tokens and
 -- whether an approval has to be accepted
-abbrev pub IsMetadata : MetaParts → Records → Type 0
-IsMetadata parts r = AreRecords parts (links_in parts) r
-
--- the objects of a file, with their expressions
 abbrev pub records_in : MetaParts → Records
-records_in parts = records_of parts (links_in parts) (expressions_of parts (unread_of (links_in parts)))
+records_in parts = records_from parts (links_in parts)

@@ -2,21 +2,22 @@
 
 ghost use Rattle.std.specs.Prelude.{◌≡◌, None};
 ghost use Rattle.std.specs.Option.{option_or};
-ghost use Rattle.meta_ids.specs.Ids.{ids_of, twice_of};
+ghost use Rattle.dh_base.specs.Memory.{Answers, Finds};
+ghost use Rattle.meta_parts.specs.Ids.{ids_of, twice_of};
 ghost use Rattle.meta_links.specs.Held.{links_of};
 ghost use Rattle.meta_links.specs.Reference.{first_unknown};
 ghost use Rattle.meta_links.specs.Table.{references};
 ghost use Rattle.meta_rules.specs.Held.{IsHeld};
-ghost use Rattle.meta_reader.specs.Faults.{unknown_fault, late_fault, linked_fault, Unless, Builds, metadata_of, Answers};
-ghost use Rattle.meta_reader.specs.Records.{links_in, IsMetadata};
+ghost use Rattle.meta_reader.specs.Faults.{unknown_fault, late_fault, linked_fault, fault_of, metadata_of, meta_cause};
+ghost use Rattle.meta_reader.specs.Records.{links_in, records_in};
 
 use crate::fault::MetaFault;
 use crate::steps::{late, linked, numbered, tried};
 use dh_metadata::metadata::Metadata;
-use meta_ids::ids::Ids;
 use meta_parts::held::{Links, Records};
+use meta_parts::ids::Ids;
 use meta_parts::parts::MetaParts;
-use meta_rules::held::Held;
+use meta_parts::structure::Structure;
 use std::alloc::Global;
 
 #[tactic(auto, using(crate::proofs::ReadyLemmas::late_met, crate::proofs::ReadyLemmas::ready))]
@@ -25,13 +26,13 @@ fn finished(
     ids: Ids,
     parts: &MetaParts,
     records: Records,
-    held: Held,
+    held: Structure,
 ) -> Result<Metadata, MetaFault>
     requires ids { ids ≡ ids_of parts.now }
     requires known { first_unknown (ids_of parts.now) (references parts.now) ≡ None }
-    requires records { IsMetadata parts.now records }
+    requires records { records ≡ records_in parts.now }
     requires held { IsHeld (links_in parts.now) held }
-    ensures { Unless (late_fault (ids_of parts.now) parts.now (links_in parts.now)) (λ meta. meta ≡ records) result }
+    ensures { Finds meta_cause (late_fault (ids_of parts.now) parts.now (links_in parts.now)) (λ meta. meta ≡ records_in parts.now) result }
 {
     match late(&ids, parts, &records, &held) {
         Some(fault) => {
@@ -42,13 +43,13 @@ fn finished(
     }
 }
 
-#[tactic(auto, using(crate::proofs::FaultLemmas::faults, crate::proofs::ReadyLemmas::linked_ready, crate::proofs::ReadyLemmas::then_unless))]
+#[tactic(auto, using(crate::proofs::FaultLemmas::faults, crate::proofs::ReadyLemmas::linked_ready, crate::proofs::ReadyLemmas::then_found))]
 fn joined(alloc: Global, ids: Ids, parts: &MetaParts, links: Links) -> Result<Metadata, MetaFault>
     requires ids { ids ≡ ids_of parts.now }
     requires differ { twice_of parts.now ≡ None }
     requires links { links ≡ links_of ids parts.now }
     requires known { first_unknown ids (references parts.now) ≡ None }
-    ensures { Unless (linked_fault (ids_of parts.now) parts.now (links_in parts.now)) (IsMetadata parts.now) result }
+    ensures { Finds meta_cause (linked_fault (ids_of parts.now) parts.now (links_in parts.now)) (λ meta. meta ≡ records_in parts.now) result }
 {
     match tried(alloc, &ids, parts, links) {
         Ok((records, held)) => finished(alloc, ids, parts, records, held),
@@ -59,12 +60,12 @@ fn joined(alloc: Global, ids: Ids, parts: &MetaParts, links: Links) -> Result<Me
     }
 }
 
-#[tactic(auto, using(crate::proofs::FaultLemmas::faults, crate::proofs::ReadyLemmas::then_unless))]
+#[tactic(auto, using(crate::proofs::FaultLemmas::faults, crate::proofs::ReadyLemmas::then_found))]
 fn numbered_parts(alloc: Global, ids: Ids, parts: &MetaParts) -> Result<Metadata, MetaFault>
     requires ids { ids ≡ ids_of parts.now }
     requires differ { twice_of parts.now ≡ None }
-    ensures { Unless (option_or (unknown_fault (ids_of parts.now) parts.now) (linked_fault (ids_of parts.now) parts.now (links_in parts.now)))
-        (IsMetadata parts.now) result }
+    ensures { Finds meta_cause (option_or (unknown_fault (ids_of parts.now) parts.now) (linked_fault (ids_of parts.now) parts.now (links_in parts.now)))
+        (λ meta. meta ≡ records_in parts.now) result }
 {
     match linked(alloc, &ids, parts) {
         Ok(links) => joined(alloc, ids, parts, links),
@@ -75,27 +76,21 @@ fn numbered_parts(alloc: Global, ids: Ids, parts: &MetaParts) -> Result<Metadata
     }
 }
 
-#[tactic(auto, using(crate::proofs::FaultLemmas::faults, crate::proofs::ReadyLemmas::then_unless), unfolding(crate::specs::Faults::fault_of))]
+#[tactic(auto, using(crate::proofs::FaultLemmas::faults, crate::proofs::ReadyLemmas::then_found), unfolding(crate::specs::Faults::fault_of))]
 fn build_of(alloc: Global, parts: &MetaParts) -> Result<Metadata, MetaFault>
-    ensures { Builds parts.now result }
+    ensures { Finds meta_cause (fault_of parts.now) (λ meta. meta ≡ records_in parts.now) result }
 {
     let ids = numbered(alloc, parts)?;
     numbered_parts(alloc, ids, parts)
 }
 
-pub(crate) fn of_parts(alloc: Global, parts: MetaParts) -> Result<Metadata, MetaFault>
-    ensures { Builds parts result }
+/// The metadata of what a file says, or its first fault: an identifier or a token that stands twice, a
+/// reference to nothing, an expression, a rule, a limit.
+#[tactic(auto, using(crate::proofs::ValueLemmas::found_answers), unfolding(crate::specs::Faults::metadata_of))]
+pub fn build(alloc: Global, parts: MetaParts) -> Result<Metadata, MetaFault>
+    ensures value { Answers meta_cause (metadata_of parts) result }
 {
     let made = build_of(alloc, &parts);
     drop(parts);
     made
-}
-
-/// The metadata of what a file says, or its first fault: an identifier or a token that stands twice, a
-/// reference to nothing, an expression, a rule, a limit.
-#[tactic(auto, using(crate::proofs::ValueLemmas::build_answers))]
-pub fn build(alloc: Global, parts: MetaParts) -> Result<Metadata, MetaFault>
-    ensures value { Answers result (metadata_of parts) }
-{
-    of_parts(alloc, parts)
 }

@@ -1,7 +1,8 @@
 //! From the bytes of a file to what it says.
 
+ghost use Rattle.dh_base.specs.Memory.{Answers};
 ghost use Rattle.json_read.specs.Views.{data_of};
-ghost use Rattle.meta_reader.specs.File.{shaped_of, file_of, GivesFile};
+ghost use Rattle.meta_reader.specs.File.{shaped_of, file_of, file_cause};
 
 use crate::file_fault::FileFault;
 use dh_base::limits::MOST_INPUT_BYTES;
@@ -16,7 +17,7 @@ use std::alloc::Global;
 pub const MOST_BYTES: usize = MOST_INPUT_BYTES;
 
 fn shaped(alloc: Global, value: &Value<'_>) -> Result<MetaParts, FileFault>
-    ensures { GivesFile (shaped_of (data_of value.now)) result }
+    ensures { Answers file_cause (shaped_of (data_of value.now)) result }
 {
     match read_parts(alloc, value) {
         Ok(parts) => Ok(parts),
@@ -28,7 +29,7 @@ fn shaped(alloc: Global, value: &Value<'_>) -> Result<MetaParts, FileFault>
 /// What the bytes of a metadata file say, or the first fault of its length, its syntax and its form.
 #[tactic(auto, unfolding(crate::specs::File::file_of))]
 pub fn read_file(alloc: Global, bytes: &[u8]) -> Result<MetaParts, FileFault>
-    ensures { GivesFile (file_of bytes.now) result }
+    ensures { Answers file_cause (file_of bytes.now) result }
 {
     if bytes.len() > MOST_BYTES {
         return Err(FileFault::TooLong);

@@ -1,11 +1,11 @@
 //! From the bytes of a file to metadata.
 
 ghost use Rattle.std.specs.Prelude.{◌≡◌};
-ghost use Rattle.meta_reader.specs.File.{file_of};
-ghost use Rattle.meta_reader.specs.Faults.{Answers};
-ghost use Rattle.meta_reader.specs.Read.{told, Reads, metadata_of_bytes};
+ghost use Rattle.dh_base.specs.Memory.{Answers};
+ghost use Rattle.meta_reader.specs.Faults.{meta_cause};
+ghost use Rattle.meta_reader.specs.Read.{told, metadata_of_bytes};
 
-use crate::build::of_parts;
+use crate::build::build;
 use crate::fault::{MetaFault, Which};
 use crate::file::read_file;
 use crate::file_fault::FileFault;
@@ -26,21 +26,14 @@ fn told(fault: FileFault) -> MetaFault
     }
 }
 
-#[tactic(auto, using(crate::proofs::ReadLemmas::no_memory))]
-fn of_bytes(alloc: Global, bytes: &[u8]) -> Result<Metadata, MetaFault>
-    ensures { Reads (file_of bytes.now) result }
-{
-    match read_file(alloc, bytes) {
-        Ok(parts) => of_parts(alloc, parts),
-        Err(fault) => Err(told(fault)),
-    }
-}
-
 /// The metadata that the bytes of a file are, or the first fault: of its length, its syntax, its form, and then
 /// of what it says.
-#[tactic(auto, using(crate::proofs::ValueLemmas::read_answers))]
+#[tactic(auto, using(crate::proofs::ValueLemmas::from_parts, crate::proofs::ValueLemmas::from_fault), unfolding(crate::specs::Read::metadata_of_bytes))]
 pub fn read(alloc: Global, bytes: &[u8]) -> Result<Metadata, MetaFault>
-    ensures value { Answers result (metadata_of_bytes bytes.now) }
+    ensures value { Answers meta_cause (metadata_of_bytes bytes.now) result }
 {
-    of_bytes(alloc, bytes)
+    match read_file(alloc, bytes) {
+        Ok(parts) => build(alloc, parts),
+        Err(fault) => Err(told(fault)),
+    }
 }

@@ -4,21 +4,22 @@ ghost use Rattle.std.specs.Prelude.{◌≡◌, ◌^◌, ◌<◌, Bool, true, fal
 ghost use Rattle.std.specs.Option.{option_or};
 ghost use Rattle.dh_categories.specs.Single.{CombosBelow};
 ghost use Rattle.org_tree.specs.Units.{HasOwnIds};
-ghost use Rattle.meta_exprs.specs.All.{HaveExpressions};
+ghost use Rattle.dh_base.specs.Memory.{Finds};
+ghost use Rattle.meta_exprs.specs.All.{expressions_of};
 ghost use Rattle.meta_exprs.specs.Stages.{stages_broken};
-ghost use Rattle.meta_ids.specs.Ids.{ids_of, twice_of};
+ghost use Rattle.meta_parts.specs.Ids.{ids_of, twice_of};
 ghost use Rattle.meta_links.specs.Held.{links_of};
 ghost use Rattle.meta_links.specs.Reference.{first_unknown};
 ghost use Rattle.meta_links.specs.Table.{references};
-ghost use Rattle.meta_rules.specs.Categories.{option_combo_rows};
+ghost use Rattle.meta_parts.specs.Rows.{option_combo_rows};
 ghost use Rattle.meta_rules.specs.Held.{IsHeld};
 ghost use Rattle.meta_rules.specs.Limits.{first_passed};
-ghost use Rattle.meta_rules.specs.Trees.{tree_rows};
+ghost use Rattle.meta_parts.specs.Rows.{tree_rows};
 ghost use Rattle.meta_reader.specs.Told.{twice_told, unknown_uid, unknown_told};
-ghost use Rattle.meta_reader.specs.Faults.{broken, passed, twice_fault, unknown_fault, unread_fault, rule_fault, paired, Unless};
+ghost use Rattle.meta_reader.specs.Faults.{broken, passed, twice_fault, unknown_fault, unread_fault, rule_fault, paired, meta_cause};
 ghost use Rattle.meta_parts.specs.declared.parts.MetaParts.{MetaParts as Parts};
 ghost use Rattle.meta_exprs.specs.declared.all.Expressions.{Expressions as Made};
-ghost use Rattle.meta_reader.specs.Records.{AreRecords, unread_of, records_of};
+ghost use Rattle.meta_reader.specs.Records.{unread_of, records_of, records_from};
 
 use crate::fault::{MetaFault, Which};
 use dh_base::items::Items;
@@ -26,14 +27,15 @@ use dh_base::uid::Uid;
 use meta_exprs::all::{Expressions, Unread, read_all};
 use meta_exprs::fault::ExprError;
 use meta_exprs::stages::first_broken;
-use meta_ids::fault::IdsFault;
-use meta_ids::ids::Ids;
 use meta_links::fault::LinkFault;
 use meta_links::link::link;
 use meta_parts::held::{Links, Records};
+use meta_parts::ids::Ids;
+use meta_parts::ids::fault::IdsFault;
 use meta_parts::parts::MetaParts;
+use meta_parts::structure::Structure;
 use meta_rules::fault::{RuleError, RuleFault};
-use meta_rules::held::{Held, rules};
+use meta_rules::held::rules;
 use meta_rules::limits::first_passed;
 use std::alloc::Global;
 use std::mem::replace;
@@ -69,7 +71,7 @@ fn unknown(uid: Uid, fault: LinkFault) -> MetaFault
 /// The identifiers of a file, where nothing stands twice.
 #[tactic(auto, unfolding(crate::specs::Faults::twice_fault))]
 pub(crate) fn numbered(alloc: Global, parts: &MetaParts) -> Result<Ids, MetaFault>
-    ensures { Unless (twice_fault parts.now) (λ ids. (ids ≡ ids_of parts.now) × (twice_of parts.now ≡ None)) result }
+    ensures { Finds meta_cause (twice_fault parts.now) (λ ids. (ids ≡ ids_of parts.now) × (twice_of parts.now ≡ None)) result }
 {
     match Ids::of(alloc, parts) {
         Ok(ids) => Ok(ids),
@@ -80,7 +82,7 @@ pub(crate) fn numbered(alloc: Global, parts: &MetaParts) -> Result<Ids, MetaFaul
 /// The objects of a file with their references, where each names an object.
 #[tactic(auto, unfolding(crate::specs::Faults::unknown_fault))]
 pub(crate) fn linked(alloc: Global, ids: &Ids, parts: &MetaParts) -> Result<Links, MetaFault>
-    ensures { Unless (unknown_fault ids.now parts.now) (λ links. (links ≡ links_of ids.now parts.now)
+    ensures { Finds meta_cause (unknown_fault ids.now parts.now) (λ links. (links ≡ links_of ids.now parts.now)
         × (first_unknown ids.now (references parts.now) ≡ None)) result }
 {
     match link(alloc, ids, parts) {
@@ -102,7 +104,7 @@ fn read(
     requires indicators { length parts.now.indicators ≡ length links.indicators }
     requires validation_rules { length parts.now.validation_rules ≡ length links.validation_rules }
     requires program_indicators { length parts.now.program_indicators ≡ length links.program_indicators }
-    ensures { Unless (unread_fault ids.now parts.now) (HaveExpressions parts.now links) result }
+    ensures { Finds meta_cause (unread_fault ids.now parts.now) (λ made. made ≡ expressions_of parts.now links) result }
 {
     match read_all(alloc, ids, parts, links) {
         Ok(made) => Ok(made),
@@ -168,7 +170,7 @@ pub(crate) fn with_expressions(
     requires indicators { length parts.now.indicators ≡ length links.indicators }
     requires validation_rules { length parts.now.validation_rules ≡ length links.validation_rules }
     requires program_indicators { length parts.now.program_indicators ≡ length links.program_indicators }
-    ensures { Unless (unread_fault ids.now parts.now) (AreRecords parts.now links) result }
+    ensures { Finds meta_cause (unread_fault ids.now parts.now) (λ records. records ≡ records_from parts.now links) result }
 {
     let mut links = links;
     let unread = take_unread(alloc, &mut links);
@@ -198,10 +200,10 @@ fn is_many(number: usize) -> bool
 
 /// What the rules between objects hand on, where they are kept.
 #[tactic(auto, unfolding(crate::specs::Faults::rule_fault))]
-pub(crate) fn ruled(alloc: Global, parts: &MetaParts, links: &Links) -> Result<Held, MetaFault>
+pub(crate) fn ruled(alloc: Global, parts: &MetaParts, links: &Links) -> Result<Structure, MetaFault>
     requires own_ids { HasOwnIds (tree_rows links.now.organisation_units) }
     requires in_range { CombosBelow (length links.now.category_combos) (option_combo_rows links.now.category_option_combos) }
-    ensures { Unless (rule_fault parts.now links.now) (IsHeld links.now) result }
+    ensures { Finds meta_cause (rule_fault parts.now links.now) (IsHeld links.now) result }
 {
     if is_many(links.organisation_units.len())
         || is_many(links.category_option_combos.len())
@@ -231,19 +233,19 @@ fn both<A: Drop, B: Drop>(first: A, second: Result<B, MetaFault>) -> Result<(A, 
 }
 
 /// The objects with their expressions, and what the rules hand on.
-#[tactic(auto, using(crate::proofs::FaultLemmas::faults, crate::proofs::ReadyLemmas::unless_both))]
+#[tactic(auto, using(crate::proofs::FaultLemmas::faults, crate::proofs::ReadyLemmas::found_both))]
 pub(crate) fn tried(
     alloc: Global,
     ids: &Ids,
     parts: &MetaParts,
     links: Links,
-) -> Result<(Records, Held), MetaFault>
+) -> Result<(Records, Structure), MetaFault>
     requires indicators { length parts.now.indicators ≡ length links.indicators }
     requires validation_rules { length parts.now.validation_rules ≡ length links.validation_rules }
     requires program_indicators { length parts.now.program_indicators ≡ length links.program_indicators }
     requires own_ids { HasOwnIds (tree_rows links.organisation_units) }
     requires in_range { CombosBelow (length links.category_combos) (option_combo_rows links.category_option_combos) }
-    ensures { Unless (option_or (unread_fault ids.now parts.now) (rule_fault parts.now links)) (λ pair. AreRecords parts.now links pair.0
+    ensures { Finds meta_cause (option_or (unread_fault ids.now parts.now) (rule_fault parts.now links)) (λ pair. (pair.0 ≡ records_from parts.now links)
         × IsHeld links pair.1) result }
 {
     let held = ruled(alloc, parts, &links);
@@ -269,7 +271,7 @@ fn unfit(ids: &Ids, records: &Records) -> Option<MetaFault>
     }
 }
 
-fn passed(parts: &MetaParts, held: &Held) -> Option<MetaFault>
+fn passed(parts: &MetaParts, held: &Structure) -> Option<MetaFault>
     ensures { result ≡ option_map passed (first_passed parts.now held.now.positions.items) }
 {
     match first_passed(parts, &held.positions) {
@@ -285,7 +287,7 @@ pub(crate) fn late(
     ids: &Ids,
     parts: &MetaParts,
     records: &Records,
-    held: &Held,
+    held: &Structure,
 ) -> Option<MetaFault>
     ensures { result ≡ option_or (option_map broken (stages_broken ids.now records.now.program_stages records.now.program_indicators))
         (option_map passed (first_passed parts.now held.now.positions.items)) }

@@ -11,7 +11,8 @@ use Rattle.org_tree.proofs.CountLemmas.{first_below-agree, first_below_tells}
 use Rattle.meta_parts.specs.declared.records.DataSet.{DataSet}
 use Rattle.meta_rules.specs.declared.workflows.Seen.{Seen}
 use Rattle.meta_rules.specs.declared.workflows.Seen.TheVariants.{Nothing, One, Several}
-use Rattle.meta_rules.specs.Workflows.{workflow_by, workflows_by, have_several, is_torn, workflow_of, AreWorkflows}
+use Rattle.meta_parts.specs.Workflows.{workflow_by, workflows_by, workflow_of, AreWorkflows}
+use Rattle.meta_rules.specs.Workflows.{have_several, is_torn}
 use Rattle.meta_rules.specs.Seen.{met, all_met, one_seen, is_several, seen_at, several_at, TakesEntries, TakesSet, HaveSeen}
 
 -- to meet a workflow once more changes nothing

@@ -7,6 +7,7 @@ use Rattle.dh_categories.specs.declared.fault.ComboFault.TheVariants.{Bad, Memor
 use Rattle.meta_parts.specs.declared.records.Category.{Category}
 use Rattle.meta_parts.specs.declared.records.CategoryCombo.{CategoryCombo}
 use Rattle.meta_parts.specs.declared.records.OptionCombo.{OptionCombo}
+use Rattle.meta_parts.specs.Rows.{option_combo_rows}
 use Rattle.meta_rules.specs.declared.fault.BrokenRule.TheVariants as rule
 use Rattle.meta_rules.specs.declared.fault.RuleFault.{RuleFault}
 use Rattle.meta_rules.specs.declared.fault.RuleError.{RuleError}
@@ -20,10 +21,6 @@ options_of categories place = option_map_or (λ (category : Category). category.
 -- for each combination, the options of each of its categories
 abbrev pub combo_lists : List Category → List CategoryCombo → List (List (List ℕ))
 combo_lists categories combos = map (λ (combo : CategoryCombo). map (options_of categories) combo.categories) combos
-
--- an option combination's category combination and its options
-abbrev pub option_combo_rows : List OptionCombo → List (ℕ × List ℕ)
-option_combo_rows option_combos = map (λ (option_combo : OptionCombo). (option_combo.category_combo, option_combo.category_options)) option_combos
 
 abbrev pub option_combo_id : List OptionCombo → ℕ → Option (List ℕ)
 option_combo_id option_combos place = option_map (λ (option_combo : OptionCombo). option_combo.id) (slice_get option_combos place)

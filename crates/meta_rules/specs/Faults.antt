@@ -1,5 +1,5 @@
 -- Rules that are broken.
-use Rattle.std.specs.Prelude.{◌≡◌, ℕ, List, Option, None, Some, Result, Ok, Err, ⊤}
+use Rattle.std.specs.Prelude.{ℕ, List, Option, None, Some}
 use lib.Chars.{codes}
 use Rattle.meta_rules.specs.declared.fault.BrokenRule.{BrokenRule}
 use Rattle.meta_rules.specs.declared.fault.BrokenRule.TheVariants as rule
@@ -21,8 +21,7 @@ rule_text rule.Aggregation = codes "aggregation"
 abbrev pub breaks : BrokenRule → Option (List ℕ) → RuleFault
 breaks which uid = record { uid = uid; which = which }
 
--- the answer is the rule that is broken; where none is, so much holds of what is handed on
-abbrev pub Ruled : {X : Type 0} → Option RuleFault → (X → Type 0) → Result X RuleError → Type 0
-Ruled broken Is (Ok x) = (broken ≡ None) × Is x
-Ruled broken Is (Err (Broken fault)) = broken ≡ Some fault
-Ruled broken Is (Err Memory) = ⊤
+-- what a fault carries; running out of memory carries nothing
+abbrev pub rule_cause : RuleError → Option RuleFault
+rule_cause (Broken fault) = Some fault
+rule_cause Memory = None

@@ -3,12 +3,15 @@ use Rattle.std.specs.Prelude.{◌≡◌, ℕ, ℤ, List, map, length, Option}
 use Rattle.std.specs.Option.{option_or}
 use Rattle.meta_parts.specs.declared.parts.MetaParts.{MetaParts}
 use Rattle.meta_parts.specs.declared.held.Links.{Links}
+use Rattle.meta_parts.specs.declared.structure.Structure.{Structure}
 use Rattle.meta_rules.specs.declared.fault.RuleFault.{RuleFault}
-use Rattle.meta_rules.specs.declared.held.Held.{Held}
-use Rattle.meta_rules.specs.Trees.{tree_rows, tree_broken}
-use Rattle.meta_rules.specs.Categories.{option_combo_rows, combo_broken}
-use Rattle.meta_rules.specs.Workflows.{workflow_broken, AreWorkflows}
-use Rattle.meta_rules.specs.Levels.{levels_broken, positions_of}
+use Rattle.meta_rules.specs.Trees.{tree_broken}
+use Rattle.meta_parts.specs.Rows.{tree_rows, option_combo_rows}
+use Rattle.meta_rules.specs.Categories.{combo_broken}
+use Rattle.meta_parts.specs.Workflows.{AreWorkflows}
+use Rattle.meta_rules.specs.Workflows.{workflow_broken}
+use Rattle.meta_parts.specs.Positions.{positions_of}
+use Rattle.meta_rules.specs.Levels.{levels_broken}
 use Rattle.meta_rules.specs.Overrides.{override_broken}
 
 -- an element of two workflows, else levels that don't fit, else another combination than the element's
@@ -30,7 +33,7 @@ pub record AreApprovals (links : Links) (of_elements : List (Option ℕ)) (of_wo
   pub positions : of_workflows ≡ map (positions_of links.data_approval_levels) links.data_approval_workflows
 
 -- the units as a tree, the option combinations, each element's workflow, each workflow's positions
-pub record IsHeld (links : Links) (held : Held) : Type 0 where
+pub record IsHeld (links : Links) (held : Structure) : Type 0 where
   pub tree : held.tree ≡ tree_rows links.organisation_units
   pub combos : held.combos ≡ option_combo_rows links.category_option_combos
   pub approvals : AreApprovals links held.workflows.items held.positions.items

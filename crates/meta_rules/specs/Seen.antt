@@ -4,7 +4,7 @@ use Rattle.std.specs.List.{list_any}
 use Rattle.meta_parts.specs.declared.records.DataSet.{DataSet}
 use Rattle.meta_rules.specs.declared.workflows.Seen.{Seen}
 use Rattle.meta_rules.specs.declared.workflows.Seen.TheVariants.{Nothing, One, Several}
-use Rattle.meta_rules.specs.Workflows.{workflow_by, workflows_by}
+use Rattle.meta_parts.specs.Workflows.{workflow_by, workflows_by}
 
 abbrev pub met : Seen → ℕ → Seen
 met Nothing workflow = One workflow

@@ -1,19 +1,15 @@
 -- The organisation units as a tree.
-use Rattle.std.specs.Prelude.{ℕ, List, Option, None, map, option_map, slice_get}
-use Rattle.org_tree.specs.Units.{UnitRow}
+use Rattle.std.specs.Prelude.{ℕ, List, Option, None, option_map, slice_get}
 use Rattle.org_tree.specs.Faults.{tree_fault}
 use Rattle.org_tree.specs.declared.fault.TreeFault.{TreeFault}
 use Rattle.org_tree.specs.declared.fault.TreeFault.TheVariants.{NoParent, NoRoot, TwoRoots, Loop, TooDeep, Memory}
 use Rattle.meta_parts.specs.declared.records.Unit.{Unit}
+use Rattle.meta_parts.specs.Rows.{tree_rows}
 use Rattle.meta_rules.specs.declared.fault.BrokenRule.TheVariants as rule
 use Rattle.meta_rules.specs.declared.fault.RuleFault.{RuleFault}
 use Rattle.meta_rules.specs.declared.fault.RuleError.{RuleError}
 use Rattle.meta_rules.specs.declared.fault.RuleError.TheVariants as error
 use Rattle.meta_rules.specs.Faults.{breaks}
-
--- a unit's identifier and the place of its parent
-abbrev pub tree_rows : List Unit → List UnitRow
-tree_rows units = map (λ unit. (unit.id, unit.parent)) units
 
 abbrev pub id_at : List Unit → ℕ → Option (List ℕ)
 id_at units place = option_map (λ (unit : Unit). unit.id) (slice_get units place)

@@ -3,8 +3,10 @@
 ghost use Rattle.std.specs.Prelude.{◌≡◌, ◌^◌, ◌<◌, length, map, IfOk};
 ghost use Rattle.dh_categories.specs.Combos.{shown_combo, shown_combos, shown_option_combos};
 ghost use Rattle.dh_categories.specs.Single.{CombosBelow};
-ghost use Rattle.meta_rules.specs.Faults.{Ruled};
-ghost use Rattle.meta_rules.specs.Categories.{options_of, combo_lists, option_combo_rows, option_combo_id, combo_error, rows_broken, combo_broken};
+ghost use Rattle.dh_base.specs.Memory.{Finds};
+ghost use Rattle.meta_rules.specs.Faults.{rule_cause};
+ghost use Rattle.meta_parts.specs.Rows.{option_combo_rows};
+ghost use Rattle.meta_rules.specs.Categories.{options_of, combo_lists, option_combo_id, combo_error, rows_broken, combo_broken};
 
 use crate::fault::{BrokenRule, RuleError, RuleFault};
 use dh_base::memory::Memory;
@@ -89,7 +91,8 @@ fn built(
 ) -> Result<Combos, RuleError>
     requires few { length rows.now < 2 ^ 32 }
     requires in_range { CombosBelow (length lists.now) (shown_option_combos rows.now) }
-    ensures { Ruled (rows_broken (shown_combos lists.now) (shown_option_combos rows.now) option_combos.now) (λ held. held ≡ shown_option_combos rows.now) result }
+    ensures { Finds rule_cause (rows_broken (shown_combos lists.now) (shown_option_combos rows.now) option_combos.now)
+        (λ held. held ≡ shown_option_combos rows.now) result }
 {
     match Combos::build(alloc, lists, rows) {
         Ok(held) => Ok(held),
@@ -106,7 +109,7 @@ pub fn combos_of(
 ) -> Result<Combos, RuleError>
     requires few { length option_combos.now < 2 ^ 32 }
     requires in_range { CombosBelow (length combos.now) (option_combo_rows option_combos.now) }
-    ensures { Ruled (combo_broken categories.now combos.now option_combos.now) (λ held. held ≡ option_combo_rows option_combos.now) result }
+    ensures { Finds rule_cause (combo_broken categories.now combos.now option_combos.now) (λ held. held ≡ option_combo_rows option_combos.now) result }
 {
     let lists = all_lists(alloc, categories, combos)?;
     let rows = rows(alloc, option_combos)?;

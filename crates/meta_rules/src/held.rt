@@ -3,10 +3,11 @@
 ghost use Rattle.std.specs.Prelude.{◌≡◌, ◌^◌, ◌<◌, length};
 ghost use Rattle.dh_categories.specs.Single.{CombosBelow};
 ghost use Rattle.org_tree.specs.Units.{HasOwnIds};
-ghost use Rattle.meta_rules.specs.Categories.{option_combo_rows};
-ghost use Rattle.meta_rules.specs.Faults.{Ruled};
+ghost use Rattle.meta_parts.specs.Rows.{option_combo_rows};
+ghost use Rattle.dh_base.specs.Memory.{Finds};
+ghost use Rattle.meta_rules.specs.Faults.{rule_cause};
 ghost use Rattle.meta_rules.specs.Held.{approvals_broken, AreApprovals, rules_broken, IsHeld};
-ghost use Rattle.meta_rules.specs.Trees.{tree_rows};
+ghost use Rattle.meta_parts.specs.Rows.{tree_rows};
 
 use crate::combos::combos_of;
 use crate::fault::RuleError;
@@ -15,31 +16,19 @@ use crate::overrides::first_override;
 use crate::tree::tree_of;
 use crate::workflows::workflows_of;
 use dh_base::items::Items;
-use dh_categories::combos::Combos;
 use meta_parts::held::Links;
 use meta_parts::parts::MetaParts;
-use org_tree::tree::Tree;
+use meta_parts::structure::Structure;
 use std::alloc::Global;
 
-/// What objects that keep the rules hand on.
-#[derive(Drop)]
-pub struct Held {
-    pub tree: Tree,
-    pub combos: Combos,
-    /// Of each data element the workflow of the data sets with it.
-    pub workflows: Vec<Option<u32>>,
-    /// Of each workflow the unit levels of its positions.
-    pub positions: Vec<Items<i64>>,
-}
-
-/// What the workflows hand on, if the data sets name no other combinations than their elements have.
+/// The workflows and their positions, if the data sets name no other combinations than their elements have.
 fn approvals(
     alloc: Global,
     parts: &MetaParts,
     links: &Links,
 ) -> Result<(Vec<Option<u32>>, Vec<Items<i64>>), RuleError>
     requires { length links.now.data_elements < 2 ^ 32 }
-    ensures { Ruled (approvals_broken parts.now links.now) (λ pair. AreApprovals links.now pair.0.items pair.1.items) result }
+    ensures { Finds rule_cause (approvals_broken parts.now links.now) (λ pair. AreApprovals links.now pair.0.items pair.1.items) result }
 {
     let workflows = workflows_of(
         alloc,
@@ -63,13 +52,13 @@ fn approvals(
 
 /// Tries the rules in the order of the keys: the tree, the option combinations, the workflows of the
 /// elements, the levels of the workflows, the combinations that data sets name.
-pub fn rules(alloc: Global, parts: &MetaParts, links: &Links) -> Result<Held, RuleError>
+pub fn rules(alloc: Global, parts: &MetaParts, links: &Links) -> Result<Structure, RuleError>
     requires few_units { length links.now.organisation_units < 2 ^ 32 }
     requires own_ids { HasOwnIds (tree_rows links.now.organisation_units) }
     requires few_combos { length links.now.category_option_combos < 2 ^ 32 }
     requires in_range { CombosBelow (length links.now.category_combos) (option_combo_rows links.now.category_option_combos) }
     requires few_elements { length links.now.data_elements < 2 ^ 32 }
-    ensures { Ruled (rules_broken parts.now links.now) (IsHeld links.now) result }
+    ensures { Finds rule_cause (rules_broken parts.now links.now) (IsHeld links.now) result }
 {
     let tree = tree_of(alloc, links.organisation_units.as_slice())?;
     let combos = combos_of(
@@ -79,7 +68,7 @@ pub fn rules(alloc: Global, parts: &MetaParts, links: &Links) -> Result<Held, Ru
         links.category_option_combos.as_slice(),
     )?;
     let (workflows, positions) = approvals(alloc, parts, links)?;
-    Ok(Held {
+    Ok(Structure {
         tree,
         combos,
         workflows,

@@ -2,8 +2,10 @@
 
 ghost use Rattle.std.specs.Prelude.{◌≡◌, ◌⊎◌, ◌^◌, ◌<◌, Some, length, IfOk, option_map, slice_get};
 ghost use Rattle.org_tree.specs.Units.{HasOwnIds};
-ghost use Rattle.meta_rules.specs.Faults.{Ruled};
-ghost use Rattle.meta_rules.specs.Trees.{tree_rows, id_at, tree_uid, tree_error, tree_broken};
+ghost use Rattle.dh_base.specs.Memory.{Finds};
+ghost use Rattle.meta_rules.specs.Faults.{rule_cause};
+ghost use Rattle.meta_parts.specs.Rows.{tree_rows};
+ghost use Rattle.meta_rules.specs.Trees.{id_at, tree_uid, tree_error, tree_broken};
 
 use crate::fault::{BrokenRule, RuleError, RuleFault};
 use dh_base::uid::Uid;
@@ -61,7 +63,7 @@ fn told(units: &[Unit], fault: TreeFault) -> RuleError
 pub fn tree_of(alloc: Global, units: &[Unit]) -> Result<Tree, RuleError>
     requires few { length units.now < 2 ^ 32 }
     requires own_ids { HasOwnIds (tree_rows units.now) }
-    ensures { Ruled (tree_broken units.now) (λ tree. tree ≡ tree_rows units.now) result }
+    ensures { Finds rule_cause (tree_broken units.now) (λ tree. tree ≡ tree_rows units.now) result }
 {
     let rows = rows(alloc, units)?;
     match Tree::build(alloc, &rows) {

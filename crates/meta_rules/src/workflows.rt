@@ -2,9 +2,11 @@
 
 ghost use Rattle.std.specs.Prelude.{◌≡◌, ◌^◌, ◌<◌, length, map, IfOk};
 ghost use Rattle.org_tree.specs.Count.{first_below};
-ghost use Rattle.meta_rules.specs.Faults.{Ruled};
+ghost use Rattle.dh_base.specs.Memory.{Finds};
+ghost use Rattle.meta_rules.specs.Faults.{rule_cause};
 ghost use Rattle.meta_rules.specs.Seen.{met, one_seen, several_at, TakesEntries, TakesSet, HaveSeen};
-ghost use Rattle.meta_rules.specs.Workflows.{torn_fault, workflow_broken, AreWorkflows};
+ghost use Rattle.meta_parts.specs.Workflows.{AreWorkflows};
+ghost use Rattle.meta_rules.specs.Workflows.{torn_fault, workflow_broken};
 
 use crate::fault::{BrokenRule, RuleError, RuleFault};
 use meta_parts::records::{DataSet, Element};
@@ -126,7 +128,7 @@ pub fn workflows_of(
     sets: &[DataSet],
 ) -> Result<Vec<Option<u32>>, RuleError>
     requires { length elements.now < 2 ^ 32 }
-    ensures { Ruled (workflow_broken elements.now sets.now) (λ list. AreWorkflows sets.now (length elements.now) list.items) result }
+    ensures { Finds rule_cause (workflow_broken elements.now sets.now) (λ list. AreWorkflows sets.now (length elements.now) list.items) result }
 {
     let seen = seen_in(alloc, elements.len(), sets)?;
     match first_torn(&seen) {

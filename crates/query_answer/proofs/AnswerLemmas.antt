@@ -10,16 +10,16 @@ use Rattle.dh_periods.specs.declared.name.PeriodName.{PeriodName}
 use Rattle.meta_parts.specs.declared.held.Records.{Records}
 use Rattle.dh_metadata.specs.Linked.{AreBelow, IsBelow}
 use Rattle.dh_metadata.specs.Objects.{count_of}
-use Rattle.seen_rows.specs.Seen.{SeenRecords}
-use Rattle.indicator_values.specs.declared.arithmetic.CellValue.{CellValue}
-use Rattle.indicator_values.specs.declared.arithmetic.CellValue.TheVariants as cell
+use Rattle.cell_values.specs.Seen.{SeenRecords}
+use Rattle.query_answer.specs.declared.arithmetic.CellValue.{CellValue}
+use Rattle.query_answer.specs.declared.arithmetic.CellValue.TheVariants as cell
 use Rattle.query_forms.specs.declared.plain.Dx.{Dx}
 use Rattle.query_forms.specs.declared.plain.DxKind.{DxKind}
 use Rattle.query_forms.specs.declared.plain.DxKind.TheVariants as dx_kind
 use Rattle.query_forms.specs.declared.plain.Query.{Query}
-use Rattle.answer_body.specs.Body.{body_of, IsAnswer}
-use Rattle.answer_body.specs.Names.{IsThere, kind_of}
-use Rattle.answer_body.specs.Rows.{IsRow}
+use Rattle.query_answer.specs.Body.{body_of, IsAnswer}
+use Rattle.query_answer.specs.Names.{IsThere, kind_of}
+use Rattle.query_answer.specs.BodyRows.{IsRow}
 use Rattle.query_answer.specs.declared.whole.AnswerFault.TheVariants.{Wide}
 use Rattle.query_answer.specs.Asked.{can_answer_dx, CanAnswer}
 use Rattle.query_answer.specs.Rows.{Slot, alone, slots, period_slots, unit_slots, row_with, slot_value, unit_rows, period_rows, dx_rows, rows_from}

@@ -1,3 +1,5 @@
+pub mod ValueLaws
+pub mod FloatLemmas
 pub mod AskedLemmas
 pub mod LoopLemmas
 pub mod AnswerLemmas

@@ -8,18 +8,18 @@ use Rattle.dh_periods.specs.declared.name.PeriodName.{PeriodName}
 use Rattle.expr_lang.specs.declared.tree.Item.{Item}
 use Rattle.meta_parts.specs.declared.held.Records.{Records}
 use Rattle.meta_parts.specs.declared.records.Indicator.{Indicator}
-use Rattle.seen_rows.specs.Seen.{SeenRecords, SameSeen}
+use Rattle.cell_values.specs.Seen.{SeenRecords, SameSeen}
 use Rattle.cell_values.specs.Cells.{cell_of, days_in}
 use Rattle.cell_values.specs.Items.{item_value_of}
 use Rattle.cell_values.proofs.ReorderLemmas.{aggregate_of-permutation, item_value_of-same}
-use Rattle.indicator_values.specs.declared.arithmetic.CellValue.TheVariants as cell
-use Rattle.indicator_values.specs.Value.{indicator_value_of}
+use Rattle.query_answer.specs.declared.arithmetic.CellValue.TheVariants as cell
+use Rattle.query_answer.specs.Value.{indicator_value_of}
 use Rattle.query_forms.specs.declared.plain.Dx.{Dx}
 use Rattle.query_forms.specs.declared.plain.DxKind.{DxKind}
 use Rattle.query_forms.specs.declared.plain.DxKind.TheVariants as dx_kind
 use Rattle.query_forms.specs.declared.plain.Query.{Query}
-use Rattle.answer_body.specs.declared.rows.AnswerRow.{AnswerRow}
-use Rattle.answer_body.specs.Body.{body_of}
+use Rattle.query_answer.specs.declared.body_rows.AnswerRow.{AnswerRow}
+use Rattle.query_answer.specs.Body.{body_of}
 use Rattle.query_answer.specs.Cells.{of_option, element_cell, indicator_cell, cell_by, cell_value, is_wide}
 use Rattle.query_answer.specs.Rows.{Slot, row_with, period_slots, unit_slots, unit_is_wide, unit_rows, period_is_wide, period_rows, dx_is_wide, dx_rows}
 use Rattle.query_answer.specs.Rows.{rows_from}

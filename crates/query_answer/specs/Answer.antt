@@ -4,10 +4,10 @@ use Rattle.std.specs.declared.alloc.Global.{Global}
 use Rattle.serde_json.specs.Data.{Data}
 use Rattle.serde_json.specs.Written.{compact_text}
 use Rattle.meta_parts.specs.declared.held.Records.{Records}
-use Rattle.seen_rows.specs.Seen.{SeenRecords}
+use Rattle.cell_values.specs.Seen.{SeenRecords}
 use Rattle.query_forms.specs.declared.plain.Dx.{Dx}
 use Rattle.query_forms.specs.declared.plain.Query.{Query}
-use Rattle.answer_body.specs.Body.{body_of}
+use Rattle.query_answer.specs.Body.{body_of}
 use Rattle.query_answer.specs.declared.whole.AnswerFault.{AnswerFault}
 use Rattle.query_answer.specs.declared.whole.AnswerFault.TheVariants.{Wide, Memory}
 use Rattle.query_answer.specs.Rows.{dx_is_wide, rows_from}

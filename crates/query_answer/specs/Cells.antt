@@ -6,13 +6,13 @@ use Rattle.dh_base.specs.Fractions.{Fraction}
 use Rattle.dh_periods.specs.declared.name.PeriodName.{PeriodName}
 use Rattle.meta_parts.specs.declared.held.Records.{Records}
 use Rattle.meta_parts.specs.declared.records.Indicator.{Indicator}
-use Rattle.agg_types.specs.declared.sample.Sample.{Sample}
-use Rattle.seen_rows.specs.Seen.{SeenRecords}
+use Rattle.table_rows.specs.declared.sample.Sample.{Sample}
+use Rattle.cell_values.specs.Seen.{SeenRecords}
 use Rattle.cell_values.specs.Cells.{cell_of, aggregate_of, days_in}
 use Rattle.cell_values.specs.Items.{item_value_of}
-use Rattle.indicator_values.specs.declared.arithmetic.CellValue.{CellValue}
-use Rattle.indicator_values.specs.declared.arithmetic.CellValue.TheVariants as cell
-use Rattle.indicator_values.specs.Value.{indicator_value_of}
+use Rattle.query_answer.specs.declared.arithmetic.CellValue.{CellValue}
+use Rattle.query_answer.specs.declared.arithmetic.CellValue.TheVariants as cell
+use Rattle.query_answer.specs.Value.{indicator_value_of}
 use Rattle.query_forms.specs.declared.plain.Dx.{Dx}
 use Rattle.query_forms.specs.declared.plain.DxKind.{DxKind}
 use Rattle.query_forms.specs.declared.plain.DxKind.TheVariants as dx_kind

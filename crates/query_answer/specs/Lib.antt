@@ -1,3 +1,10 @@
+pub mod Scale
+pub mod Value
+pub mod Texts
+pub mod Heads
+pub mod BodyRows
+pub mod Names
+pub mod Body
 pub mod Asked
 pub mod Cells
 pub mod Plans

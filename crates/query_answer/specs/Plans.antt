@@ -2,7 +2,7 @@
 use Rattle.std.specs.Prelude.{◌≡◌, slice_get, Some}
 use Rattle.meta_parts.specs.declared.held.Records.{Records}
 use Rattle.meta_parts.specs.declared.records.Indicator.{Indicator}
-use Rattle.indicator_values.specs.Value.{AreSides}
+use Rattle.query_answer.specs.Value.{AreSides}
 use Rattle.query_forms.specs.declared.plain.Dx.{Dx}
 use Rattle.query_forms.specs.declared.plain.DxKind.TheVariants as dx_kind
 use Rattle.query_answer.specs.declared.cells.Plan.{Plan}

@@ -3,12 +3,12 @@ use Rattle.std.specs.Prelude.{ℕ, ◌+◌, Bool, true, false, List, [], ◌∷�
 use Rattle.std.specs.List.{list_any}
 use Rattle.dh_periods.specs.declared.name.PeriodName.{PeriodName}
 use Rattle.meta_parts.specs.declared.held.Records.{Records}
-use Rattle.seen_rows.specs.Seen.{SeenRecords}
-use Rattle.indicator_values.specs.declared.arithmetic.CellValue.{CellValue}
-use Rattle.indicator_values.specs.declared.arithmetic.CellValue.TheVariants as cell
+use Rattle.cell_values.specs.Seen.{SeenRecords}
+use Rattle.query_answer.specs.declared.arithmetic.CellValue.{CellValue}
+use Rattle.query_answer.specs.declared.arithmetic.CellValue.TheVariants as cell
 use Rattle.query_forms.specs.declared.plain.Dx.{Dx}
 use Rattle.query_forms.specs.declared.plain.Query.{Query}
-use Rattle.answer_body.specs.declared.rows.AnswerRow.{AnswerRow}
+use Rattle.query_answer.specs.declared.body_rows.AnswerRow.{AnswerRow}
 use Rattle.query_answer.specs.Cells.{cell_value, is_wide, value_text}
 
 -- what a cell takes of periods or of units, and what its row tells of them

@@ -1,8 +1,8 @@
 //! What a query is answered from.
 
+use cell_values::Seer;
 use dh_metadata::metadata::Metadata;
 use query_forms::Query;
-use seen_rows::Seer;
 
 /// What a query is answered from: the metadata, the records, and what the user sees of them.
 #[derive(Drop)]

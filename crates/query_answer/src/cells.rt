@@ -2,16 +2,18 @@
 
 ghost use Rattle.std.specs.Prelude.{◌≡◌, ◌<◌, ◌≤◌, ℕ, List, map, length, slice_get, Some, None, false, true, IfOk};
 ghost use Rattle.dh_base.specs.Decimals.{printed};
-ghost use Rattle.indicator_values.specs.Value.{AreSides};
+ghost use Rattle.query_answer.specs.Value.{AreSides};
 ghost use Rattle.dh_metadata.specs.Linked.{AreBelow};
-ghost use Rattle.seen_rows.specs.Held.{IsSeer};
-ghost use Rattle.seen_rows.specs.Seen.{seen, seen_of, contents_of};
+ghost use Rattle.cell_values.specs.Held.{IsSeer};
+ghost use Rattle.cell_values.specs.Seen.{seen, seen_of, contents_of};
 ghost use Rattle.cell_values.specs.Items.{item_value_of};
 ghost use Rattle.query_answer.specs.Asked.{can_answer_dx};
 ghost use Rattle.query_answer.specs.Cells.{of_option, element_cell, indicator_cell, cell_value, places_of, decimals_of, value_text};
 ghost use Rattle.query_answer.specs.Plans.{IsPlan};
 
+use crate::arithmetic::CellValue;
 use crate::asking::Asking;
+use crate::sides::{Sides, indicator_value, sides_of};
 use cell_values::{days, element_value, item_value};
 use dh_base::frac::Frac;
 use dh_base::items::Items;
@@ -20,7 +22,6 @@ use dh_base::print::print_rounded;
 use dh_metadata::metadata::Metadata;
 use dh_periods::Period;
 use expr_lang::Item;
-use indicator_values::{CellValue, Sides, indicator_value, sides_of};
 use meta_parts::records::Indicator;
 use query_forms::{Dx, DxKind};
 use std::alloc::Global;
@@ -148,7 +149,7 @@ fn indicator_cell<S: RowStore>(
 }
 
 /// The value of the item's cell over these periods and units.
-#[tactic(auto, unfolding(crate::specs::Cells::cell_value, seen_rows::specs::Seen::seen_of))]
+#[tactic(auto, unfolding(crate::specs::Cells::cell_value, cell_values::specs::Seen::seen_of))]
 pub fn cell_value<S: RowStore>(
     alloc: Global,
     asking: &Asking<'_, S>,

@@ -1,11 +1,20 @@
-//! The answer to a query: a row for each cell that has a value.
+//! The answer to a query: a row for each cell that has a value, in the analytics body, with heads of
+//! columns and names.
 #![tactic(auto)]
 
+mod arithmetic;
 mod asked;
 mod asking;
+mod body;
+mod body_rows;
 mod cells;
+mod heads;
+mod members;
+mod names;
 mod parts;
 mod rows;
+mod sides;
+mod texts;
 mod whole;
 
 pub use asked::can_answer;

@@ -2,20 +2,20 @@
 
 ghost use Rattle.std.specs.Prelude.{◌≡◌, ◌<◌, ◌++◌, [], length, true, false, None, find, option_map, IfOk};
 ghost use Rattle.dh_metadata.specs.Linked.{AreBelow};
-ghost use Rattle.seen_rows.specs.Held.{IsSeer};
-ghost use Rattle.seen_rows.specs.Seen.{seen_of, contents_of};
+ghost use Rattle.cell_values.specs.Held.{IsSeer};
+ghost use Rattle.cell_values.specs.Seen.{seen_of, contents_of};
 ghost use Rattle.query_answer.specs.Asked.{CanAnswer, can_answer_dx};
 ghost use Rattle.query_answer.specs.Plans.{IsPlan};
 ghost use Rattle.query_answer.specs.Rows.{slot_of, unit_slots, unit_is_wide, unit_rows, period_is_wide, period_rows, dx_is_wide, dx_rows, rows_from};
 
+use crate::arithmetic::CellValue;
 use crate::asking::Asking;
+use crate::body_rows::AnswerRow;
 use crate::cells::{Plan, cell_value, plan_of, value_text};
 use crate::parts::{Part, part_at, part_count};
-use answer_body::AnswerRow;
 use dh_base::items::Items;
 use dh_base::memory::Memory;
 use dh_periods::Period;
-use indicator_values::CellValue;
 use query_forms::Dx;
 use std::alloc::Global;
 use table_rows::RowStore;

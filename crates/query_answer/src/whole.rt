@@ -2,19 +2,19 @@
 
 ghost use Rattle.std.specs.Prelude.{◌≡◌};
 ghost use Rattle.table_rows.specs.Store.{Contents};
-ghost use Rattle.seen_rows.specs.Held.{IsSeer};
-ghost use Rattle.seen_rows.specs.Seen.{seen_of, contents_of, SameSeen};
+ghost use Rattle.cell_values.specs.Held.{IsSeer};
+ghost use Rattle.cell_values.specs.Seen.{seen_of, contents_of, SameSeen};
 ghost use Rattle.query_answer.specs.Asked.{CanAnswer};
 ghost use Rattle.query_answer.specs.Answer.{answer_of, Answers};
 
 use crate::asking::Asking;
+use crate::body::body;
 use crate::rows::write_rows;
-use answer_body::body;
+use cell_values::Seer;
 use dh_base::items::Items;
 use dh_base::memory::Memory;
 use dh_metadata::metadata::Metadata;
 use query_forms::Query;
-use seen_rows::Seer;
 use std::alloc::Global;
 use table_rows::RowStore;
 

@@ -5,7 +5,7 @@ use Rattle.std.proofs.lemmas.Bool.Decides.{nat_tests}
 use Rattle.dh_base.specs.declared.codes.Refusal.{Refusal}
 use Rattle.dh_base.specs.declared.plain.CutKind.{CutKind}
 use Rattle.dh_base.specs.declared.plain.CutKind.TheVariants.{Full, Latest}
-use Rattle.http_wire.specs.declared.request.Request.{Request}
+use Rattle.wire_head.specs.declared.request.Request.{Request}
 use Rattle.meta_parts.specs.declared.held.Records.{Records}
 use Rattle.change_log.specs.declared.limits.Limits.{Limits}
 use Rattle.dh_periods.specs.Moment.{day_of}
@@ -145,6 +145,7 @@ routed-keeps old new moment (Ok (call.Query user asked query)) keep made reply =
 routed-keeps old new moment (Ok (call.Update kind)) keep made reply = update-keeps old new kind keep made reply
 routed-keeps old new moment (Ok (call.Values user set)) keep made reply = change-keeps old new _ keep made reply.found reply.steps reply.brought reply.sure
 routed-keeps old new moment (Ok (call.Completion user list)) keep made reply = change-keeps old new _ keep made reply.found reply.steps reply.brought reply.sure
+routed-keeps old new moment (Ok (call.Approval user act)) keep made reply = change-keeps old new _ keep made reply.found reply.steps reply.brought reply.sure
 
 pub reply-keeps : (old new : Seen) (moment : ℤ) (request : Request) (keep : Bool) (made : Option (List ℕ)) → ReplyAt old moment request keep made new
     → Keeps old made new

@@ -6,3 +6,7 @@ pub mod KeepLaws
 pub mod TellLemmas
 pub mod StepLemmas
 pub mod UnseenLemmas
+pub mod ServeLemmas
+pub mod OverLemmas
+pub mod ResponseLemmas
+pub mod TextLemmas

@@ -9,6 +9,7 @@ use Rattle.engine.specs.declared.machine.CutFault.TheVariants as cut
 use Rattle.engine.specs.declared.machine.LookFault.TheVariants as look
 use Rattle.request_replies.specs.Steps.{CallReply, RoutedReply}
 use Rattle.request_replies.specs.Texts.{IsTold, refusal_reply}
+use Rattle.request_replies.proofs.TellLemmas.{is_told}
 
 pub gives_up : (seen : Seen) (moment : ℤ) (meant : Result Call Refusal) (keep : Bool) → RoutedReply seen moment meant keep None seen
 gives_up seen moment (Err refused) keep = (tt, refl)
@@ -17,6 +18,7 @@ gives_up seen moment (Ok (call.Update kind)) keep =
     record { between = seen.state; replies = record { found = Err cut.Memory; begins = refl; ends = (refl, tt) }; same = refl }
 gives_up seen moment (Ok (call.Values user set)) keep = record { found = Err change.Memory; steps = refl; brought = refl; tells = tt; sure = tt }
 gives_up seen moment (Ok (call.Completion user list)) keep = record { found = Err change.Memory; steps = refl; brought = refl; tells = tt; sure = tt }
+gives_up seen moment (Ok (call.Approval user act)) keep = record { found = Err change.Memory; steps = refl; brought = refl; tells = tt; sure = tt }
 
 pub of_call : (old new : Seen) (moment : ℤ) (meant : Result Call Refusal) (asked : Call) (keep : Bool) (made : Option (List ℕ)) → meant ≡ Ok asked
     → CallReply old moment asked keep made new → RoutedReply old moment meant keep made new
@@ -26,3 +28,5 @@ pub of_refusal : (old : Seen) (moment : ℤ) (meant : Result Call Refusal) (refu
     → IsTold made (Some (refusal_reply None keep refused)) → RoutedReply old moment meant keep made old
 of_refusal old moment meant refused keep made is told =
     subst (λ (m : Result Call Refusal). RoutedReply old moment m keep made old) (sym is) (told, refl)
+
+pub ruleset replies = (gives_up, of_call, of_refusal, is_told)

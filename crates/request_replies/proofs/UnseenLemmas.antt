@@ -6,13 +6,13 @@ use Rattle.dh_base.specs.Codes.{status_of}
 use Rattle.dh_base.specs.declared.codes.Code.TheVariants.{F18}
 use Rattle.dh_base.specs.declared.codes.Refusal.{Refusal}
 use Rattle.dh_base.specs.declared.memory.Memory.{Memory}
-use Rattle.http_wire.specs.declared.request.Request.{Request}
+use Rattle.wire_head.specs.declared.request.Request.{Request}
 use Rattle.dh_periods.specs.Moment.{day_of}
 use Rattle.query_answer.specs.Answer.{answer_of}
 use Rattle.query_answer.proofs.UnseenLemmas.{answer_of-same}
 use Rattle.query_forms.specs.Given.{refusal}
 use Rattle.query_forms.specs.declared.plain.Query.{Query}
-use Rattle.reply_bodies.specs.Bodies.{error_text}
+use Rattle.wire_replies.specs.Bodies.{error_text}
 use Rattle.web_routes.specs.Calls.{routed}
 use Rattle.web_routes.specs.declared.call.Call.{Call}
 use Rattle.web_routes.specs.declared.call.Call.TheVariants as call

@@ -4,3 +4,7 @@ pub mod Changes
 pub mod Updates
 pub mod Steps
 pub mod Unseen
+pub mod Serving
+pub mod OverFile
+pub mod Response
+pub mod SessionText

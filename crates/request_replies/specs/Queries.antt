@@ -4,7 +4,7 @@ use Rattle.dh_changes.specs.declared.change.Change.{Change}
 use Rattle.meta_parts.specs.declared.held.Records.{Records}
 use Rattle.query_forms.specs.declared.plain.Query.{Query}
 use Rattle.query_answer.specs.Answer.{answer_of}
-use Rattle.seen_rows.specs.Seen.{seen_of}
+use Rattle.cell_values.specs.Seen.{seen_of}
 use Rattle.table_rows.specs.Store.{Contents}
 use Rattle.engine.specs.Machine.{Step}
 use Rattle.engine.specs.Machine.Act.{looked}

@@ -1,7 +1,7 @@
 -- The reply to a request, and what it does to the machine.
 use Rattle.std.specs.Prelude.{◌≡◌, ◌≤◌, ℕ, ℤ, Bool, List, Option, None, Some, Result, Ok, Err}
 use Rattle.dh_base.specs.declared.codes.Refusal.{Refusal}
-use Rattle.http_wire.specs.declared.request.Request.{Request}
+use Rattle.wire_head.specs.declared.request.Request.{Request}
 use Rattle.dh_periods.specs.Moment.{day_of}
 use Rattle.web_routes.specs.Calls.{routed}
 use Rattle.web_routes.specs.declared.call.Call.{Call}
@@ -9,7 +9,7 @@ use Rattle.web_routes.specs.declared.call.Call.TheVariants as call
 use Rattle.change_log.specs.Log.{NeverFails}
 use Rattle.engine.specs.Seen.{Seen, IsSound}
 use Rattle.engine.specs.MetaAfter.{published_meta}
-use Rattle.change_requests.specs.declared.request.ChangeRequest.TheVariants.{Values, Completion}
+use Rattle.change_requests.specs.declared.request.ChangeRequest.TheVariants.{Values, Completion, Approval}
 use Rattle.request_replies.specs.Texts.{text_of, IsTold, refusal_reply}
 use Rattle.request_replies.specs.Queries.{QueryReply}
 use Rattle.request_replies.specs.Changes.{ChangeReply, asking}
@@ -21,6 +21,7 @@ CallReply old moment (call.Query user asked query) keep text new = QueryReply ol
 CallReply old moment (call.Update kind) keep text new = OwnUpdateReply old kind keep text new
 CallReply old moment (call.Values user set) keep text new = ChangeReply old (asking moment user (Values set)) keep text new
 CallReply old moment (call.Completion user list) keep text new = ChangeReply old (asking moment user (Completion list)) keep text new
+CallReply old moment (call.Approval user act) keep text new = ChangeReply old (asking moment user (Approval act)) keep text new
 
 -- a request that is no call is told its refusal
 abbrev pub RoutedReply : Seen → ℤ → Result Call Refusal → Bool → Option (List ℕ) → Seen → Type 0

@@ -1,6 +1,6 @@
 // The reply to a change.
 ghost use Rattle.std.specs.Prelude.{◌≡◌, ◌<◌, true, [], length, Some, None, IfOk};
-ghost use Rattle.http_wire.specs.Reply.{is_reply_status};
+ghost use Rattle.wire_replies.specs.Heads.{is_reply_status};
 ghost use Rattle.change_log.specs.Log.{NeverFails};
 ghost use Rattle.engine.specs.Seen.{IsSound};
 ghost use Rattle.request_session.specs.Replies.{text_in};

@@ -1,13 +1,16 @@
 //! The machine's replies to requests: the call that a request stands for is made of the engine, and its answer is
-//! told.
+//! told. A session without a store, over the bytes of a metadata file and a source of requests.
 #![tactic(auto)]
 
 mod change;
 mod laws;
+mod over_file;
 mod query;
 mod replier;
+mod serving;
 mod texts;
 mod update;
 
 pub use laws::replies_keep;
+pub use over_file::{SessionEnd, refuse_long, session_over};
 pub use replier::Replier;

@@ -8,13 +8,14 @@ ghost use Rattle.query_answer.specs.Asked.{CanAnswer};
 ghost use Rattle.query_lang.specs.Askable.{IsAskable};
 ghost use Rattle.query_forms.specs.Given.{refusal};
 ghost use Rattle.table_rows.specs.Store.{contents_in};
-ghost use Rattle.seen_rows.specs.Seen.{contents_of};
+ghost use Rattle.cell_values.specs.Seen.{contents_of};
 ghost use Rattle.request_session.specs.Replies.{text_in, reply_text};
 ghost use Rattle.request_replies.specs.Texts.{told, IsTold, refusal_reply};
 ghost use Rattle.request_replies.specs.Queries.{QueryReply, answer_by, look_text};
 ghost use Rattle.dh_base.specs.declared.codes.Code.TheVariants.{F18};
 
 use crate::texts::{number_reply, refusal_reply};
+use cell_values::Seer;
 use dh_base::codes::{Code, Refusal};
 use dh_base::items::Items;
 use dh_base::memory::Memory;
@@ -24,7 +25,6 @@ use engine::{Engine, LookFault, View};
 use query_answer::{AnswerFault, answer};
 use query_forms::Query;
 use request_session::{Reply, whole_reply};
-use seen_rows::Seer;
 use std::alloc::Global;
 use table_rows::RowStore;
 

@@ -16,12 +16,12 @@ use dh_base::memory::Memory;
 use dh_outside::{Clock, Keeper};
 use dh_periods::day_of;
 use engine::Engine;
-use http_wire::Request;
 use request_session::{Machine, Reply};
 use std::alloc::Global;
 use web_routes::RouteFault;
 use web_routes::call::Call;
 use web_routes::routing::route;
+use wire_head::Request;
 
 // The reply to a call at a moment.
 #[tactic(auto, unfolding(engine::specs::MetaAfter::meta_after))]
@@ -58,11 +58,19 @@ fn reply_to_call<K: Keeper>(
             &ChangeRequest::Completion(list),
             keep,
         ),
+        Call::Approval { user, act } => reply_to_change(
+            alloc,
+            engine,
+            user,
+            moment,
+            &ChangeRequest::Approval(act),
+            keep,
+        ),
     }
 }
 
 // The reply to a request at a moment.
-#[tactic(auto, using(crate::proofs::ReplyLemmas::gives_up, crate::proofs::ReplyLemmas::of_call, crate::proofs::ReplyLemmas::of_refusal, crate::proofs::TellLemmas::is_told))]
+#[tactic(auto, using(crate::proofs::ReplyLemmas::replies))]
 fn reply_at<K: Keeper>(
     alloc: Global,
     engine: &mut Engine<K>,

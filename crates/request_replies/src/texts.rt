@@ -8,9 +8,9 @@ use dh_base::codes::{Code, Refusal};
 use dh_base::items::Items;
 use dh_base::memory::Memory;
 use dh_base::plain::CutKind;
-use reply_bodies::{error_body, update_body};
 use request_session::{Reply, whole_reply};
 use std::alloc::Global;
+use wire_replies::{error_body, update_body};
 
 /// The refusal with a number as its detail.
 pub(crate) fn numbered(alloc: Global, code: Code, number: u64) -> Result<Refusal, Memory>

@@ -1,7 +1,6 @@
 pub mod AlongLemmas
 pub mod CodeLaws
 pub mod PromptLemmas
-pub mod ReplyLemmas
 pub mod RequestLemmas
 pub mod SendLemmas
 pub mod SessionLaws

@@ -4,9 +4,9 @@ use Rattle.std.specs.Io.KnownBytes.{Appends}
 use Rattle.dh_outside.specs.Talk.{Talk, Says}
 use Rattle.dh_outside.specs.declared.Failed.{Failed}
 use Rattle.http_wire.specs.Reads.{RestSeen, Reads}
-use Rattle.http_wire.specs.declared.request.Request.{Request}
-use Rattle.http_wire.specs.declared.request.WireFault.{WireFault}
-use Rattle.http_wire.specs.declared.request.WireFault.TheVariants as fault
+use Rattle.wire_head.specs.declared.request.Request.{Request}
+use Rattle.http_wire.specs.declared.fault.WireFault.{WireFault}
+use Rattle.http_wire.specs.declared.fault.WireFault.TheVariants as fault
 use Rattle.request_session.specs.Replies.{RefusesBy}
 use Rattle.request_session.specs.Session.{AppendsFront}
 use Rattle.request_session.specs.declared.ended.Ended.{Ended}

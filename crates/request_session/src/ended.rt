@@ -1,3 +1,4 @@
+//! How a session ends, and how a turn does.
 use dh_base::codes::Code;
 
 /// How a session ended.
@@ -20,7 +21,7 @@ pub enum Ended {
 }
 
 /// What one turn came to.
-#[derive(Clone, Copy, Drop, PartialEq, Eq)]
+#[derive(Clone, Copy, Drop)]
 pub(crate) enum Turn {
     /// A request was answered, and this says whether it asks to keep the connection.
     Answered(bool),

@@ -1,18 +1,19 @@
-// Where a session's requests come from and its replies go: two objects, of which nothing is known of the order in which
-// they are read and written, or one object that is both and may tell it.
+//! Where a session's requests come from and its replies go: two objects, of which nothing is known of the order in which
+//! they are read and written, or one object that is both and may tell it.
 ghost use Rattle.std.specs.Prelude.{◌≡◌, ◌≤◌, ◌++◌, ℕ, List, Option, None, Err, OnErr};
 ghost use Rattle.dh_outside.specs.Faults.{Rose};
 ghost use Rattle.dh_outside.specs.Talk.{Talk};
 ghost use Rattle.http_wire.specs.Reads.{Reads};
-ghost use Rattle.http_wire.specs.declared.request.WireFault.TheVariants as wire;
+ghost use Rattle.http_wire.specs.declared.fault.WireFault.TheVariants as wire;
 ghost use Rattle.request_session.specs.Replies.{memory_reply, text_in};
 ghost use Rattle.request_session.specs.Turn.{Sent};
 
 use crate::reply::Reply;
 use crate::send::{send_memory, send_reply};
 use dh_outside::{Failed, Link, Sink, Source};
-use http_wire::{Request, Rest, WireFault, next_request};
+use http_wire::{Rest, WireFault, next_request};
 use std::alloc::Global;
+use wire_head::Request;
 
 /// Where requests come from and replies go.
 pub(crate) trait Peer {

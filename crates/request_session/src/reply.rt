@@ -1,4 +1,5 @@
-use http_wire::Head;
+//! A reply in its two parts.
+use wire_replies::Head;
 
 /// A reply: its head, which tells how long the body is, and the body.
 #[derive(Drop)]

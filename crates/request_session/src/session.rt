@@ -1,4 +1,4 @@
-// The loop of a session.
+//! The loop over requests.
 ghost use Rattle.std.specs.Prelude.{◌≡◌, ◌≢◌, ◌≤◌, ◌<◌, List, ℕ, Some};
 ghost use Rattle.dh_outside.specs.Faults.{Rose};
 ghost use Rattle.request_session.specs.Prompt.{Prompt};

@@ -1,17 +1,18 @@
-// One turn of a session.
+//! One turn of the loop: a request and its reply.
 ghost use Rattle.std.specs.Prelude.{◌≡◌, ◌≢◌, ◌≤◌};
 ghost use Rattle.dh_outside.specs.Faults.{Rose};
 ghost use Rattle.request_session.specs.Turn.{Turns, Responds, Speaks, Stops};
 ghost use Rattle.request_session.specs.declared.ended.Ended.TheVariants.{ReadFault, WriteFault};
 ghost use Rattle.request_session.specs.declared.ended.Turn.TheVariants.{Stopped};
-ghost use Rattle.http_wire.specs.declared.request.WireFault.TheVariants as wire;
+ghost use Rattle.http_wire.specs.declared.fault.WireFault.TheVariants as wire;
 
 use crate::ended::{Ended, Turn};
 use crate::machine::Machine;
 use crate::peer::Peer;
 use crate::send::{answer, refuse};
-use http_wire::{Request, Rest, WireFault};
+use http_wire::{Rest, WireFault};
 use std::alloc::Global;
+use wire_head::Request;
 
 // Answers a request. `more` says whether another one is allowed after it.
 fn respond<M: Machine, P: Peer>(

@@ -1,7 +1,7 @@
 -- The rows of an element are those of its groups.
-use Rattle.std.proofs.Common.{◌≡◌, ◌∙◌, ℕ, ◌+◌, ◌<◌, ◌≤◌, ◌*◌, Bool, true, ◌&&◌, List, [], ◌∷◌, length, drop, get_or, Option, Some, None, ℤ, refl, sym, ap}
+use Rattle.std.proofs.Common.{◌≡◌, ◌∙◌, ℕ, ◌≤◌, true, List, [], ◌∷◌, length, Option, Some, None, ℤ, refl, sym, ap}
 use Rattle.std.proofs.Common.{arith}
-use Rattle.std.specs.Prelude.{IsTrue, nat_le}
+use Rattle.std.specs.Prelude.{IsTrue}
 use Rattle.std.specs.List.{filter}
 use Rattle.std.proofs.lemmas.Bool.{leb-true}
 use Rattle.table_rows.specs.declared.event.EventRow.{EventRow}
@@ -11,8 +11,8 @@ use Rattle.table_rows.specs.declared.row.Group.{Group}
 use Rattle.table_rows.specs.declared.sum.Sum.{Sum}
 use Rattle.table_rows.specs.Groups.{groups_of}
 use Rattle.table_rows.specs.Rows.{in_range}
-use Rattle.table_rows.specs.Store.{is_store, is_short}
-use Rattle.table_rows.specs.Sums.{joined, sum_over, sum_of_row, sum_of_rows, sum_of_number}
+use Rattle.table_rows.specs.Store.{is_store}
+use Rattle.table_rows.specs.Sums.{sum_over, sum_of_row, sum_of_rows, sum_of_number}
 use Rattle.table_rows.proofs.CellLemmas.{cell-groups}
 use Rattle.table_rows.proofs.RunLemmas.{groups_of-shorter}
 use Rattle.table_rows.proofs.StoreLemmas.{store-holds, true_from}

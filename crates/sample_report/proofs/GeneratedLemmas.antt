@@ -1,7 +1,8 @@
 -- The report over what the metadata file says.
 use Rattle.std.proofs.Common.{◌≡◌, ℕ, ℤ, List, Result, Ok, Err, IfOk, refl, sym, subst, ap, ◌∙◌}
 use Rattle.meta_parts.specs.declared.held.Records.{Records}
-use Rattle.meta_reader.specs.Faults.{Answers}
+use Rattle.dh_base.specs.Memory.{Answers}
+use Rattle.meta_reader.specs.Faults.{meta_cause}
 use Rattle.meta_reader.specs.declared.fault.MetaFault.{MetaFault}
 use Rattle.meta_reader.specs.declared.fault.MetaFault.TheVariants as fault
 use Rattle.meta_reader.specs.Read.{metadata_of_bytes}
@@ -21,7 +22,7 @@ made (Ok text) count moment bytes r file reads is = λ some has.
     (same_records (metadata_of_bytes sample_file) r some (subst (λ (b : List ℕ). metadata_of_bytes b ≡ Ok r) file reads) has)
 made (Err e) count moment bytes r file reads is = tt
 
-refused : (meant : Result Records MetaFault) (found : MetaFault) → (found ≡ fault.Memory → ⊥) → Answers (Err found) meant → meant ≡ Err found
+refused : (meant : Result Records MetaFault) (found : MetaFault) → (found ≡ fault.Memory → ⊥) → Answers meta_cause meant (Err found) → meant ≡ Err found
 refused meant fault.Memory other is = absurd (other refl)
 refused meant fault.NotJson other is = is
 refused meant (fault.Shape path) other is = is
@@ -37,9 +38,9 @@ ok_err some found is = cc
 -- a file with a fault has no metadata, so what is reported of a fault is never reported
 pub over_fault : (result : Result (List ℕ) Memory) (count : ℕ) (moment : ℤ) (bytes : List ℕ) (found : MetaFault) → (found ≡ fault.Memory → ⊥)
     → bytes ≡ sample_file
-    → Answers (Err found) (metadata_of_bytes bytes) → IfOk result (λ text. IsGenerated count moment text)
+    → Answers meta_cause (metadata_of_bytes bytes) (Err found) → IfOk result (λ text. IsGenerated count moment text)
 unfolding IsGenerated
 over_fault (Ok text) count moment bytes found other file is = λ some has.
     absurd (ok_err some found
-    (sym has ∙ refused (metadata_of_bytes sample_file) found other (subst (λ (b : List ℕ). Answers (Err found) (metadata_of_bytes b)) file is)))
+    (sym has ∙ refused (metadata_of_bytes sample_file) found other (subst (λ (b : List ℕ). Answers meta_cause (metadata_of_bytes b) (Err found)) file is)))
 over_fault (Err e) count moment bytes found other file is = tt

@@ -7,7 +7,7 @@ use Rattle.dh_periods.specs.Texts.{period_of, read_name, read_ending}
 use Rattle.dh_periods.specs.Days.{is_listed}
 use Rattle.meta_parts.specs.declared.held.Records.{Records}
 use Rattle.table_rows.specs.declared.row.Row.{Row}
-use Rattle.seen_rows.specs.Seen.{seen}
+use Rattle.cell_values.specs.Seen.{seen}
 use Rattle.cell_values.specs.Cells.{cell_of, aggregate_of}
 use Rattle.sample_report.specs.Report.{years, total_for}
 

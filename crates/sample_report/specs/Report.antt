@@ -14,7 +14,7 @@ use Rattle.meta_parts.specs.declared.kind.Kind.{Kind}
 use Rattle.meta_parts.specs.declared.kind.Kind.TheVariants.{DataElement, OrganisationUnit, User}
 use Rattle.dh_metadata.specs.Objects.{find_of}
 use Rattle.table_rows.specs.declared.row.Row.{Row}
-use Rattle.seen_rows.specs.Seen.{seen}
+use Rattle.cell_values.specs.Seen.{seen}
 use Rattle.cell_values.specs.Cells.{cell_of, aggregate_of}
 use Rattle.engine.specs.MetaAfter.{meta_after}
 use Rattle.engine.specs.Tables.{tables_of}

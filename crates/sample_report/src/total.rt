@@ -6,7 +6,7 @@ ghost use Rattle.sample_report.specs.Report.{named, years, records_of, total_for
 
 use crate::counts::count_rows;
 use crate::ids::{COUNTRY, ELEMENT, USER};
-use cell_values::element_value;
+use cell_values::{Seer, element_value};
 use dh_base::frac::Frac;
 use dh_base::items::Items;
 use dh_base::memory::Memory;
@@ -15,7 +15,6 @@ use dh_base::uid::Uid;
 use dh_metadata::metadata::Metadata;
 use dh_periods::Period;
 use meta_parts::kind::Kind;
-use seen_rows::Seer;
 use std::alloc::Global;
 use table_rows::RowStore;
 

@@ -10,8 +10,8 @@ use Rattle.dh_periods.proofs.TextLemmas.{and_then-some, map-some}
 use Rattle.dh_changes.specs.declared.keys.ValueKey.{ValueKey}
 use Rattle.org_tree.specs.Units.{IsTree, order_of}
 use Rattle.org_tree.proofs.OrderLemmas.{order-differs}
-use Rattle.meta_ids.proofs.DistinctLemmas.{place_of-below}
-use Rattle.meta_ids.proofs.PlaceLemmas.{place_of-at}
+use Rattle.meta_parts.proofs.DistinctLemmas.{place_of-below}
+use Rattle.meta_parts.proofs.PlaceLemmas.{place_of-at}
 use Rattle.meta_parts.specs.declared.held.Records.{Records}
 use Rattle.meta_parts.specs.declared.records.Unit.{Unit as OrgUnit}
 use Rattle.meta_parts.specs.declared.kind.Kind.{Kind}

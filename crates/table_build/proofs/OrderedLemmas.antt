@@ -77,7 +77,8 @@ module _ {K X : Type 0} (cmp : K → K → Ordering) (key : X → K) where
   insert-length : (x : X) (es : List (K × X)) → length (insert_entry cmp es (key x) x) ≤ length es + 1
   insert-length x [] = omega arith
   insert-length x (e ∷ es) =
-      elim (cmp (key x) e.0) as (λ r. length (match_ordering r ((key x, x) ∷ e ∷ es) ((e.0, x) ∷ es) (e ∷ insert_entry cmp es (key x) x)) ≤ length (e ∷ es) + 1) [
+      elim (cmp (key x) e.0) as (λ r. length (match_ordering r ((key x, x) ∷ e ∷ es) ((e.0, x) ∷ es) (e ∷ insert_entry cmp es (key x) x))
+      ≤ length (e ∷ es) + 1) [
         | Less ↦ omega arith
         | Equal ↦ omega arith
         | Greater ↦ (let more = insert-length x es in omega arith)

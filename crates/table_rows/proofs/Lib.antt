@@ -8,3 +8,9 @@ pub mod CellLemmas
 pub mod RunLemmas
 pub mod GatherLemmas
 pub mod DifferLemmas
+pub mod TotalLemmas
+pub mod EndLemmas
+pub mod SumValueLemmas
+pub mod ShuffleLemmas
+pub mod OrderFreeLemmas
+pub mod CellValueLemmas

@@ -5,3 +5,7 @@ pub mod Sums
 pub mod Events
 pub mod Store
 pub mod Cells
+pub mod Samples
+pub mod Values
+pub mod Ends
+pub mod RowSamples

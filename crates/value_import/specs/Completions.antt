@@ -63,7 +63,7 @@ reg_place_of names =
 
 -- ---- the key
 
-unfoldable pub set_id : Records → ℕ → List ℕ
+abbrev pub set_id : Records → ℕ → List ℕ
 set_id r set = option_map_or (λ (found : sets.DataSet). found.id) (slice_get r.data_sets set) []
 
 unfoldable pub reg_key_of : Records → Place → RegKey

@@ -103,7 +103,7 @@ fn placed(meta: &Metadata, asked: &Completion) -> Result<Place, Code>
     reg_place_of(meta, &names)
 }
 
-#[tactic(auto, unfolding(crate::specs::Completions::reg_key_of, crate::specs::Completions::set_id, crate::specs::Values::unit_id, crate::specs::Values::option_combo_id))]
+#[tactic(auto, unfolding(crate::specs::Completions::reg_key_of, crate::specs::Values::unit_id, crate::specs::Values::option_combo_id))]
 fn key_of(meta: &Metadata, place: &Place) -> RegKey
     requires { IsWithin meta.now place.now }
     ensures { result ≡ reg_key_of meta.now place.now }

@@ -1,10 +1,12 @@
 -- The call that a request stands for. Its causes of refusal stand in this order: the route, the method, the user, the
 -- right, the parameters, the body.
 use Rattle.std.specs.Prelude.{◌≡◌, ℕ, ℤ, ◌<◌, if◌then◌else◌, List, [], ◌∷◌, length, Option, Some, None, option_and_then, Result, Ok, Err}
+use Rattle.dh_approvals.specs.declared.act.Verb.{Verb}
+use Rattle.dh_approvals.specs.declared.act.Verb.TheVariants as verb
 use Rattle.dh_base.specs.declared.codes.Code.TheVariants as code
 use Rattle.dh_base.specs.declared.codes.Refusal.{Refusal}
 use Rattle.dh_base.specs.declared.plain.CutKind.TheVariants.{Full}
-use Rattle.http_wire.specs.declared.request.Request.{Request}
+use Rattle.wire_head.specs.declared.request.Request.{Request}
 use Rattle.meta_parts.specs.declared.held.Records.{Records}
 use Rattle.dh_metadata.specs.Users.{user_of, has_authority}
 use Rattle.query_forms.specs.Form.{pairs_of}
@@ -18,6 +20,7 @@ use Rattle.web_routes.specs.Parameters.{asked_of, kind_of, params_of}
 use Rattle.web_routes.specs.Routes.{authority_of, route_of}
 use Rattle.web_routes.specs.declared.table.Route.{Route}
 use Rattle.web_routes.specs.declared.table.Route.TheVariants as route
+use Rattle.web_routes.specs.Approvals.{act_of}
 use Rattle.web_routes.specs.Completions.{uncompletion_of}
 use Rattle.web_routes.specs.Told.{or_body}
 use Rattle.web_routes.specs.declared.call.Call.{Call}
@@ -64,6 +67,9 @@ unfoldable pub uncompletion_call : Records → ℕ → List ℕ → Result Call 
 uncompletion_call r user text =
     and_then (uncompletion_of r (pairs_of text)) (λ completion. Ok (call.Completion user (completion ∷ [])))
 
+unfoldable pub approval_call : Records → ℕ → Verb → List ℕ → Result Call Refusal
+approval_call r user verb text = and_then (act_of r verb (pairs_of text)) (λ act. Ok (call.Approval user act))
+
 -- routes that are not built have F9
 abbrev pub not_built : Result Call Refusal
 not_built = Err (refusal code.F9 [])
@@ -77,10 +83,10 @@ call_of r day user route.Values request = values_call user request
 call_of r day user route.Complete request = completions_call user request.body
 call_of r day user route.Uncomplete request = uncompletion_call r user request.query
 call_of r day user route.Tracker request = not_built
-call_of r day user route.Approve request = not_built
-call_of r day user route.Unapprove request = not_built
-call_of r day user route.Accept request = not_built
-call_of r day user route.Unaccept request = not_built
+call_of r day user route.Approve request = approval_call r user verb.Approve request.query
+call_of r day user route.Unapprove request = approval_call r user verb.Unapprove request.query
+call_of r day user route.Accept request = approval_call r user verb.Accept request.query
+call_of r day user route.Unaccept request = approval_call r user verb.Unaccept request.query
 
 -- what a user who may ask it asks for by a route
 unfoldable pub allowed_call : Records → ℤ → ℕ → Route → Request → Result Call Refusal
@@ -99,6 +105,7 @@ IsBy r by (call.Query user asked query) = (user ≡ by) × IsAskable r by query
 IsBy r by (call.Update kind) = kind ≡ Full
 IsBy r by (call.Values user set) = user ≡ by
 IsBy r by (call.Completion user list) = user ≡ by
+IsBy r by (call.Approval user act) = user ≡ by
 
 -- the user of the call is one of the metadata's, and may ask its query; an update is of all tables
 abbrev pub IsSound : Records → Call → Type 0
@@ -106,3 +113,4 @@ IsSound r (call.Query user asked query) = (user < length r.users) × IsAskable r
 IsSound r (call.Update kind) = kind ≡ Full
 IsSound r (call.Values user set) = user < length r.users
 IsSound r (call.Completion user list) = user < length r.users
+IsSound r (call.Approval user act) = user < length r.users

@@ -5,3 +5,4 @@ pub mod Parameters
 pub mod Told
 pub mod Completions
 pub mod Calls
+pub mod Approvals

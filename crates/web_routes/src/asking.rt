@@ -4,9 +4,10 @@ ghost use Rattle.std.specs.Option.{option_copied};
 ghost use Rattle.meta_parts.specs.declared.held.Records.{Records};
 ghost use Rattle.web_routes.specs.Given.{Gives};
 ghost use Rattle.web_routes.specs.Routes.{authority_of};
-ghost use Rattle.web_routes.specs.Calls.{user_for, lacked, query_call, update_call, values_call, completions_call, uncompletion_call, not_built, call_of};
+ghost use Rattle.web_routes.specs.Calls.{user_for, lacked, query_call, update_call, values_call, completions_call, uncompletion_call, approval_call, not_built, call_of};
 ghost use Rattle.web_routes.specs.Calls.{allowed_call, IsBy};
 
+use crate::approval::act_of;
 use crate::body::{completions_in, query_in, set_in};
 use crate::call::Call;
 use crate::completion::{only, uncompletion_of};
@@ -14,11 +15,12 @@ use crate::fault::{RouteFault, refused};
 use crate::form::{asked_of, kind_of, params_of};
 use crate::pairs::pairs_of;
 use crate::table::{Route, authority_of};
+use dh_approvals::Verb;
 use dh_base::codes::Code;
 use dh_base::items::Items;
 use dh_metadata::metadata::Metadata;
-use http_wire::Request;
 use std::alloc::Global;
+use wire_head::Request;
 
 /// The user whose token it is.
 #[tactic(auto, unfolding(crate::specs::Calls::user_for))]
@@ -116,6 +118,22 @@ fn uncompletion_call(
     Ok(Call::Completion { user, list })
 }
 
+#[tactic(auto, unfolding(crate::specs::Calls::approval_call))]
+fn approval_call(
+    alloc: Global,
+    request: &Request,
+    meta: &Metadata,
+    user: u32,
+    verb: Verb,
+) -> Result<Call, RouteFault>
+    ensures value { Gives (approval_call meta.now user verb request.now.query) result }
+    ensures user { IfOk result (λ call. IsBy meta.now user call) }
+{
+    let pairs = pairs_of(alloc, request.query.as_slice())?;
+    let act = act_of(alloc, meta, verb, &pairs)?;
+    Ok(Call::Approval { user, act })
+}
+
 fn not_built(alloc: Global) -> Result<Call, RouteFault>
     ensures { Gives not_built result }
 {
@@ -142,12 +160,11 @@ fn call_of(
         Route::Values => values_call(alloc, request, user),
         Route::Complete => completions_call(alloc, request.body.as_slice(), user),
         Route::Uncomplete => uncompletion_call(alloc, meta, request.query.as_slice(), user),
-        Route::Check
-        | Route::Tracker
-        | Route::Approve
-        | Route::Unapprove
-        | Route::Accept
-        | Route::Unaccept => not_built(alloc),
+        Route::Approve => approval_call(alloc, request, meta, user, Verb::Approve),
+        Route::Unapprove => approval_call(alloc, request, meta, user, Verb::Unapprove),
+        Route::Accept => approval_call(alloc, request, meta, user, Verb::Accept),
+        Route::Unaccept => approval_call(alloc, request, meta, user, Verb::Unaccept),
+        Route::Check | Route::Tracker => not_built(alloc),
     }
 }
 

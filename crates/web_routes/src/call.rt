@@ -1,5 +1,6 @@
 //! What a request asks for.
 
+use dh_approvals::ApprovalAct;
 use dh_base::items::Items;
 use dh_base::plain::CutKind;
 use query_forms::Query;
@@ -17,4 +18,6 @@ pub enum Call {
     Values { user: u32, set: ValueSet },
     /// Complete data set registrations, made and taken away.
     Completion { user: u32, list: Items<Completion> },
+    /// Data is approved or accepted, or no longer.
+    Approval { user: u32, act: ApprovalAct },
 }

@@ -1,6 +1,7 @@
 //! From a request to the call that it stands for, or its refusal.
 #![tactic(auto)]
 
+mod approval;
 mod asking;
 mod body;
 pub mod call;

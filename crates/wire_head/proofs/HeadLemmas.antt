@@ -1,6 +1,6 @@
 -- A head of few lines has few fields, and what is read of it is one thing.
-use Rattle.std.proofs.Common.{◌≡◌, ◌≢◌, ◌∙◌, ℕ, ◌+◌, ◌-◌, ◌<◌, ◌≤◌, List, [], ◌∷◌, ◌++◌, length, drop, map, Option, Some, None, Result, Ok, Err, refl, sym}
-use Rattle.std.proofs.Common.{ap, subst, arith, append-nil, append_assoc, nat_eq, cond, codes}
+use Rattle.std.proofs.Common.{◌≡◌, ◌≢◌, ◌∙◌, ℕ, ◌+◌, ◌≤◌, List, [], ◌∷◌, ◌++◌, length, drop, map, Option, Some, None, Result, Ok, Err, refl, sym}
+use Rattle.std.proofs.Common.{ap, subst, arith, append-nil, append_assoc, nat_eq, cond}
 use Rattle.std.proofs.lemmas.List.Sums.{sum_by-append}
 use Rattle.std.proofs.Math.Seq.{drop-length}
 use Rattle.std.specs.List.{count_by, flat_map}
@@ -12,10 +12,11 @@ use Rattle.httparse.specs.declared.Status.{Status}
 use Rattle.httparse.specs.declared.Status.TheVariants.{Complete}
 use Rattle.httparse.specs.Outcome.{IfComplete}
 use Rattle.httparse.proofs.GrammarLemmas.{request_unique}
+use Rattle.dh_base.specs.Memory.{Answers}
 use Rattle.dh_base.specs.declared.codes.Code.{Code}
 use Rattle.wire_head.specs.Fields as fields
 use Rattle.wire_head.specs.Lines.{field_lines}
-use Rattle.wire_head.specs.Head.{Parts, parts_of, IsRead, said_by, meant_by, Answers}
+use Rattle.wire_head.specs.Head.{Parts, parts_of, IsRead, said_by, meant_by, cause_of, Tells}
 use Rattle.wire_head.specs.declared.head.Head.{Head}
 use Rattle.wire_head.specs.declared.head.HeadFault.{HeadFault}
 use Rattle.wire_head.specs.declared.head.HeadFault.TheVariants as fault
@@ -91,10 +92,11 @@ whole_read bytes k end parts reads all same meant said =
     let nothing : drop end bytes ≡ [] = ap (λ n. drop n bytes) all ∙ drop-length bytes in
     (Some parts, (k, subst (λ rest. ReadsRequest bytes k rest) nothing reads, same), said)
 
-pub Answers_map : (r : Result Head HeadFault) (P Q : Result Head Code → Type 0) → ((m : Result Head Code) → P m → Q m) → Answers r P → Answers r Q
-Answers_map (Ok head) P Q step p = step (Ok head) p
-Answers_map (Err (fault.Refused code)) P Q step p = step (Err code) p
-Answers_map (Err fault.Memory) P Q step p = p
+-- what holds of what is meant holds of what the answer says
+pub tells : (Meant : Result Head Code → Type 0) (meant : Result Head Code) (r : Result Head HeadFault) → Meant meant → Answers cause_of meant r → Tells Meant r
+tells Meant meant (Ok head) holds is = subst Meant is holds
+tells Meant meant (Err (fault.Refused code)) holds is = subst Meant is holds
+tells Meant meant (Err fault.Memory) holds is = tt
 
 -- what a whole head is, where the answer is known by an equation
 pub held_by : (status : Status ℕ) (end : ℕ) (Held : ℕ → Type 0) → status ≡ Complete end → IfComplete {A = ℕ} {E = Error} (Ok status) Held → Held end

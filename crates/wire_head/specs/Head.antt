@@ -1,6 +1,5 @@
 -- What the head of a request says.
-use Rattle.std.specs.Prelude.{◌≡◌, ℕ, Bool, true, false, ◌&&◌, not, List, [], map, Option, None, Some, Result, Ok, Err, ⊤, codes, nat_eq, nat_lt}
-use Rattle.std.specs.List.{list_any}
+use Rattle.std.specs.Prelude.{◌≡◌, ℕ, Bool, true, false, List, [], map, Option, None, Some, Result, Ok, Err, ⊤, codes, nat_lt}
 use Rattle.httparse.specs.Grammar.{RequestHead, ReadsRequest}
 use Rattle.httparse.specs.Spans.{name_and_value}
 use Rattle.dh_base.specs.declared.codes.Code.{Code}
@@ -61,8 +60,13 @@ IsMeantBy false bytes meant = (parts : Option Parts) × IsRead bytes parts × (m
 abbrev pub Says : List ℕ → Result Head Code → Type 0
 Says bytes meant = IsMeantBy (nat_lt 64 (field_lines bytes)) bytes meant
 
--- the answer is what is meant, or memory ran out
-abbrev pub Answers : Result Head HeadFault → (Result Head Code → Type 0) → Type 0
-Answers (Ok head) Meant = Meant (Ok head)
-Answers (Err (Refused code)) Meant = Meant (Err code)
-Answers (Err Memory) Meant = ⊤
+-- why a head is refused; running out of memory has no cause
+abbrev pub cause_of : HeadFault → Option Code
+cause_of (Refused code) = Some code
+cause_of Memory = None
+
+-- so much holds of what the answer says, unless memory ran out
+abbrev pub Tells : (Result Head Code → Type 0) → Result Head HeadFault → Type 0
+Tells Meant (Ok head) = Meant (Ok head)
+Tells Meant (Err (Refused code)) = Meant (Err code)
+Tells Meant (Err Memory) = ⊤

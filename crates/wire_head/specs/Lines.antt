@@ -1,5 +1,5 @@
 -- Empty lines, and where the head of a request ends (RFC 9112, sections 2.1 and 2.2).
-use Rattle.std.specs.Prelude.{ℕ, ◌+◌, ◌-◌, ◌≡◌, Bool, ◌&&◌, List, [], ◌∷◌, Option, None, Some, cond, option_map, length, take, drop, nat_eq, nat_le, nat_lt}
+use Rattle.std.specs.Prelude.{ℕ, ◌+◌, ◌-◌, ◌≡◌, ◌&&◌, List, [], ◌∷◌, Option, None, Some, cond, option_map, length, take, drop, nat_eq, nat_le, nat_lt}
 use Rattle.std.specs.List.{count_by}
 use Rattle.wire_head.specs.declared.lines.Opening.{Opening}
 use Rattle.wire_head.specs.declared.lines.Opening.TheVariants.{Nothing, Unfinished, TooLong, Whole}

@@ -1,8 +1,8 @@
 ghost use Rattle.std.specs.Prelude.{◌≡◌, ◌≤◌, Ok, IfOk, map, option_map, Option, nat_lt, false};
 ghost use Rattle.httparse.specs.Borrowed.{header_parts};
-ghost use Rattle.dh_base.specs.Memory.{out_of_memory};
+ghost use Rattle.dh_base.specs.Memory.{Answers};
 ghost use Rattle.wire_head.specs.Lines.{field_lines};
-ghost use Rattle.wire_head.specs.Head.{Parts, head_with, said_by, IsMeantBy, Says, Answers};
+ghost use Rattle.wire_head.specs.Head.{Parts, head_with, said_by, cause_of, IsMeantBy, Says, Tells};
 ghost use Rattle.wire_head.specs.declared.head.HeadFault.TheVariants.{Memory};
 
 use crate::fields;
@@ -76,8 +76,8 @@ fn head_with(
     headers: &[Header],
     plan: Plan,
 ) -> Result<Head, HeadFault>
-    ensures { Answers result (λ meant. meant ≡ Ok (head_with
-        (record { method = method.now; target = target.now; minor = minor; fields = map header_parts headers.now }) plan)) }
+    ensures { Answers cause_of (Ok (head_with
+        (record { method = method.now; target = target.now; minor = minor; fields = map header_parts headers.now }) plan)) result }
 {
     Ok(Head {
         method: copied(alloc, method)?,
@@ -98,8 +98,8 @@ fn said_by(
     minor: u8,
     headers: &[Header],
 ) -> Result<Head, HeadFault>
-    ensures { Answers result (λ meant. meant ≡ said_by
-        (record { method = method.now; target = target.now; minor = minor; fields = map header_parts headers.now })) }
+    ensures { Answers cause_of (said_by
+        (record { method = method.now; target = target.now; minor = minor; fields = map header_parts headers.now })) result }
 {
     match plan_body(headers) {
         Ok(plan) => head_with(alloc, method, target, minor, headers, plan),
@@ -110,7 +110,7 @@ fn said_by(
 // Of a head with few enough lines.
 fn read_lines(alloc: Global, head: &[u8]) -> Result<Head, HeadFault>
     requires { field_lines head.now ≤ 64 }
-    ensures { Answers result (IsMeantBy false head.now) }
+    ensures { Tells (IsMeantBy false head.now) result }
 {
     let mut headers = [EMPTY_HEADER; FIELDS];
     let mut request = httparse::Request::new(&mut headers);
@@ -138,7 +138,7 @@ fn read_lines(alloc: Global, head: &[u8]) -> Result<Head, HeadFault>
 
 /// What the bytes of a head say, as `find_opening` finds them.
 pub fn read_head(alloc: Global, head: &[u8]) -> Result<Head, HeadFault>
-    ensures { Answers result (Says head.now) }
+    ensures { Tells (Says head.now) result }
 {
     if field_lines(head) > FIELDS {
         return Err(HeadFault::Refused(Code::F2));

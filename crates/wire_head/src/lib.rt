@@ -1,4 +1,4 @@
-//! The head of a request of HTTP/1.1 (RFC 9112): the empty lines before it, where it ends, and what
+//! Requests of HTTP/1.1 (RFC 9112) as plain data, and the head of one: the empty lines before it, where it ends, and what
 //! its fields say of the body, the token and the connection. The grammar is that of `httparse`.
 #![tactic(auto)]
 
@@ -6,3 +6,6 @@ pub mod fields;
 pub mod head;
 pub mod lines;
 pub mod plan;
+mod request;
+
+pub use request::Request;

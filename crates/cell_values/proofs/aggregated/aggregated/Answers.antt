@@ -1,8 +1,8 @@
 use Rattle.std.proofs.Common.{◌≡◌, ◌∙◌, true, sym, ap, subst, rules}
 use Rattle.std.proofs.lemmas.Fn.{always_returns_same}
-use Rattle.agg_types.specs.Samples.{in_series_order}
-use Rattle.agg_types.specs.Values.{value_by}
-use Rattle.agg_types.proofs.OrderFreeLemmas.{value_by-permutation}
+use Rattle.table_rows.specs.Samples.{in_series_order}
+use Rattle.table_rows.specs.Values.{value_by}
+use Rattle.table_rows.proofs.OrderFreeLemmas.{value_by-permutation}
 use Rattle.cell_values.specs.Parts.{key_of}
 use Rattle.cell_values.proofs.OwnKeyLemmas.{own-ordered}
 use Rattle.cell_values.proofs.aggregated.aggregated.Goals as goal

@@ -6,9 +6,9 @@ use Rattle.table_rows.specs.Cells.{gathered}
 use Rattle.table_rows.specs.Groups.{groups_of}
 use Rattle.table_rows.specs.Sums.{sum_over}
 use Rattle.table_rows.proofs.StoreLemmas.{store-holds, true_from}
-use Rattle.agg_types.specs.RowSamples.{sample_of}
-use Rattle.seen_rows.specs.Held.{AreSeenOrders}
-use Rattle.seen_rows.specs.Seen.{need_for}
+use Rattle.table_rows.specs.RowSamples.{sample_of}
+use Rattle.cell_values.specs.Held.{AreSeenOrders}
+use Rattle.cell_values.specs.Seen.{need_for}
 use Rattle.cell_values.specs.Parts.{is_group_asked, group_sum, ranged_rows, value_in, HaveOwnKeys}
 use Rattle.cell_values.proofs.GlueLemmas.{element-value, gathered-few}
 use Rattle.cell_values.proofs.OwnKeyLemmas.{own-samples}

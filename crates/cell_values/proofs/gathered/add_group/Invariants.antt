@@ -1,5 +1,5 @@
 use Rattle.std.proofs.Common.{◌≡◌, ◌++◌, map, drop}
-use Rattle.agg_types.specs.RowSamples.{sample_of}
+use Rattle.table_rows.specs.RowSamples.{sample_of}
 use Rattle.cell_values.specs.Parts.{ranged_rows}
 use Rattle.cell_values.proofs.gathered.add_group.Given as goal
 

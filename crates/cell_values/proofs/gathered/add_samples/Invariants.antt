@@ -1,5 +1,5 @@
 use Rattle.std.proofs.Common.{◌≡◌, ◌++◌, map, take}
-use Rattle.agg_types.specs.RowSamples.{sample_of}
+use Rattle.table_rows.specs.RowSamples.{sample_of}
 use Rattle.cell_values.proofs.gathered.add_samples.Given as goal
 
 abbrev pub invariant-loop-row : goal.invariant-loop-row

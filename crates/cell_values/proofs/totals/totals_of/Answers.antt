@@ -1,7 +1,7 @@
 use Rattle.std.proofs.Common.{◌≡◌, ◌≤◌, ◌+◌, ◌*◌, ◌∙◌, pos, ◌+ℤ◌, ◌*ℤ◌, unsigned_abs, refl, ap, subst, arith, rules, of_z, to_z, to_z-of_z, FitsSigned}
 use Rattle.std.specs.Int.{w128}
 use Rattle.table_rows.specs.declared.sum.Sum.{Sum}
-use Rattle.agg_types.specs.Samples.{days_of}
+use Rattle.table_rows.specs.Samples.{days_of}
 use Rattle.cell_values.specs.Parts.{group_sum, group_weight}
 use Rattle.cell_values.proofs.PartLemmas.{sums-more, sums-fit}
 use Rattle.cell_values.proofs.WeightLemmas.{weights-more}

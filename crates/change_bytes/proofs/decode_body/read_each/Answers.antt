@@ -1,8 +1,8 @@
 use Rattle.std.proofs.Common.{◌∙◌, Some, sym, ap}
 use Rattle.std.proofs.lemmas.Result.{err_from_is_err_and}
-use Rattle.byte_codec.specs.Reading.{times_at}
+use Rattle.change_bytes.specs.ReadWords.{times_at}
 use Rattle.change_bytes.specs.Reading.{write_at}
-use Rattle.byte_codec.proofs.Counting.{goes_on, fails, is_done}
+use Rattle.change_bytes.proofs.Counting.{goes_on, fails, is_done}
 use Rattle.change_bytes.proofs.decode_body.read_each.Goals as goal
 
 pub returns-in_err-read_write : goal.returns-in_err-read_write

@@ -1,7 +1,7 @@
 use Rattle.std.proofs.Common.{◌≡◌, ◌-◌}
-use Rattle.byte_codec.specs.Reading.{times_at}
+use Rattle.change_bytes.specs.ReadWords.{times_at}
 use Rattle.change_bytes.specs.Reading.{write_at}
-use Rattle.byte_codec.proofs.Counting.{with_front}
+use Rattle.change_bytes.proofs.Counting.{with_front}
 use Rattle.change_bytes.proofs.decode_body.read_each.Given as goal
 
 abbrev pub invariant-loop : goal.invariant-loop

@@ -1,6 +1,6 @@
 use Rattle.std.proofs.Common.{subst}
 use Rattle.std.proofs.lemmas.List.Elements.{All-more}
-use Rattle.byte_codec.proofs.Growing.{grown}
+use Rattle.change_bytes.proofs.Growing.{grown}
 use Rattle.change_bytes.specs.Bytes.{write_bytes}
 use Rattle.change_bytes.specs.Forms.{IsWrite}
 use Rattle.change_bytes.proofs.encoding.put_each.Goals as goal

@@ -1,5 +1,5 @@
 use Rattle.std.proofs.Common.{◌∙◌, ap, length}
-use Rattle.byte_codec.specs.Writing.{listed, capped}
+use Rattle.change_bytes.specs.Words.{listed, capped}
 use Rattle.std.specs.Int.{w32}
 use Rattle.change_bytes.specs.Bytes.{write_bytes}
 use Rattle.change_bytes.proofs.Sizes.{body-length}

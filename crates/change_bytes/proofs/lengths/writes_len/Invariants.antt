@@ -1,6 +1,6 @@
 use Rattle.std.proofs.Common.{◌≡◌, ◌+◌, length, take}
 use Rattle.std.specs.List.{flat_map}
-use Rattle.byte_codec.specs.Writing.{capped}
+use Rattle.change_bytes.specs.Words.{capped}
 use Rattle.change_bytes.specs.Bytes.{write_bytes}
 use Rattle.change_bytes.proofs.lengths.writes_len.Given as goal
 

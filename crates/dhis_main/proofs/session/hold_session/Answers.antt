@@ -1,6 +1,6 @@
 use Rattle.std.proofs.Common.{◌≡◌, Err, IfSome, ap, subst, sym}
 use Rattle.dh_outside.specs.declared.files.FileFault.TheVariants as fault
-use Rattle.offline_session.proofs.OverLemmas.{long_over, long_unheld}
+use Rattle.request_replies.proofs.OverLemmas.{long_over, long_unheld}
 use Rattle.dhis_main.proofs.HeldLemmas.{held, long_file}
 use Rattle.dhis_main.proofs.session.hold_session.Goals as goal
 

@@ -1,7 +1,10 @@
-use Rattle.std.proofs.Common.{◌≡◌, ℕ, suc, ◌+◌, ◌-◌, ◌≤◌, length, drop, Ok, Err, sym, ap, subst, ◌∙◌, arith}
+use Rattle.std.proofs.Common.{◌≡◌, ℕ, suc, ◌+◌, ◌-◌, ◌≤◌, length, drop, Result, Ok, Err, sym, ap, subst, ◌∙◌, arith}
 use Rattle.std.proofs.lemmas.List.{drop-drop, length-drop}
 use Rattle.expr_lang.specs.declared.reading.Reader.{Reader}
-use Rattle.expr_lang.specs.Reading.{Gives, blank_count, token_from, with_token, read_rest, go_on}
+use Rattle.dh_base.specs.Memory.{Answers}
+use Rattle.expr_lang.specs.Causes.{stop_of}
+use Rattle.expr_lang.specs.declared.reading.Nodes.{Nodes}
+use Rattle.expr_lang.specs.Reading.{blank_count, token_from, with_token, read_rest, go_on}
 use Rattle.expr_lang.proofs.Readings.{opened_token, step_ends, step_on}
 use Rattle.expr_lang.proofs.reading.read.Goals as goal
 
@@ -13,7 +16,7 @@ returns-then-at-text c =
     let e : suc (c.loop-most.most - 1) ≡ c.loop-most.most = omega arith in
     let same = sym s ∙ ap (λ (k : ℕ). read_rest c.args.place k c.loop-most.reader c.loop-most.at (drop c.loop-most.at c.args.text.now)) e
     ∙ c.loop-most.invariant.0 in
-    subst (Gives c.finish.result) same c.finish.ensures
+    subst (λ (meant : Result Nodes ℕ). Answers stop_of meant c.finish.result) same c.finish.ensures
 
 pub returns-in-Err : goal.returns-in-Err
 returns-in-Err c =

@@ -1,5 +1,5 @@
 use Rattle.std.proofs.Common.{rules, ◌≡◌, Err, ap}
-use Rattle.http_wire.specs.declared.request.WireFault.TheVariants.{Memory}
+use Rattle.http_wire.specs.declared.fault.WireFault.TheVariants.{Memory}
 use Rattle.http_wire.proofs.BodyLemmas.{reads_sized, reads_sized_stop, reads_no_memory}
 use Rattle.http_wire.proofs.body.read_sized.Goals as goal
 

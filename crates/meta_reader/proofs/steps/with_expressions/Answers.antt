@@ -1,9 +1,12 @@
-use Rattle.meta_reader.proofs.RecordLemmas.{are_records}
+use Rattle.std.proofs.Common.{◌∙◌, ap}
+use Rattle.meta_exprs.specs.All.{expressions_of}
+use Rattle.meta_reader.specs.Records.{records_of}
 use Rattle.meta_reader.proofs.steps.with_expressions.Goals as goal
 
 pub returns-in-Ok : goal.returns-in-Ok
-returns-in-Ok c = (
-  c.in-Ok.ensures.0,
-  are_records c.args.parts.now c.args.links c.take_unread-unread.new.links c.take_unread-unread.result c.in-Ok.made c.records_with.result
-      c.take_unread-unread.ensures.unread c.take_unread-unread.ensures.others c.in-Ok.ensures.1 c.records_with.ensures,
-)
+returns-in-Ok c =
+    let parts = c.args.parts.now in (
+      c.in-Ok.ensures.0,
+      c.records_with.ensures ∙ c.take_unread-unread.ensures.others parts c.in-Ok.made
+          ∙ ap (records_of parts c.args.links) (c.in-Ok.ensures.1 ∙ ap (expressions_of parts) c.take_unread-unread.ensures.unread),
+    )

@@ -2,8 +2,8 @@ use Rattle.std.proofs.Common.{◌≡◌, ◌∙◌, ap, subst, map, false, IfOk,
 use Rattle.dh_base.specs.Fractions.{Fraction}
 use Rattle.expr_lang.specs.declared.tree.Item.{Item}
 use Rattle.expr_lang.specs.Expr.{items_in}
-use Rattle.indicator_values.specs.Value.{indicator_value_of}
-use Rattle.seen_rows.specs.Seen.{seen_of, contents_of}
+use Rattle.query_answer.specs.Value.{indicator_value_of}
+use Rattle.cell_values.specs.Seen.{seen_of, contents_of}
 use Rattle.cell_values.specs.Items.{item_value_of}
 use Rattle.query_answer.specs.Cells.{indicator_cell}
 use Rattle.query_answer.proofs.cells.indicator_cell.Goals as goal

@@ -1,5 +1,5 @@
 use Rattle.std.proofs.Common.{◌≡◌, take, map, false}
-use Rattle.seen_rows.specs.Seen.{seen_of, contents_of}
+use Rattle.cell_values.specs.Seen.{seen_of, contents_of}
 use Rattle.cell_values.specs.Items.{item_value_of}
 use Rattle.query_answer.proofs.cells.item_values.Given as goal
 

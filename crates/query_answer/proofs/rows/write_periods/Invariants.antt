@@ -1,6 +1,6 @@
 use Rattle.std.proofs.Common.{◌≡◌, ◌++◌, false, take}
 use Rattle.std.specs.List.{flat_map, list_any}
-use Rattle.seen_rows.specs.Seen.{seen_of, contents_of}
+use Rattle.cell_values.specs.Seen.{seen_of, contents_of}
 use Rattle.query_answer.specs.Rows.{unit_slots, period_slots, period_is_wide, period_rows}
 use Rattle.query_answer.proofs.rows.write_periods.Given as goal
 

@@ -3,7 +3,7 @@ use Rattle.std.specs.List.{find, list_any}
 use Rattle.std.specs.Option.{option_map}
 use Rattle.std.proofs.lemmas.List.{take_all}
 use Rattle.query_forms.specs.declared.plain.Dx.{Dx}
-use Rattle.seen_rows.specs.Seen.{seen_of, contents_of}
+use Rattle.cell_values.specs.Seen.{seen_of, contents_of}
 use Rattle.query_answer.specs.Rows.{dx_is_wide}
 use Rattle.query_answer.proofs.LoopLemmas.{find_at, find_none}
 use Rattle.query_answer.proofs.rows.write_rows.Goals as goal

@@ -1,6 +1,6 @@
 use Rattle.std.proofs.Common.{◌≡◌, ◌++◌, false, take, drop}
 use Rattle.std.specs.List.{list_any}
-use Rattle.seen_rows.specs.Seen.{seen_of, contents_of}
+use Rattle.cell_values.specs.Seen.{seen_of, contents_of}
 use Rattle.query_answer.specs.Rows.{dx_is_wide, rows_from}
 use Rattle.query_answer.proofs.rows.write_rows.Given as goal
 

@@ -1,6 +1,6 @@
 use Rattle.std.proofs.Common.{◌≡◌, ◌<◌, ◌∙◌, sym, ap, get_or, length, true, arith}
 use Rattle.std.proofs.lemmas.List.Folds.{list_any_at}
-use Rattle.seen_rows.specs.Seen.{seen_of, contents_of}
+use Rattle.cell_values.specs.Seen.{seen_of, contents_of}
 use Rattle.query_answer.specs.Rows.{slot_of, unit_slots, unit_is_wide, period_is_wide}
 use Rattle.query_answer.proofs.AskedLemmas.{units_there}
 use Rattle.query_answer.proofs.rows.write_units.Goals as goal

@@ -1,8 +1,8 @@
 use Rattle.std.proofs.Common.{◌≡◌, ◌∙◌, sym, ap, subst, Ok, Err}
 use Rattle.serde_json.specs.Written.{compact_text}
-use Rattle.answer_body.specs.Body.{body_of, IsAnswer}
+use Rattle.query_answer.specs.Body.{body_of, IsAnswer}
 use Rattle.table_rows.specs.Store.{Contents}
-use Rattle.seen_rows.specs.Seen.{SeenRecords, seen_of, contents_of}
+use Rattle.cell_values.specs.Seen.{SeenRecords, seen_of, contents_of}
 use Rattle.query_answer.specs.declared.whole.AnswerFault.TheVariants.{Wide}
 use Rattle.query_answer.specs.Rows.{rows_from}
 use Rattle.query_answer.specs.Answer.{Answers}

@@ -1,10 +1,9 @@
-use Rattle.std.proofs.Common.{◌≡◌, ◌∙◌, None, Some, refl, ap, sym, map, length}
+use Rattle.std.proofs.Common.{◌≡◌, ◌∙◌, false, None, Some, refl, ap, sym, map, length}
 use Rattle.std.specs.Prelude.{option_copied}
 use Rattle.httparse.specs.Borrowed.{header_parts, HoldsRequest, HoldsSomeRequest}
-use Rattle.httparse.specs.Outcome.{IfComplete}
 use Rattle.httparse.specs.Grammar.{RequestHead}
 use Rattle.wire_head.specs.Head.{Parts, parts_of, said_by, IsMeantBy}
-use Rattle.wire_head.proofs.HeadLemmas.{none_whole, none_roomy, whole_read, held_by, parts_held, Answers_map}
+use Rattle.wire_head.proofs.HeadLemmas.{none_whole, none_roomy, whole_read, held_by, parts_held, tells}
 use Rattle.wire_head.proofs.head.read_lines.Goals as goal
 
 pub returns-then-end-head : goal.returns-then-end-head
@@ -37,5 +36,5 @@ returns c =
     (ap Some c.as_bytes.ensures.value ∙ sym (ap option_copied c.in-Some-Some-Some.is-0) ∙ held.1.method)
     (ap Some c.as_bytes-2.ensures.value ∙ sym (ap option_copied c.in-Some-Some-Some.is-1) ∙ held.1.path) (sym c.in-Some-Some-Some.is-2
     ∙ held.1.version) held.1.fields in
-    Answers_map c.said_by.result (λ meant. meant ≡ said_by parts) _
-    (λ meant said. whole_read c.args.head.now held.0 c.in-Ok-Complete.end parts held.1.reads c.if-end-head.false same meant said) c.said_by.ensures
+    tells (IsMeantBy false c.args.head.now) (said_by parts) c.said_by.result
+    (whole_read c.args.head.now held.0 c.in-Ok-Complete.end parts held.1.reads c.if-end-head.false same (said_by parts) refl) c.said_by.ensures

@@ -1,4 +1,4 @@
-use Rattle.std.proofs.Common.{◌≡◌, ◌∙◌, ◌<◌, ◌+◌, ◌≤◌, ap, drop, arith, sym, length, drop-drop}
+use Rattle.std.proofs.Common.{◌≡◌, ◌∙◌, ◌<◌, ◌+◌, ap, drop, arith, sym, drop-drop}
 use Rattle.wire_head.specs.Lines.{empty_line, blank_length}
 use Rattle.wire_head.proofs.LineLemmas.{blank_step, blank_none}
 use Rattle.wire_head.proofs.lines.blank_length.Goals as goal

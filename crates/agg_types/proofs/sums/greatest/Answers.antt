@@ -1,9 +1,0 @@
-use Rattle.agg_types.specs.Values.{greater}
-use Rattle.agg_types.proofs.TotalLemmas.{left-more}
-use Rattle.agg_types.proofs.sums.greatest.Goals as goal
-
-pub loop-sample-preserved : goal.loop-sample-preserved
-loop-sample-preserved c =
-    left-more greater c.args.samples.now c.loop-sample.sample-index c.sample-item.result c.loop-sample.greatest c.greater-greatest.result
-    c.loop-sample-test.true c.sample-item.is
-    c.loop-sample.invariant c.greater-greatest.ensures

@@ -1,4 +1,0 @@
-pub mod Samples
-pub mod Values
-pub mod Ends
-pub mod RowSamples

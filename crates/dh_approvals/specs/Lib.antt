@@ -1,0 +1,4 @@
+pub mod Search
+pub mod Rights
+pub mod Units
+pub mod Decisions

@@ -1,0 +1,86 @@
+//! The states of a unit's approval and of those above it.
+
+ghost use Rattle.std.specs.Prelude.{◌≡◌, ◌<◌, IsTrue, length};
+ghost use Rattle.record_index.specs.World.{facts};
+ghost use Rattle.dh_metadata.specs.Linked.{IsBelow};
+ghost use Rattle.dh_records.specs.Approved.{counts, is_approved_as};
+ghost use Rattle.dh_approvals.specs.Units as known;
+
+use crate::search::Asking;
+use dh_base::uid::Uid;
+use dh_changes::keys::ApprovalKey;
+use dh_metadata::metadata::Metadata;
+use dh_records::access::tree_of;
+use dh_records::approved::Scope;
+use record_index::said::ApprovalState;
+use record_index::world::World;
+
+/// The identifier of a unit.
+pub fn id_of(meta: &Metadata, unit: u32) -> Uid
+    requires { unit < length meta.now.organisation_units }
+    ensures { result ≡ known.id_of meta.now unit }
+{
+    meta.unit(unit).id
+}
+
+/// How far the approval of a unit has come.
+pub fn state_at(world: &World, meta: &Metadata, scope: &Scope, unit: u32) -> ApprovalState
+    requires { unit < length meta.now.organisation_units }
+    ensures { result ≡ known.state_at (facts world.now) meta.now scope.now unit }
+{
+    world.approval(&ApprovalKey {
+        workflow: scope.workflow,
+        period: scope.period,
+        unit: id_of(meta, unit),
+        attribute: scope.attribute,
+    })
+}
+
+fn counts(state: ApprovalState) -> bool
+    ensures { result ≡ counts state }
+{
+    match state {
+        ApprovalState::None => false,
+        ApprovalState::Approved => true,
+        ApprovalState::Accepted => true,
+    }
+}
+
+fn is_approved_as(asking: &Asking<'_>, unit: u32) -> bool
+    ensures value { result ≡ is_approved_as (facts asking.now.world.now) asking.now.meta.now asking.now.scope unit }
+    ensures in_range { IsTrue result → unit < length asking.now.meta.now.organisation_units }
+{
+    unit < asking.meta.tree().count()
+        && counts(state_at(asking.world, asking.meta, &asking.scope, unit))
+}
+
+fn approved_ancestor(asking: &Asking<'_>, unit: u32, level: u8) -> Option<u32>
+    requires { unit < length asking.now.meta.now.organisation_units }
+    ensures value { result ≡ known.approved_ancestor (facts asking.now.world.now) asking.now.meta.now asking.now.scope unit level }
+    ensures in_range { IsBelow (length asking.now.meta.now.organisation_units) result }
+{
+    let above = tree_of(asking.world, asking.meta).ancestor_at(unit, level)?;
+    if is_approved_as(asking, above) {
+        Some(above)
+    } else {
+        None
+    }
+}
+
+/// The nearest approved ancestor at a position below this one.
+pub fn nearest_above(asking: &Asking<'_>, levels: &[u8], unit: u32, position: u8) -> Option<u32>
+    requires { unit < length asking.now.meta.now.organisation_units }
+    ensures value { result ≡ known.nearest_above (facts asking.now.world.now) asking.now.meta.now asking.now.scope levels.now unit position }
+    ensures in_range { IsBelow (length asking.now.meta.now.organisation_units) result }
+{
+    let mut left = position;
+    while 0 < left {
+        left -= 1;
+        if let Some(level) = levels.get(left as usize) {
+            if let Some(above) = approved_ancestor(asking, unit, *level) {
+                return Some(above);
+            }
+        }
+    }
+    None
+}

@@ -1,2 +1,0 @@
-pub mod Scale
-pub mod Value

@@ -1,2 +1,0 @@
-pub mod ServeLemmas
-pub mod OverLemmas

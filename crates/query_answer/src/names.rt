@@ -1,0 +1,147 @@
+//! Dimensions and names.
+
+ghost use Rattle.std.specs.Prelude.{◌≡◌, ◌<◌, [], ◌∷◌, ◌++◌, length, map, IfOk, OnOk};
+ghost use Rattle.std.specs.List.{All};
+ghost use Rattle.serde_json.specs.View.{view, members_view};
+ghost use Rattle.serde_json.specs.Data.{put as with_member};
+ghost use Rattle.dh_metadata.specs.Linked.{AreBelow};
+ghost use Rattle.query_answer.specs.Texts.{text_of_bytes, texts_of};
+ghost use Rattle.query_answer.specs.Names.{IsThere, AreUnits, dx_name, name_of, put_name, put_names, dx_named, period_named, unit_named, ids_of};
+ghost use Rattle.query_answer.specs.Names.{dimensions_of, meta_of};
+
+use crate::members::with_value;
+use crate::texts::{push_text, text_value};
+use dh_base::memory::Memory;
+use dh_metadata::metadata::Metadata;
+use dh_periods::Period;
+use query_forms::{Dx, DxKind, Query};
+use serde_json::{Map, Value, put};
+use std::alloc::{AllocError, Global};
+
+/// The name of a `dx` item: the object's, or the item's text at an operand and a rate.
+fn name_of_dx<'a>(meta: &'a Metadata, dx: &'a Dx) -> &'a [u8]
+    requires { IsThere meta.now dx.now }
+    ensures { result.now ≡ dx_name meta.now dx.now }
+{
+    if dx.part.is_some() {
+        return dx.text.as_slice();
+    }
+    match dx.kind {
+        DxKind::Element => meta.element(dx.number).name.as_slice(),
+        DxKind::Indicator => meta.indicator(dx.number).name.as_slice(),
+        DxKind::ProgramIndicator => meta.program_indicator(dx.number).name.as_slice(),
+        DxKind::Rate(_) => dx.text.as_slice(),
+    }
+}
+
+#[tactic(auto, unfolding(crate::specs::Names::name_of))]
+fn name_value(alloc: Global, name: &[u8]) -> Result<Value, Memory>
+    ensures { IfOk result (λ v. view v ≡ name_of name.now) }
+{
+    let text = text_value(alloc, name)?;
+    let members = with_value(alloc, Map::new(alloc), "name", text)?;
+    Ok(Value::Object(members))
+}
+
+/// A name under an identifier, in the place of one that is there.
+fn add_name(
+    alloc: Global,
+    items: &mut Map<String, Value>,
+    id: &[u8],
+    name: &[u8],
+) -> Result<(), Memory>
+    ensures { OnOk result (members_view items.new.entries ≡ put_name (id.now, name.now) (members_view items.old.entries)) }
+{
+    let named = name_value(alloc, name)?;
+    let key = String::from_utf8_lossy(alloc, id)?;
+    put(items, alloc, key.as_str(), named)?;
+    Ok(())
+}
+
+fn add_dx(
+    alloc: Global,
+    items: &mut Map<String, Value>,
+    meta: &Metadata,
+    dx: &[Dx],
+) -> Result<Vec<Value>, Memory>
+    requires { All (IsThere meta.now) dx.now }
+    ensures ids { IfOk result (λ list. map view list.items ≡ ids_of (dx_named meta.now dx.now)) }
+    ensures names { OnOk result (members_view items.new.entries ≡ put_names (dx_named meta.now dx.now) (members_view items.old.entries)) }
+{
+    let mut ids = Vec::new(alloc);
+    for each in dx {
+        let text = each.text.as_slice();
+        add_name(alloc, items, text, name_of_dx(meta, each))?;
+        push_text(alloc, &mut ids, text)?;
+    }
+    Ok(ids)
+}
+
+fn add_periods(
+    alloc: Global,
+    items: &mut Map<String, Value>,
+    periods: &[Period],
+) -> Result<Vec<Value>, Memory>
+    ensures ids { IfOk result (λ list. map view list.items ≡ ids_of (period_named periods.now)) }
+    ensures names { OnOk result (members_view items.new.entries ≡ put_names (period_named periods.now) (members_view items.old.entries)) }
+{
+    let mut ids = Vec::new(alloc);
+    for each in periods {
+        let text = each.print(alloc)?;
+        add_name(alloc, items, text.as_slice(), text.as_slice())?;
+        push_text(alloc, &mut ids, text.as_slice())?;
+    }
+    Ok(ids)
+}
+
+fn add_units(
+    alloc: Global,
+    items: &mut Map<String, Value>,
+    meta: &Metadata,
+    units: &[u32],
+) -> Result<Vec<Value>, Memory>
+    requires { AreUnits meta.now units.now }
+    ensures ids { IfOk result (λ list. map view list.items ≡ ids_of (unit_named meta.now units.now)) }
+    ensures names { OnOk result (members_view items.new.entries ≡ put_names (unit_named meta.now units.now) (members_view items.old.entries)) }
+{
+    let mut ids = Vec::new(alloc);
+    for each in units {
+        let unit = meta.unit(*each);
+        let id = unit.id.bytes();
+        add_name(alloc, items, &id, unit.name.as_slice())?;
+        push_text(alloc, &mut ids, &id)?;
+    }
+    Ok(ids)
+}
+
+#[tactic(auto, unfolding(crate::specs::Names::dimensions_of))]
+fn dimensions(
+    alloc: Global,
+    dx: Vec<Value>,
+    units: Vec<Value>,
+    periods: Vec<Value>,
+) -> Result<Value, AllocError>
+    ensures { IfOk result (λ v. view v ≡ dimensions_of (map view dx.items) (map view units.items) (map view periods.items)) }
+{
+    let members = with_value(alloc, Map::new(alloc), "dx", Value::Array(dx))?;
+    let members = with_value(alloc, members, "ou", Value::Array(units))?;
+    let members = with_value(alloc, members, "pe", Value::Array(periods))?;
+    Ok(Value::Object(members))
+}
+
+/// The dimensions and the names of what a query asks.
+#[tactic(auto, unfolding(crate::specs::Names::meta_of))]
+pub fn meta_data(alloc: Global, meta: &Metadata, query: &Query) -> Result<Value, Memory>
+    requires dx { All (IsThere meta.now) query.now.dx }
+    requires units { AreUnits meta.now query.now.units.items }
+    ensures { IfOk result (λ v. view v ≡ meta_of meta.now query.now) }
+{
+    let mut items = Map::new(alloc);
+    let dx = add_dx(alloc, &mut items, meta, query.dx.as_slice())?;
+    let periods = add_periods(alloc, &mut items, query.periods.items.as_slice())?;
+    let units = add_units(alloc, &mut items, meta, query.units.items.as_slice())?;
+    let dimensions = dimensions(alloc, dx, units, periods)?;
+    let members = with_value(alloc, Map::new(alloc), "items", Value::Object(items))?;
+    let members = with_value(alloc, members, "dimensions", dimensions)?;
+    Ok(Value::Object(members))
+}

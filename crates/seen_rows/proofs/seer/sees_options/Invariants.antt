@@ -1,6 +1,0 @@
-use Rattle.std.proofs.Common.{◌≡◌, true, take}
-use Rattle.seen_rows.specs.Seen.{sees_options}
-use Rattle.seen_rows.proofs.seer.sees_options.Given as goal
-
-abbrev pub invariant-loop-option : goal.invariant-loop-option
-invariant-loop-option l = sees_options l.meta l.user (take l.option-index l.options) ≡ true

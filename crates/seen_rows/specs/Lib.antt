@@ -1,4 +1,0 @@
-pub mod Places
-pub mod Cuts
-pub mod Seen
-pub mod Held
