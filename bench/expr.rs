@@ -362,10 +362,10 @@ impl<'a, F: Number> Parser<'a, F> {
         let test = self.jump();
         Self::wants(self.or()?, Sort::Number)?;
         self.must(b",")?;
-        let behind = self.jump();
+        let after = self.jump();
         self.land(test, Instr::SkipUnless);
         Self::wants(self.or()?, Sort::Number)?;
-        self.land(behind, Instr::GoOn);
+        self.land(after, Instr::GoOn);
         self.close()?;
         Ok(Sort::Number)
     }

@@ -73,8 +73,8 @@ fn read(text: &[u8]) -> Option<i64> {
     let size = match text.iter().position(|byte| *byte == b'.') {
         None => digits(text, 12)? * 1_000_000,
         Some(place) => {
-            let behind = &text[place + 1..];
-            digits(&text[..place], 12)? * 1_000_000 + digits(behind, 6)? * 10i64.pow(6 - behind.len() as u32)
+            let after = &text[place + 1..];
+            digits(&text[..place], 12)? * 1_000_000 + digits(after, 6)? * 10i64.pow(6 - after.len() as u32)
         }
     };
     Some(if negative { -size } else { size })
@@ -121,8 +121,8 @@ fn period(text: &[u8]) -> Option<(i32, i32)> {
         return None;
     }
     let end = first + count;
-    let behind = if end > 12 { day_of(year + 1, end - 12, 1) } else { day_of(year, end, 1) };
-    Some((day_of(year, first, 1), behind - 1))
+    let next = if end > 12 { day_of(year + 1, end - 12, 1) } else { day_of(year, end, 1) };
+    Some((day_of(year, first, 1), next - 1))
 }
 
 fn periods() -> i64 {

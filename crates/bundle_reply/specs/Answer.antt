@@ -15,6 +15,7 @@ use Rattle.wire_replies.specs.Bodies.{error_text}
 use Rattle.value_forms.specs.declared.set.SetValue.{SetValue}
 use Rattle.query_forms.specs.declared.plain.Query.{Query}
 use Rattle.query_lang.specs.Query.{query_of}
+use Rattle.query_lang.specs.declared.query.TheConstants.{MOST_CELLS}
 use Rattle.cell_values.specs.Seen.{SeenRecords, seen_of}
 use Rattle.query_answer.specs.Answer.{answer_of}
 use Rattle.engine.specs.declared.machine.Report.{Report}
@@ -23,10 +24,6 @@ use Rattle.engine.specs.MetaAfter.{meta_after}
 use Rattle.bundle_reply.specs.Reply.{meta_refused, query_refused, data_refused, answer_reply, refusal}
 use Rattle.bundle_reply.specs.Load.{loaded, log_of}
 use Rattle.bundle_reply.specs.declared.reply.Reply.{Reply}
-
--- the most cells of a query
-abbrev pub most_cells : ℕ
-most_cells = 100000
 
 -- what a user sees of the tables of a log, with the rights and the tree that it leaves
 abbrev pub seen_after : Records → ℕ → List Change → SeenRecords
@@ -39,7 +36,7 @@ reply_to_query r user log (Err refused) = query_refused refused
 
 -- all values are taken, or the report on their import says which are not
 abbrev pub reply_by_status : Records → ℕ → List ℕ → ℤ → List Change → Report → Bool → Reply
-reply_by_status r user text moment log report true = reply_to_query r user log (query_of (meta_after r log) user (day_of moment) most_cells text)
+reply_by_status r user text moment log report true = reply_to_query r user log (query_of (meta_after r log) user (day_of moment) MOST_CELLS text)
 reply_by_status r user text moment log report false = data_refused report.body
 
 -- by what loading the values comes to

@@ -1,5 +1,5 @@
 -- What a query over a bundle comes to: how it ends, and the text that is told.
-use Rattle.std.specs.Prelude.{ℕ, List, [], ◌∷◌, ◌++◌, Result, Ok, Err, codes}
+use Rattle.std.specs.Prelude.{◌≡◌, ℕ, List, [], ◌∷◌, ◌++◌, Option, Some, None, Result, Ok, Err, codes}
 use Rattle.serde_json.specs.Data.{Data}
 use Rattle.serde_json.specs.Written.{compact_text}
 use Rattle.dh_base.specs.declared.codes.Code.{Code}
@@ -34,3 +34,8 @@ refusal code detail = record { code = code; detail = detail }
 unfoldable pub answer_reply : Result Data (List ℕ) → Reply
 answer_reply (Ok json) = answered (compact_text json)
 answer_reply (Err id) = query_refused (refusal F18 id)
+
+-- the reply to this refusal; there is none without one
+abbrev pub Refuses : Option Refusal → Reply → Type 0
+Refuses None reply = ⊥
+Refuses (Some refused) reply = reply ≡ query_refused refused

@@ -9,12 +9,14 @@ ghost use Rattle.engine.specs.InMemory.{started, Loads};
 ghost use Rattle.engine.specs.MetaAfter.{meta_after};
 ghost use Rattle.query_answer.specs.Answer.{answer_of};
 ghost use Rattle.query_answer.specs.Asked.{CanAnswer};
+ghost use Rattle.query_forms.specs.Given.{cause_of};
 ghost use Rattle.query_lang.specs.Query.{query_of};
+ghost use Rattle.query_lang.specs.declared.query.TheConstants.{MOST_CELLS};
 ghost use Rattle.table_rows.specs.Store.{contents_in};
 ghost use Rattle.cell_values.specs.Seen.{seen_of};
 ghost use Rattle.value_forms.specs.declared.set.SetValue.{SetValue as Given};
 ghost use Rattle.bundle_reply.specs.Load.{asked_for};
-ghost use Rattle.bundle_reply.specs.Reply.{answer_reply};
+ghost use Rattle.bundle_reply.specs.Reply.{answer_reply, Refuses};
 ghost use Rattle.bundle_reply.specs.Answer.{seen_after, reply_to_query, reply_by_status, reply_to_load, user_named, reply_by_user, reply_with_values};
 ghost use Rattle.bundle_reply.specs.Bytes.{asked};
 ghost use Rattle.bundle_reply.specs.Steps.{IsOverParts};
@@ -36,13 +38,10 @@ use meta_reader::build::build as metadata;
 use meta_reader::fault::MetaFault;
 use query_answer::{AnswerFault, answer};
 use query_forms::{Query, QueryFault};
-use query_lang::read_query;
+use query_lang::{MOST_CELLS, read_query};
 use std::alloc::Global;
 use value_forms::set::SetValue;
 use wire_replies::error_body;
-
-// The most cells of a query.
-const MOST_CELLS: u64 = 100_000;
 
 // The answer to a query over tables.
 #[tactic(auto, unfolding(crate::specs::Reply::answer_reply))]
@@ -83,8 +82,18 @@ fn over_log(
     over_tables(alloc, engine.latest_meta(), user, &tables, query)
 }
 
+// The reply to a query that isn't read.
+fn refuse(alloc: Global, fault: &QueryFault) -> Result<Reply, Memory>
+    ensures { IfOk result (Refuses (cause_of fault.now)) }
+{
+    match fault {
+        QueryFault::Refused(refused) => query_refused(alloc, refused),
+        QueryFault::Memory => Err(Memory),
+    }
+}
+
 // The reply to a query's text over an engine's whole log.
-#[tactic(auto, using(crate::proofs::AskLemmas::can_answer), unfolding(crate::specs::Answer::reply_to_query, engine::specs::MetaAfter::meta_after))]
+#[tactic(auto, using(crate::proofs::AskLemmas::asking), unfolding(crate::specs::Answer::reply_to_query))]
 fn reply_to_query(
     alloc: Global,
     engine: &mut Engine<Unkept>,
@@ -96,7 +105,7 @@ fn reply_to_query(
     requires more { engine.old.state.ticket < engine.old.limits.updates }
     requires user { user < length engine.old.meta.users }
     ensures { IfOk result (λ reply. reply ≡ reply_to_query engine.old.meta user engine.old.state.log
-        (query_of (meta_after engine.old.meta engine.old.state.log) user (day_of moment) 100000 query.now)) }
+        (query_of (meta_after engine.old.meta engine.old.state.log) user (day_of moment) MOST_CELLS query.now)) }
 {
     match read_query(
         alloc,
@@ -107,8 +116,7 @@ fn reply_to_query(
         MOST_CELLS,
     ) {
         Ok(query) => over_log(alloc, engine, user, &query),
-        Err(QueryFault::Refused(refused)) => query_refused(alloc, &refused),
-        Err(QueryFault::Memory) => Err(Memory),
+        Err(fault) => refuse(alloc, &fault),
     }
 }
 

@@ -27,10 +27,12 @@ impl Machine for Paths {
 const REQUESTS: &str = "GET /a HTTP/1.1\r\n\r\nGET /bc HTTP/1.1\r\n\r\n";
 
 const REPLIES: &str =
-    "HTTP/1.1 200 OK\r\nContent-Type: application/json;charset=UTF-8\r\nContent-Length: 2\r\nConnection: keep-alive\r\n\r\n/aHTTP/1.1 200 OK\r\nContent-Type: application/json;charset=UTF-8\r\nContent-Length: 3\r\nConnection: keep-alive\r\n\r\n/bc";
+    "HTTP/1.1 200 OK\r\nContent-Type: application/json;charset=UTF-8\r\nContent-Length: 2\r\nConnection: keep-alive\r\n\r\n/a\
+    HTTP/1.1 200 OK\r\nContent-Type: application/json;charset=UTF-8\r\nContent-Length: 3\r\nConnection: keep-alive\r\n\r\n/bc";
 
 const LAST_CLOSES: &str =
-    "HTTP/1.1 200 OK\r\nContent-Type: application/json;charset=UTF-8\r\nContent-Length: 2\r\nConnection: keep-alive\r\n\r\n/aHTTP/1.1 200 OK\r\nContent-Type: application/json;charset=UTF-8\r\nContent-Length: 3\r\nConnection: close\r\n\r\n/bc";
+    "HTTP/1.1 200 OK\r\nContent-Type: application/json;charset=UTF-8\r\nContent-Length: 2\r\nConnection: keep-alive\r\n\r\n/a\
+    HTTP/1.1 200 OK\r\nContent-Type: application/json;charset=UTF-8\r\nContent-Length: 3\r\nConnection: close\r\n\r\n/bc";
 
 // How a session ends that may answer so many requests, if this read fails and there is room for so many bytes. Fails
 // if it writes another text.

@@ -8,4 +8,6 @@ pub mod WeightLemmas
 pub mod GlueLemmas
 pub mod OwnKeyLemmas
 pub mod UnitLemmas
+pub mod RateLemmas
 pub mod ReorderLemmas
+pub mod PlanLemmas

@@ -144,7 +144,7 @@ over_ranges rows need g (x ∷ xs) = ap (joined (range_sum rows need g x)) (over
 
 -- ---- the rows themselves, in another order
 
-filter_both : {X : Type 0} (p q : X → Bool) (xs : List X) → filter q (filter p xs) ≡ filter (λ x. p x && q x) xs
+pub filter_both : {X : Type 0} (p q : X → Bool) (xs : List X) → filter q (filter p xs) ≡ filter (λ x. p x && q x) xs
 filter_both p q [] = refl
 filter_both p q (x ∷ xs) = by_test (p x) (filter_both p q xs)
   where

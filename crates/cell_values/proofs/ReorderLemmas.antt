@@ -15,9 +15,11 @@ use Rattle.table_rows.specs.declared.sample.Sample.{Sample}
 use Rattle.table_rows.specs.Values.{value_by}
 use Rattle.table_rows.proofs.OrderFreeLemmas.{value_by-permutation}
 use Rattle.table_rows.proofs.ShuffleLemmas.{IsClosed, closed-permutation, closed-filter}
+use Rattle.rate_items.specs.Rates.{rate_of}
 use Rattle.cell_values.specs.Seen.{SeenRecords, SameSeen}
 use Rattle.cell_values.specs.Cells.{Cell, cell_of, lies_in, samples_of, days_in, aggregate_of}
 use Rattle.cell_values.specs.Items.{named_combo, element_value, item_value_of}
+use Rattle.cell_values.proofs.RateLemmas.{rate_of-permutation}
 
 closed-reordered : {X : Type 0} → IsClosed {X = X} (λ xs ys. IsPermutation xs ys)
 closed-reordered = record {
@@ -68,7 +70,9 @@ item_value_of-same r one other (item.Element element combo attribute) periods un
 item_value_of-same r one other (item.Constant id) periods units alone same = refl
 item_value_of-same r one other (item.Group id) periods units alone same = refl
 item_value_of-same r one other item.Days periods units alone same = refl
-item_value_of-same r one other (item.Rate set figure) periods units alone same = refl
+item_value_of-same r one other (item.Rate set which) periods units alone same =
+    then_alike (λ n. rate_of r which n periods units one.regs alone) (λ n. rate_of r which n periods units other.regs alone) (find_of r kind.DataSet set)
+    (λ n. rate_of-permutation r which n periods units one.regs other.regs alone same.regs)
 item_value_of-same r one other (item.StageElement stage element) periods units alone same = refl
 item_value_of-same r one other (item.Attribute id) periods units alone same = refl
 item_value_of-same r one other item.EventDate periods units alone same = refl

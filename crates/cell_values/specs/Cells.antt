@@ -1,5 +1,5 @@
 -- Cells: the samples of an element in some periods and at some units, and their value.
-use Rattle.std.specs.Prelude.{ℕ, nat_eq, Bool, true, ◌&&◌, List, Option, None, Some, slice_get, option_and_then}
+use Rattle.std.specs.Prelude.{◌≡◌, ◌<◌, ℕ, nat_eq, Bool, true, ◌&&◌, List, Option, None, Some, slice_get, option_and_then}
 use Rattle.std.specs.List.{filter, list_any}
 use Rattle.dh_base.specs.Fractions.{Fraction}
 use Rattle.dh_periods.specs.declared.name.PeriodName.{PeriodName}
@@ -58,6 +58,11 @@ is_day_of periods n = list_any (λ period. is_day_in (unix_day n) period) period
 -- later
 unfoldable pub days_in : List PeriodName → ℕ
 days_in periods = count_below (is_day_of periods) COUNTED_DAYS
+
+-- periods with so many different days, of which there is one at least
+pub record AreCounted (periods : List PeriodName) (days : ℕ) : Type 0 where
+  pub is : days ≡ days_in periods
+  pub some : 0 < days
 
 -- the value of a cell over some samples, by the aggregation type of its element
 unfoldable pub aggregate_of : Records → List Sample → Cell → Option Fraction

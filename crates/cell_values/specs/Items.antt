@@ -12,6 +12,7 @@ use Rattle.meta_parts.specs.declared.records.UnitGroup.{UnitGroup}
 use Rattle.dh_metadata.specs.Approval.{unit_rows}
 use Rattle.dh_metadata.specs.Objects.{find_of}
 use Rattle.table_rows.specs.declared.sample.Sample.{Sample}
+use Rattle.rate_items.specs.Rates.{rate_of}
 use Rattle.cell_values.specs.Places.{is_at_some}
 use Rattle.cell_values.specs.Seen.{SeenRecords}
 use Rattle.cell_values.specs.Cells.{cell_of, days_in, aggregate_of}
@@ -45,11 +46,13 @@ element_value r samples element combo attribute periods units alone =
     option_and_then (λ e. option_and_then (λ c. option_and_then (λ a. aggregate_of r samples (cell_of e c a periods units alone))
     (named_combo r attribute)) (named_combo r combo)) (find_of r kind.DataElement element)
 
--- an element is aggregated over the samples that are seen, a constant has its value, a group its units under those of the cell. Items of
--- programs and reporting rates have none here
+-- an element is aggregated over the samples that are seen, a rate is that of the registrations that are seen, a constant has its value, a
+-- group its units under those of the cell. Items of programs have none here
 unfoldable pub item_value_of : Records → SeenRecords → Item → List PeriodName → List ℕ → Bool → Option Fraction
 item_value_of r shown (item.Element element combo attribute) periods units alone = element_value r shown.samples element combo attribute periods units alone
 item_value_of r shown (item.Constant id) periods units alone = option_and_then (constant_value r) (find_of r kind.Constant id)
 item_value_of r shown (item.Group id) periods units alone = option_and_then (λ n. group_value r n units alone) (find_of r kind.OrganisationUnitGroup id)
 item_value_of r shown item.Days periods units alone = Some (whole (days_in periods))
+item_value_of r shown (item.Rate set which) periods units alone =
+    option_and_then (λ n. rate_of r which n periods units shown.regs alone) (find_of r kind.DataSet set)
 item_value_of r shown other periods units alone = None

@@ -6,3 +6,5 @@ pub mod Cells
 pub mod Spans
 pub mod Parts
 pub mod Items
+pub mod Rates
+pub mod Plans

@@ -1,27 +1,25 @@
 //! The value of a data element over a cell.
 ghost use Rattle.std.specs.Prelude.{◌≡◌, ◌≤◌, ◌<◌, length, map, IfOk};
 ghost use Rattle.dh_sharing.specs.Ranges.{AreApart};
-ghost use Rattle.dh_metadata.specs.Linked.{AreBelow};
 ghost use Rattle.table_rows.specs.Cells.{gathered};
 ghost use Rattle.table_rows.specs.Sums.{sum_over};
 ghost use Rattle.table_rows.specs.RowSamples.{sample_of};
-ghost use Rattle.cell_values.specs.Held.{IsSeer};
+ghost use Rattle.cell_values.specs.Held.{IsSeer, AreCellUnits};
 ghost use Rattle.cell_values.specs.Seen.{seen};
 ghost use Rattle.cell_values.specs.Cells.{cell_of, aggregate_of};
 ghost use Rattle.cell_values.specs.Parts.{group_sum, ranged_rows, is_sum_type, value_in, HaveOwnKeys};
+ghost use Rattle.cell_values.specs.Plans.{IsElementPlan, inside};
 ghost use Rattle.dh_base.specs.declared.limits.TheConstants.{MOST_RECORDS};
 
 use crate::aggregated::aggregated;
+use crate::cell::{CellPeriods, CellUnits, Operand, Source};
 use crate::gathered::gathered;
-use crate::groups::asked_groups;
-use crate::period_days::days;
-use crate::seer::{Seer, seen_ranges};
+use crate::groups::{inside, read_groups};
 use crate::totals::{totals_of, value_of_totals};
 use dh_base::frac::Frac;
+use dh_base::items::Items;
 use dh_base::memory::Memory;
 use dh_base::plain::{AggType, Need};
-use dh_metadata::metadata::Metadata;
-use dh_periods::Period;
 use std::alloc::Global;
 use table_rows::{Group, RowStore};
 
@@ -63,32 +61,99 @@ fn value_in<S: RowStore>(
     aggregated(kind, samples, days)
 }
 
-/// The value of a data element over the rows that the user sees, of the combinations that are
-/// named, inside some of the periods and under some of the units. With `alone` a unit has only
-/// itself under it.
+/// What is worked out once for an operand, before its cells.
+#[derive(Drop)]
+pub struct ElementPlan {
+    pub operand: Operand,
+    pub kind: AggType,
+    pub need: Need,
+    /// Its groups that the user may read, in order.
+    pub groups: Items<Group>,
+}
+
+/// The plan of an operand.
+pub fn element_plan<S: RowStore>(
+    alloc: Global,
+    source: &Source<'_, S>,
+    operand: &Operand,
+) -> Result<ElementPlan, Memory>
+    requires seer { IsSeer source.now.meta.now source.now.seer.now }
+    requires element { operand.now.element < length source.now.meta.now.data_elements }
+    ensures plan { IfOk result (λ plan. IsElementPlan source.now.meta.now source.now.seer.now.user (S.rows source.now.store.now) plan) }
+    ensures operand { IfOk result (λ plan. plan.operand ≡ operand.now) }
+{
+    let all = source.store.groups(alloc, operand.element)?;
+    let groups = read_groups(alloc, source.meta, source.seer, all.as_slice(), operand)?;
+    let kind = source.meta.element(operand.element).aggregation_type;
+    let need = source.seer.need_for(source.meta, operand.element);
+    Ok(ElementPlan {
+        operand: *operand,
+        kind,
+        need,
+        groups: Items::from(groups),
+    })
+}
+
+/// The groups of the plan inside some of the periods.
+pub fn element_groups(
+    alloc: Global,
+    plan: &ElementPlan,
+    periods: &CellPeriods,
+) -> Result<Items<Group>, Memory>
+    ensures { IfOk result (λ groups. groups ≡ inside periods.now plan.now.groups) }
+{
+    let kept = inside(alloc, plan.groups.as_slice(), periods.periods())?;
+    Ok(Items::from(kept))
+}
+
+/// The value of a planned operand in a cell, by its groups inside the periods.
+pub fn planned_value<S: RowStore>(
+    alloc: Global,
+    source: &Source<'_, S>,
+    plan: &ElementPlan,
+    groups: &[Group],
+    periods: &CellPeriods,
+    units: &CellUnits,
+) -> Result<Option<Frac>, Memory>
+    requires plan { IsElementPlan source.now.meta.now source.now.seer.now.user (S.rows source.now.store.now) plan.now }
+    requires groups { groups.now ≡ inside periods.now plan.now.groups }
+    requires units { AreCellUnits source.now.meta.now source.now.seer.now.user units.now }
+    ensures { IfOk result (λ value. value
+        ≡ aggregate_of source.now.meta.now (seen source.now.meta.now source.now.seer.now.user (S.rows source.now.store.now))
+        (cell_of plan.now.operand.element plan.now.operand.combo plan.now.operand.attribute periods.now units.now.units units.now.alone)) }
+{
+    // the years say that it is a store
+    let _years = source.store.years();
+    let ranges = units.seen.parts();
+    let days = periods.days();
+    value_in(
+        alloc,
+        source.store,
+        plan.kind,
+        groups,
+        plan.need,
+        ranges,
+        days,
+    )
+}
+
+/// The value of an operand over the rows that the user sees, inside some of the periods and under
+/// some of the units.
 pub fn element_value<S: RowStore>(
     alloc: Global,
-    meta: &Metadata,
-    store: &S,
-    seer: &Seer,
-    element: u32,
-    combo: Option<u32>,
-    attribute: Option<u32>,
-    periods: &[Period],
-    units: &[u32],
-    alone: bool,
+    source: &Source<'_, S>,
+    operand: &Operand,
+    periods: &CellPeriods,
+    units: &CellUnits,
 ) -> Result<Option<Frac>, Memory>
-    requires seer { IsSeer meta.now seer.now }
-    requires element { element < length meta.now.data_elements }
-    requires periods { 0 < length periods.now }
-    requires units { AreBelow (length meta.now.organisation_units) units.now }
-    ensures { IfOk result (λ value. value ≡ aggregate_of meta.now (seen meta.now seer.now.user (S.rows store.now))
-        (cell_of element combo attribute periods.now units.now alone)) }
+    requires seer { IsSeer source.now.meta.now source.now.seer.now }
+    requires element { operand.now.element < length source.now.meta.now.data_elements }
+    requires units { AreCellUnits source.now.meta.now source.now.seer.now.user units.now }
+    ensures { IfOk result (λ value. value
+        ≡ aggregate_of source.now.meta.now (seen source.now.meta.now source.now.seer.now.user (S.rows source.now.store.now))
+        (cell_of operand.now.element operand.now.combo operand.now.attribute periods.now units.now.units units.now.alone)) }
 {
-    let ranges = seen_ranges(alloc, meta, seer, units, alone)?;
-    let groups = asked_groups(alloc, meta, store, seer, element, combo, attribute, periods)?;
-    let count = days(alloc, periods)?;
-    let need = seer.need_for(meta, element);
-    let kind = meta.element(element).aggregation_type;
-    value_in(alloc, store, kind, &groups, need, ranges.parts(), count)
+    let plan = element_plan(alloc, source, operand)?;
+    let groups = element_groups(alloc, &plan, periods)?;
+    planned_value(alloc, source, &plan, groups.as_slice(), periods, units)
 }

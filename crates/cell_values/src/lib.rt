@@ -1,9 +1,10 @@
-//! The value of a cell: an element, a constant, a group of units or days over some periods and
+//! The value of a cell: an element, a reporting rate, a constant, a group of units or days over some periods and
 //! units, from the rows of a store that a user sees; and what a user sees, by units, sharing and
 //! approval.
 #![tactic(auto)]
 
 mod aggregated;
+mod cell;
 mod cuts;
 mod element;
 mod gathered;
@@ -11,10 +12,12 @@ mod groups;
 mod item;
 mod period_days;
 mod places;
+mod rates;
 mod seer;
 mod totals;
 
-pub use element::element_value;
-pub use item::item_value;
-pub use period_days::days;
+pub use cell::{CellPeriods, CellUnits, Operand, Source};
+pub use element::{ElementPlan, element_groups, element_plan, element_value, planned_value};
+pub use item::{ItemPlan, Way, item_groups, item_plans, item_values};
+pub use rates::{RateAsked, RatePlan, planned_rate, rate_due, rate_plan};
 pub use seer::Seer;

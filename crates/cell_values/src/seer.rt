@@ -2,13 +2,11 @@
 ghost use Rattle.std.specs.Prelude.{◌≡◌, ◌<◌, length, IfOk};
 ghost use Rattle.dh_sharing.specs.declared.access.Right.TheVariants as right;
 ghost use Rattle.dh_metadata.specs.Approval.{unit_rows};
-ghost use Rattle.dh_metadata.specs.Linked.{AreBelow};
 ghost use Rattle.dh_metadata.specs.Objects.{is_shared};
 ghost use Rattle.dh_metadata.specs.Users.{may_of};
 ghost use Rattle.cell_values.specs.Seen.{sees_options, sees_attribute, need_for, is_event_seen, is_reg_seen};
-ghost use Rattle.cell_values.specs.Held.{IsSeer, AreSeenOrders};
+ghost use Rattle.cell_values.specs.Held.{IsSeer};
 
-use crate::cuts::cut;
 use crate::places::unit_ranges;
 use dh_base::memory::Memory;
 use dh_base::plain::Need;
@@ -175,22 +173,4 @@ impl Seer {
             && may(meta, self.user, Right::Read, Kind::DataSet, reg.set)
             && self.sees_attribute(meta, reg.attribute)
     }
-}
-
-/// The orders of the units and of all under them, as far as the user views them. With `alone` a
-/// unit has only itself under it.
-pub fn seen_ranges(
-    alloc: Global,
-    meta: &Metadata,
-    seer: &Seer,
-    units: &[u32],
-    alone: bool,
-) -> Result<ViewRanges, Memory>
-    requires seer { IsSeer meta.now seer.now }
-    requires units { AreBelow (length meta.now.organisation_units) units.now }
-    ensures { IfOk result (λ ranges. AreSeenOrders meta.now seer.now.user alone units.now ranges) }
-{
-    let asked = unit_ranges(alloc, seer.tree(meta), units, alone)?;
-    let both = cut(alloc, seer.views(), &asked)?;
-    Ok(both)
 }

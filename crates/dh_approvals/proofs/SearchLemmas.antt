@@ -79,7 +79,8 @@ is-inside us unit first end x order interval within is from upto =
 pub some-under : (us : List UnitRow) (test : ℕ → Bool) (unit first end x order : ℕ) → HasInterval us unit first end → x < length us → order_of us x ≡ order
     → first ≤ order → order < end → test x ≡ true → is_some (first_below (λ y. is_under us y unit && test y) (length us)) ≡ true
 some-under us test unit first end x order interval within is from upto on =
-    let passes : (is_under us x unit && test x) ≡ true = joined (is_under us x unit) (test x) (is-inside us unit first end x order interval within is from upto) on in
+    let passes : (is_under us x unit && test x) ≡ true =
+    joined (is_under us x unit) (test x) (is-inside us unit first end x order interval within is from upto) on in
     elim (first_below_tells (λ y. is_under us y unit && test y) (length us)) [
       | inl found ↦ ap (λ (o : Option ℕ). is_some o) found.1
       | inr none ↦ absurd (true≢false (sym passes ∙ none.1 x within))

@@ -1,1 +1,2 @@
 pub mod ApprovedCases
+pub mod AccessLaws

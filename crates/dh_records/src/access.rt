@@ -1,6 +1,7 @@
 //! Rights and the tree of the units, after the writes of a log.
 ghost use Rattle.std.specs.Prelude.{◌≡◌, ◌<◌, true, length};
 ghost use Rattle.dh_metadata.specs.Objects.{count_of, is_shared};
+ghost use Rattle.record_index.specs.Facts.{Facts};
 ghost use Rattle.record_index.specs.World.{facts};
 ghost use Rattle.dh_records.specs.Access as known;
 
@@ -29,4 +30,14 @@ pub fn tree_of<'a>(world: &'a World, meta: &'a Metadata) -> &'a Tree
     ensures numbers { length result.now ≡ length meta.now.organisation_units }
 {
     meta.tree()
+}
+
+/// The metadata by which it is asked and viewed after a log. No write shares an object or moves a unit, so it is that of
+/// the file after every log.
+#[tactic(auto, unfolding(crate::specs::Access::meta_after, crate::specs::Access::access, crate::specs::Access::tree))]
+pub fn meta_after(meta: &Metadata) -> &Metadata
+    ensures value { (log : Facts) → result.now ≡ known.meta_after log meta.now }
+    ensures after { (log : Facts) → known.IsAfter log meta.now result.now }
+{
+    meta
 }

@@ -1,27 +1,19 @@
 -- Metadata with rights and the tree of the units as changes leave them.
-use Rattle.std.specs.Prelude.{◌≡◌, ℕ, List, length, take}
-use Rattle.dh_sharing.specs.declared.access.Right.{Right}
+use Rattle.std.specs.Prelude.{List, take}
 use Rattle.dh_changes.specs.declared.change.Change.{Change}
 use Rattle.meta_parts.specs.declared.held.Records.{Records}
-use Rattle.meta_parts.specs.declared.kind.Kind.{Kind}
-use Rattle.dh_metadata.specs.Approval.{unit_rows}
-use Rattle.dh_metadata.specs.Users.{may_of}
 use Rattle.record_index.specs.Facts.{facts_in}
-use Rattle.dh_records.specs.Access.{access, tree}
+use Rattle.dh_records.specs.Access as known
 use Rattle.change_log.specs.Log.{writes_of}
 use Rattle.engine.specs.Seen.{Seen}
 
--- what is asked and what is viewed, with these metadata: no change shares an object or moves a unit, so they are those of the file
+-- what is asked and what is viewed after a log of changes
 unfoldable pub meta_after : Records → List Change → Records
-meta_after meta log = meta
+meta_after meta log = known.meta_after (facts_in (writes_of log)) meta
 
 -- rights and the tree are those after the log, of as many users and units
-pub record IsAfter (meta : Records) (log : List Change) (after : Records) : Type 0 where
-  pub rights : (user : ℕ) (right : Right) (kind : Kind) (number : ℕ)
-      → may_of after user right kind number ≡ access (facts_in (writes_of log)) meta user right kind number
-  pub tree_is : unit_rows after ≡ tree (facts_in (writes_of log)) meta
-  pub users : length after.users ≡ length meta.users
-  pub units : length after.organisation_units ≡ length meta.organisation_units
+abbrev pub IsAfter : Records → List Change → Records → Type 0
+IsAfter meta log after = known.IsAfter (facts_in (writes_of log)) meta after
 
 -- those after the published changes of a machine
 abbrev pub published_meta : Seen → Records

@@ -22,6 +22,7 @@ use dh_base::memory::Memory;
 use dh_base::plain::CutKind;
 use dh_metadata::metadata::Metadata;
 use dh_outside::Keeper;
+use dh_records::access;
 use record_index::outcome::Who;
 use std::alloc::Global;
 use std::marker::Model;
@@ -33,13 +34,11 @@ fn ticket_of(staged: Option<Staged>) -> Option<u64>
     staged.map(|update| update.ticket)
 }
 
-// No change of today shares an object or moves a unit.
-#[tactic(auto, unfolding(crate::specs::MetaAfter::meta_after))]
 fn meta_after(meta: &Metadata) -> &Metadata
     ensures value { (log : List Change) → result.now ≡ meta_after meta.now log }
     ensures after { (log : List Change) → IsAfter meta.now log result.now }
 {
-    meta
+    access::meta_after(meta)
 }
 
 /// The log with its tables.

@@ -22,7 +22,7 @@ use Rattle.meta_links.specs.declared.groups.RuleLinks.{RuleLinks}
 use Rattle.meta_links.specs.declared.groups.ProgramLinks.{ProgramLinks}
 use Rattle.meta_links.specs.declared.groups.UserLinks.{UserLinks}
 use Rattle.meta_links.specs.Told.{after}
-use Rattle.meta_links.proofs.UnknownLemmas.{after_none, after_append}
+use Rattle.meta_links.proofs.Walk.{after_none, after_append}
 
 abbrev Ids : Type 0
 Ids = List (List (List ℕ))

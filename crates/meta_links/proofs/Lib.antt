@@ -1,2 +1,2 @@
-pub mod UnknownLemmas
+pub mod Walk
 pub mod GroupLemmas

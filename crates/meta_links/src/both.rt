@@ -1,3 +1,4 @@
+//! Two fallible values as one pair.
 ghost use Rattle.std.specs.Prelude.{◌≡◌, Ok, IfOk};
 
 use dh_base::memory::Memory;

@@ -1,3 +1,4 @@
+//! The combinations that every file has without naming them.
 ghost use Rattle.std.specs.Prelude.{◌≡◌, ◌∷◌, [], IfOk};
 ghost use Rattle.meta_links.specs.Held.{built_in_combo, built_in_option_combo};
 

@@ -1,3 +1,4 @@
+//! Copies of lists of identifiers and names.
 ghost use Rattle.std.specs.Prelude.{◌≡◌, IfOk};
 
 use dh_base::items::Items;

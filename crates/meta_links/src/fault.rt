@@ -1,3 +1,4 @@
+//! Why references weren't linked.
 ghost use Rattle.std.specs.Prelude.{◌≡◌};
 ghost use Rattle.meta_links.specs.declared.fault.LinkFault.TheVariants.{Memory as OutOfMemory};
 

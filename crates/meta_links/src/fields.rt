@@ -1,3 +1,4 @@
+//! The references in a field of an object.
 ghost use Rattle.std.specs.Prelude.{◌≡◌, ℕ, List, IfOk, OnOk, map, option_map};
 ghost use Rattle.std.specs.Fmt.{decimal};
 ghost use lib.Chars.{codes};
@@ -118,7 +119,7 @@ pub fn keyed(
 }
 
 /// The number of the object that a field names, if it is there.
-#[tactic(auto, using(crate::proofs::UnknownLemmas::parts), unfolding(crate::specs::Reference::optional))]
+#[tactic(auto, using(crate::proofs::Walk::parts), unfolding(crate::specs::Reference::optional))]
 pub fn optional(
     alloc: Global,
     ids: &Ids,
@@ -138,7 +139,7 @@ pub fn optional(
 }
 
 /// The numbers of the objects that a list names.
-#[tactic(auto, using(crate::proofs::UnknownLemmas::parts), unfolding(crate::specs::Reference::several))]
+#[tactic(auto, using(crate::proofs::Walk::parts), unfolding(crate::specs::Reference::several))]
 fn several_of(
     alloc: Global,
     ids: &Ids,
@@ -161,7 +162,7 @@ fn several_of(
 }
 
 /// The numbers of the objects that a field of each entry of a list names.
-#[tactic(auto, using(crate::proofs::UnknownLemmas::parts), unfolding(crate::specs::Reference::several_in))]
+#[tactic(auto, using(crate::proofs::Walk::parts), unfolding(crate::specs::Reference::several_in))]
 fn several_in_of(
     alloc: Global,
     ids: &Ids,
@@ -186,7 +187,7 @@ fn several_in_of(
 }
 
 // The category combination of an element of a data set, if it is named.
-#[tactic(auto, using(crate::proofs::UnknownLemmas::parts), unfolding(crate::specs::Reference::optional))]
+#[tactic(auto, using(crate::proofs::Walk::parts), unfolding(crate::specs::Reference::optional))]
 fn set_combo(
     alloc: Global,
     ids: &Ids,
@@ -214,7 +215,7 @@ fn set_combo(
 }
 
 // The number of an element of a data set. Its category combination is looked up too.
-#[tactic(auto, using(crate::proofs::UnknownLemmas::parts))]
+#[tactic(auto, using(crate::proofs::Walk::parts))]
 fn set_element(
     alloc: Global,
     ids: &Ids,
@@ -238,7 +239,7 @@ fn set_element(
 }
 
 /// The numbers of the elements of a data set.
-#[tactic(auto, using(crate::proofs::UnknownLemmas::parts), unfolding(crate::specs::Table::set_elements))]
+#[tactic(auto, using(crate::proofs::Walk::parts), unfolding(crate::specs::Table::set_elements))]
 fn set_elements_of(
     alloc: Global,
     ids: &Ids,

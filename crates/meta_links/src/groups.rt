@@ -1,3 +1,4 @@
+//! The objects of a file, linked in groups of a few kinds.
 ghost use Rattle.std.specs.Prelude.{◌≡◌, ◌∷◌, IfOk, OnOk, map};
 ghost use Rattle.std.specs.List.{flat_map};
 ghost use Rattle.meta_links.specs.Held.{built_in_combo, built_in_option_combo, category_combo_held, option_combo_held};
@@ -30,7 +31,7 @@ pub struct UnitLinks {
     pub categories: Items<Category>,
 }
 
-#[tactic(auto, using(crate::proofs::UnknownLemmas::parts), unfolding(crate::specs::Groups::units_held))]
+#[tactic(auto, using(crate::proofs::Walk::parts), unfolding(crate::specs::Groups::units_held))]
 pub fn link_units(
     alloc: Global,
     ids: &Ids,
@@ -98,7 +99,7 @@ fn option_combos_beside<A: Drop>(
     Ok((first, second))
 }
 
-#[tactic(auto, using(crate::proofs::UnknownLemmas::parts), unfolding(crate::specs::Groups::combos_held))]
+#[tactic(auto, using(crate::proofs::Walk::parts), unfolding(crate::specs::Groups::combos_held))]
 pub fn link_combos(
     alloc: Global,
     ids: &Ids,
@@ -132,7 +133,7 @@ pub struct SetLinks {
     pub indicator_types: Items<IndicatorType>,
 }
 
-#[tactic(auto, using(crate::proofs::UnknownLemmas::parts), unfolding(crate::specs::Groups::sets_held))]
+#[tactic(auto, using(crate::proofs::Walk::parts), unfolding(crate::specs::Groups::sets_held))]
 pub fn link_sets(
     alloc: Global,
     ids: &Ids,
@@ -168,7 +169,7 @@ pub struct RuleLinks {
     pub tracked_entity_attributes: Items<Attribute>,
 }
 
-#[tactic(auto, using(crate::proofs::UnknownLemmas::parts), unfolding(crate::specs::Groups::rules_held))]
+#[tactic(auto, using(crate::proofs::Walk::parts), unfolding(crate::specs::Groups::rules_held))]
 pub fn link_rules(
     alloc: Global,
     ids: &Ids,
@@ -203,7 +204,7 @@ pub struct ProgramLinks {
     pub program_indicators: Items<ProgramIndicatorLinks>,
 }
 
-#[tactic(auto, using(crate::proofs::UnknownLemmas::parts), unfolding(crate::specs::Groups::programs_held))]
+#[tactic(auto, using(crate::proofs::Walk::parts), unfolding(crate::specs::Groups::programs_held))]
 pub fn link_programs(
     alloc: Global,
     ids: &Ids,
@@ -235,7 +236,7 @@ pub struct UserLinks {
     pub user_groups: Items<UserGroup>,
 }
 
-#[tactic(auto, using(crate::proofs::UnknownLemmas::parts), unfolding(crate::specs::Groups::users_held))]
+#[tactic(auto, using(crate::proofs::Walk::parts), unfolding(crate::specs::Groups::users_held))]
 pub fn link_users(
     alloc: Global,
     ids: &Ids,

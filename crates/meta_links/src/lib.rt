@@ -1,5 +1,5 @@
 //! The references of metadata objects: each is looked up among the identifiers of its kind, and the
-//! first that names no object is told with its path in the file.
+//! first that names no object is reported with its path in the file.
 #![tactic(auto)]
 
 mod both;

@@ -1,8 +1,11 @@
+//! All objects of a file with their references as numbers.
 ghost use Rattle.std.specs.Prelude.{◌≡◌, ◌++◌, IfOk, OnOk};
 ghost use Rattle.meta_links.specs.Groups.{assembled};
 ghost use Rattle.meta_links.specs.Held.{links_of};
 ghost use Rattle.meta_links.specs.Table.{references};
-ghost use Rattle.meta_links.specs.Told.{Gives, after};
+ghost use Rattle.dh_base.specs.Memory.{Finds};
+ghost use Rattle.meta_links.specs.Reference.{first_unknown};
+ghost use Rattle.meta_links.specs.Told.{after, link_cause};
 
 use crate::both::both;
 use crate::fault::LinkFault;
@@ -32,9 +35,9 @@ type Groups = (
 );
 
 /// All objects with their references as numbers, a built-in object before those of its kind.
-#[tactic(auto, using(crate::proofs::UnknownLemmas::after_nothing))]
+#[tactic(auto, using(crate::proofs::Walk::after_nothing))]
 pub fn link(alloc: Global, ids: &Ids, parts: &MetaParts) -> Result<Links, LinkFault>
-    ensures { Gives ids.now parts.now result }
+    ensures { Finds link_cause (first_unknown ids.now (references parts.now)) (λ links. links ≡ links_of ids.now parts.now) result }
 {
     let mut unknown = Unknown::new();
     let groups = look_up(alloc, ids, &mut unknown, parts)?;
@@ -53,7 +56,9 @@ fn look_up(
     unknown: &mut Unknown,
     parts: &MetaParts,
 ) -> Result<Groups, Memory>
-    ensures held { IfOk result (λ all. assembled all.0.0.0.0.0.0 all.0.0.0.0.0.1 all.0.0.0.0.1 all.0.0.0.1 all.0.0.1 all.0.1 all.1 ≡ links_of ids.now parts.now) }
+    ensures held { IfOk result (λ all.
+        assembled all.0.0.0.0.0.0 all.0.0.0.0.0.1 all.0.0.0.0.1 all.0.0.0.1 all.0.0.1 all.0.1 all.1
+        ≡ links_of ids.now parts.now) }
     ensures told { OnOk result (unknown.new ≡ after ids.now unknown.old (references parts.now)) }
 {
     let units = link_units(alloc, ids, unknown, parts)?;

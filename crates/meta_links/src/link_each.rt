@@ -1,3 +1,4 @@
+//! The references of each object of a list.
 ghost use Rattle.std.specs.Prelude.{◌≡◌, ℕ, List, ◌++◌, IfOk, OnOk, map};
 ghost use Rattle.std.specs.List.{flat_map};
 ghost use Rattle.meta_links.specs.Reference.{Reference};

@@ -1,3 +1,4 @@
+//! The references of an object of each kind.
 ghost use Rattle.std.specs.Prelude.{IfOk, OnOk};
 ghost use Rattle.meta_links.specs.Table.{unit_references, unit_group_references, category_option_references, category_references, category_combo_references};
 ghost use Rattle.meta_links.specs.Table.{option_combo_references, element_references, approval_level_references, workflow_references, data_set_references};
@@ -39,7 +40,7 @@ impl Link for RawUnit {
 
     ghost held = { unit_held };
 
-    #[tactic(auto, using(crate::proofs::UnknownLemmas::parts), unfolding(crate::specs::Table::unit_references, crate::specs::Held::unit_held))]
+    #[tactic(auto, using(crate::proofs::Walk::parts), unfolding(crate::specs::Table::unit_references, crate::specs::Held::unit_held))]
     fn link(&self, alloc: Global, ids: &Ids, unknown: &mut Unknown) -> Result<Unit, Memory> {
         let field = Field {
             kind: Kind::OrganisationUnit,
@@ -70,7 +71,7 @@ impl Link for RawUnitGroup {
 
     ghost held = { unit_group_held };
 
-    #[tactic(auto, using(crate::proofs::UnknownLemmas::parts), unfolding(crate::specs::Table::unit_group_references, crate::specs::Held::unit_group_held))]
+    #[tactic(auto, using(crate::proofs::Walk::parts), unfolding(crate::specs::Table::unit_group_references, crate::specs::Held::unit_group_held))]
     fn link(&self, alloc: Global, ids: &Ids, unknown: &mut Unknown) -> Result<UnitGroup, Memory> {
         let field = Field {
             kind: Kind::OrganisationUnitGroup,
@@ -101,7 +102,7 @@ impl Link for RawCategoryOption {
 
     ghost held = { category_option_held };
 
-    #[tactic(auto, using(crate::proofs::UnknownLemmas::parts), unfolding(crate::specs::Table::category_option_references, crate::specs::Held::category_option_held))]
+    #[tactic(auto, using(crate::proofs::Walk::parts), unfolding(crate::specs::Table::category_option_references, crate::specs::Held::category_option_held))]
     fn link(
         &self,
         alloc: Global,
@@ -132,7 +133,7 @@ impl Link for RawCategory {
 
     ghost held = { category_held };
 
-    #[tactic(auto, using(crate::proofs::UnknownLemmas::parts), unfolding(crate::specs::Table::category_references, crate::specs::Held::category_held))]
+    #[tactic(auto, using(crate::proofs::Walk::parts), unfolding(crate::specs::Table::category_references, crate::specs::Held::category_held))]
     fn link(&self, alloc: Global, ids: &Ids, unknown: &mut Unknown) -> Result<Category, Memory> {
         let field = Field {
             kind: Kind::Category,
@@ -163,7 +164,7 @@ impl Link for RawCategoryCombo {
 
     ghost held = { category_combo_held };
 
-    #[tactic(auto, using(crate::proofs::UnknownLemmas::parts), unfolding(crate::specs::Table::category_combo_references, crate::specs::Held::category_combo_held))]
+    #[tactic(auto, using(crate::proofs::Walk::parts), unfolding(crate::specs::Table::category_combo_references, crate::specs::Held::category_combo_held))]
     fn link(
         &self,
         alloc: Global,
@@ -192,7 +193,7 @@ impl Link for RawOptionCombo {
 
     ghost held = { option_combo_held };
 
-    #[tactic(auto, using(crate::proofs::UnknownLemmas::parts), unfolding(crate::specs::Table::option_combo_references, crate::specs::Held::option_combo_held))]
+    #[tactic(auto, using(crate::proofs::Walk::parts), unfolding(crate::specs::Table::option_combo_references, crate::specs::Held::option_combo_held))]
     fn link(&self, alloc: Global, ids: &Ids, unknown: &mut Unknown) -> Result<OptionCombo, Memory> {
         let field = Field {
             kind: Kind::CategoryOptionCombo,
@@ -237,7 +238,7 @@ impl Link for RawElement {
 
     ghost held = { element_held };
 
-    #[tactic(auto, using(crate::proofs::UnknownLemmas::parts), unfolding(crate::specs::Table::element_references, crate::specs::Held::element_held))]
+    #[tactic(auto, using(crate::proofs::Walk::parts), unfolding(crate::specs::Table::element_references, crate::specs::Held::element_held))]
     fn link(&self, alloc: Global, ids: &Ids, unknown: &mut Unknown) -> Result<Element, Memory> {
         let field = Field {
             kind: Kind::DataElement,
@@ -280,7 +281,7 @@ impl Link for RawApprovalLevel {
 
     ghost held = { approval_level_held };
 
-    #[tactic(auto, using(crate::proofs::UnknownLemmas::parts), unfolding(crate::specs::Table::approval_level_references, crate::specs::Held::approval_level_held))]
+    #[tactic(auto, using(crate::proofs::Walk::parts), unfolding(crate::specs::Table::approval_level_references, crate::specs::Held::approval_level_held))]
     fn link(
         &self,
         alloc: Global,
@@ -304,7 +305,7 @@ impl Link for RawWorkflow {
 
     ghost held = { workflow_held };
 
-    #[tactic(auto, using(crate::proofs::UnknownLemmas::parts), unfolding(crate::specs::Table::workflow_references, crate::specs::Held::workflow_held))]
+    #[tactic(auto, using(crate::proofs::Walk::parts), unfolding(crate::specs::Table::workflow_references, crate::specs::Held::workflow_held))]
     fn link(&self, alloc: Global, ids: &Ids, unknown: &mut Unknown) -> Result<Workflow, Memory> {
         let field = Field {
             kind: Kind::Workflow,
@@ -336,7 +337,7 @@ impl Link for RawDataSet {
 
     ghost held = { data_set_held };
 
-    #[tactic(auto, using(crate::proofs::UnknownLemmas::parts), unfolding(crate::specs::Table::data_set_references, crate::specs::Held::data_set_held))]
+    #[tactic(auto, using(crate::proofs::Walk::parts), unfolding(crate::specs::Table::data_set_references, crate::specs::Held::data_set_held))]
     fn link(&self, alloc: Global, ids: &Ids, unknown: &mut Unknown) -> Result<DataSet, Memory> {
         let field = Field {
             kind: Kind::DataSet,
@@ -408,7 +409,7 @@ impl Link for RawConstant {
 
     ghost held = { constant_held };
 
-    #[tactic(auto, using(crate::proofs::UnknownLemmas::parts), unfolding(crate::specs::Table::constant_references, crate::specs::Held::constant_held))]
+    #[tactic(auto, using(crate::proofs::Walk::parts), unfolding(crate::specs::Table::constant_references, crate::specs::Held::constant_held))]
     fn link(&self, alloc: Global, ids: &Ids, unknown: &mut Unknown) -> Result<Constant, Memory> {
         let name = copy_of(alloc, &self.name)?;
         Ok(Constant {
@@ -426,7 +427,7 @@ impl Link for RawIndicatorType {
 
     ghost held = { indicator_type_held };
 
-    #[tactic(auto, using(crate::proofs::UnknownLemmas::parts), unfolding(crate::specs::Table::indicator_type_references, crate::specs::Held::indicator_type_held))]
+    #[tactic(auto, using(crate::proofs::Walk::parts), unfolding(crate::specs::Table::indicator_type_references, crate::specs::Held::indicator_type_held))]
     fn link(
         &self,
         alloc: Global,
@@ -449,7 +450,7 @@ impl Link for RawIndicator {
 
     ghost held = { indicator_held };
 
-    #[tactic(auto, using(crate::proofs::UnknownLemmas::parts), unfolding(crate::specs::Table::indicator_references, crate::specs::Held::indicator_held))]
+    #[tactic(auto, using(crate::proofs::Walk::parts), unfolding(crate::specs::Table::indicator_references, crate::specs::Held::indicator_held))]
     fn link(
         &self,
         alloc: Global,
@@ -491,7 +492,7 @@ impl Link for RawRule {
 
     ghost held = { rule_held };
 
-    #[tactic(auto, using(crate::proofs::UnknownLemmas::parts), unfolding(crate::specs::Table::rule_references, crate::specs::Held::rule_held))]
+    #[tactic(auto, using(crate::proofs::Walk::parts), unfolding(crate::specs::Table::rule_references, crate::specs::Held::rule_held))]
     fn link(&self, alloc: Global, ids: &Ids, unknown: &mut Unknown) -> Result<Sharing, Memory> {
         sharing(
             alloc,
@@ -511,7 +512,7 @@ impl Link for RawEntityType {
 
     ghost held = { entity_type_held };
 
-    #[tactic(auto, using(crate::proofs::UnknownLemmas::parts), unfolding(crate::specs::Table::entity_type_references, crate::specs::Held::entity_type_held))]
+    #[tactic(auto, using(crate::proofs::Walk::parts), unfolding(crate::specs::Table::entity_type_references, crate::specs::Held::entity_type_held))]
     fn link(&self, alloc: Global, ids: &Ids, unknown: &mut Unknown) -> Result<EntityType, Memory> {
         let sharing = sharing(
             alloc,
@@ -537,7 +538,7 @@ impl Link for RawAttribute {
 
     ghost held = { attribute_held };
 
-    #[tactic(auto, using(crate::proofs::UnknownLemmas::parts), unfolding(crate::specs::Table::attribute_references, crate::specs::Held::attribute_held))]
+    #[tactic(auto, using(crate::proofs::Walk::parts), unfolding(crate::specs::Table::attribute_references, crate::specs::Held::attribute_held))]
     fn link(&self, alloc: Global, ids: &Ids, unknown: &mut Unknown) -> Result<Attribute, Memory> {
         let name = copy_of(alloc, &self.name)?;
         Ok(Attribute {
@@ -555,7 +556,7 @@ impl Link for RawProgram {
 
     ghost held = { program_held };
 
-    #[tactic(auto, using(crate::proofs::UnknownLemmas::parts), unfolding(crate::specs::Table::program_references, crate::specs::Held::program_held))]
+    #[tactic(auto, using(crate::proofs::Walk::parts), unfolding(crate::specs::Table::program_references, crate::specs::Held::program_held))]
     fn link(&self, alloc: Global, ids: &Ids, unknown: &mut Unknown) -> Result<Program, Memory> {
         let field = Field {
             kind: Kind::Program,
@@ -611,7 +612,7 @@ impl Link for RawStage {
 
     ghost held = { stage_held };
 
-    #[tactic(auto, using(crate::proofs::UnknownLemmas::parts), unfolding(crate::specs::Table::stage_references, crate::specs::Held::stage_held))]
+    #[tactic(auto, using(crate::proofs::Walk::parts), unfolding(crate::specs::Table::stage_references, crate::specs::Held::stage_held))]
     fn link(&self, alloc: Global, ids: &Ids, unknown: &mut Unknown) -> Result<Stage, Memory> {
         let field = Field {
             kind: Kind::ProgramStage,
@@ -650,7 +651,7 @@ impl Link for RawProgramIndicator {
 
     ghost held = { program_indicator_held };
 
-    #[tactic(auto, using(crate::proofs::UnknownLemmas::parts), unfolding(crate::specs::Table::program_indicator_references, crate::specs::Held::program_indicator_held))]
+    #[tactic(auto, using(crate::proofs::Walk::parts), unfolding(crate::specs::Table::program_indicator_references, crate::specs::Held::program_indicator_held))]
     fn link(
         &self,
         alloc: Global,
@@ -682,7 +683,7 @@ impl Link for RawRole {
 
     ghost held = { role_held };
 
-    #[tactic(auto, using(crate::proofs::UnknownLemmas::parts), unfolding(crate::specs::Table::role_references, crate::specs::Held::role_held))]
+    #[tactic(auto, using(crate::proofs::Walk::parts), unfolding(crate::specs::Table::role_references, crate::specs::Held::role_held))]
     fn link(&self, alloc: Global, ids: &Ids, unknown: &mut Unknown) -> Result<Role, Memory> {
         let name = copy_of(alloc, &self.name)?;
         let authorities = copies_of(alloc, self.authorities.as_slice())?;
@@ -701,7 +702,7 @@ impl Link for RawUser {
 
     ghost held = { user_held };
 
-    #[tactic(auto, using(crate::proofs::UnknownLemmas::parts), unfolding(crate::specs::Table::user_references, crate::specs::Held::user_held))]
+    #[tactic(auto, using(crate::proofs::Walk::parts), unfolding(crate::specs::Table::user_references, crate::specs::Held::user_held))]
     fn link(&self, alloc: Global, ids: &Ids, unknown: &mut Unknown) -> Result<User, Memory> {
         let field = Field {
             kind: Kind::User,
@@ -753,7 +754,7 @@ impl Link for RawUserGroup {
 
     ghost held = { user_group_held };
 
-    #[tactic(auto, using(crate::proofs::UnknownLemmas::parts), unfolding(crate::specs::Table::user_group_references, crate::specs::Held::user_group_held))]
+    #[tactic(auto, using(crate::proofs::Walk::parts), unfolding(crate::specs::Table::user_group_references, crate::specs::Held::user_group_held))]
     fn link(&self, alloc: Global, ids: &Ids, unknown: &mut Unknown) -> Result<UserGroup, Memory> {
         let field = Field {
             kind: Kind::UserGroup,

@@ -1,3 +1,4 @@
+//! Paths of references in a metadata file.
 ghost use Rattle.std.specs.Prelude.{◌≡◌, ◌∷◌, ◌++◌, IfOk};
 ghost use Rattle.std.specs.Fmt.{decimal};
 ghost use Rattle.meta_links.specs.Reference.{step, field_path};

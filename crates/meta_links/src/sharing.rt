@@ -1,3 +1,4 @@
+//! The references of sharing settings.
 ghost use Rattle.std.specs.Prelude.{◌≡◌, ℕ, List, IfOk, OnOk};
 ghost use Rattle.meta_links.specs.Reference.{field_path, step, one, number_of};
 ghost use Rattle.meta_links.specs.Table.{entries, sharing_references};
@@ -18,7 +19,7 @@ use meta_parts::raw::RawSharing;
 use std::alloc::Global;
 
 /// How the object of a kind at a place is shared.
-#[tactic(auto, using(crate::proofs::UnknownLemmas::parts), unfolding(crate::specs::Table::sharing_references, crate::specs::Held::sharing_held))]
+#[tactic(auto, using(crate::proofs::Walk::parts), unfolding(crate::specs::Table::sharing_references, crate::specs::Held::sharing_held))]
 pub fn sharing(
     alloc: Global,
     ids: &Ids,
@@ -48,7 +49,7 @@ pub fn sharing(
 }
 
 // The users or user groups of some entries, with what each may do.
-#[tactic(auto, using(crate::proofs::UnknownLemmas::parts), unfolding(crate::specs::Table::entries))]
+#[tactic(auto, using(crate::proofs::Walk::parts), unfolding(crate::specs::Table::entries))]
 fn entries_of(
     alloc: Global,
     ids: &Ids,

@@ -1,3 +1,4 @@
+//! The users of tokens.
 ghost use Rattle.std.specs.Prelude.{◌≡◌, IfOk, OnOk, map};
 ghost use Rattle.std.specs.Fmt.{decimal};
 ghost use lib.Chars.{codes};
@@ -39,7 +40,7 @@ fn user(
 }
 
 // Tokens, each with the number of its user.
-#[tactic(auto, using(crate::proofs::UnknownLemmas::parts), unfolding(crate::specs::Table::token_references))]
+#[tactic(auto, using(crate::proofs::Walk::parts), unfolding(crate::specs::Table::token_references))]
 fn link_tokens_of(
     alloc: Global,
     ids: &Ids,

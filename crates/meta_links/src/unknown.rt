@@ -1,3 +1,4 @@
+//! The first unknown reference that was met.
 ghost use Rattle.std.specs.Prelude.{◌≡◌, None, Some, is_some};
 
 use dh_base::items::Items;

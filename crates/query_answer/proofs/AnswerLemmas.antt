@@ -24,7 +24,7 @@ use Rattle.query_answer.specs.declared.whole.AnswerFault.TheVariants.{Wide}
 use Rattle.query_answer.specs.Asked.{can_answer_dx, CanAnswer}
 use Rattle.query_answer.specs.Rows.{Slot, alone, slots, period_slots, unit_slots, row_with, slot_value, unit_rows, period_rows, dx_rows, rows_from}
 use Rattle.query_answer.specs.Answer.{wide_dx, answer_with, answer_of, Answers}
-use Rattle.query_answer.proofs.AskedLemmas.{element_there, indicator_there, no_program, no_rate}
+use Rattle.query_answer.proofs.AskedLemmas.{element_there, indicator_there, rate_there, no_program}
 
 all_flat : {X Y : Type 0} (P : X → Type 0) (Q : Y → Type 0) (f : X → List Y) (xs : List X) → ((x : X) → P x → All Q (f x)) → AllByRecursion P xs
     → All Q (flat_map f xs)
@@ -81,7 +81,8 @@ there_by r dx dx_kind.Element is can =
 there_by r dx dx_kind.Indicator is can =
     subst (λ k. dx.number < count_of r (kind_of k)) (sym is) (indicator_there r dx can is)
 there_by r dx dx_kind.ProgramIndicator is can = absurd (true≢false (sym can ∙ no_program r dx is))
-there_by r dx (dx_kind.Rate rate) is can = absurd (true≢false (sym can ∙ no_rate r dx rate is))
+there_by r dx (dx_kind.Rate rate) is can =
+    subst (λ k. dx.number < count_of r (kind_of k)) (sym is) (rate_there r dx rate can is)
 
 are_there : (r : Records) (asked : List Dx) → list_all (can_answer_dx r) asked ≡ true → All (IsThere r) asked
 are_there r [] can = All-nil (IsThere r)

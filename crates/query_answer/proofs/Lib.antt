@@ -4,3 +4,5 @@ pub mod AskedLemmas
 pub mod LoopLemmas
 pub mod AnswerLemmas
 pub mod UnseenLemmas
+pub mod PlanLemmas
+pub mod PartLemmas

@@ -4,6 +4,7 @@ use Rattle.std.proofs.Math.Path.{fun_ext}
 use Rattle.std.specs.List.{find, flat_map, list_any}
 use Rattle.std.specs.Option.{option_map_or}
 use Rattle.dh_base.specs.Fractions.{Fraction}
+use Rattle.dh_base.specs.declared.plain.Rate.{Rate}
 use Rattle.dh_periods.specs.declared.name.PeriodName.{PeriodName}
 use Rattle.expr_lang.specs.declared.tree.Item.{Item}
 use Rattle.meta_parts.specs.declared.held.Records.{Records}
@@ -11,6 +12,7 @@ use Rattle.meta_parts.specs.declared.records.Indicator.{Indicator}
 use Rattle.cell_values.specs.Seen.{SeenRecords, SameSeen}
 use Rattle.cell_values.specs.Cells.{cell_of, days_in}
 use Rattle.cell_values.specs.Items.{item_value_of}
+use Rattle.cell_values.proofs.RateLemmas.{rate_of-permutation}
 use Rattle.cell_values.proofs.ReorderLemmas.{aggregate_of-permutation, item_value_of-same}
 use Rattle.query_answer.specs.declared.arithmetic.CellValue.TheVariants as cell
 use Rattle.query_answer.specs.Value.{indicator_value_of}
@@ -20,7 +22,7 @@ use Rattle.query_forms.specs.declared.plain.DxKind.TheVariants as dx_kind
 use Rattle.query_forms.specs.declared.plain.Query.{Query}
 use Rattle.query_answer.specs.declared.body_rows.AnswerRow.{AnswerRow}
 use Rattle.query_answer.specs.Body.{body_of}
-use Rattle.query_answer.specs.Cells.{of_option, element_cell, indicator_cell, cell_by, cell_value, is_wide}
+use Rattle.query_answer.specs.Cells.{of_option, element_cell, rate_cell, indicator_cell, cell_by, cell_value, is_wide}
 use Rattle.query_answer.specs.Rows.{Slot, row_with, period_slots, unit_slots, unit_is_wide, unit_rows, period_is_wide, period_rows, dx_is_wide, dx_rows}
 use Rattle.query_answer.specs.Rows.{rows_from}
 use Rattle.query_answer.specs.Answer.{wide_dx, answer_with, answer_of}
@@ -46,12 +48,18 @@ some_indicator : (r : Records) (one other : SeenRecords) (found : Option Indicat
 some_indicator r one other None periods units same = refl
 some_indicator r one other (Some indicator) periods units same = indicator_same r one other indicator periods units same
 
+rate_same : (r : Records) (one other : SeenRecords) (which : Rate) (set : ℕ) (periods : List PeriodName) (units : List ℕ) → SameSeen one other
+    → rate_cell r one.regs which set periods units ≡ rate_cell r other.regs which set periods units
+unfolding rate_cell
+rate_same r one other which set periods units same =
+    ap of_option (rate_of-permutation r which set periods units one.regs other.regs false same.regs)
+
 kind_same : (r : Records) (one other : SeenRecords) (kind : DxKind) (n : ℕ) (part : Option ℕ) (periods : List PeriodName) (units : List ℕ) → SameSeen one other
     → cell_by r one kind n part periods units ≡ cell_by r other kind n part periods units
 kind_same r one other dx_kind.Element n part periods units same = element_same r one other n part periods units same
 kind_same r one other dx_kind.Indicator n part periods units same = some_indicator r one other (slice_get r.indicators n) periods units same
 kind_same r one other dx_kind.ProgramIndicator n part periods units same = refl
-kind_same r one other (dx_kind.Rate rate) n part periods units same = refl
+kind_same r one other (dx_kind.Rate rate) n part periods units same = rate_same r one other rate n periods units same
 
 cell_same : (r : Records) (one other : SeenRecords) (dx : Dx) (periods : List PeriodName) (units : List ℕ) → SameSeen one other
     → cell_value r one dx periods units ≡ cell_value r other dx periods units

@@ -3,10 +3,13 @@ use Rattle.std.specs.Prelude.{ℕ, Bool, true, false, ℤ, unsigned_abs, min, Li
 use Rattle.std.specs.Option.{option_map_or}
 use Rattle.dh_base.specs.Decimals.{printed}
 use Rattle.dh_base.specs.Fractions.{Fraction}
+use Rattle.dh_base.specs.declared.plain.Rate.{Rate}
 use Rattle.dh_periods.specs.declared.name.PeriodName.{PeriodName}
 use Rattle.meta_parts.specs.declared.held.Records.{Records}
 use Rattle.meta_parts.specs.declared.records.Indicator.{Indicator}
+use Rattle.table_rows.specs.declared.event.RegRow.{RegRow}
 use Rattle.table_rows.specs.declared.sample.Sample.{Sample}
+use Rattle.rate_items.specs.Rates.{rate_of}
 use Rattle.cell_values.specs.Seen.{SeenRecords}
 use Rattle.cell_values.specs.Cells.{cell_of, aggregate_of, days_in}
 use Rattle.cell_values.specs.Items.{item_value_of}
@@ -30,11 +33,16 @@ unfoldable pub indicator_cell : Records → SeenRecords → Indicator → List P
 indicator_cell r shown indicator periods units =
     indicator_value_of r (λ item. item_value_of r shown item periods units false) (days_in periods) indicator
 
+-- a rate's cell is that of the registrations
+unfoldable pub rate_cell : Records → List RegRow → Rate → ℕ → List PeriodName → List ℕ → CellValue
+rate_cell r regs which set periods units = of_option (rate_of r which set periods units regs false)
+
 abbrev pub cell_by : Records → SeenRecords → DxKind → ℕ → Option ℕ → List PeriodName → List ℕ → CellValue
 cell_by r shown dx_kind.Element n part periods units = element_cell r shown.samples n part periods units
 cell_by r shown dx_kind.Indicator n part periods units =
     option_map_or (λ indicator. indicator_cell r shown indicator periods units) (slice_get r.indicators n) cell.None
-cell_by r shown other n part periods units = cell.None
+cell_by r shown (dx_kind.Rate which) n part periods units = rate_cell r shown.regs which n periods units
+cell_by r shown dx_kind.ProgramIndicator n part periods units = cell.None
 
 -- the value of a dx item over the seen records in some periods and under some units
 unfoldable pub cell_value : Records → SeenRecords → Dx → List PeriodName → List ℕ → CellValue
@@ -50,6 +58,7 @@ places_of decimals = min (unsigned_abs decimals) 6
 
 abbrev pub decimals_by : Records → ℕ → DxKind → ℕ
 decimals_by r n dx_kind.Indicator = option_map_or (λ (indicator : Indicator). places_of indicator.decimals) (slice_get r.indicators n) 6
+decimals_by r n (dx_kind.Rate which) = 1
 decimals_by r n _ = 6
 
 -- a value is printed with up to so many decimals

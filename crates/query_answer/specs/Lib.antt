@@ -9,4 +9,5 @@ pub mod Asked
 pub mod Cells
 pub mod Plans
 pub mod Rows
+pub mod Parts
 pub mod Answer

@@ -1,15 +1,44 @@
 -- What is made of a dx item before its cells.
-use Rattle.std.specs.Prelude.{◌≡◌, slice_get, Some}
+use Rattle.std.specs.Prelude.{◌≡◌, ℕ, List, map, slice_get, Some, None}
+use Rattle.std.specs.List.{All}
+use Rattle.dh_periods.specs.declared.name.PeriodName.{PeriodName}
+use Rattle.expr_lang.specs.Expr.{items_in}
 use Rattle.meta_parts.specs.declared.held.Records.{Records}
 use Rattle.meta_parts.specs.declared.records.Indicator.{Indicator}
+use Rattle.table_rows.specs.Store.{Contents}
+use Rattle.cell_values.specs.declared.item.ItemPlan.{ItemPlan}
+use Rattle.rate_items.specs.Prepared.{IsDue}
+use Rattle.cell_values.specs.Rates.{IsRatePlan}
+use Rattle.cell_values.specs.Plans.{IsElementPlan, IsItemPlan, operand, inside, groups_inside}
 use Rattle.query_answer.specs.Value.{AreSides}
 use Rattle.query_forms.specs.declared.plain.Dx.{Dx}
 use Rattle.query_forms.specs.declared.plain.DxKind.TheVariants as dx_kind
-use Rattle.query_answer.specs.declared.cells.Plan.{Plan}
-use Rattle.query_answer.specs.declared.cells.Plan.TheVariants as plan
+use Rattle.query_answer.specs.declared.plans.IndicatorPlan.{IndicatorPlan}
+use Rattle.query_answer.specs.declared.plans.Plan.{Plan}
+use Rattle.query_answer.specs.declared.plans.Plan.TheVariants as plan
+use Rattle.query_answer.specs.declared.plans.PlanGroups.{PlanGroups}
 
--- the plan is that of the item: nothing for a data element, the two sides for an indicator
-abbrev pub IsPlan : Records → Dx → Plan → Type 0
-IsPlan r dx plan.Element = dx.kind ≡ dx_kind.Element
-IsPlan r dx (plan.Indicator sides) =
-    (dx.kind ≡ dx_kind.Indicator) × ((indicator : Indicator) → slice_get r.indicators dx.number ≡ Some indicator → AreSides r indicator sides)
+-- the plan of an indicator: its two sides in the form that is evaluated, and the plans of the items of each
+pub record IsIndicatorPlan (r : Records) (user : ℕ) (held : Contents) (indicator : Indicator) (made : IndicatorPlan) : Type 0 where
+  pub sides : AreSides r indicator made.sides
+  pub over : All (IsItemPlan r user held) made.over
+  pub over_items : map (λ (each : ItemPlan). each.item) made.over ≡ items_in indicator.numerator
+  pub under : All (IsItemPlan r user held) made.under
+  pub under_items : map (λ (each : ItemPlan). each.item) made.under ≡ items_in indicator.denominator
+
+-- the plan is that of the item: of its operand, of its indicator, or of its rate
+abbrev pub IsPlan : Records → ℕ → Contents → Dx → Plan → Type 0
+IsPlan r user held dx (plan.Element made) =
+    (dx.kind ≡ dx_kind.Element) × (IsElementPlan r user held.rows made × (made.operand ≡ operand dx.number dx.part None))
+IsPlan r user held dx (plan.Indicator made) =
+    (dx.kind ≡ dx_kind.Indicator)
+    × ((indicator : Indicator) → slice_get r.indicators dx.number ≡ Some indicator → IsIndicatorPlan r user held indicator made)
+IsPlan r user held dx (plan.Rate made) =
+    (dx.kind ≡ dx_kind.Rate made.asked.which) × (IsRatePlan r user held.regs made × (made.asked.set ≡ dx.number))
+
+-- what is made of it once for some periods: its groups inside them, or what is due in them
+abbrev pub ArePlanGroups : List PeriodName → Plan → PlanGroups → Type 0
+ArePlanGroups periods (plan.Element made) groups = groups.own ≡ inside periods made.groups
+ArePlanGroups periods (plan.Indicator made) groups =
+    (groups.over ≡ map (groups_inside periods) made.over) × (groups.under ≡ map (groups_inside periods) made.under)
+ArePlanGroups periods (plan.Rate made) groups = IsDue periods made.reports groups.due

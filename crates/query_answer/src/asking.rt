@@ -1,14 +1,14 @@
 //! What a query is answered from.
 
-use cell_values::Seer;
-use dh_metadata::metadata::Metadata;
+use crate::parts::{PeriodPart, UnitPart};
+use cell_values::Source;
 use query_forms::Query;
 
-/// What a query is answered from: the metadata, the records, and what the user sees of them.
+/// What a query is answered from, and its periods and units as its cells take them.
 #[derive(Drop)]
 pub struct Asking<'a, S> {
-    pub meta: &'a Metadata,
-    pub store: &'a S,
-    pub seer: &'a Seer,
+    pub source: &'a Source<'a, S>,
     pub query: &'a Query,
+    pub periods: &'a [PeriodPart],
+    pub units: &'a [UnitPart],
 }

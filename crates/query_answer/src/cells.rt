@@ -1,53 +1,37 @@
 //! The value of a cell.
 
-ghost use Rattle.std.specs.Prelude.{◌≡◌, ◌<◌, ◌≤◌, ℕ, List, map, length, slice_get, Some, None, false, true, IfOk};
+ghost use Rattle.std.specs.Prelude.{◌≡◌, ◌≤◌, List, map, None, false, true, IfOk};
 ghost use Rattle.dh_base.specs.Decimals.{printed};
-ghost use Rattle.query_answer.specs.Value.{AreSides};
-ghost use Rattle.dh_metadata.specs.Linked.{AreBelow};
-ghost use Rattle.cell_values.specs.Held.{IsSeer};
-ghost use Rattle.cell_values.specs.Seen.{seen, seen_of, contents_of};
-ghost use Rattle.cell_values.specs.Items.{item_value_of};
+ghost use Rattle.dh_periods.specs.declared.name.PeriodName.{PeriodName};
+ghost use Rattle.rate_items.specs.Prepared.{IsDue, IsPrepared};
+ghost use Rattle.rate_items.specs.Rates.{rate_of};
+ghost use Rattle.cell_values.specs.Held.{AreCellUnits};
+ghost use Rattle.cell_values.specs.Rates.{IsRatePlan};
+ghost use Rattle.cell_values.specs.Seen.{seen, seen_regs, seen_of, contents_of};
+ghost use Rattle.cell_values.specs.Cells.{cell_of, aggregate_of};
+ghost use Rattle.cell_values.specs.Plans.{IsElementPlan, inside, groups_inside};
 ghost use Rattle.query_answer.specs.Asked.{can_answer_dx};
-ghost use Rattle.query_answer.specs.Cells.{of_option, element_cell, indicator_cell, cell_value, places_of, decimals_of, value_text};
-ghost use Rattle.query_answer.specs.Plans.{IsPlan};
+ghost use Rattle.query_answer.specs.Cells.{of_option, indicator_cell, cell_value, places_of, decimals_of, value_text};
+ghost use Rattle.query_answer.specs.Parts.{IsUnitPart};
+ghost use Rattle.query_answer.specs.Plans.{IsIndicatorPlan, IsPlan, ArePlanGroups};
 
 use crate::arithmetic::CellValue;
-use crate::asking::Asking;
-use crate::sides::{Sides, indicator_value, sides_of};
-use cell_values::{days, element_value, item_value};
+use crate::parts::UnitPart;
+use crate::plans::{IndicatorPlan, Plan, PlanGroups};
+use crate::sides::indicator_value;
+use cell_values::{
+    CellPeriods, CellUnits, ElementPlan, RatePlan, Source, item_values, planned_rate, planned_value,
+};
 use dh_base::frac::Frac;
 use dh_base::items::Items;
 use dh_base::memory::Memory;
 use dh_base::print::print_rounded;
 use dh_metadata::metadata::Metadata;
-use dh_periods::Period;
-use expr_lang::Item;
 use meta_parts::records::Indicator;
 use query_forms::{Dx, DxKind};
+use rate_items::Due;
 use std::alloc::Global;
-use table_rows::RowStore;
-
-/// What is made of a `dx` item once, before its cells.
-#[derive(Drop)]
-pub enum Plan {
-    Element,
-    Indicator(Sides),
-}
-
-/// The plan of a `dx` item.
-#[tactic(auto, unfolding(crate::specs::Asked::can_answer_dx))]
-pub fn plan_of(alloc: Global, meta: &Metadata, dx: &Dx) -> Result<Plan, Memory>
-    requires { can_answer_dx meta.now dx.now ≡ true }
-    ensures { IfOk result (λ plan. IsPlan meta.now dx.now plan) }
-{
-    match dx.kind {
-        DxKind::Indicator => {
-            let sides = sides_of(alloc, meta, meta.indicator(dx.number))?;
-            Ok(Plan::Indicator(sides))
-        }
-        _ => Ok(Plan::Element),
-    }
-}
+use table_rows::{Group, RowStore};
 
 fn from_option(value: Option<Frac>) -> CellValue
     ensures { result ≡ of_option value }
@@ -58,122 +42,123 @@ fn from_option(value: Option<Frac>) -> CellValue
     }
 }
 
-#[tactic(auto, unfolding(crate::specs::Cells::element_cell))]
 fn element_cell<S: RowStore>(
     alloc: Global,
-    asking: &Asking<'_, S>,
-    element: u32,
-    part: Option<u32>,
-    periods: &[Period],
-    units: &[u32],
+    source: &Source<'_, S>,
+    plan: &ElementPlan,
+    groups: &[Group],
+    periods: &CellPeriods,
+    units: &CellUnits,
 ) -> Result<CellValue, Memory>
-    requires seer { IsSeer asking.now.meta.now asking.now.seer.now }
-    requires element { element < length asking.now.meta.now.data_elements }
-    requires periods { 0 < length periods.now }
-    requires units { AreBelow (length asking.now.meta.now.organisation_units) units.now }
-    ensures { IfOk result (λ cell. cell ≡ element_cell asking.now.meta.now
-        (seen asking.now.meta.now asking.now.seer.now.user (S.rows asking.now.store.now)) element part periods.now units.now) }
+    requires plan { IsElementPlan source.now.meta.now source.now.seer.now.user (S.rows source.now.store.now) plan.now }
+    requires groups { groups.now ≡ inside periods.now plan.now.groups }
+    requires units { AreCellUnits source.now.meta.now source.now.seer.now.user units.now }
+    ensures { IfOk result (λ cell. cell
+        ≡ of_option (aggregate_of source.now.meta.now (seen source.now.meta.now source.now.seer.now.user (S.rows source.now.store.now))
+        (cell_of plan.now.operand.element plan.now.operand.combo plan.now.operand.attribute periods.now units.now.units units.now.alone))) }
 {
-    let value = element_value(
-        alloc,
-        asking.meta,
-        asking.store,
-        asking.seer,
-        element,
-        part,
-        None,
-        periods,
-        units,
-        false,
-    )?;
+    let value = planned_value(alloc, source, plan, groups, periods, units)?;
     Ok(from_option(value))
 }
 
-/// The values of items, in their order.
-fn item_values<S: RowStore>(
+fn rate_cell<S: RowStore>(
     alloc: Global,
-    asking: &Asking<'_, S>,
-    items: &[Item],
-    periods: &[Period],
-    units: &[u32],
-) -> Result<Vec<Option<Frac>>, Memory>
-    requires seer { IsSeer asking.now.meta.now asking.now.seer.now }
-    requires periods { 0 < length periods.now }
-    requires units { AreBelow (length asking.now.meta.now.organisation_units) units.now }
-    ensures { IfOk result (λ values. values.items ≡ map (λ item. item_value_of asking.now.meta.now
-        (seen_of asking.now.meta.now asking.now.seer.now.user
-        (contents_of (S.rows asking.now.store.now) (S.events asking.now.store.now) (S.regs asking.now.store.now)))
-        item periods.now units.now false) items.now) }
+    source: &Source<'_, S>,
+    plan: &RatePlan,
+    due: &Due,
+    units: &CellUnits,
+) -> Result<CellValue, Memory>
+    requires plan { IsRatePlan source.now.meta.now source.now.seer.now.user (S.regs source.now.store.now) plan.now }
+    requires due { IsPrepared plan.now.reports due.now }
+    requires units { AreCellUnits source.now.meta.now source.now.seer.now.user units.now }
+    ensures { (periods : List PeriodName) → IsDue periods plan.now.reports due.now
+        → IfOk result (λ cell. cell ≡ of_option (rate_of source.now.meta.now plan.now.asked.which plan.now.asked.set periods units.now.units
+        (seen_regs source.now.meta.now source.now.seer.now.user (S.regs source.now.store.now)) units.now.alone)) }
 {
-    let mut values = Vec::new(alloc);
-    for item in items {
-        let value = item_value(
-            alloc,
-            asking.meta,
-            asking.store,
-            asking.seer,
-            item,
-            periods,
-            units,
-            false,
-        )?;
-        values.push(value)?;
-    }
-    Ok(values)
+    let value = planned_rate(alloc, source, plan, due, units)?;
+    Ok(from_option(value))
 }
 
 #[tactic(auto, unfolding(crate::specs::Cells::indicator_cell))]
 fn indicator_cell<S: RowStore>(
     alloc: Global,
-    asking: &Asking<'_, S>,
+    source: &Source<'_, S>,
     indicator: &Indicator,
-    sides: &Sides,
-    periods: &[Period],
-    units: &[u32],
+    plan: &IndicatorPlan,
+    groups: &PlanGroups,
+    periods: &CellPeriods,
+    unit: &UnitPart,
 ) -> Result<CellValue, Memory>
-    requires seer { IsSeer asking.now.meta.now asking.now.seer.now }
-    requires sides { AreSides asking.now.meta.now indicator.now sides.now }
-    requires periods { 0 < length periods.now }
-    requires units { AreBelow (length asking.now.meta.now.organisation_units) units.now }
-    ensures { IfOk result (λ cell. cell ≡ indicator_cell asking.now.meta.now
-        (seen_of asking.now.meta.now asking.now.seer.now.user
-        (contents_of (S.rows asking.now.store.now) (S.events asking.now.store.now) (S.regs asking.now.store.now)))
-        indicator.now periods.now units.now) }
+    requires plan { IsIndicatorPlan source.now.meta.now source.now.seer.now.user
+        (contents_of (S.rows source.now.store.now) (S.events source.now.store.now) (S.regs source.now.store.now))
+        indicator.now plan.now }
+    requires over { groups.now.over ≡ map (groups_inside periods.now) plan.now.over }
+    requires under { groups.now.under ≡ map (groups_inside periods.now) plan.now.under }
+    requires unit { IsUnitPart source.now.meta.now source.now.seer.now.user unit.now }
+    ensures { IfOk result (λ cell. cell ≡ indicator_cell source.now.meta.now
+        (seen_of source.now.meta.now source.now.seer.now.user
+        (contents_of (S.rows source.now.store.now) (S.events source.now.store.now) (S.regs source.now.store.now))) indicator.now periods.now unit.now.units.units) }
 {
-    let numerator = indicator.numerator.items();
-    let over = item_values(alloc, asking, numerator, periods, units)?;
-    let denominator = indicator.denominator.items();
-    let under = item_values(alloc, asking, denominator, periods, units)?;
-    let days = days(alloc, periods)?;
-    indicator_value(alloc, sides, days, over.as_slice(), under.as_slice())
+    let units = &unit.units;
+    let over = item_values(
+        alloc,
+        source,
+        plan.over.as_slice(),
+        groups.over.as_slice(),
+        periods,
+        units,
+    )?;
+    let under = item_values(
+        alloc,
+        source,
+        plan.under.as_slice(),
+        groups.under.as_slice(),
+        periods,
+        units,
+    )?;
+    indicator_value(
+        alloc,
+        &plan.sides,
+        periods.days(),
+        over.as_slice(),
+        under.as_slice(),
+    )
 }
 
-/// The value of the item's cell over these periods and units.
-#[tactic(auto, unfolding(crate::specs::Cells::cell_value, cell_values::specs::Seen::seen_of))]
+/// The value of the item's cell over these periods and units, by its groups inside the periods.
+#[tactic(auto, unfolding(crate::specs::Cells::cell_value, crate::specs::Cells::element_cell, cell_values::specs::Seen::seen_of))]
 pub fn cell_value<S: RowStore>(
     alloc: Global,
-    asking: &Asking<'_, S>,
+    source: &Source<'_, S>,
     dx: &Dx,
     plan: &Plan,
-    periods: &[Period],
-    units: &[u32],
+    groups: &PlanGroups,
+    periods: &CellPeriods,
+    unit: &UnitPart,
 ) -> Result<CellValue, Memory>
-    requires seer { IsSeer asking.now.meta.now asking.now.seer.now }
-    requires dx { can_answer_dx asking.now.meta.now dx.now ≡ true }
-    requires plan { IsPlan asking.now.meta.now dx.now plan.now }
-    requires periods { 0 < length periods.now }
-    requires units { AreBelow (length asking.now.meta.now.organisation_units) units.now }
-    ensures { IfOk result (λ cell. cell ≡ cell_value asking.now.meta.now
-        (seen_of asking.now.meta.now asking.now.seer.now.user
-        (contents_of (S.rows asking.now.store.now) (S.events asking.now.store.now) (S.regs asking.now.store.now)))
-        dx.now periods.now units.now) }
+    requires dx { can_answer_dx source.now.meta.now dx.now ≡ true }
+    requires plan { IsPlan source.now.meta.now source.now.seer.now.user
+        (contents_of (S.rows source.now.store.now) (S.events source.now.store.now) (S.regs source.now.store.now)) dx.now plan.now }
+    requires groups { ArePlanGroups periods.now plan.now groups.now }
+    requires unit { IsUnitPart source.now.meta.now source.now.seer.now.user unit.now }
+    ensures { IfOk result (λ cell. cell ≡ cell_value source.now.meta.now
+        (seen_of source.now.meta.now source.now.seer.now.user
+        (contents_of (S.rows source.now.store.now) (S.events source.now.store.now) (S.regs source.now.store.now))) dx.now periods.now unit.now.units.units) }
 {
     match plan {
-        Plan::Element => element_cell(alloc, asking, dx.number, dx.part, periods, units),
-        Plan::Indicator(sides) => {
-            let indicator = asking.meta.indicator(dx.number);
-            indicator_cell(alloc, asking, indicator, sides, periods, units)
+        Plan::Element(plan) => element_cell(
+            alloc,
+            source,
+            plan,
+            groups.own.as_slice(),
+            periods,
+            &unit.units,
+        ),
+        Plan::Indicator(plan) => {
+            let indicator = source.meta.indicator(dx.number);
+            indicator_cell(alloc, source, indicator, plan, groups, periods, unit)
         }
+        Plan::Rate(plan) => rate_cell(alloc, source, plan, &groups.due, &unit.units),
     }
 }
 
@@ -193,6 +178,7 @@ pub fn decimals(meta: &Metadata, dx: &Dx) -> u8
 {
     match dx.kind {
         DxKind::Indicator => places(meta.indicator(dx.number).decimals),
+        DxKind::Rate(_) => 1,
         _ => 6,
     }
 }

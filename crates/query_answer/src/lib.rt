@@ -12,6 +12,7 @@ mod heads;
 mod members;
 mod names;
 mod parts;
+mod plans;
 mod rows;
 mod sides;
 mod texts;

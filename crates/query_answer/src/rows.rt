@@ -1,21 +1,23 @@
 //! The rows, cell by cell.
 
-ghost use Rattle.std.specs.Prelude.{◌≡◌, ◌<◌, ◌++◌, [], length, true, false, None, find, option_map, IfOk};
-ghost use Rattle.dh_metadata.specs.Linked.{AreBelow};
+ghost use Rattle.std.specs.Prelude.{◌≡◌, ◌<◌, ◌++◌, [], ℕ, length, get_or, map, true, false, None, find, option_map, IfOk};
+ghost use Rattle.std.specs.List.{All};
+ghost use Rattle.meta_parts.specs.declared.held.Records.{Records};
 ghost use Rattle.cell_values.specs.Held.{IsSeer};
 ghost use Rattle.cell_values.specs.Seen.{seen_of, contents_of};
 ghost use Rattle.query_answer.specs.Asked.{CanAnswer, can_answer_dx};
-ghost use Rattle.query_answer.specs.Plans.{IsPlan};
-ghost use Rattle.query_answer.specs.Rows.{slot_of, unit_slots, unit_is_wide, unit_rows, period_is_wide, period_rows, dx_is_wide, dx_rows, rows_from};
+ghost use Rattle.query_answer.specs.Parts.{period_slot, unit_slot, IsUnitPart, AreParts};
+ghost use Rattle.query_answer.specs.Plans.{IsPlan, ArePlanGroups};
+ghost use Rattle.query_answer.specs.Rows.{period_slots, unit_slots, unit_is_wide, unit_rows, period_is_wide, period_rows, dx_is_wide, dx_rows, rows_from};
 
 use crate::arithmetic::CellValue;
 use crate::asking::Asking;
 use crate::body_rows::AnswerRow;
-use crate::cells::{Plan, cell_value, plan_of, value_text};
-use crate::parts::{Part, part_at, part_count};
+use crate::cells::{cell_value, value_text};
+use crate::parts::{PeriodPart, UnitPart};
+use crate::plans::{Plan, PlanGroups, plan_groups, plan_of};
 use dh_base::items::Items;
 use dh_base::memory::Memory;
-use dh_periods::Period;
 use query_forms::Dx;
 use std::alloc::Global;
 use table_rows::RowStore;
@@ -28,38 +30,93 @@ struct DxItem<'a> {
     place: usize,
 }
 
+/// The periods of a row of cells, and the groups of a `dx` item inside them.
+#[derive(Drop)]
+struct PeriodItem<'a> {
+    part: &'a PeriodPart,
+    groups: &'a PlanGroups,
+}
+
+#[tactic(auto, using(crate::proofs::PartLemmas::period_many))]
+fn period_count<S>(asking: &Asking<'_, S>) -> usize
+    requires { map period_slot asking.now.periods.now ≡ period_slots asking.now.query.now }
+    ensures { result ≡ length (period_slots asking.now.query.now) }
+{
+    asking.periods.len()
+}
+
+#[tactic(auto, using(crate::proofs::PartLemmas::period_there, crate::proofs::PartLemmas::period_found))]
+fn period_at<'a, S>(asking: &'a Asking<'_, S>, place: usize) -> &'a PeriodPart
+    requires parts { map period_slot asking.now.periods.now ≡ period_slots asking.now.query.now }
+    requires place { place < length (period_slots asking.now.query.now) }
+    ensures { period_slot result.now ≡ get_or (period_slots asking.now.query.now) place (period_slot result.now) }
+{
+    &asking.periods[place]
+}
+
+#[tactic(auto, using(crate::proofs::PartLemmas::unit_many))]
+fn unit_count<S>(asking: &Asking<'_, S>) -> usize
+    requires { map unit_slot asking.now.units.now ≡ unit_slots asking.now.query.now }
+    ensures { result ≡ length (unit_slots asking.now.query.now) }
+{
+    asking.units.len()
+}
+
+#[tactic(auto, using(crate::proofs::PartLemmas::unit_there, crate::proofs::PartLemmas::unit_found, crate::proofs::PartLemmas::unit_seen))]
+fn unit_at<'a, S>(asking: &'a Asking<'_, S>, place: usize) -> &'a UnitPart
+    requires parts { map unit_slot asking.now.units.now ≡ unit_slots asking.now.query.now }
+    requires place { place < length (unit_slots asking.now.query.now) }
+    ensures slot { unit_slot result.now ≡ get_or (unit_slots asking.now.query.now) place (unit_slot result.now) }
+    ensures member { (r : Records) (user : ℕ) → All (IsUnitPart r user) asking.now.units.now → IsUnitPart r user result.now }
+{
+    &asking.units[place]
+}
+
 /// Writes the row of a cell, where it has a value, and says whether it is too wide.
 #[tactic(auto, unfolding(crate::specs::Rows::unit_is_wide, crate::specs::Rows::unit_rows))]
 fn write_cell<S: RowStore>(
     alloc: Global,
     asking: &Asking<'_, S>,
     item: &DxItem<'_>,
-    period: &Part<'_, Period>,
-    unit: &Part<'_, u32>,
+    period: &PeriodItem<'_>,
+    unit: &UnitPart,
     rows: &mut Vec<AnswerRow>,
 ) -> Result<bool, Memory>
-    requires seer { IsSeer asking.now.meta.now asking.now.seer.now }
-    requires dx { can_answer_dx asking.now.meta.now item.now.dx.now ≡ true }
-    requires plan { IsPlan asking.now.meta.now item.now.dx.now item.now.plan.now }
-    requires periods { 0 < length period.now.items.now }
-    requires units { AreBelow (length asking.now.meta.now.organisation_units) unit.now.items.now }
-    ensures wide { IfOk result (λ wide. wide ≡ unit_is_wide asking.now.meta.now
-        (seen_of asking.now.meta.now asking.now.seer.now.user
-        (contents_of (S.rows asking.now.store.now) (S.events asking.now.store.now) (S.regs asking.now.store.now)))
-        item.now.dx.now (slot_of period.now.label period.now.items.now) (slot_of unit.now.label unit.now.items.now)) }
-    ensures rows { IfOk result (λ wide. rows.new.items ≡ rows.old.items ++ unit_rows asking.now.meta.now
-        (seen_of asking.now.meta.now asking.now.seer.now.user
-        (contents_of (S.rows asking.now.store.now) (S.events asking.now.store.now) (S.regs asking.now.store.now)))
-        item.now.place item.now.dx.now (slot_of period.now.label period.now.items.now) (slot_of unit.now.label unit.now.items.now)) }
+    requires dx { can_answer_dx asking.now.source.now.meta.now item.now.dx.now ≡ true }
+    requires plan { IsPlan asking.now.source.now.meta.now asking.now.source.now.seer.now.user
+        (contents_of (S.rows asking.now.source.now.store.now) (S.events asking.now.source.now.store.now)
+        (S.regs asking.now.source.now.store.now)) item.now.dx.now item.now.plan.now }
+    requires groups { ArePlanGroups period.now.part.now.periods item.now.plan.now period.now.groups.now }
+    requires unit { IsUnitPart asking.now.source.now.meta.now asking.now.source.now.seer.now.user unit.now }
+    ensures wide { IfOk result (λ wide. wide ≡ unit_is_wide asking.now.source.now.meta.now
+        (seen_of asking.now.source.now.meta.now asking.now.source.now.seer.now.user
+        (contents_of (S.rows asking.now.source.now.store.now) (S.events asking.now.source.now.store.now)
+        (S.regs asking.now.source.now.store.now)))
+        item.now.dx.now (period_slot period.now.part.now) (unit_slot unit.now)) }
+    ensures rows { IfOk result (λ wide. rows.new.items ≡ rows.old.items ++ unit_rows asking.now.source.now.meta.now
+        (seen_of asking.now.source.now.meta.now asking.now.source.now.seer.now.user
+        (contents_of (S.rows asking.now.source.now.store.now) (S.events asking.now.source.now.store.now)
+        (S.regs asking.now.source.now.store.now)))
+        item.now.place item.now.dx.now (period_slot period.now.part.now) (unit_slot unit.now)) }
 {
-    match cell_value(alloc, asking, item.dx, item.plan, period.items, unit.items)? {
+    let part = period.part;
+    let value = cell_value(
+        alloc,
+        asking.source,
+        item.dx,
+        item.plan,
+        period.groups,
+        &part.periods,
+        unit,
+    )?;
+    match value {
         CellValue::Wide => Ok(true),
         CellValue::None => Ok(false),
         CellValue::Number(number) => {
-            let value = value_text(alloc, asking.meta, item.dx, number)?;
+            let value = value_text(alloc, asking.source.meta, item.dx, number)?;
             rows.push(AnswerRow {
                 dx: item.place,
-                period: period.label,
+                period: part.label,
                 unit: unit.label,
                 value,
             })?;
@@ -74,31 +131,67 @@ fn write_units<S: RowStore>(
     alloc: Global,
     asking: &Asking<'_, S>,
     item: &DxItem<'_>,
-    period: &Part<'_, Period>,
+    period: &PeriodItem<'_>,
     rows: &mut Vec<AnswerRow>,
 ) -> Result<bool, Memory>
-    requires seer { IsSeer asking.now.meta.now asking.now.seer.now }
-    requires dx { can_answer_dx asking.now.meta.now item.now.dx.now ≡ true }
-    requires plan { IsPlan asking.now.meta.now item.now.dx.now item.now.plan.now }
-    requires query { CanAnswer asking.now.meta.now asking.now.query.now }
-    requires periods { 0 < length period.now.items.now }
-    ensures wide { IfOk result (λ wide. wide ≡ period_is_wide asking.now.meta.now
-        (seen_of asking.now.meta.now asking.now.seer.now.user
-        (contents_of (S.rows asking.now.store.now) (S.events asking.now.store.now) (S.regs asking.now.store.now)))
-        item.now.dx.now (unit_slots asking.now.query.now) (slot_of period.now.label period.now.items.now)) }
-    ensures rows { IfOk result (λ wide. wide ≡ false → rows.new.items ≡ rows.old.items ++ period_rows asking.now.meta.now
-        (seen_of asking.now.meta.now asking.now.seer.now.user
-        (contents_of (S.rows asking.now.store.now) (S.events asking.now.store.now) (S.regs asking.now.store.now)))
-        item.now.place item.now.dx.now (unit_slots asking.now.query.now) (slot_of period.now.label period.now.items.now)) }
+    requires dx { can_answer_dx asking.now.source.now.meta.now item.now.dx.now ≡ true }
+    requires plan { IsPlan asking.now.source.now.meta.now asking.now.source.now.seer.now.user
+        (contents_of (S.rows asking.now.source.now.store.now) (S.events asking.now.source.now.store.now)
+        (S.regs asking.now.source.now.store.now)) item.now.dx.now item.now.plan.now }
+    requires groups { ArePlanGroups period.now.part.now.periods item.now.plan.now period.now.groups.now }
+    requires parts { AreParts asking.now.source.now.meta.now asking.now.source.now.seer.now.user asking.now.query.now
+        asking.now.periods.now asking.now.units.now }
+    ensures wide { IfOk result (λ wide. wide ≡ period_is_wide asking.now.source.now.meta.now
+        (seen_of asking.now.source.now.meta.now asking.now.source.now.seer.now.user
+        (contents_of (S.rows asking.now.source.now.store.now) (S.events asking.now.source.now.store.now)
+        (S.regs asking.now.source.now.store.now)))
+        item.now.dx.now (unit_slots asking.now.query.now) (period_slot period.now.part.now)) }
+    ensures rows { IfOk result (λ wide. wide ≡ false → rows.new.items ≡ rows.old.items ++ period_rows asking.now.source.now.meta.now
+        (seen_of asking.now.source.now.meta.now asking.now.source.now.seer.now.user
+        (contents_of (S.rows asking.now.source.now.store.now) (S.events asking.now.source.now.store.now)
+        (S.regs asking.now.source.now.store.now)))
+        item.now.place item.now.dx.now (unit_slots asking.now.query.now) (period_slot period.now.part.now)) }
 {
-    let units = &asking.query.units;
-    for place in 0..part_count(units) {
-        let unit = part_at(units, place);
-        if write_cell(alloc, asking, item, period, &unit, rows)? {
+    for place in 0..unit_count(asking) {
+        let unit = unit_at(asking, place);
+        if write_cell(alloc, asking, item, period, unit, rows)? {
             return Ok(true);
         }
     }
     Ok(false)
+}
+
+/// The same, with the groups of the item inside the periods worked out.
+fn write_period<S: RowStore>(
+    alloc: Global,
+    asking: &Asking<'_, S>,
+    item: &DxItem<'_>,
+    part: &PeriodPart,
+    rows: &mut Vec<AnswerRow>,
+) -> Result<bool, Memory>
+    requires dx { can_answer_dx asking.now.source.now.meta.now item.now.dx.now ≡ true }
+    requires plan { IsPlan asking.now.source.now.meta.now asking.now.source.now.seer.now.user
+        (contents_of (S.rows asking.now.source.now.store.now) (S.events asking.now.source.now.store.now)
+        (S.regs asking.now.source.now.store.now)) item.now.dx.now item.now.plan.now }
+    requires parts { AreParts asking.now.source.now.meta.now asking.now.source.now.seer.now.user asking.now.query.now
+        asking.now.periods.now asking.now.units.now }
+    ensures wide { IfOk result (λ wide. wide ≡ period_is_wide asking.now.source.now.meta.now
+        (seen_of asking.now.source.now.meta.now asking.now.source.now.seer.now.user
+        (contents_of (S.rows asking.now.source.now.store.now) (S.events asking.now.source.now.store.now)
+        (S.regs asking.now.source.now.store.now)))
+        item.now.dx.now (unit_slots asking.now.query.now) (period_slot part.now)) }
+    ensures rows { IfOk result (λ wide. wide ≡ false → rows.new.items ≡ rows.old.items ++ period_rows asking.now.source.now.meta.now
+        (seen_of asking.now.source.now.meta.now asking.now.source.now.seer.now.user
+        (contents_of (S.rows asking.now.source.now.store.now) (S.events asking.now.source.now.store.now)
+        (S.regs asking.now.source.now.store.now)))
+        item.now.place item.now.dx.now (unit_slots asking.now.query.now) (period_slot part.now)) }
+{
+    let groups = plan_groups(alloc, item.plan, &part.periods)?;
+    let period = PeriodItem {
+        part,
+        groups: &groups,
+    };
+    write_units(alloc, asking, item, &period, rows)
 }
 
 /// The periods of a query, one by one or all together.
@@ -109,23 +202,26 @@ fn write_periods<S: RowStore>(
     item: &DxItem<'_>,
     rows: &mut Vec<AnswerRow>,
 ) -> Result<bool, Memory>
-    requires seer { IsSeer asking.now.meta.now asking.now.seer.now }
-    requires dx { can_answer_dx asking.now.meta.now item.now.dx.now ≡ true }
-    requires plan { IsPlan asking.now.meta.now item.now.dx.now item.now.plan.now }
-    requires query { CanAnswer asking.now.meta.now asking.now.query.now }
-    ensures wide { IfOk result (λ wide. wide ≡ dx_is_wide asking.now.meta.now
-        (seen_of asking.now.meta.now asking.now.seer.now.user
-        (contents_of (S.rows asking.now.store.now) (S.events asking.now.store.now) (S.regs asking.now.store.now)))
+    requires dx { can_answer_dx asking.now.source.now.meta.now item.now.dx.now ≡ true }
+    requires plan { IsPlan asking.now.source.now.meta.now asking.now.source.now.seer.now.user
+        (contents_of (S.rows asking.now.source.now.store.now) (S.events asking.now.source.now.store.now)
+        (S.regs asking.now.source.now.store.now)) item.now.dx.now item.now.plan.now }
+    requires parts { AreParts asking.now.source.now.meta.now asking.now.source.now.seer.now.user asking.now.query.now
+        asking.now.periods.now asking.now.units.now }
+    ensures wide { IfOk result (λ wide. wide ≡ dx_is_wide asking.now.source.now.meta.now
+        (seen_of asking.now.source.now.meta.now asking.now.source.now.seer.now.user
+        (contents_of (S.rows asking.now.source.now.store.now) (S.events asking.now.source.now.store.now)
+        (S.regs asking.now.source.now.store.now)))
         asking.now.query.now item.now.dx.now) }
-    ensures rows { IfOk result (λ wide. wide ≡ false → rows.new.items ≡ rows.old.items ++ dx_rows asking.now.meta.now
-        (seen_of asking.now.meta.now asking.now.seer.now.user
-        (contents_of (S.rows asking.now.store.now) (S.events asking.now.store.now) (S.regs asking.now.store.now)))
+    ensures rows { IfOk result (λ wide. wide ≡ false → rows.new.items ≡ rows.old.items ++ dx_rows asking.now.source.now.meta.now
+        (seen_of asking.now.source.now.meta.now asking.now.source.now.seer.now.user
+        (contents_of (S.rows asking.now.source.now.store.now) (S.events asking.now.source.now.store.now)
+        (S.regs asking.now.source.now.store.now)))
         asking.now.query.now item.now.place item.now.dx.now) }
 {
-    let periods = &asking.query.periods;
-    for place in 0..part_count(periods) {
-        let period = part_at(periods, place);
-        if write_units(alloc, asking, item, &period, rows)? {
+    for place in 0..period_count(asking) {
+        let part = period_at(asking, place);
+        if write_period(alloc, asking, item, part, rows)? {
             return Ok(true);
         }
     }
@@ -140,19 +236,22 @@ fn write_dx<S: RowStore>(
     place: usize,
     rows: &mut Vec<AnswerRow>,
 ) -> Result<bool, Memory>
-    requires seer { IsSeer asking.now.meta.now asking.now.seer.now }
-    requires dx { can_answer_dx asking.now.meta.now dx.now ≡ true }
-    requires query { CanAnswer asking.now.meta.now asking.now.query.now }
-    ensures wide { IfOk result (λ wide. wide ≡ dx_is_wide asking.now.meta.now
-        (seen_of asking.now.meta.now asking.now.seer.now.user
-        (contents_of (S.rows asking.now.store.now) (S.events asking.now.store.now) (S.regs asking.now.store.now)))
+    requires seer { IsSeer asking.now.source.now.meta.now asking.now.source.now.seer.now }
+    requires dx { can_answer_dx asking.now.source.now.meta.now dx.now ≡ true }
+    requires parts { AreParts asking.now.source.now.meta.now asking.now.source.now.seer.now.user asking.now.query.now
+        asking.now.periods.now asking.now.units.now }
+    ensures wide { IfOk result (λ wide. wide ≡ dx_is_wide asking.now.source.now.meta.now
+        (seen_of asking.now.source.now.meta.now asking.now.source.now.seer.now.user
+        (contents_of (S.rows asking.now.source.now.store.now) (S.events asking.now.source.now.store.now)
+        (S.regs asking.now.source.now.store.now)))
         asking.now.query.now dx.now) }
-    ensures rows { IfOk result (λ wide. wide ≡ false → rows.new.items ≡ rows.old.items ++ dx_rows asking.now.meta.now
-        (seen_of asking.now.meta.now asking.now.seer.now.user
-        (contents_of (S.rows asking.now.store.now) (S.events asking.now.store.now) (S.regs asking.now.store.now)))
+    ensures rows { IfOk result (λ wide. wide ≡ false → rows.new.items ≡ rows.old.items ++ dx_rows asking.now.source.now.meta.now
+        (seen_of asking.now.source.now.meta.now asking.now.source.now.seer.now.user
+        (contents_of (S.rows asking.now.source.now.store.now) (S.events asking.now.source.now.store.now)
+        (S.regs asking.now.source.now.store.now)))
         asking.now.query.now place dx.now) }
 {
-    let plan = plan_of(alloc, asking.meta, dx)?;
+    let plan = plan_of(alloc, asking.source, dx)?;
     let item = DxItem {
         dx,
         plan: &plan,
@@ -176,16 +275,20 @@ pub fn write_rows<S: RowStore>(
     asking: &Asking<'_, S>,
     rows: &mut Vec<AnswerRow>,
 ) -> Result<Option<Items<u8>>, Memory>
-    requires seer { IsSeer asking.now.meta.now asking.now.seer.now }
-    requires query { CanAnswer asking.now.meta.now asking.now.query.now }
+    requires seer { IsSeer asking.now.source.now.meta.now asking.now.source.now.seer.now }
+    requires query { CanAnswer asking.now.source.now.meta.now asking.now.query.now }
+    requires parts { AreParts asking.now.source.now.meta.now asking.now.source.now.seer.now.user asking.now.query.now
+        asking.now.periods.now asking.now.units.now }
     requires empty { rows.old.items ≡ [] }
-    ensures wide { IfOk result (λ found. found ≡ option_map (λ dx. dx.text) (find (dx_is_wide asking.now.meta.now
-        (seen_of asking.now.meta.now asking.now.seer.now.user
-        (contents_of (S.rows asking.now.store.now) (S.events asking.now.store.now) (S.regs asking.now.store.now)))
+    ensures wide { IfOk result (λ found. found ≡ option_map (λ dx. dx.text) (find (dx_is_wide asking.now.source.now.meta.now
+        (seen_of asking.now.source.now.meta.now asking.now.source.now.seer.now.user
+        (contents_of (S.rows asking.now.source.now.store.now) (S.events asking.now.source.now.store.now)
+        (S.regs asking.now.source.now.store.now)))
         asking.now.query.now) asking.now.query.now.dx)) }
-    ensures rows { IfOk result (λ found. found ≡ None → rows.new.items ≡ rows_from asking.now.meta.now
-        (seen_of asking.now.meta.now asking.now.seer.now.user
-        (contents_of (S.rows asking.now.store.now) (S.events asking.now.store.now) (S.regs asking.now.store.now)))
+    ensures rows { IfOk result (λ found. found ≡ None → rows.new.items ≡ rows_from asking.now.source.now.meta.now
+        (seen_of asking.now.source.now.meta.now asking.now.source.now.seer.now.user
+        (contents_of (S.rows asking.now.source.now.store.now) (S.events asking.now.source.now.store.now)
+        (S.regs asking.now.source.now.store.now)))
         asking.now.query.now 0 asking.now.query.now.dx) }
 {
     let items = asking.query.dx.as_slice();

@@ -1,16 +1,19 @@
 //! The answer.
 
-ghost use Rattle.std.specs.Prelude.{◌≡◌};
+ghost use Rattle.std.specs.Prelude.{◌≡◌, [], None, option_map, IfOk};
 ghost use Rattle.table_rows.specs.Store.{Contents};
 ghost use Rattle.cell_values.specs.Held.{IsSeer};
 ghost use Rattle.cell_values.specs.Seen.{seen_of, contents_of, SameSeen};
 ghost use Rattle.query_answer.specs.Asked.{CanAnswer};
-ghost use Rattle.query_answer.specs.Answer.{answer_of, Answers};
+ghost use Rattle.query_answer.specs.Answer.{wide_dx, answer_of, Answers};
+ghost use Rattle.query_answer.specs.Rows.{rows_from};
 
 use crate::asking::Asking;
 use crate::body::body;
+use crate::body_rows::AnswerRow;
+use crate::parts::{period_parts, unit_parts};
 use crate::rows::write_rows;
-use cell_values::Seer;
+use cell_values::{Seer, Source};
 use dh_base::items::Items;
 use dh_base::memory::Memory;
 use dh_metadata::metadata::Metadata;
@@ -38,6 +41,38 @@ impl From<Memory> for AnswerFault {
     }
 }
 
+/// The rows of a query over the records that the user sees, or the text of the first `dx` item with
+/// a cell that is too wide.
+fn query_rows<S: RowStore>(
+    alloc: Global,
+    source: &Source<'_, S>,
+    query: &Query,
+    rows: &mut Vec<AnswerRow>,
+) -> Result<Option<Items<u8>>, Memory>
+    requires seer { IsSeer source.now.meta.now source.now.seer.now }
+    requires query { CanAnswer source.now.meta.now query.now }
+    requires empty { rows.old.items ≡ [] }
+    ensures wide { IfOk result (λ found. found ≡ option_map (λ dx. dx.text) (wide_dx source.now.meta.now query.now
+        (seen_of source.now.meta.now source.now.seer.now.user
+        (contents_of (S.rows source.now.store.now) (S.events source.now.store.now) (S.regs source.now.store.now))))) }
+    ensures rows { IfOk result (λ found. found ≡ None → rows.new.items ≡ rows_from source.now.meta.now
+        (seen_of source.now.meta.now source.now.seer.now.user
+        (contents_of (S.rows source.now.store.now) (S.events source.now.store.now) (S.regs source.now.store.now)))
+        query.now 0 query.now.dx) }
+{
+    let all_periods = period_parts(alloc, &query.periods)?;
+    let all_units = unit_parts(alloc, source.meta, source.seer, &query.units)?;
+    let periods = all_periods.as_slice();
+    let units = all_units.as_slice();
+    let asking = Asking {
+        source,
+        query,
+        periods,
+        units,
+    };
+    write_rows(alloc, &asking, rows)
+}
+
 /// The body that answers a query over the records that the user sees.
 pub fn answer<S: RowStore>(
     alloc: Global,
@@ -54,14 +89,9 @@ pub fn answer<S: RowStore>(
         → SameSeen (seen_of meta.now seer.now.user (contents_of (S.rows store.now) (S.events store.now) (S.regs store.now)))
         (seen_of meta.now seer.now.user held) → Answers result (answer_of meta.now query.now (seen_of meta.now seer.now.user held)) }
 {
-    let asking = Asking {
-        meta,
-        store,
-        seer,
-        query,
-    };
+    let source = Source { meta, store, seer };
     let mut rows = Vec::new(alloc);
-    match write_rows(alloc, &asking, &mut rows)? {
+    match query_rows(alloc, &source, query, &mut rows)? {
         Some(id) => Err(AnswerFault::Wide { id }),
         None => Ok(body(alloc, meta, query, rows.as_slice())?),
     }

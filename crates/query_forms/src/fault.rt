@@ -1,55 +1,48 @@
-//! Why a query's text has no form.
-ghost use Rattle.std.specs.Prelude.{◌≡◌};
-ghost use Rattle.query_forms.specs.declared.fault.TextFault.TheVariants.{Memory as OutOfMemory};
-ghost use Rattle.query_forms.specs.Given.{refusal, IsFault};
+//! Faults of a query: how running out of memory becomes one, and refusals by code and detail.
+ghost use Rattle.std.specs.Prelude.{◌≡◌, Some};
+ghost use Rattle.query_forms.specs.declared.plain.QueryFault.TheVariants.{Memory as OutOfMemory};
+ghost use Rattle.dh_base.specs.Memory.{IsFirst};
+ghost use Rattle.query_forms.specs.Given.{refusal, cause_of};
 
+use crate::plain::QueryFault;
 use dh_base::codes::{Code, Refusal};
 use dh_base::items::Items;
 use dh_base::memory::Memory;
 use std::alloc::{AllocError, AllocFailed, Global};
 
-/// Why a query isn't read.
-#[derive(Drop)]
-pub enum TextFault {
-    /// Refused by a rule of the query text.
-    Refused(Refusal),
-    /// Memory ran out.
-    Memory,
-}
-
-impl From<AllocError> for TextFault {
+impl From<AllocError> for QueryFault {
     ghost from_gives = { λ _ fault. fault ≡ OutOfMemory };
 
-    fn from(_error: AllocError) -> TextFault {
-        TextFault::Memory
+    fn from(_error: AllocError) -> QueryFault {
+        QueryFault::Memory
     }
 }
 
-impl<T: Drop> From<AllocFailed<T>> for TextFault {
+impl<T: Drop> From<AllocFailed<T>> for QueryFault {
     ghost from_gives = { λ _ fault. fault ≡ OutOfMemory };
 
-    fn from(_error: AllocFailed<T>) -> TextFault {
-        TextFault::Memory
+    fn from(_error: AllocFailed<T>) -> QueryFault {
+        QueryFault::Memory
     }
 }
 
-impl From<Memory> for TextFault {
+impl From<Memory> for QueryFault {
     ghost from_gives = { λ _ fault. fault ≡ OutOfMemory };
 
-    fn from(_error: Memory) -> TextFault {
-        TextFault::Memory
+    fn from(_error: Memory) -> QueryFault {
+        QueryFault::Memory
     }
 }
 
 /// The refusal with that code and detail.
-pub fn refused(alloc: Global, code: Code, detail: &[u8]) -> TextFault
-    ensures { IsFault (refusal code detail.now) result }
+pub fn refused(alloc: Global, code: Code, detail: &[u8]) -> QueryFault
+    ensures { IsFirst (Some (refusal code detail.now)) (cause_of result) }
 {
     match Vec::from_slice(alloc, detail) {
-        Ok(detail) => TextFault::Refused(Refusal {
+        Ok(detail) => QueryFault::Refused(Refusal {
             code,
             detail: Items::from(detail),
         }),
-        Err(_) => TextFault::Memory,
+        Err(_) => QueryFault::Memory,
     }
 }

@@ -2,7 +2,8 @@
 ghost use Rattle.std.specs.Prelude.{◌≡◌, [], true, false, not, bytes_eq, codes, pos, neg_ℤ, ◌≤ℤ◌, ◌<◌, IfOk, IfSome, length, position, option_map};
 ghost use Rattle.std.specs.Prelude.{option_and_then};
 ghost use Rattle.std.specs.Option.{option_copied};
-ghost use Rattle.query_forms.specs.Given.{Gives, Becomes, IsFault, refusal};
+ghost use Rattle.dh_base.specs.Memory.{Answers, IsFirst};
+ghost use Rattle.query_forms.specs.Given.{cause_of, left_in, refusal};
 ghost use Rattle.query_forms.specs.Items.{dx_items, unit_items, period_items};
 ghost use Rattle.query_forms.specs.Form.{data_parameters, scheme_parameters, layout_parameters, is_listed, is_colon, pairs_of, decoded, is_unsupported};
 ghost use Rattle.query_forms.specs.Form.{head_of, tail_of, fresh, with_dx, with_periods, with_units, with_dimension, with_pair, with_pairs, nothing, whole};
@@ -10,10 +11,11 @@ ghost use Rattle.query_forms.specs.Form.{form_of};
 
 use crate::Axis;
 use crate::dimension::{dx_items, unit_items};
-use crate::fault::{TextFault, refused};
+use crate::fault::refused;
 use crate::form::{Draft, Form};
 use crate::item::{DxItem, UnitItem};
 use crate::period::period_items;
+use crate::plain::QueryFault;
 use dh_base::codes::Code;
 use dh_base::items::Items;
 use dh_base::memory::Memory;
@@ -150,8 +152,8 @@ fn fresh_dx(alloc: Global, draft: &Draft, value: &[u8]) -> Result<Option<Items<D
 }
 
 #[tactic(auto, unfolding(crate::specs::Form::with_dx))]
-fn with_dx(alloc: Global, draft: &mut Draft, value: &[u8]) -> Result<(), TextFault>
-    ensures { Becomes (with_dx draft.old value.now) result draft.new }
+fn with_dx(alloc: Global, draft: &mut Draft, value: &[u8]) -> Result<(), QueryFault>
+    ensures { Answers cause_of (with_dx draft.old value.now) (left_in draft.new result) }
 {
     match fresh_dx(alloc, draft, value)? {
         Some(items) => {
@@ -188,10 +190,10 @@ fn with_periods(
     filter: bool,
     value: &[u8],
     day: i32,
-) -> Result<(), TextFault>
+) -> Result<(), QueryFault>
     requires from { neg_ℤ (pos 21915) ≤ℤ day }
     requires to { day ≤ℤ pos 47481 }
-    ensures { Becomes (with_periods day draft.old filter value.now) result draft.new }
+    ensures { Answers cause_of (with_periods day draft.old filter value.now) (left_in draft.new result) }
 {
     match fresh_periods(alloc, draft, value, day)? {
         Some(items) => {
@@ -219,8 +221,13 @@ fn fresh_units(
 }
 
 #[tactic(auto, unfolding(crate::specs::Form::with_units))]
-fn with_units(alloc: Global, draft: &mut Draft, filter: bool, value: &[u8]) -> Result<(), TextFault>
-    ensures { Becomes (with_units draft.old filter value.now) result draft.new }
+fn with_units(
+    alloc: Global,
+    draft: &mut Draft,
+    filter: bool,
+    value: &[u8],
+) -> Result<(), QueryFault>
+    ensures { Answers cause_of (with_units draft.old filter value.now) (left_in draft.new result) }
 {
     match fresh_units(alloc, draft, value)? {
         Some(items) => {
@@ -238,10 +245,10 @@ fn with_dimension(
     filter: bool,
     value: &[u8],
     day: i32,
-) -> Result<(), TextFault>
+) -> Result<(), QueryFault>
     requires from { neg_ℤ (pos 21915) ≤ℤ day }
     requires to { day ≤ℤ pos 47481 }
-    ensures { Becomes (with_dimension day draft.old filter value.now) result draft.new }
+    ensures { Answers cause_of (with_dimension day draft.old filter value.now) (left_in draft.new result) }
 {
     let head = head_of(value);
     if !filter && head == b"dx".as_slice() {
@@ -263,10 +270,10 @@ fn with_pair(
     name: &[u8],
     value: &[u8],
     day: i32,
-) -> Result<(), TextFault>
+) -> Result<(), QueryFault>
     requires from { neg_ℤ (pos 21915) ≤ℤ day }
     requires to { day ≤ℤ pos 47481 }
-    ensures { Becomes (with_pair day draft.old name.now value.now) result draft.new }
+    ensures { Answers cause_of (with_pair day draft.old name.now value.now) (left_in draft.new result) }
 {
     if is_unsupported(name) {
         return Err(refused(alloc, Code::F17, name));
@@ -299,10 +306,10 @@ fn with_encoded(
     name: &[u8],
     value: &[u8],
     day: i32,
-) -> Result<(), TextFault>
+) -> Result<(), QueryFault>
     requires from { neg_ℤ (pos 21915) ≤ℤ day }
     requires to { day ≤ℤ pos 47481 }
-    ensures { Becomes (with_pair day draft.old (decoded name.now) (decoded value.now)) result draft.new }
+    ensures { Answers cause_of (with_pair day draft.old (decoded name.now) (decoded value.now)) (left_in draft.new result) }
 {
     let name = decoded(alloc, name)?;
     let value = decoded(alloc, value)?;
@@ -310,10 +317,10 @@ fn with_encoded(
 }
 
 #[tactic(auto, unfolding(crate::specs::Form::pairs_of))]
-fn put_pairs(alloc: Global, draft: &mut Draft, text: &[u8], day: i32) -> Result<(), TextFault>
+fn put_pairs(alloc: Global, draft: &mut Draft, text: &[u8], day: i32) -> Result<(), QueryFault>
     requires from { neg_ℤ (pos 21915) ≤ℤ day }
     requires to { day ≤ℤ pos 47481 }
-    ensures { Becomes (with_pairs day draft.old (pairs_of text.now)) result draft.new }
+    ensures { Answers cause_of (with_pairs day draft.old (pairs_of text.now)) (left_in draft.new result) }
 {
     for (name, value) in raw_pairs(text) {
         with_encoded(alloc, draft, name, value, day)?;
@@ -321,10 +328,10 @@ fn put_pairs(alloc: Global, draft: &mut Draft, text: &[u8], day: i32) -> Result<
     Ok(())
 }
 
-fn drafted(alloc: Global, text: &[u8], day: i32) -> Result<Draft, TextFault>
+fn drafted(alloc: Global, text: &[u8], day: i32) -> Result<Draft, QueryFault>
     requires from { neg_ℤ (pos 21915) ≤ℤ day }
     requires to { day ≤ℤ pos 47481 }
-    ensures { Gives (with_pairs day nothing (pairs_of text.now)) result }
+    ensures { Answers cause_of (with_pairs day nothing (pairs_of text.now)) result }
 {
     let mut draft = Draft {
         dx: None,
@@ -342,8 +349,8 @@ fn drafted(alloc: Global, text: &[u8], day: i32) -> Result<Draft, TextFault>
 }
 
 #[tactic(auto, unfolding(crate::specs::Form::whole))]
-fn whole(alloc: Global, draft: Draft) -> Result<Form, TextFault>
-    ensures { Gives (whole draft) result }
+fn whole(alloc: Global, draft: Draft) -> Result<Form, QueryFault>
+    ensures { Answers cause_of (whole draft) result }
 {
     let Draft {
         dx,
@@ -370,10 +377,10 @@ fn whole(alloc: Global, draft: Draft) -> Result<Form, TextFault>
 
 /// The form of a query's text on a day from 1 January 1910 to 31 December 2099.
 #[tactic(auto, unfolding(crate::specs::Form::form_of))]
-pub fn form_of(alloc: Global, text: &[u8], day: i32) -> Result<Form, TextFault>
+pub fn form_of(alloc: Global, text: &[u8], day: i32) -> Result<Form, QueryFault>
     requires from { neg_ℤ (pos 21915) ≤ℤ day }
     requires to { day ≤ℤ pos 47481 }
-    ensures { Gives (form_of day text.now) result }
+    ensures { Answers cause_of (form_of day text.now) result }
 {
     let draft = drafted(alloc, text, day)?;
     whole(alloc, draft)

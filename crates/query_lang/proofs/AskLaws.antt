@@ -4,6 +4,7 @@ use Rattle.std.proofs.Common.{option_and_then, Result, Ok, Err, IfOk, refl, subs
 use Rattle.std.specs.List.{AllByRecursion}
 use Rattle.std.specs.Option.{option_or}
 use Rattle.std.specs.Fmt.{decimal}
+use Rattle.dh_base.specs.Memory.{Answers}
 use Rattle.dh_base.specs.declared.codes.Code.{Code}
 use Rattle.dh_base.specs.declared.codes.Code.TheVariants as code
 use Rattle.dh_base.specs.declared.codes.Refusal.{Refusal}
@@ -19,13 +20,14 @@ use Rattle.query_forms.specs.declared.plain.DxKind.{DxKind}
 use Rattle.query_forms.specs.declared.plain.DxKind.TheVariants as dx
 use Rattle.query_forms.specs.declared.plain.Dx.{Dx}
 use Rattle.query_forms.specs.declared.plain.Query.{Query}
+use Rattle.query_forms.specs.declared.plain.QueryFault.{QueryFault}
 use Rattle.query_forms.specs.declared.item.DxForm.{DxForm}
 use Rattle.query_forms.specs.declared.item.DxForm.TheVariants as form
 use Rattle.query_forms.specs.declared.item.DxItem.{DxItem}
 use Rattle.query_forms.specs.declared.form.Form.{Form}
 use Rattle.query_forms.specs.Form.{form_of}
 use Rattle.query_forms.specs.Items.{dx_form}
-use Rattle.query_forms.specs.Given.{and_then, or_refuse, refusal}
+use Rattle.query_forms.specs.Given.{and_then, cause_of, or_refuse, refusal}
 use Rattle.query_lang.specs.declared.part.Part.{Part}
 use Rattle.query_lang.specs.Walk.{AreIn}
 use Rattle.query_lang.specs.Choice.{chosen_units}
@@ -128,7 +130,7 @@ filled [] some = absurd (cc)
 filled (x ∷ xs) some = omega arith
 
 within_law : (r : Records) (user most : ℕ) (query : Query) → 0 < length query.periods.items → AreIn (length r.organisation_units) query.units.items
-    → AllByRecursion (IsAsked r user) query.dx → first_unbuilt r query.dx ≡ None → IfOk (within most query) (IsAskable r user)
+    → AllByRecursion (IsAsked r user) query.dx → first_unbuilt query.dx ≡ None → IfOk (within most query) (IsAskable r user)
 unfolding within
 within_law r user most query periods units asked built =
     elim (length query.units.items == 0) as (λ b. (length query.units.items == 0) ≡ b
@@ -155,7 +157,7 @@ ok_always (Err e) = tt
 -- what is named may be asked
 abbrev AreAsked : Records → ℕ → List Dx × List ℕ → Type 0
 AreAsked r user found =
-    (AllByRecursion (IsAsked r user) found.0) × (AreIn (length r.organisation_units) found.1) × (first_unbuilt r found.0 ≡ None)
+    (AllByRecursion (IsAsked r user) found.0) × (AreIn (length r.organisation_units) found.1) × (first_unbuilt found.0 ≡ None)
 
 named_in_law : (r : Records) (user : ℕ) (f : Form) → IsForm f → IfOk (named_in r user f) (AreAsked r user)
 unfolding named_in
@@ -163,7 +165,7 @@ named_in_law r user f is =
     bound (AllByRecursion (IsAsked r user)) (AreAsked r user) (each_of (dx_of r user) f.dx) _
     (each_law IsFormed (IsAsked r user) (dx_of r user) (dx_law r user) f.dx is.dx) (λ dx asked.
     bound (λ _. Unit {0}) (AreAsked r user) (each_of (part_of r user) f.units.items) _ (ok_always _) (λ parts _.
-    unless_law (AreAsked r user) code.F9 (first_unbuilt r dx) (Ok (dx, units_of r user parts)) (λ built. (asked, units_in r user parts, built))))
+    unless_law (AreAsked r user) code.F9 (first_unbuilt dx) (Ok (dx, units_of r user parts)) (λ built. (asked, units_in r user parts, built))))
 
 from_law : (r : Records) (user cells : ℕ) (f : Form) → IsForm f → IfOk (query_from r user cells f) (IsAskable r user)
 unfolding query_from
@@ -177,8 +179,9 @@ unfolding query_of
 query_law r user day cells text = bound IsForm (IsAskable r user) (form_of day text) (query_from r user cells) (form_law day text) (from_law r user cells)
 
 -- the same of the query that was read
-pub read_law : (r : Records) (user : ℕ) (day : ℤ) (cells : ℕ) (text : List ℕ) (query : Query) → query_of r user day cells text ≡ Ok query
-    → IsAskable r user query
-read_law r user day cells text query is =
+pub read_law : (r : Records) (user : ℕ) (day : ℤ) (cells : ℕ) (text : List ℕ) (result : Result Query QueryFault)
+    → Answers cause_of (query_of r user day cells text) result → IfOk result (IsAskable r user)
+read_law r user day cells text (Ok query) is =
     let P : Result Query Refusal → Type 0 = λ q. IfOk q (IsAskable r user) in
     subst P is (query_law r user day cells text)
+read_law r user day cells text (Err fault) is = tt

@@ -58,4 +58,4 @@ pub record IsAskable (r : Records) (user : ℕ) (query : Query) : Type 0 where
   pub units : 0 < length query.units.items
   pub in_range : AreIn (length r.organisation_units) query.units.items
   pub dx : AllByRecursion (IsAsked r user) query.dx
-  pub built : first_unbuilt r query.dx ≡ None
+  pub built : first_unbuilt query.dx ≡ None

@@ -1,15 +1,10 @@
 -- What the items of the dimension `dx` name, for a user.
-use Rattle.std.specs.Prelude.{ℕ, ◌==◌, Bool, true, false, ◌||◌, if◌then◌else◌, List, [], ◌∷◌, slice_get, Option, None, Some, option_map, option_and_then}
+use Rattle.std.specs.Prelude.{ℕ, ◌==◌, Bool, true, false, if◌then◌else◌, List, [], ◌∷◌, slice_get, Option, None, Some, option_map, option_and_then}
 use Rattle.std.specs.Prelude.{Result, Ok, Err}
-use Rattle.std.specs.List.{list_any}
 use Rattle.std.specs.Option.{option_map_or, option_or}
 use Rattle.dh_base.specs.declared.codes.Code.TheVariants as code
 use Rattle.dh_base.specs.declared.codes.Refusal.{Refusal}
 use Rattle.dh_sharing.specs.declared.access.Right.TheVariants.{Read}
-use Rattle.expr_lang.specs.declared.tree.Item.{Item}
-use Rattle.expr_lang.specs.declared.tree.Item.TheVariants as item
-use Rattle.expr_lang.specs.declared.expr.Expr.{Expr}
-use Rattle.expr_lang.specs.Expr.{items_in}
 use Rattle.meta_parts.specs.declared.held.Records.{Records}
 use Rattle.meta_parts.specs.declared.kind.Kind.{Kind}
 use Rattle.meta_parts.specs.declared.kind.Kind.TheVariants as kind
@@ -17,7 +12,6 @@ use Rattle.meta_parts.specs.declared.names.AnalyticsType.{AnalyticsType}
 use Rattle.meta_parts.specs.declared.names.AnalyticsType.TheVariants as analytics
 use Rattle.meta_parts.specs.declared.records.Element.{Element}
 use Rattle.meta_parts.specs.declared.records.OptionCombo.{OptionCombo}
-use Rattle.meta_parts.specs.declared.records.Indicator.{Indicator}
 use Rattle.meta_parts.specs.declared.records.ProgramIndicator.{ProgramIndicator}
 use Rattle.dh_metadata.specs.Objects.{find_of}
 use Rattle.dh_metadata.specs.Users.{may_of}
@@ -89,35 +83,14 @@ offered r text n = if is_over_enrollments r n.kind n.number then Err (refusal co
 unfoldable pub dx_of : Records → ℕ → DxItem → Result Dx Refusal
 dx_of r user item = and_then (or_refuse code.F14 item.text (named r user item.form)) (offered r item.text)
 
-abbrev pub is_rate : Item → Bool
-is_rate (item.Element element combo attribute) = false
-is_rate (item.Constant id) = false
-is_rate (item.Group id) = false
-is_rate item.Days = false
-is_rate (item.Rate set figure) = true
-is_rate (item.StageElement stage element) = false
-is_rate (item.Attribute id) = false
-is_rate item.EventDate = false
-is_rate item.EnrollmentDate = false
-is_rate item.EventCount = false
-is_rate item.EnrollmentCount = false
-is_rate item.EntityCount = false
-
-abbrev pub has_rate : Expr → Bool
-has_rate expr = list_any is_rate (items_in expr)
-
--- the indicator names a reporting rate
-unfoldable pub names_rate : Records → ℕ → Bool
-names_rate r n = option_map_or (λ (i : Indicator). has_rate i.numerator || has_rate i.denominator) (slice_get r.indicators n) false
-
 -- what the server doesn't compute yet
-abbrev pub is_unbuilt : Records → DxKind → ℕ → Bool
-is_unbuilt r dx.Element n = false
-is_unbuilt r dx.Indicator n = names_rate r n
-is_unbuilt r dx.ProgramIndicator n = true
-is_unbuilt r (dx.Rate figure) n = true
+abbrev pub is_unbuilt : DxKind → Bool
+is_unbuilt dx.Element = false
+is_unbuilt dx.Indicator = false
+is_unbuilt dx.ProgramIndicator = true
+is_unbuilt (dx.Rate figure) = false
 
 -- the first item that the server doesn't compute yet
-abbrev pub first_unbuilt : Records → List Dx → Option (List ℕ)
-first_unbuilt r [] = None
-first_unbuilt r (d ∷ ds) = if is_unbuilt r d.kind d.number then Some d.text else first_unbuilt r ds
+abbrev pub first_unbuilt : List Dx → Option (List ℕ)
+first_unbuilt [] = None
+first_unbuilt (d ∷ ds) = if is_unbuilt d.kind then Some d.text else first_unbuilt ds

@@ -1,5 +1,5 @@
 -- A query, or the first refusal.
-use Rattle.std.specs.Prelude.{◌≡◌, ℕ, ℤ, ◌*◌, ◌==◌, nat_lt, if◌then◌else◌, List, [], length, Option, None, Some, Result, Ok, Err, ⊤}
+use Rattle.std.specs.Prelude.{ℕ, ℤ, ◌*◌, ◌==◌, nat_lt, if◌then◌else◌, List, [], length, Option, None, Some, Result, Ok, Err}
 use Rattle.std.specs.Fmt.{decimal}
 use Rattle.dh_base.specs.declared.codes.Code.{Code}
 use Rattle.dh_base.specs.declared.codes.Code.TheVariants as code
@@ -8,8 +8,6 @@ use Rattle.meta_parts.specs.declared.held.Records.{Records}
 use Rattle.query_forms.specs.declared.plain.Axis.{Axis}
 use Rattle.query_forms.specs.declared.plain.Dx.{Dx}
 use Rattle.query_forms.specs.declared.plain.Query.{Query}
-use Rattle.query_forms.specs.declared.plain.QueryFault.{QueryFault}
-use Rattle.query_forms.specs.declared.plain.QueryFault.TheVariants as fault
 use Rattle.query_forms.specs.declared.form.Form.{Form}
 use Rattle.query_forms.specs.Form.{form_of}
 use Rattle.query_forms.specs.Given.{and_then, refusal}
@@ -49,7 +47,7 @@ unfoldable pub named_in : Records → ℕ → Form → Result (List Dx × List �
 named_in r user form =
     and_then (each_of (dx_of r user) form.dx) (λ dx.
     and_then (each_of (part_of r user) form.units.items) (λ parts.
-    unless_there code.F9 (first_unbuilt r dx) (Ok (dx, units_of r user parts))))
+    unless_there code.F9 (first_unbuilt dx) (Ok (dx, units_of r user parts))))
 
 -- a query's form against metadata
 unfoldable pub query_from : Records → ℕ → ℕ → Form → Result Query Refusal
@@ -58,8 +56,3 @@ query_from r user cells form = and_then (named_in r user form) (λ found. within
 -- the query of a text, for a user on a day, with at most so many cells, or the first refusal
 unfoldable pub query_of : Records → ℕ → ℤ → ℕ → List ℕ → Result Query Refusal
 query_of r user day cells text = and_then (form_of day text) (query_from r user cells)
-
--- the fault is the refusal, or that memory ran out
-abbrev pub IsFaultOf : Result Query Refusal → QueryFault → Type 0
-IsFaultOf meant (fault.Refused refused) = meant ≡ Err refused
-IsFaultOf meant fault.Memory = ⊤

@@ -1,12 +1,13 @@
 //! The number of a query's cells.
 ghost use Rattle.std.specs.Prelude.{◌≡◌, ◌<◌, ◌^◌, None, Ok, Err, IfSome, IfOk, decimal};
-ghost use Rattle.query_forms.specs.Given.{Gives};
+ghost use Rattle.dh_base.specs.Memory.{Answers, IsCause};
+ghost use Rattle.query_forms.specs.Given.{cause_of};
 ghost use Rattle.query_lang.specs.Query.{axis_count, cells_of, within};
 
 use dh_base::codes::Code;
 use dh_base::memory::Memory;
-use query_forms::fault::{TextFault, refused};
-use query_forms::{Axis, Query};
+use query_forms::fault::refused;
+use query_forms::{Axis, Query, QueryFault};
 use std::alloc::Global;
 
 fn axis_count<T>(axis: &Axis<T>) -> u128
@@ -36,19 +37,19 @@ fn decimal(alloc: Global, number: u128) -> Result<Vec<u8>, Memory>
 
 // Why the query is refused, if it has no units or too many cells.
 #[tactic(auto, unfolding(crate::specs::Query::within))]
-fn excess(alloc: Global, query: &Query, most: u64) -> Option<TextFault>
+fn excess(alloc: Global, query: &Query, most: u64) -> Option<QueryFault>
     ensures none { result ≡ None → within most query.now ≡ Ok query.now }
-    ensures some { IfSome result (λ fault. Gives (within most query.now) (Err fault)) }
+    ensures some { IfSome result (λ fault. IsCause (within most query.now) (cause_of fault)) }
 {
     if query.units.items.len() == 0 {
         return Some(refused(alloc, Code::F13, b""));
     }
     let Some(count) = cells_of(query) else {
-        return Some(TextFault::Memory);
+        return Some(QueryFault::Memory);
     };
     if u128::from(most) < count {
         let Ok(text) = decimal(alloc, count) else {
-            return Some(TextFault::Memory);
+            return Some(QueryFault::Memory);
         };
         return Some(refused(alloc, Code::F16, &text));
     }
@@ -56,8 +57,8 @@ fn excess(alloc: Global, query: &Query, most: u64) -> Option<TextFault>
 }
 
 /// A query with units and at most so many cells.
-pub(crate) fn within(alloc: Global, query: Query, most: u64) -> Result<Query, TextFault>
-    ensures { Gives (within most query) result }
+pub(crate) fn within(alloc: Global, query: Query, most: u64) -> Result<Query, QueryFault>
+    ensures { Answers cause_of (within most query) result }
 {
     match excess(alloc, &query, most) {
         None => Ok(query),

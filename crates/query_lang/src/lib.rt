@@ -1,4 +1,5 @@
-//! Queries against metadata.
+//! Queries against metadata: what their items name for a user, and the units that they choose, or the first refusal.
+//! Nothing here asks for values.
 #![tactic(auto)]
 
 mod cells;
@@ -14,4 +15,4 @@ mod units;
 pub mod view;
 
 pub use named::Found;
-pub use query::read_query;
+pub use query::{MOST_CELLS, read_query};

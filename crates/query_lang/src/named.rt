@@ -2,7 +2,8 @@
 ghost use Rattle.std.specs.Prelude.{◌≡◌, ◌<◌, [], true, length};
 ghost use Rattle.dh_metadata.specs.Linked.{IsBelow};
 ghost use Rattle.dh_metadata.specs.Objects.{count_of, is_shared};
-ghost use Rattle.query_forms.specs.Given.{Gives};
+ghost use Rattle.dh_base.specs.Memory.{Answers};
+ghost use Rattle.query_forms.specs.Given.{cause_of};
 ghost use Rattle.query_lang.specs.Each.{each_of};
 ghost use Rattle.query_lang.specs.Named.{readable, alone, object_named, is_combo_of, combo_named, operand_named, named, is_enrollment_type, is_enrollment};
 ghost use Rattle.query_lang.specs.Named.{is_over_enrollments, dx_of};
@@ -15,9 +16,9 @@ use dh_metadata::metadata::Metadata;
 use dh_sharing::access::Right;
 use meta_parts::kind::Kind;
 use meta_parts::names::AnalyticsType;
-use query_forms::fault::{TextFault, refused};
+use query_forms::fault::refused;
 use query_forms::item::{DxForm, DxItem};
-use query_forms::{Dx, DxKind};
+use query_forms::{Dx, DxKind, QueryFault};
 use std::alloc::Global;
 
 /// What an item of the dimension `dx` names.
@@ -160,9 +161,9 @@ fn is_over_enrollments(meta: &Metadata, kind: DxKind, number: u32) -> bool
 }
 
 #[tactic(auto, unfolding(crate::specs::Named::dx_of))]
-fn dx_of(alloc: Global, meta: &Metadata, user: u32, item: &DxItem) -> Result<Dx, TextFault>
+fn dx_of(alloc: Global, meta: &Metadata, user: u32, item: &DxItem) -> Result<Dx, QueryFault>
     requires { user < length meta.now.users }
-    ensures { Gives (dx_of meta.now user item.now) result }
+    ensures { Answers cause_of (dx_of meta.now user item.now) result }
 {
     let Some(named) = named(meta, user, &item.form) else {
         return Err(refused(alloc, Code::F14, item.text.as_slice()));
@@ -185,9 +186,9 @@ pub(crate) fn each_dx(
     meta: &Metadata,
     user: u32,
     items: &[DxItem],
-) -> Result<Items<Dx>, TextFault>
+) -> Result<Items<Dx>, QueryFault>
     requires { user < length meta.now.users }
-    ensures { Gives (each_of (dx_of meta.now user) items.now) result }
+    ensures { Answers cause_of (each_of (dx_of meta.now user) items.now) result }
 {
     let mut all = Vec::new(alloc);
     for item in items {

@@ -1,10 +1,11 @@
 //! A query of its text.
-ghost use Rattle.std.specs.Prelude.{◌≡◌, ◌<◌, length, pos, neg_ℤ, ◌≤ℤ◌, MatchResult, IfOk, Ok, Err};
+ghost use Rattle.std.specs.Prelude.{◌≡◌, ◌<◌, length, pos, neg_ℤ, ◌≤ℤ◌, IfOk};
 ghost use Rattle.query_lang.specs.Askable.{IsAskable};
-ghost use Rattle.query_forms.specs.Given.{Gives};
+ghost use Rattle.dh_base.specs.Memory.{Answers};
+ghost use Rattle.query_forms.specs.Given.{cause_of};
 ghost use Rattle.query_lang.specs.Each.{each_of};
 ghost use Rattle.query_lang.specs.Units.{part_of};
-ghost use Rattle.query_lang.specs.Query.{named_in, assembled, query_from, query_of, IsFaultOf};
+ghost use Rattle.query_lang.specs.Query.{named_in, assembled, query_from, query_of};
 
 use crate::cells::within;
 use crate::named::each_dx;
@@ -14,21 +15,24 @@ use crate::units::{each_part, units_of, view_of};
 use dh_base::codes::Code;
 use dh_base::items::Items;
 use dh_metadata::metadata::Metadata;
-use query_forms::fault::{TextFault, refused};
+use query_forms::fault::refused;
 use query_forms::form::Form;
 use query_forms::item::UnitItem;
 use query_forms::text::form_of;
 use query_forms::{Axis, Dx, Query, QueryFault};
 use std::alloc::Global;
 
+/// The most cells of a query that is answered.
+pub const MOST_CELLS: u64 = 100_000;
+
 fn parts_of(
     alloc: Global,
     meta: &Metadata,
     user: u32,
     items: &[UnitItem],
-) -> Result<Items<Part>, TextFault>
+) -> Result<Items<Part>, QueryFault>
     requires { user < length meta.now.users }
-    ensures { Gives (each_of (part_of meta.now user) items.now) result }
+    ensures { Answers cause_of (each_of (part_of meta.now user) items.now) result }
 {
     let view = view_of(alloc, meta, user)?;
     each_part(alloc, meta, user, &view, items)
@@ -42,13 +46,13 @@ fn named_in(
     meta: &Metadata,
     user: u32,
     form: &Form,
-) -> Result<(Items<Dx>, Items<u32>), TextFault>
+) -> Result<(Items<Dx>, Items<u32>), QueryFault>
     requires { user < length meta.now.users }
-    ensures { Gives (named_in meta.now user form.now) result }
+    ensures { Answers cause_of (named_in meta.now user form.now) result }
 {
     let dx = each_dx(alloc, meta, user, form.dx.as_slice())?;
     let parts = parts_of(alloc, meta, user, form.units.items.as_slice())?;
-    if let Some(text) = first_unbuilt(meta, dx.as_slice()) {
+    if let Some(text) = first_unbuilt(dx.as_slice()) {
         return Err(refused(alloc, Code::F9, text));
     }
     let units = units_of(alloc, meta, user, parts.as_slice())?;
@@ -76,9 +80,9 @@ fn query_from(
     user: u32,
     cells: u64,
     form: Form,
-) -> Result<Query, TextFault>
+) -> Result<Query, QueryFault>
     requires { user < length meta.now.users }
-    ensures { Gives (query_from meta.now user cells form) result }
+    ensures { Answers cause_of (query_from meta.now user cells form) result }
 {
     let (dx, units) = named_in(alloc, meta, user, &form)?;
     within(alloc, assembled(form, dx, units), cells)
@@ -92,11 +96,11 @@ fn query_of(
     user: u32,
     day: i32,
     cells: u64,
-) -> Result<Query, TextFault>
+) -> Result<Query, QueryFault>
     requires user { user < length meta.now.users }
     requires from { neg_ℤ (pos 21915) ≤ℤ day }
     requires to { day ≤ℤ pos 47481 }
-    ensures { Gives (query_of meta.now user day cells text.now) result }
+    ensures { Answers cause_of (query_of meta.now user day cells text.now) result }
 {
     let form = form_of(alloc, text, day)?;
     query_from(alloc, meta, user, cells, form)
@@ -115,13 +119,8 @@ pub fn read_query(
     requires user { user < length meta.now.users }
     requires from { neg_ℤ (pos 21915) ≤ℤ day }
     requires to { day ≤ℤ pos 47481 }
-    ensures value { MatchResult result (λ query. query_of meta.now user day cells text.now ≡ Ok query)
-        (λ fault. IsFaultOf (query_of meta.now user day cells text.now) fault) }
+    ensures value { Answers cause_of (query_of meta.now user day cells text.now) result }
     ensures askable { IfOk result (λ query. IsAskable meta.now user query) }
 {
-    match query_of(alloc, text, meta, user, day, cells) {
-        Ok(query) => Ok(query),
-        Err(TextFault::Refused(refusal)) => Err(QueryFault::Refused(refusal)),
-        Err(TextFault::Memory) => Err(QueryFault::Memory),
-    }
+    query_of(alloc, text, meta, user, day, cells)
 }

@@ -3,7 +3,8 @@ ghost use Rattle.std.specs.Prelude.{◌≡◌, ◌<◌, ◌++◌, [], length, If
 ghost use Rattle.dh_metadata.specs.Approval.{unit_rows};
 ghost use Rattle.dh_metadata.specs.Users.{view_units_of};
 ghost use Rattle.dh_metadata.specs.Linked.{IsBelow};
-ghost use Rattle.query_forms.specs.Given.{Gives};
+ghost use Rattle.dh_base.specs.Memory.{Answers};
+ghost use Rattle.query_forms.specs.Given.{cause_of};
 ghost use Rattle.query_lang.specs.View.{is_under_any, Covers};
 ghost use Rattle.query_lang.specs.Each.{each_of};
 ghost use Rattle.query_lang.specs.Units.{unit_seen, part_by, part_of, group_units, part_members, members_of, units_of};
@@ -18,7 +19,8 @@ use dh_base::uid::Uid;
 use dh_metadata::metadata::Metadata;
 use dh_sharing::ranges::ViewRanges;
 use meta_parts::kind::Kind;
-use query_forms::fault::{TextFault, refused};
+use query_forms::QueryFault;
+use query_forms::fault::refused;
 use query_forms::item::{UnitForm, UnitItem};
 use std::alloc::Global;
 
@@ -62,10 +64,10 @@ fn unit_part(
     view: &ViewRanges,
     id: Uid,
     text: &[u8],
-) -> Result<Part, TextFault>
+) -> Result<Part, QueryFault>
     requires user { user < length meta.now.users }
     requires view { Covers (unit_rows meta.now) (view_units_of meta.now user) view.now }
-    ensures { Gives (part_by meta.now user text.now (UnitForm.Unit id)) result }
+    ensures { Answers cause_of (part_by meta.now user text.now (UnitForm.Unit id)) result }
 {
     match unit_seen(meta, user, view, id) {
         Some(unit) => Ok(Part::Unit(unit)),
@@ -79,8 +81,8 @@ fn group_part(
     user: u32,
     id: Uid,
     text: &[u8],
-) -> Result<Part, TextFault>
-    ensures { Gives (part_by meta.now user text.now (UnitForm.Group id)) result }
+) -> Result<Part, QueryFault>
+    ensures { Answers cause_of (part_by meta.now user text.now (UnitForm.Group id)) result }
 {
     match meta.find(Kind::OrganisationUnitGroup, id) {
         Some(group) => Ok(Part::Group(group)),
@@ -95,10 +97,10 @@ fn part_of(
     user: u32,
     view: &ViewRanges,
     item: &UnitItem,
-) -> Result<Part, TextFault>
+) -> Result<Part, QueryFault>
     requires user { user < length meta.now.users }
     requires view { Covers (unit_rows meta.now) (view_units_of meta.now user) view.now }
-    ensures { Gives (part_of meta.now user item.now) result }
+    ensures { Answers cause_of (part_of meta.now user item.now) result }
 {
     match &item.form {
         UnitForm::Unit(id) => unit_part(alloc, meta, user, view, *id, item.text.as_slice()),
@@ -117,10 +119,10 @@ pub(crate) fn each_part(
     user: u32,
     view: &ViewRanges,
     items: &[UnitItem],
-) -> Result<Items<Part>, TextFault>
+) -> Result<Items<Part>, QueryFault>
     requires user { user < length meta.now.users }
     requires view { Covers (unit_rows meta.now) (view_units_of meta.now user) view.now }
-    ensures { Gives (each_of (part_of meta.now user) items.now) result }
+    ensures { Answers cause_of (each_of (part_of meta.now user) items.now) result }
 {
     let mut all = Vec::new(alloc);
     for item in items {

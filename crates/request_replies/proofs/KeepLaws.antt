@@ -142,6 +142,7 @@ routed-keeps : (old new : Seen) (moment : ℤ) (meant : Result Call Refusal) (ke
     → Keeps old made new
 routed-keeps old new moment (Err refused) keep made reply = same-keeps old new made reply.1
 routed-keeps old new moment (Ok (call.Query user asked query)) keep made reply = same-keeps old new made reply.1
+routed-keeps old new moment (Ok (call.Check user asked checked)) keep made reply = same-keeps old new made reply.1
 routed-keeps old new moment (Ok (call.Update kind)) keep made reply = update-keeps old new kind keep made reply
 routed-keeps old new moment (Ok (call.Values user set)) keep made reply = change-keeps old new _ keep made reply.found reply.steps reply.brought reply.sure
 routed-keeps old new moment (Ok (call.Completion user list)) keep made reply = change-keeps old new _ keep made reply.found reply.steps reply.brought reply.sure

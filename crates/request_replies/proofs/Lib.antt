@@ -5,6 +5,7 @@ pub mod ReplyLemmas
 pub mod KeepLaws
 pub mod TellLemmas
 pub mod StepLemmas
+pub mod CheckLemmas
 pub mod UnseenLemmas
 pub mod ServeLemmas
 pub mod OverLemmas

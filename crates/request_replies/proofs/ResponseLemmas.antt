@@ -34,11 +34,13 @@ use Rattle.engine.specs.declared.machine.LookFault.TheVariants as look
 use Rattle.engine.proofs.LoadLemmas.{loads_report, loads_refusal}
 use Rattle.request_replies.specs.Texts.{IsTold, change_text, refusal_reply, update_reply, not_yet_reply}
 use Rattle.request_replies.specs.Queries.{answer_over, look_text}
+use Rattle.request_replies.specs.Checks.{check_over, check_text, place_of}
 use Rattle.request_replies.specs.Changes.{ChangeReply, asking}
+use Rattle.validation.specs.declared.place.Place.{Place}
 use Rattle.request_replies.specs.Updates.{EndsBySwap, Ends, OwnUpdateReply}
 use Rattle.request_replies.specs.Steps.{ReplyAt, RoutedReply}
 use Rattle.request_replies.specs.Response.{Response, response_by, change_response, swap_response, update_by}
-use Rattle.request_replies.specs.Response.{update_response, query_text, routed_response, response_of}
+use Rattle.request_replies.specs.Response.{update_response, query_text, checked_text, routed_response, response_of}
 
 -- this text and this state
 abbrev pub Is : Response → List ℕ → State → Type 0
@@ -160,6 +162,25 @@ look-is machine user asked query keep text (Err (look.NotYet published)) step te
     ∙ sym (ap (λ b. cond b here later) (beyond asked machine.state.published step.0.0))
 look-is machine user asked query keep text (Err look.Memory) step tells = absurd (cc)
 
+-- ---- a check
+
+checked-is : (machine : Seen) (user asked : ℕ) (place : Place) (keep : Bool) (text : List ℕ) (found : Result ℕ LookFault)
+    → Step machine.meta machine.limits machine.state (looked asked found) machine.state
+    → IsTold (Some text) (check_text machine.meta machine.state.log user place keep found)
+    → text ≡ checked_text machine.meta machine.state user asked place keep
+checked-is machine user asked place keep text (Ok published) step tells =
+    let here = check_over machine.meta machine.state.log user place keep machine.state.published in
+    let later = not_yet_reply machine.state.published keep in
+    text-is (check_over machine.meta machine.state.log user place keep published) text tells
+    ∙ ap (check_over machine.meta machine.state.log user place keep) step.0.1
+    ∙ sym (ap (λ b. cond b here later) (within asked machine.state.published step.0.0))
+checked-is machine user asked place keep text (Err (look.NotYet published)) step tells =
+    let here = check_over machine.meta machine.state.log user place keep machine.state.published in
+    let later = not_yet_reply machine.state.published keep in
+    text-is (not_yet_reply published keep) text tells ∙ ap (λ n. not_yet_reply n keep) step.0.1
+    ∙ sym (ap (λ b. cond b here later) (beyond asked machine.state.published step.0.0))
+checked-is machine user asked place keep text (Err look.Memory) step tells = absurd (cc)
+
 -- ---- a request
 
 asked-is : (old new : Seen) (asked : Asked) (keep : Bool) (text : List ℕ) → new.faults ≡ 0 → ChangeReply old asked keep (Some text) new
@@ -172,6 +193,8 @@ routed-is old new moment keep text (Err refused) none reply =
     (text-is (refusal_reply None keep refused) text reply.0, ap (λ (s : Seen). s.state) reply.1)
 routed-is old new moment keep text (Ok (call.Query user asked query)) none reply =
     (look-is old user asked query keep text reply.0.found reply.0.looks reply.0.tells, ap (λ (s : Seen). s.state) reply.1)
+routed-is old new moment keep text (Ok (call.Check user asked checked)) none reply =
+    (checked-is old user asked (place_of checked) keep text reply.0.found reply.0.looks reply.0.tells, ap (λ (s : Seen). s.state) reply.1)
 routed-is old new moment keep text (Ok (call.Update kind)) none reply = update-is old new kind keep text reply
 routed-is old new moment keep text (Ok (call.Values user set)) none reply = asked-is old new (asking moment user (Values set)) keep text none reply
 routed-is old new moment keep text (Ok (call.Completion user list)) none reply = asked-is old new (asking moment user (Completion list)) keep text none reply

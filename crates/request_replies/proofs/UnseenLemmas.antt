@@ -28,6 +28,7 @@ use Rattle.request_replies.specs.Texts.{told, IsTold, answer_reply, refusal_repl
 use Rattle.request_replies.specs.Queries.{answer_by, answer_over, look_text, QueryReply}
 use Rattle.request_replies.specs.Steps.{ReplyAt, RoutedReply, ReplyStep}
 use Rattle.request_replies.specs.Unseen.{published_seen, AsksWithin, DifferInNumber, UnseenStays, UnseenReply, UnseenStep}
+use Rattle.request_replies.proofs.CheckLemmas.{unseen_check, some_check}
 
 -- as many changes are published as are asked for, so the look shows the published tables
 some-text : (a b : List ℕ) → Some a ≡ Some b → b ≡ a
@@ -89,7 +90,13 @@ unseen-stays one one' moment request keep text reply = λ user asked query asks 
 pub unseen_told : {C : Type 0} (shows : C → ℤ → Type 0) (clock : C) (old new : Seen) (moment : ℤ) (request : Request) (keep : Bool) (r : Result Reply Memory)
     → shows clock moment → ReplyAt old moment request keep (told r) new → IfOk r (λ reply. UnseenReply (shows clock) old request keep (text_in reply) new)
 unseen_told shows clock old new moment request keep (Ok reply) shown is =
-    record { moment = moment; shown = shown; replies = is; unseen = unseen-stays old new moment request keep (text_in reply) is }
+    record {
+      moment = moment;
+      shown = shown;
+      replies = is;
+      unseen = unseen-stays old new moment request keep (text_in reply) is;
+      unseen_check = unseen_check old new moment request keep (text_in reply) is;
+    }
 unseen_told shows clock old new moment request keep (Err e) shown is = tt
 
 some-stays : (one one' : Seen) (moment : ℤ) (request : Request) (keep : Bool) (made : Option (List ℕ)) → ReplyAt one moment request keep made one'
@@ -100,4 +107,8 @@ some-stays one one' moment request keep (Some text) reply = unseen-stays one one
 -- of every step
 pub unseen_step : (shows : ℤ → Type 0) (old new : Seen) (request : Request) (keep : Bool) (text : List ℕ) → ReplyStep shows old request keep text new
     → UnseenStep shows old request keep text new
-unseen_step shows old new request keep text step = record { step = step; unseen = some-stays old new step.moment request keep step.made step.replies }
+unseen_step shows old new request keep text step = record {
+  step = step;
+  unseen = some-stays old new step.moment request keep step.made step.replies;
+  unseen_check = some_check old new step.moment request keep step.made step.replies;
+}

@@ -1,5 +1,6 @@
 pub mod Texts
 pub mod Queries
+pub mod Checks
 pub mod Changes
 pub mod Updates
 pub mod Steps

@@ -22,6 +22,8 @@ use Rattle.engine.specs.declared.machine.Staged.{Staged}
 use Rattle.request_replies.specs.Texts.{refusal_reply, report_reply, update_reply, not_yet_reply}
 use Rattle.request_replies.specs.Queries.{answer_over}
 use Rattle.request_replies.specs.Changes.{asking}
+use Rattle.request_replies.specs.Checks.{check_over, place_of}
+use Rattle.validation.specs.declared.place.Place.{Place}
 
 -- a reply, and the state after it
 pub record Response : Type 0 where
@@ -71,10 +73,18 @@ abbrev pub query_text : Records → State → ℕ → ℕ → Query → Bool →
 query_text meta state user asked query keep =
     cond (nat_le asked state.published) (answer_over meta state.log user query keep state.published) (not_yet_reply state.published keep)
 
+-- ---- a check: the same
+
+abbrev pub checked_text : Records → State → ℕ → ℕ → Place → Bool → List ℕ
+checked_text meta state user asked place keep =
+    cond (nat_le asked state.published) (check_over meta state.log user place keep state.published) (not_yet_reply state.published keep)
+
 -- ---- a call, or the refusal of a request that is none
 
 abbrev pub call_response : Records → Limits → State → ℤ → Bool → Call → Response
 call_response meta limits state moment keep (call.Query user asked query) = response (query_text meta state user asked query keep) state
+call_response meta limits state moment keep (call.Check user asked checked) =
+    response (checked_text meta state user asked (place_of checked) keep) state
 call_response meta limits state moment keep (call.Update kind) = update_response limits state kind keep
 call_response meta limits state moment keep (call.Values user set) = change_response meta limits state (asking moment user (Values set)) keep
 call_response meta limits state moment keep (call.Completion user list) = change_response meta limits state (asking moment user (Completion list)) keep

@@ -12,12 +12,14 @@ use Rattle.engine.specs.MetaAfter.{published_meta}
 use Rattle.change_requests.specs.declared.request.ChangeRequest.TheVariants.{Values, Completion, Approval}
 use Rattle.request_replies.specs.Texts.{text_of, IsTold, refusal_reply}
 use Rattle.request_replies.specs.Queries.{QueryReply}
+use Rattle.request_replies.specs.Checks.{CheckReply, place_of}
 use Rattle.request_replies.specs.Changes.{ChangeReply, asking}
 use Rattle.request_replies.specs.Updates.{OwnUpdateReply}
 
 -- the reply to a call at a moment
 abbrev pub CallReply : Seen → ℤ → Call → Bool → Option (List ℕ) → Seen → Type 0
 CallReply old moment (call.Query user asked query) keep text new = QueryReply old user asked query keep text × (new ≡ old)
+CallReply old moment (call.Check user asked checked) keep text new = CheckReply old user asked (place_of checked) keep text × (new ≡ old)
 CallReply old moment (call.Update kind) keep text new = OwnUpdateReply old kind keep text new
 CallReply old moment (call.Values user set) keep text new = ChangeReply old (asking moment user (Values set)) keep text new
 CallReply old moment (call.Completion user list) keep text new = ChangeReply old (asking moment user (Completion list)) keep text new

@@ -36,6 +36,11 @@ IsTold None meant = ⊤
 unfoldable pub refusal_reply : Option ℕ → Bool → Refusal → List ℕ
 refusal_reply published keep refused = reply_text (status_of refused.code) published None keep (error_text refused)
 
+-- the text of the reply to this refusal, unless memory ran out; there is none without one
+abbrev pub Refuses : Bool → Option Refusal → Option (List ℕ) → Type 0
+Refuses keep None text = text ≡ None
+Refuses keep (Some refused) text = IsTold text (Some (refusal_reply None keep refused))
+
 -- ---- a query
 
 -- the answer over tables that stand for so many changes

@@ -6,6 +6,7 @@ use Rattle.query_forms.specs.declared.plain.Query.{Query}
 use Rattle.cell_values.specs.Seen.{SeenRecords, SameSeen, seen_of}
 use Rattle.web_routes.specs.Calls.{routed}
 use Rattle.web_routes.specs.declared.call.Call.TheVariants as call
+use Rattle.web_routes.specs.declared.checked.Checked.{Checked}
 use Rattle.request_session.specs.Replies.{reply_text}
 use Rattle.engine.specs.Seen.{Seen}
 use Rattle.engine.specs.Tables.{tables_of}
@@ -19,6 +20,11 @@ published_seen machine user = seen_of (published_meta machine) user (tables_of m
 -- at this moment the request is a user's query, and as many changes are published as it asks for
 pub record AsksWithin (machine : Seen) (moment : ℤ) (request : Request) (user asked : ℕ) (query : Query) : Type 0 where
   pub routed_is : routed (published_meta machine) (day_of moment) request ≡ Ok (call.Query user asked query)
+  pub there : asked ≤ machine.state.published
+
+-- the same of a user's check
+pub record ChecksWithin (machine : Seen) (moment : ℤ) (request : Request) (user asked : ℕ) (checked : Checked) : Type 0 where
+  pub routed_is : routed (published_meta machine) (day_of moment) request ≡ Ok (call.Check user asked checked)
   pub there : asked ≤ machine.state.published
 
 -- another machine at a moment of the same day: what each has published leaves the same metadata with the same rights and tree; it too has
@@ -45,14 +51,24 @@ UnseenStays one moment request keep text =
     → ReplyAt other moment' request keep (Some text') other'
     → DifferInNumber one.state.published other.state.published keep text text'
 
+-- the same where the request is a user's check
+abbrev pub UnseenCheckStays : Seen → ℤ → Request → Bool → List ℕ → Type 0
+UnseenCheckStays one moment request keep text =
+    (user asked : ℕ) (checked : Checked) → ChecksWithin one moment request user asked checked
+    → (other other' : Seen) (moment' : ℤ) (text' : List ℕ) → LookAlike one other moment moment' user asked
+    → ReplyAt other moment' request keep (Some text') other'
+    → DifferInNumber one.state.published other.state.published keep text text'
+
 -- the text is the reply at a moment that the clock shows, and nothing that the user doesn't see changes it
 pub record UnseenReply (shows : ℤ → Type 0) (old : Seen) (request : Request) (keep : Bool) (text : List ℕ) (new : Seen) : Type 0 where
   pub moment : ℤ
   pub shown : shows moment
   pub replies : ReplyAt old moment request keep (Some text) new
   pub unseen : UnseenStays old moment request keep text
+  pub unseen_check : UnseenCheckStays old moment request keep text
 
 -- A step of the machine; if its reply isn't that for a lack of memory, nothing that the user doesn't see changes it.
 pub record UnseenStep (shows : ℤ → Type 0) (old : Seen) (request : Request) (keep : Bool) (text : List ℕ) (new : Seen) : Type 0 where
   pub step : ReplyStep shows old request keep text new
   pub unseen : IfSome step.made (UnseenStays old step.moment request keep)
+  pub unseen_check : IfSome step.made (UnseenCheckStays old step.moment request keep)

@@ -3,6 +3,7 @@
 #![tactic(auto)]
 
 mod change;
+mod check;
 mod laws;
 mod over_file;
 mod query;

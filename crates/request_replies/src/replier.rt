@@ -4,10 +4,12 @@ ghost use Rattle.change_log.specs.Log.{NeverFails};
 ghost use Rattle.engine.specs.Seen.{IsSound};
 ghost use Rattle.engine.specs.MetaAfter.{published_meta};
 ghost use Rattle.web_routes.specs.Calls.{IsSound as IsSoundCall};
-ghost use Rattle.request_replies.specs.Texts.{told};
+ghost use Rattle.web_routes.specs.Given.{cause_of};
+ghost use Rattle.request_replies.specs.Texts.{told, Refuses};
 ghost use Rattle.request_replies.specs.Steps.{ReplyAt, CallReply};
 
 use crate::change::reply_to_change;
+use crate::check::reply_to_check;
 use crate::query::reply_to_query;
 use crate::texts::refusal_reply;
 use crate::update::reply_to_update;
@@ -24,7 +26,7 @@ use web_routes::routing::route;
 use wire_head::Request;
 
 // The reply to a call at a moment.
-#[tactic(auto, unfolding(engine::specs::MetaAfter::meta_after))]
+#[tactic(auto, using(engine::proofs::AfterLemmas::user_before))]
 fn reply_to_call<K: Keeper>(
     alloc: Global,
     engine: &mut Engine<K>,
@@ -41,6 +43,11 @@ fn reply_to_call<K: Keeper>(
         Call::Query { user, asked, query } => {
             reply_to_query(alloc, engine, user, asked, &query, keep)
         }
+        Call::Check {
+            user,
+            asked,
+            checked,
+        } => reply_to_check(alloc, engine, user, asked, &checked, keep),
         Call::Update { kind } => reply_to_update(alloc, engine, kind, keep),
         Call::Values { user, set } => reply_to_change(
             alloc,
@@ -69,6 +76,16 @@ fn reply_to_call<K: Keeper>(
     }
 }
 
+// The reply to a request that is no call.
+fn refuse(alloc: Global, keep: bool, fault: &RouteFault) -> Result<Reply, Memory>
+    ensures { Refuses keep (cause_of fault.now) (told result) }
+{
+    match fault {
+        RouteFault::Refused(refused) => refusal_reply(alloc, None, keep, refused),
+        RouteFault::Memory => Err(Memory),
+    }
+}
+
 // The reply to a request at a moment.
 #[tactic(auto, using(crate::proofs::ReplyLemmas::replies))]
 fn reply_at<K: Keeper>(
@@ -84,8 +101,7 @@ fn reply_at<K: Keeper>(
 {
     match route(alloc, request, engine.published_meta(), day_of(moment)) {
         Ok(call) => reply_to_call(alloc, engine, moment, call, keep),
-        Err(RouteFault::Refused(refused)) => refusal_reply(alloc, None, keep, &refused),
-        Err(RouteFault::Memory) => Err(Memory),
+        Err(fault) => refuse(alloc, keep, &fault),
     }
 }
 

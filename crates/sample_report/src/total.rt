@@ -6,7 +6,7 @@ ghost use Rattle.sample_report.specs.Report.{named, years, records_of, total_for
 
 use crate::counts::count_rows;
 use crate::ids::{COUNTRY, ELEMENT, USER};
-use cell_values::{Seer, element_value};
+use cell_values::{CellPeriods, CellUnits, Operand, Seer, Source, element_value};
 use dh_base::frac::Frac;
 use dh_base::items::Items;
 use dh_base::memory::Memory;
@@ -58,11 +58,20 @@ fn total_for<S: RowStore>(
     ensures { IfOk result (λ total. total ≡ total_for meta.now (S.rows store.now) user element unit) }
 {
     let seer = Seer::of(alloc, meta, user)?;
-    let periods = years(alloc)?;
-    let units = [unit];
-    element_value(
-        alloc, meta, store, &seer, element, None, None, &periods, &units, false,
-    )
+    let years = years(alloc)?;
+    let periods = CellPeriods::of(alloc, &years)?;
+    let units = CellUnits::of(alloc, meta, &seer, &[unit], false)?;
+    let operand = Operand {
+        element,
+        combo: None,
+        attribute: None,
+    };
+    let source = Source {
+        meta,
+        store,
+        seer: &seer,
+    };
+    element_value(alloc, &source, &operand, &periods, &units)
 }
 
 /// The value of the element for the country over the years, as the user of the samples sees it.

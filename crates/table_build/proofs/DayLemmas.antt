@@ -19,7 +19,7 @@ use Rattle.dh_periods.proofs.TextLemmas.{some_when, and_then-some, map-some}
 use Rattle.dh_base.specs.Limits.{is_day}
 
 -- 1 January 2101
-last-month : days_before_month 2412 ≡ 73_414
+pub last-month : days_before_month 2412 ≡ 73_414
 last-month =
     let january : days_before_month 2413 ≡ days_before_month 2412 + 31 = days_before_month-next 2412 in
     let february : days_before_month 2414 ≡ days_before_month 2413 + 28 = days_before_month-next 2413 in

@@ -7,3 +7,4 @@ pub mod DayLemmas
 pub mod FactLemmas
 pub mod StoreLemmas
 pub mod KeyLemmas
+pub mod YearLemmas

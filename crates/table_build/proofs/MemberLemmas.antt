@@ -19,7 +19,7 @@ abbrev pub IsIn : {X : Type 0} → X → List X → Type 0
 IsIn x [] = ⊥
 IsIn x (y ∷ ys) = (x ≡ y) ⊎ IsIn x ys
 
-at-member : {X : Type 0} (P : X → Type 0) (x : X) (xs : List X) → AllByRecursion P xs → IsIn x xs → P x
+pub at-member : {X : Type 0} (P : X → Type 0) (x : X) (xs : List X) → AllByRecursion P xs → IsIn x xs → P x
 at-member P x [] all is = absurd is
 at-member P x (y ∷ ys) all (inl e) = subst P (sym e) all.0
 at-member P x (y ∷ ys) all (inr later) = at-member P x ys all.1 later
@@ -28,7 +28,7 @@ more-members : {X : Type 0} (y : X) (ys : List X) (xs : List X) → AllByRecursi
 more-members y ys [] all = tt
 more-members y ys (x ∷ xs) all = (inr all.0, more-members y ys xs all.1)
 
-each-member : {X : Type 0} (xs : List X) → AllByRecursion (λ x. IsIn x xs) xs
+pub each-member : {X : Type 0} (xs : List X) → AllByRecursion (λ x. IsIn x xs) xs
 each-member [] = tt
 each-member (x ∷ xs) = (inl refl, more-members x xs xs (each-member xs))
 

@@ -1,22 +1,12 @@
 -- The years of rows.
-use Rattle.std.specs.Prelude.{ℤ, pos, List, ◌++◌, map, Option, option_map}
+use Rattle.std.specs.Prelude.{ℤ, List, ◌++◌, map, Option}
 use Rattle.std.specs.List.{filter_map}
 use Rattle.std.specs.Ordering.{int_cmp}
-use Rattle.dh_periods.specs.declared.name.PeriodName.{PeriodName}
-use Rattle.dh_periods.specs.declared.kind.PeriodType.TheVariants.{Daily}
-use Rattle.dh_periods.specs.Places.{year_of, containing_of}
 use Rattle.table_rows.specs.declared.row.Row.{Row}
 use Rattle.table_rows.specs.declared.event.EventRow.{EventRow}
 use Rattle.table_rows.specs.declared.event.RegRow.{RegRow}
+use Rattle.year_tables.specs.Years.{period_year, day_year}
 use Rattle.table_build.specs.Ordered.{in_order}
-
--- the year of the first day of a period
-abbrev pub period_year : PeriodName → ℤ
-period_year period = pos (year_of period)
-
--- the year of a day
-unfoldable pub day_year : ℤ → Option ℤ
-day_year day = option_map period_year (containing_of Daily day day)
 
 unfoldable pub row_year : Row → ℤ
 row_year row = period_year row.period

@@ -1,6 +1,7 @@
 //! The rows, registrations and events that a list of changes leaves, as a store of rows.
 #![tactic(auto)]
 
+pub mod by_year;
 pub mod events;
 mod items;
 pub mod listed;

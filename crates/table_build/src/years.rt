@@ -7,20 +7,10 @@ ghost use Rattle.table_build.specs.Ordered.{put_all};
 ghost use Rattle.table_build.specs.Years as known;
 
 use dh_base::memory::Memory;
-use dh_periods::{PeriodType, containing};
 use std::alloc::Global;
 use std::collections::BTreeMap;
 use table_rows::{EventRow, RegRow, Row};
-
-#[tactic(auto, unfolding(crate::specs::Years::day_year))]
-fn day_year(day: i32) -> Option<i32>
-    ensures { result ≡ known.day_year day }
-{
-    match containing(PeriodType::Daily, day, day) {
-        Some(period) => Some(period.year()),
-        None => None,
-    }
-}
+use year_tables::day_year;
 
 #[tactic(auto, unfolding(crate::specs::Years::row_year))]
 fn row_year(row: &Row) -> i32

@@ -13,6 +13,7 @@ pub sound_call : (r : Records) (by : ℕ) (result : Result Call RouteFault) → 
     → IfOk result (λ found. IsSound r found)
 sound_call r by (Ok (call.Query user asked query)) below found =
     (omega (arith, below, found.0), subst (λ n. IsAskable r n query) (sym found.0) found.1)
+sound_call r by (Ok (call.Check user asked checked)) below found = (omega (arith, below, found.0), found.1, found.2)
 sound_call r by (Ok (call.Update kind)) below found = found
 sound_call r by (Ok (call.Values user set)) below found = omega (arith, below, found)
 sound_call r by (Ok (call.Completion user list)) below found = omega (arith, below, found)

@@ -13,6 +13,7 @@ use Rattle.query_forms.specs.Form.{pairs_of}
 use Rattle.query_forms.specs.Given.{and_then, refusal, or_refuse}
 use Rattle.query_lang.specs.Askable.{IsAskable}
 use Rattle.query_lang.specs.Query.{query_of}
+use Rattle.query_lang.specs.declared.query.TheConstants.{MOST_CELLS}
 use Rattle.value_forms.specs.Bodies.{body_of}
 use Rattle.value_forms.specs.Sets.{set_of}
 use Rattle.value_forms.specs.Completions.{completions_of}
@@ -21,6 +22,7 @@ use Rattle.web_routes.specs.Routes.{authority_of, route_of}
 use Rattle.web_routes.specs.declared.table.Route.{Route}
 use Rattle.web_routes.specs.declared.table.Route.TheVariants as route
 use Rattle.web_routes.specs.Approvals.{act_of}
+use Rattle.web_routes.specs.Checks.{checked_of}
 use Rattle.web_routes.specs.Completions.{uncompletion_of}
 use Rattle.web_routes.specs.Told.{or_body}
 use Rattle.web_routes.specs.declared.call.Call.{Call}
@@ -40,16 +42,19 @@ abbrev pub unless_lacking : {A : Type 0} → Option (List ℕ) → Result A Refu
 unless_lacking (Some authority) next = Err (refusal code.F31 authority)
 unless_lacking None next = next
 
--- the most cells that a query may have
-unfoldable pub most_cells : ℕ
-most_cells = 100000
-
 -- a query, its `X-Min-Change` first
 unfoldable pub query_call : Records → ℤ → ℕ → Request → Result Call Refusal
 query_call r day user request =
     and_then (asked_of request.asked) (λ asked.
-    and_then (query_of r user day most_cells request.query) (λ query.
+    and_then (query_of r user day MOST_CELLS request.query) (λ query.
     Ok (call.Query user asked query)))
+
+-- a check, its `X-Min-Change` first
+unfoldable pub check_call : Records → ℕ → Request → Result Call Refusal
+check_call r user request =
+    and_then (asked_of request.asked) (λ asked.
+    and_then (checked_of r user request.path (pairs_of request.query)) (λ checked.
+    Ok (call.Check user asked checked)))
 
 unfoldable pub update_call : List ℕ → Result Call Refusal
 update_call text = and_then (kind_of (pairs_of text)) (λ kind. Ok (call.Update kind))
@@ -77,7 +82,7 @@ not_built = Err (refusal code.F9 [])
 -- what a user asks for by a route
 abbrev pub call_of : Records → ℤ → ℕ → Route → Request → Result Call Refusal
 call_of r day user route.Query request = query_call r day user request
-call_of r day user route.Check request = not_built
+call_of r day user route.Check request = check_call r user request
 call_of r day user route.Update request = update_call request.query
 call_of r day user route.Values request = values_call user request
 call_of r day user route.Complete request = completions_call user request.body
@@ -102,6 +107,7 @@ routed r day request =
 -- the call is this user's, who may ask its query; an update has no user and is of all tables
 abbrev pub IsBy : Records → ℕ → Call → Type 0
 IsBy r by (call.Query user asked query) = (user ≡ by) × IsAskable r by query
+IsBy r by (call.Check user asked checked) = (user ≡ by) × (checked.set < length r.data_sets) × (checked.unit < length r.organisation_units)
 IsBy r by (call.Update kind) = kind ≡ Full
 IsBy r by (call.Values user set) = user ≡ by
 IsBy r by (call.Completion user list) = user ≡ by
@@ -110,6 +116,8 @@ IsBy r by (call.Approval user act) = user ≡ by
 -- the user of the call is one of the metadata's, and may ask its query; an update is of all tables
 abbrev pub IsSound : Records → Call → Type 0
 IsSound r (call.Query user asked query) = (user < length r.users) × IsAskable r user query
+IsSound r (call.Check user asked checked) =
+    (user < length r.users) × (checked.set < length r.data_sets) × (checked.unit < length r.organisation_units)
 IsSound r (call.Update kind) = kind ≡ Full
 IsSound r (call.Values user set) = user < length r.users
 IsSound r (call.Completion user list) = user < length r.users

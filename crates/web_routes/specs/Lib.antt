@@ -4,5 +4,6 @@ pub mod Routes
 pub mod Parameters
 pub mod Told
 pub mod Completions
+pub mod Checks
 pub mod Calls
 pub mod Approvals

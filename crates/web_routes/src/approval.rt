@@ -6,7 +6,8 @@ ghost use Rattle.dh_base.specs.declared.codes.Code.TheVariants as code;
 ghost use Rattle.dh_metadata.specs.Objects.{count_of};
 ghost use Rattle.meta_parts.specs.BuiltIn.{default_option_combo};
 ghost use Rattle.query_forms.specs.Given.{or_refuse};
-ghost use Rattle.web_routes.specs.Given.{Gives};
+ghost use Rattle.dh_base.specs.Memory.{Answers};
+ghost use Rattle.web_routes.specs.Given.{cause_of};
 ghost use Rattle.web_routes.specs.Parameters.{value_of, parameter};
 ghost use Rattle.web_routes.specs.Approvals.{named, if_typed, period_for, position_of, unit_for, attribute_for, needed, act_of};
 
@@ -89,7 +90,7 @@ fn attribute_for(meta: &Metadata, text: &[u8]) -> Option<Uid>
 }
 
 fn found<A>(alloc: Global, name: &[u8], found: Option<A>) -> Result<A, RouteFault>
-    ensures { Gives (or_refuse code.F21 name.now found) result }
+    ensures { Answers cause_of (or_refuse code.F21 name.now found) result }
 {
     match found {
         Some(value) => Ok(value),
@@ -102,7 +103,7 @@ fn workflow_in(
     meta: &Metadata,
     pairs: &[(Items<u8>, Items<u8>)],
 ) -> Result<(u32, Uid), RouteFault>
-    ensures value { Gives (needed (codes "wf") (named meta.now Workflow) (value_of (codes "wf") pairs.now)) result }
+    ensures value { Answers cause_of (needed (codes "wf") (named meta.now Workflow) (value_of (codes "wf") pairs.now)) result }
     ensures in_range { IfOk result (λ found. found.0 < length meta.now.data_approval_workflows) }
 {
     match value_of(pairs, b"wf") {
@@ -118,7 +119,7 @@ fn period_in(
     pairs: &[(Items<u8>, Items<u8>)],
 ) -> Result<Period, RouteFault>
     requires { workflow < length meta.now.data_approval_workflows }
-    ensures { Gives (needed (codes "pe") (period_for meta.now workflow) (value_of (codes "pe") pairs.now)) result }
+    ensures { Answers cause_of (needed (codes "pe") (period_for meta.now workflow) (value_of (codes "pe") pairs.now)) result }
 {
     match value_of(pairs, b"pe") {
         Some(text) => found(alloc, b"pe", period_for(meta, workflow, text)),
@@ -133,7 +134,7 @@ fn unit_in(
     pairs: &[(Items<u8>, Items<u8>)],
 ) -> Result<(Uid, u8), RouteFault>
     requires { workflow < length meta.now.data_approval_workflows }
-    ensures { Gives (needed (codes "ou") (unit_for meta.now workflow) (value_of (codes "ou") pairs.now)) result }
+    ensures { Answers cause_of (needed (codes "ou") (unit_for meta.now workflow) (value_of (codes "ou") pairs.now)) result }
 {
     match value_of(pairs, b"ou") {
         Some(text) => found(alloc, b"ou", unit_for(meta, workflow, text)),
@@ -146,7 +147,7 @@ fn attribute_in(
     meta: &Metadata,
     pairs: &[(Items<u8>, Items<u8>)],
 ) -> Result<Uid, RouteFault>
-    ensures { Gives (parameter (codes "aoc") (attribute_for meta.now) default_option_combo (value_of (codes "aoc") pairs.now)) result }
+    ensures { Answers cause_of (parameter (codes "aoc") (attribute_for meta.now) default_option_combo (value_of (codes "aoc") pairs.now)) result }
 {
     match value_of(pairs, b"aoc") {
         Some(text) => found(alloc, b"aoc", attribute_for(meta, text)),
@@ -162,7 +163,7 @@ pub(crate) fn act_of(
     verb: Verb,
     pairs: &[(Items<u8>, Items<u8>)],
 ) -> Result<ApprovalAct, RouteFault>
-    ensures { Gives (act_of meta.now verb pairs.now) result }
+    ensures { Answers cause_of (act_of meta.now verb pairs.now) result }
 {
     let (workflow, id) = workflow_in(alloc, meta, pairs)?;
     let period = period_in(alloc, meta, workflow, pairs)?;

@@ -2,14 +2,16 @@
 ghost use Rattle.std.specs.Prelude.{◌≡◌, ℕ, pos, neg_ℤ, ◌≤ℤ◌, ◌<◌, length, IfOk};
 ghost use Rattle.std.specs.Option.{option_copied};
 ghost use Rattle.meta_parts.specs.declared.held.Records.{Records};
-ghost use Rattle.web_routes.specs.Given.{Gives};
+ghost use Rattle.dh_base.specs.Memory.{Answers};
+ghost use Rattle.web_routes.specs.Given.{cause_of};
 ghost use Rattle.web_routes.specs.Routes.{authority_of};
-ghost use Rattle.web_routes.specs.Calls.{user_for, lacked, query_call, update_call, values_call, completions_call, uncompletion_call, approval_call, not_built, call_of};
-ghost use Rattle.web_routes.specs.Calls.{allowed_call, IsBy};
+ghost use Rattle.web_routes.specs.Calls.{user_for, lacked, query_call, check_call, update_call, values_call, completions_call, uncompletion_call};
+ghost use Rattle.web_routes.specs.Calls.{approval_call, not_built, call_of, allowed_call, IsBy};
 
 use crate::approval::act_of;
 use crate::body::{completions_in, query_in, set_in};
 use crate::call::Call;
+use crate::checked::checked_of;
 use crate::completion::{only, uncompletion_of};
 use crate::fault::{RouteFault, refused};
 use crate::form::{asked_of, kind_of, params_of};
@@ -29,7 +31,7 @@ pub(crate) fn user_for(
     meta: &Metadata,
     token: &Option<Items<u8>>,
 ) -> Result<u32, RouteFault>
-    ensures value { Gives (user_for meta.now token.now) result }
+    ensures value { Answers cause_of (user_for meta.now token.now) result }
     ensures in_range { IfOk result (λ user. user < length meta.now.users) }
 {
     let Some(token) = token else {
@@ -64,7 +66,7 @@ fn query_call(
     requires user { user < length meta.now.users }
     requires from { neg_ℤ (pos 21915) ≤ℤ day }
     requires to { day ≤ℤ pos 47481 }
-    ensures value { Gives (query_call meta.now day user request.now) result }
+    ensures value { Answers cause_of (query_call meta.now day user request.now) result }
     ensures user { IfOk result (λ call. IsBy meta.now user call) }
 {
     let asked = asked_of(alloc, &request.asked)?;
@@ -72,9 +74,30 @@ fn query_call(
     Ok(Call::Query { user, asked, query })
 }
 
+#[tactic(auto, unfolding(crate::specs::Calls::check_call))]
+fn check_call(
+    alloc: Global,
+    request: &Request,
+    meta: &Metadata,
+    user: u32,
+) -> Result<Call, RouteFault>
+    requires { user < length meta.now.users }
+    ensures value { Answers cause_of (check_call meta.now user request.now) result }
+    ensures user { IfOk result (λ call. IsBy meta.now user call) }
+{
+    let asked = asked_of(alloc, &request.asked)?;
+    let pairs = pairs_of(alloc, request.query.as_slice())?;
+    let checked = checked_of(alloc, meta, user, request.path.as_slice(), &pairs)?;
+    Ok(Call::Check {
+        user,
+        asked,
+        checked,
+    })
+}
+
 #[tactic(auto, unfolding(crate::specs::Calls::update_call))]
 fn update_call(alloc: Global, text: &[u8]) -> Result<Call, RouteFault>
-    ensures value { Gives (update_call text.now) result }
+    ensures value { Answers cause_of (update_call text.now) result }
     ensures user { (r : Records) (user : ℕ) → IfOk result (λ call. IsBy r user call) }
 {
     let pairs = pairs_of(alloc, text)?;
@@ -84,7 +107,7 @@ fn update_call(alloc: Global, text: &[u8]) -> Result<Call, RouteFault>
 
 #[tactic(auto, unfolding(crate::specs::Calls::values_call))]
 fn values_call(alloc: Global, request: &Request, user: u32) -> Result<Call, RouteFault>
-    ensures value { Gives (values_call user request.now) result }
+    ensures value { Answers cause_of (values_call user request.now) result }
     ensures user { (r : Records) → IfOk result (λ call. IsBy r user call) }
 {
     let pairs = pairs_of(alloc, request.query.as_slice())?;
@@ -95,7 +118,7 @@ fn values_call(alloc: Global, request: &Request, user: u32) -> Result<Call, Rout
 
 #[tactic(auto, unfolding(crate::specs::Calls::completions_call))]
 fn completions_call(alloc: Global, body: &[u8], user: u32) -> Result<Call, RouteFault>
-    ensures value { Gives (completions_call user body.now) result }
+    ensures value { Answers cause_of (completions_call user body.now) result }
     ensures user { (r : Records) → IfOk result (λ call. IsBy r user call) }
 {
     let list = completions_in(alloc, body)?;
@@ -109,7 +132,7 @@ fn uncompletion_call(
     text: &[u8],
     user: u32,
 ) -> Result<Call, RouteFault>
-    ensures value { Gives (uncompletion_call meta.now user text.now) result }
+    ensures value { Answers cause_of (uncompletion_call meta.now user text.now) result }
     ensures user { IfOk result (λ call. IsBy meta.now user call) }
 {
     let pairs = pairs_of(alloc, text)?;
@@ -126,7 +149,7 @@ fn approval_call(
     user: u32,
     verb: Verb,
 ) -> Result<Call, RouteFault>
-    ensures value { Gives (approval_call meta.now user verb request.now.query) result }
+    ensures value { Answers cause_of (approval_call meta.now user verb request.now.query) result }
     ensures user { IfOk result (λ call. IsBy meta.now user call) }
 {
     let pairs = pairs_of(alloc, request.query.as_slice())?;
@@ -135,7 +158,7 @@ fn approval_call(
 }
 
 fn not_built(alloc: Global) -> Result<Call, RouteFault>
-    ensures { Gives not_built result }
+    ensures { Answers cause_of not_built result }
 {
     Err(refused(alloc, Code::F9, b""))
 }
@@ -151,11 +174,12 @@ fn call_of(
     requires user { user < length meta.now.users }
     requires from { neg_ℤ (pos 21915) ≤ℤ day }
     requires to { day ≤ℤ pos 47481 }
-    ensures value { Gives (call_of meta.now day user route request.now) result }
+    ensures value { Answers cause_of (call_of meta.now day user route request.now) result }
     ensures user { IfOk result (λ call. IsBy meta.now user call) }
 {
     match route {
         Route::Query => query_call(alloc, request, meta, user, day),
+        Route::Check => check_call(alloc, request, meta, user),
         Route::Update => update_call(alloc, request.query.as_slice()),
         Route::Values => values_call(alloc, request, user),
         Route::Complete => completions_call(alloc, request.body.as_slice(), user),
@@ -164,7 +188,7 @@ fn call_of(
         Route::Unapprove => approval_call(alloc, request, meta, user, Verb::Unapprove),
         Route::Accept => approval_call(alloc, request, meta, user, Verb::Accept),
         Route::Unaccept => approval_call(alloc, request, meta, user, Verb::Unaccept),
-        Route::Check | Route::Tracker => not_built(alloc),
+        Route::Tracker => not_built(alloc),
     }
 }
 
@@ -180,7 +204,7 @@ pub(crate) fn allowed_call(
     requires user { user < length meta.now.users }
     requires from { neg_ℤ (pos 21915) ≤ℤ day }
     requires to { day ≤ℤ pos 47481 }
-    ensures value { Gives (allowed_call meta.now day user route request.now) result }
+    ensures value { Answers cause_of (allowed_call meta.now day user route request.now) result }
     ensures user { IfOk result (λ call. IsBy meta.now user call) }
 {
     match lacked(meta, user, route) {

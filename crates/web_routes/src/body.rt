@@ -5,22 +5,21 @@ ghost use Rattle.value_forms.specs.Sets.{set_of};
 ghost use Rattle.value_forms.specs.Completions.{completions_of};
 ghost use Rattle.query_lang.specs.Askable.{IsAskable};
 ghost use Rattle.query_lang.specs.Query.{query_of};
-ghost use Rattle.web_routes.specs.Given.{Gives};
+ghost use Rattle.dh_base.specs.Memory.{Answers};
+ghost use Rattle.web_routes.specs.Given.{cause_of};
 ghost use Rattle.web_routes.specs.Told.{or_body, of_body, of_query};
-ghost use Rattle.web_routes.specs.Calls.{most_cells};
+ghost use Rattle.query_lang.specs.declared.query.TheConstants.{MOST_CELLS};
 
 use crate::fault::RouteFault;
 use dh_base::codes::{Code, Refusal};
 use dh_base::items::Items;
 use dh_metadata::metadata::Metadata;
 use query_forms::{Query, QueryFault};
-use query_lang::read_query;
+use query_lang::{MOST_CELLS, read_query};
 use record_index::outcome::BodyFault;
 use std::alloc::Global;
 use value_forms::completion::{Completion, read_completions};
 use value_forms::set::{SetParams, ValueSet, read_set};
-
-const MOST_CELLS: u64 = 100_000;
 
 fn of_body(fault: BodyFault) -> RouteFault
     ensures { result ≡ of_body fault }
@@ -44,7 +43,7 @@ fn of_query(fault: QueryFault) -> RouteFault
 }
 
 pub(crate) fn set_in(alloc: Global, body: &[u8], params: SetParams) -> Result<ValueSet, RouteFault>
-    ensures { Gives (or_body (body_of (set_of params) body.now)) result }
+    ensures { Answers cause_of (or_body (body_of (set_of params) body.now)) result }
 {
     match read_set(alloc, body, params) {
         Ok(set) => Ok(set),
@@ -53,7 +52,7 @@ pub(crate) fn set_in(alloc: Global, body: &[u8], params: SetParams) -> Result<Va
 }
 
 pub(crate) fn completions_in(alloc: Global, body: &[u8]) -> Result<Items<Completion>, RouteFault>
-    ensures { Gives (or_body (body_of completions_of body.now)) result }
+    ensures { Answers cause_of (or_body (body_of completions_of body.now)) result }
 {
     match read_completions(alloc, body) {
         Ok(list) => Ok(list),
@@ -61,7 +60,6 @@ pub(crate) fn completions_in(alloc: Global, body: &[u8]) -> Result<Items<Complet
     }
 }
 
-#[tactic(auto, unfolding(crate::specs::Calls::most_cells))]
 pub(crate) fn query_in(
     alloc: Global,
     text: &[u8],
@@ -72,7 +70,7 @@ pub(crate) fn query_in(
     requires user { user < length meta.now.users }
     requires from { neg_ℤ (pos 21915) ≤ℤ day }
     requires to { day ≤ℤ pos 47481 }
-    ensures value { Gives (query_of meta.now user day most_cells text.now) result }
+    ensures value { Answers cause_of (query_of meta.now user day MOST_CELLS text.now) result }
     ensures askable { IfOk result (λ query. IsAskable meta.now user query) }
 {
     match read_query(alloc, text, meta, user, day, MOST_CELLS) {

@@ -1,5 +1,6 @@
 //! What a request asks for.
 
+use crate::checked::Checked;
 use dh_approvals::ApprovalAct;
 use dh_base::items::Items;
 use dh_base::plain::CutKind;
@@ -11,13 +12,34 @@ use value_forms::set::ValueSet;
 #[derive(Drop)]
 pub enum Call {
     /// A query over tables that have taken in so many changes.
-    Query { user: u32, asked: u64, query: Query },
+    Query {
+        user: u32,
+        asked: u64,
+        query: Query,
+    },
+    /// A check against the validation rules, over tables that have taken in so many changes.
+    Check {
+        user: u32,
+        asked: u64,
+        checked: Checked,
+    },
     /// An update of the tables.
-    Update { kind: CutKind },
+    Update {
+        kind: CutKind,
+    },
     /// An import of data values.
-    Values { user: u32, set: ValueSet },
+    Values {
+        user: u32,
+        set: ValueSet,
+    },
     /// Complete data set registrations, made and taken away.
-    Completion { user: u32, list: Items<Completion> },
+    Completion {
+        user: u32,
+        list: Items<Completion>,
+    },
     /// Data is approved or accepted, or no longer.
-    Approval { user: u32, act: ApprovalAct },
+    Approval {
+        user: u32,
+        act: ApprovalAct,
+    },
 }

@@ -1,6 +1,7 @@
 //! A registration that is taken away.
 ghost use Rattle.std.specs.Prelude.{◌≡◌, ◌∷◌, [], codes, IfOk};
-ghost use Rattle.web_routes.specs.Given.{Gives};
+ghost use Rattle.dh_base.specs.Memory.{Answers};
+ghost use Rattle.web_routes.specs.Given.{cause_of};
 ghost use Rattle.web_routes.specs.Parameters.{value_of};
 ghost use Rattle.web_routes.specs.Completions.{is_name, is_period, needed, uncompletion_of};
 
@@ -47,7 +48,7 @@ fn object_in(
     pairs: &[(Items<u8>, Items<u8>)],
     name: &[u8],
 ) -> Result<Items<u8>, RouteFault>
-    ensures { Gives (needed name.now (is_name meta.now kind) (value_of name.now pairs.now)) result }
+    ensures { Answers cause_of (needed name.now (is_name meta.now kind) (value_of name.now pairs.now)) result }
 {
     let Some(text) = value_of(pairs, name) else {
         return Err(refused(alloc, Code::F21, name));
@@ -60,7 +61,7 @@ fn object_in(
 }
 
 fn period_in(alloc: Global, pairs: &[(Items<u8>, Items<u8>)]) -> Result<Items<u8>, RouteFault>
-    ensures { Gives (needed (codes "pe") is_period (value_of (codes "pe") pairs.now)) result }
+    ensures { Answers cause_of (needed (codes "pe") is_period (value_of (codes "pe") pairs.now)) result }
 {
     let Some(text) = value_of(pairs, b"pe") else {
         return Err(refused(alloc, Code::F21, b"pe"));
@@ -79,7 +80,7 @@ pub(crate) fn uncompletion_of(
     meta: &Metadata,
     pairs: &[(Items<u8>, Items<u8>)],
 ) -> Result<Completion, RouteFault>
-    ensures { Gives (uncompletion_of meta.now pairs.now) result }
+    ensures { Answers cause_of (uncompletion_of meta.now pairs.now) result }
 {
     let set = object_in(alloc, meta, Kind::DataSet, pairs, b"ds")?;
     let period = period_in(alloc, pairs)?;

@@ -1,8 +1,9 @@
 //! Why a request isn't a call.
-ghost use Rattle.std.specs.Prelude.{◌≡◌};
+ghost use Rattle.std.specs.Prelude.{◌≡◌, Some};
 ghost use Rattle.web_routes.specs.declared.fault.RouteFault.TheVariants.{Memory as OutOfMemory};
 ghost use Rattle.query_forms.specs.Given.{refusal};
-ghost use Rattle.web_routes.specs.Given.{IsFault};
+ghost use Rattle.web_routes.specs.Given.{cause_of};
+ghost use Rattle.dh_base.specs.Memory.{IsFirst};
 
 use dh_base::codes::{Code, Refusal};
 use dh_base::items::Items;
@@ -44,7 +45,7 @@ impl From<Memory> for RouteFault {
 
 /// The refusal with that code and detail.
 pub fn refused(alloc: Global, code: Code, detail: &[u8]) -> RouteFault
-    ensures { IsFault (refusal code detail.now) result }
+    ensures { IsFirst (Some (refusal code detail.now)) (cause_of result) }
 {
     match Vec::from_slice(alloc, detail) {
         Ok(detail) => RouteFault::Refused(Refusal {

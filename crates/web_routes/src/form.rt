@@ -4,7 +4,8 @@ ghost use Rattle.std.specs.Char.{is_ascii_digit};
 ghost use Rattle.std.specs.List.{list_all};
 ghost use Rattle.std.specs.Option.{option_copied};
 ghost use Rattle.std.specs.Str.Parse.{digits_value};
-ghost use Rattle.web_routes.specs.Given.{Gives};
+ghost use Rattle.dh_base.specs.Memory.{Answers};
+ghost use Rattle.web_routes.specs.Given.{cause_of};
 ghost use Rattle.web_routes.specs.Parameters.{value_of, or_default, parameter, truth_of, strategy_of, is_number, number_of, is_scheme, asked_of, kind_of};
 ghost use Rattle.web_routes.specs.Parameters.{is_bad_scheme, bad_scheme, params_of};
 ghost use Rattle.dh_base.specs.declared.plain.CutKind.TheVariants as cut;
@@ -102,7 +103,7 @@ fn is_scheme(text: &[u8]) -> bool
 /// 18 digits.
 #[tactic(auto, unfolding(crate::specs::Parameters::asked_of))]
 pub fn asked_of(alloc: Global, field: &Option<Items<u8>>) -> Result<u64, RouteFault>
-    ensures { Gives (asked_of field.now) result }
+    ensures { Answers cause_of (asked_of field.now) result }
 {
     let Some(text) = field else {
         return Ok(0);
@@ -118,7 +119,7 @@ fn truth_in(
     pairs: &[(Items<u8>, Items<u8>)],
     name: &[u8],
 ) -> Result<bool, RouteFault>
-    ensures { Gives (parameter name.now truth_of false (value_of name.now pairs.now)) result }
+    ensures { Answers cause_of (parameter name.now truth_of false (value_of name.now pairs.now)) result }
 {
     let Some(text) = value_of(pairs, name) else {
         return Ok(false);
@@ -132,7 +133,7 @@ fn truth_in(
 /// What an update rebuilds. F21 where `latest` is neither `true` nor `false`.
 #[tactic(auto, unfolding(crate::specs::Parameters::kind_of))]
 pub fn kind_of(alloc: Global, pairs: &[(Items<u8>, Items<u8>)]) -> Result<CutKind, RouteFault>
-    ensures value { Gives (kind_of pairs.now) result }
+    ensures value { Answers cause_of (kind_of pairs.now) result }
     ensures full { IfOk result (λ kind. kind ≡ cut.Full) }
 {
     if truth_in(alloc, pairs, b"latest")? {
@@ -146,7 +147,8 @@ fn strategy_in(
     alloc: Global,
     pairs: &[(Items<u8>, Items<u8>)],
 ) -> Result<ImportStrategy, RouteFault>
-    ensures { Gives (parameter (codes "importStrategy") strategy_of ImportStrategy.CreateAndUpdate (value_of (codes "importStrategy") pairs.now)) result }
+    ensures { Answers cause_of (parameter (codes "importStrategy") strategy_of ImportStrategy.CreateAndUpdate
+        (value_of (codes "importStrategy") pairs.now)) result }
 {
     let Some(text) = value_of(pairs, b"importStrategy") else {
         return Ok(ImportStrategy::CreateAndUpdate);
@@ -190,7 +192,7 @@ fn bad_scheme(pairs: &[(Items<u8>, Items<u8>)]) -> Option<&'static [u8]>
 /// How a set of values is to be imported. F21 with the name of the first parameter that isn't of its form.
 #[tactic(auto, unfolding(crate::specs::Parameters::params_of))]
 pub fn params_of(alloc: Global, pairs: &[(Items<u8>, Items<u8>)]) -> Result<SetParams, RouteFault>
-    ensures { Gives (params_of pairs.now) result }
+    ensures { Answers cause_of (params_of pairs.now) result }
 {
     let strategy = strategy_in(alloc, pairs)?;
     let dry = truth_in(alloc, pairs, b"dryRun")?;

@@ -5,6 +5,7 @@ mod approval;
 mod asking;
 mod body;
 pub mod call;
+pub mod checked;
 mod completion;
 pub mod fault;
 pub mod form;

@@ -1,6 +1,7 @@
 //! Requests as calls.
 ghost use Rattle.std.specs.Prelude.{◌≡◌, pos, neg_ℤ, ◌≤ℤ◌, ◌<◌, length, IfOk};
-ghost use Rattle.web_routes.specs.Given.{Gives};
+ghost use Rattle.dh_base.specs.Memory.{Answers};
+ghost use Rattle.web_routes.specs.Given.{cause_of};
 ghost use Rattle.web_routes.specs.Calls.{routed, IsSound};
 
 use crate::asking::{allowed_call, user_for};
@@ -23,7 +24,7 @@ pub fn route(
 ) -> Result<Call, RouteFault>
     requires from { neg_ℤ (pos 21915) ≤ℤ day }
     requires to { day ≤ℤ pos 47481 }
-    ensures value { Gives (routed meta.now day request.now) result }
+    ensures value { Answers cause_of (routed meta.now day request.now) result }
     ensures sound { IfOk result (λ call. IsSound meta.now call) }
 {
     let route = route_of(alloc, request.method.as_slice(), request.path.as_slice())?;

@@ -2,7 +2,8 @@
 ghost use Rattle.std.specs.Prelude.{◌≡◌, [], find};
 ghost use Rattle.std.specs.List.{list_any};
 ghost use Rattle.std.specs.Option.{option_copied};
-ghost use Rattle.web_routes.specs.Given.{Gives};
+ghost use Rattle.dh_base.specs.Memory.{Answers};
+ghost use Rattle.web_routes.specs.Given.{cause_of};
 ghost use Rattle.web_routes.specs.Routes.{all_routes, name_of, other_name_of, method_of, authority_of, takes_id, is_named, has_rest, takes, route_at, route_of};
 
 use crate::fault::{RouteFault, refused};
@@ -192,7 +193,7 @@ fn taken(method: &[u8], rest: &[u8]) -> Option<Route>
 
 #[tactic(auto, unfolding(crate::specs::Routes::route_at))]
 fn route_at(alloc: Global, method: &[u8], rest: &[u8]) -> Result<Route, RouteFault>
-    ensures { Gives (route_at method.now rest.now) result }
+    ensures { Answers cause_of (route_at method.now rest.now) result }
 {
     if is_known(rest) {
         match taken(method, rest) {
@@ -208,7 +209,7 @@ fn route_at(alloc: Global, method: &[u8], rest: &[u8]) -> Result<Route, RouteFau
 /// that have it has the method.
 #[tactic(auto, unfolding(crate::specs::Routes::route_of))]
 pub fn route_of(alloc: Global, method: &[u8], path: &[u8]) -> Result<Route, RouteFault>
-    ensures { Gives (route_of method.now path.now) result }
+    ensures { Answers cause_of (route_of method.now path.now) result }
 {
     match rest_of(path) {
         Some(rest) => route_at(alloc, method, rest),

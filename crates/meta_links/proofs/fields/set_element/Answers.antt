@@ -5,7 +5,7 @@ use Rattle.meta_parts.specs.declared.kind.Kind.TheVariants as kind
 use Rattle.meta_links.specs.Reference.{step, field_path, one, optional, several, several_in}
 use Rattle.std.specs.Fmt.{decimal}
 use Rattle.meta_links.specs.Told.{after}
-use Rattle.meta_links.proofs.UnknownLemmas.{after_append}
+use Rattle.meta_links.proofs.Walk.{after_append}
 use Rattle.meta_links.proofs.fields.set_element.Goals as goal
 
 pub returns-clause-told : goal.returns-clause-told

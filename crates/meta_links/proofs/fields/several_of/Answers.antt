@@ -7,7 +7,7 @@ use Rattle.meta_parts.specs.declared.kind.Kind.TheVariants as kind
 use Rattle.meta_links.specs.Reference.{step, field_path, one, each, several, several_in, number_of}
 use Rattle.meta_links.specs.Table.{set_element, set_elements, entries}
 use Rattle.meta_links.specs.Told.{after}
-use Rattle.meta_links.proofs.UnknownLemmas.{after_none, each_more, flat_more}
+use Rattle.meta_links.proofs.Walk.{after_none, each_more, flat_more}
 use Rattle.meta_links.proofs.fields.several_of.Goals as goal
 
 pub loop-uid-preserved : goal.loop-uid-preserved

@@ -6,7 +6,7 @@ use Rattle.meta_links.specs.Reference.{field_path, one, optional, several, sever
 use Rattle.meta_links.specs.Table.{category_combo_references, option_combo_references, element_references, approval_level_references}
 use Rattle.meta_links.specs.Groups.{combos_references}
 use Rattle.meta_links.specs.Told.{after}
-use Rattle.meta_links.proofs.UnknownLemmas.{after_append}
+use Rattle.meta_links.proofs.Walk.{after_append}
 use Rattle.meta_links.proofs.groups.link_combos.Goals as goal
 
 pub returns-clause-told : goal.returns-clause-told

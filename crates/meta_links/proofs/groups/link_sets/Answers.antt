@@ -6,7 +6,7 @@ use Rattle.meta_links.specs.Reference.{field_path, one, optional, several, sever
 use Rattle.meta_links.specs.Table.{workflow_references, data_set_references, constant_references, indicator_type_references}
 use Rattle.meta_links.specs.Groups.{sets_references}
 use Rattle.meta_links.specs.Told.{after}
-use Rattle.meta_links.proofs.UnknownLemmas.{after_append}
+use Rattle.meta_links.proofs.Walk.{after_append}
 use Rattle.meta_links.proofs.groups.link_sets.Goals as goal
 
 pub returns-clause-told : goal.returns-clause-told

@@ -6,7 +6,7 @@ use Rattle.meta_links.specs.Reference.{field_path, one, optional, several, sever
 use Rattle.meta_links.specs.Table.{unit_references, unit_group_references, category_option_references, category_references}
 use Rattle.meta_links.specs.Groups.{units_references}
 use Rattle.meta_links.specs.Told.{after}
-use Rattle.meta_links.proofs.UnknownLemmas.{after_append}
+use Rattle.meta_links.proofs.Walk.{after_append}
 use Rattle.meta_links.proofs.groups.link_units.Goals as goal
 
 pub returns-clause-told : goal.returns-clause-told

@@ -6,7 +6,7 @@ use Rattle.meta_links.specs.Reference.{field_path, one, optional, several, sever
 use Rattle.meta_links.specs.Table.{role_references, user_references, user_group_references}
 use Rattle.meta_links.specs.Groups.{users_references}
 use Rattle.meta_links.specs.Told.{after}
-use Rattle.meta_links.proofs.UnknownLemmas.{after_append}
+use Rattle.meta_links.proofs.Walk.{after_append}
 use Rattle.meta_links.proofs.groups.link_users.Goals as goal
 
 pub returns-clause-told : goal.returns-clause-told

@@ -2,7 +2,7 @@ use Rattle.std.proofs.Common.{◌≡◌, ◌∙◌, ℕ, ◌+◌, ◌≤◌, Lis
 use Rattle.std.specs.List.{flat_map}
 use Rattle.std.proofs.lemmas.List.{map_more, drop_all}
 use Rattle.meta_links.specs.Told.{after}
-use Rattle.meta_links.proofs.UnknownLemmas.{after_none, flat_more}
+use Rattle.meta_links.proofs.Walk.{after_none, flat_more}
 use Rattle.meta_links.proofs.link_each.link_each.Goals as goal
 
 pub loop-object-preserved : goal.loop-object-preserved

@@ -6,7 +6,7 @@ use Rattle.meta_parts.specs.declared.kind.Kind.TheVariants as kind
 use Rattle.meta_links.specs.Reference.{step, one, each, number_of}
 use Rattle.meta_links.specs.Table.{token_references}
 use Rattle.meta_links.specs.Told.{after}
-use Rattle.meta_links.proofs.UnknownLemmas.{after_none, each_more}
+use Rattle.meta_links.proofs.Walk.{after_none, each_more}
 use Rattle.meta_links.proofs.tokens.link_tokens_of.Goals as goal
 
 pub loop-token-preserved : goal.loop-token-preserved

@@ -1,19 +1,86 @@
-use Rattle.std.proofs.Common.{subst}
-use Rattle.query_answer.specs.Plans.{IsPlan}
-use Rattle.query_answer.proofs.AskedLemmas.{element_there, indicator_there}
+use Rattle.std.proofs.Common.{◌≡◌, subst, sym, IfOk}
+use Rattle.table_rows.specs.Store.{Contents}
+use Rattle.table_rows.specs.Events.{regs_of}
+use Rattle.rate_items.proofs.RateLemmas.{prepared}
+use Rattle.cell_values.specs.Seen.{seen_regs, seen_of, contents_of}
+use Rattle.query_answer.specs.Plans.{IsPlan, ArePlanGroups}
+use Rattle.query_answer.proofs.AskedLemmas.{indicator_there}
+use Rattle.query_answer.proofs.PlanLemmas.{element-cell, indicator-cell, rate-cell}
 use Rattle.query_answer.proofs.cells.cell_value.Goals as goal
 
-pub element_cell-requires-clause-element : goal.element_cell-requires-clause-element
-element_cell-requires-clause-element g c =
-    element_there c.args.asking.now.meta.now c.args.dx.now c.requires.dx
-    (subst (IsPlan c.args.asking.now.meta.now c.args.dx.now) c.in-Element.is c.requires.plan)
+pub element_cell-requires-clause-plan : goal.element_cell-requires-clause-plan
+element_cell-requires-clause-plan g c =
+    let s = c.args.source.now.store.now in
+    let held : Contents = contents_of (g.S.RowStore.rows s) (g.S.RowStore.events s) (g.S.RowStore.regs s) in
+    (subst (IsPlan c.args.source.now.meta.now c.args.source.now.seer.now.user held c.args.dx.now) c.in-Element.is c.requires.plan).1.0
+
+pub returns-in-Element : goal.returns-in-Element
+returns-in-Element g c =
+    let s = c.args.source.now.store.now in
+    let held : Contents = contents_of (g.S.RowStore.rows s) (g.S.RowStore.events s) (g.S.RowStore.regs s) in
+    let r = c.args.source.now.meta.now in
+    let user = c.args.source.now.seer.now.user in
+    let units = c.args.unit.now.units in
+    let is = subst (IsPlan r user held c.args.dx.now) c.in-Element.is c.requires.plan in
+    subst (λ v. IfOk c.element_cell.result (λ cell. cell ≡ v))
+    (element-cell r user held c.args.dx.now c.in-Element.plan.operand c.args.periods.now units.units units.alone is.0 is.1.1 c.requires.unit.alone)
+    c.element_cell.ensures
 
 pub indicator-indicator-requires : goal.indicator-indicator-requires
 indicator-indicator-requires g c =
-    indicator_there c.args.asking.now.meta.now c.args.dx.now c.requires.dx
-    (subst (IsPlan c.args.asking.now.meta.now c.args.dx.now) c.in-Indicator.is c.requires.plan).0
+    let s = c.args.source.now.store.now in
+    let held : Contents = contents_of (g.S.RowStore.rows s) (g.S.RowStore.events s) (g.S.RowStore.regs s) in
+    indicator_there c.args.source.now.meta.now c.args.dx.now c.requires.dx
+    (subst (IsPlan c.args.source.now.meta.now c.args.source.now.seer.now.user held c.args.dx.now) c.in-Indicator.is c.requires.plan).0
 
-pub indicator_cell-requires-clause-sides : goal.indicator_cell-requires-clause-sides
-indicator_cell-requires-clause-sides g c =
-    (subst (IsPlan c.args.asking.now.meta.now c.args.dx.now) c.in-Indicator.is c.requires.plan).1
+pub indicator_cell-requires-clause-plan : goal.indicator_cell-requires-clause-plan
+indicator_cell-requires-clause-plan g c =
+    let s = c.args.source.now.store.now in
+    let held : Contents = contents_of (g.S.RowStore.rows s) (g.S.RowStore.events s) (g.S.RowStore.regs s) in
+    (subst (IsPlan c.args.source.now.meta.now c.args.source.now.seer.now.user held c.args.dx.now) c.in-Indicator.is c.requires.plan).1
     c.indicator-indicator.result.now c.indicator-indicator.ensures.value
+
+pub returns-in-Indicator : goal.returns-in-Indicator
+returns-in-Indicator g c =
+    let s = c.args.source.now.store.now in
+    let held : Contents = contents_of (g.S.RowStore.rows s) (g.S.RowStore.events s) (g.S.RowStore.regs s) in
+    let r = c.args.source.now.meta.now in
+    let user = c.args.source.now.seer.now.user in
+    let units = c.args.unit.now.units in
+    let is = subst (IsPlan r user held c.args.dx.now) c.in-Indicator.is c.requires.plan in
+    subst (λ v. IfOk c.indicator_cell.result (λ cell. cell ≡ v))
+    (indicator-cell r (seen_of r user held) c.args.dx.now c.indicator-indicator.result.now c.args.periods.now units.units is.0
+    c.indicator-indicator.ensures.value)
+    c.indicator_cell.ensures
+
+pub rate_cell-requires-clause-plan : goal.rate_cell-requires-clause-plan
+rate_cell-requires-clause-plan g c =
+    let s = c.args.source.now.store.now in
+    let held : Contents = contents_of (g.S.RowStore.rows s) (g.S.RowStore.events s) (g.S.RowStore.regs s) in
+    (subst (IsPlan c.args.source.now.meta.now c.args.source.now.seer.now.user held c.args.dx.now) c.in-Rate.is c.requires.plan).1.0
+
+pub rate_cell-requires-clause-due : goal.rate_cell-requires-clause-due
+rate_cell-requires-clause-due g c =
+    let s = c.args.source.now.store.now in
+    let r = c.args.source.now.meta.now in
+    let user = c.args.source.now.seer.now.user in
+    let held : Contents = contents_of (g.S.RowStore.rows s) (g.S.RowStore.events s) (g.S.RowStore.regs s) in
+    let plan = c.in-Rate.plan in
+    let is = subst (IsPlan r user held c.args.dx.now) c.in-Rate.is c.requires.plan in
+    let due = subst (λ p. ArePlanGroups c.args.periods.now p c.args.groups.now) c.in-Rate.is c.requires.groups in
+    prepared r plan.asked.which plan.asked.set (seen_regs r user (regs_of plan.asked.set held.regs)) c.args.periods.now plan.reports c.args.groups.now.due
+    is.1.0 due
+
+pub returns-in-Rate : goal.returns-in-Rate
+returns-in-Rate g c =
+    let s = c.args.source.now.store.now in
+    let held : Contents = contents_of (g.S.RowStore.rows s) (g.S.RowStore.events s) (g.S.RowStore.regs s) in
+    let r = c.args.source.now.meta.now in
+    let user = c.args.source.now.seer.now.user in
+    let units = c.args.unit.now.units in
+    let plan = c.in-Rate.plan in
+    let is = subst (IsPlan r user held c.args.dx.now) c.in-Rate.is c.requires.plan in
+    let due = subst (λ p. ArePlanGroups c.args.periods.now p c.args.groups.now) c.in-Rate.is c.requires.groups in
+    subst (λ v. IfOk c.rate_cell.result (λ cell. cell ≡ v))
+    (rate-cell r user held c.args.dx.now plan.asked c.args.periods.now units.units units.alone is.0 is.1.1 c.requires.unit.alone)
+    (c.rate_cell.ensures c.args.periods.now due)

@@ -1,20 +1,21 @@
 use Rattle.std.proofs.Common.{◌≡◌, ◌<◌, ◌∙◌, sym, ap, get_or, length, true, arith}
 use Rattle.std.proofs.lemmas.List.Folds.{list_any_at}
 use Rattle.cell_values.specs.Seen.{seen_of, contents_of}
-use Rattle.query_answer.specs.Rows.{slot_of, unit_slots, period_slots, period_is_wide, dx_is_wide}
+use Rattle.query_answer.specs.Parts.{period_slot}
+use Rattle.query_answer.specs.Rows.{unit_slots, period_slots, period_is_wide, dx_is_wide}
 use Rattle.query_answer.proofs.rows.write_periods.Goals as goal
 
 pub returns-then-branch-clause-wide : goal.returns-then-branch-clause-wide
 unfolding dx_is_wide
 returns-then-branch-clause-wide g c =
-    let test = period_is_wide c.args.asking.now.meta.now
-    (seen_of c.args.asking.now.meta.now c.args.asking.now.seer.now.user
-    (contents_of (g.S.RowStore.rows c.args.asking.now.store.now) (g.S.RowStore.events c.args.asking.now.store.now)
-    (g.S.RowStore.regs c.args.asking.now.store.now)))
+    let test = period_is_wide c.args.asking.now.source.now.meta.now
+    (seen_of c.args.asking.now.source.now.meta.now c.args.asking.now.source.now.seer.now.user
+    (contents_of (g.S.RowStore.rows c.args.asking.now.source.now.store.now) (g.S.RowStore.events c.args.asking.now.source.now.store.now)
+    (g.S.RowStore.regs c.args.asking.now.source.now.store.now)))
     c.args.item.now.dx.now (unit_slots c.args.asking.now.query.now) in
     let all = period_slots c.args.asking.now.query.now in
-    let x = slot_of c.part_at-period.result.label c.part_at-period.result.items.now in
+    let x = period_slot c.period_at-part.result.now in
     let within : c.loop-place.place < length all = omega arith in
     let here : test (get_or all c.loop-place.place x) ≡ true =
-    ap test (sym c.part_at-period.ensures.part) ∙ (sym c.in_ok-write_units.ensures.wide ∙ c.if-branch.true) in
+    ap test (sym c.period_at-part.ensures) ∙ (sym c.in_ok-write_period.ensures.wide ∙ c.if-branch.true) in
     sym (list_any_at test all c.loop-place.place x within here)

@@ -8,17 +8,19 @@ abbrev pub invariant-loop-place : goal.invariant-loop-place
 invariant-loop-place g l = record {
   none :
       list_any
-      (period_is_wide l.asking.meta.now
-      (seen_of l.asking.meta.now l.asking.seer.now.user
-      (contents_of (g.S.RowStore.rows l.asking.store.now) (g.S.RowStore.events l.asking.store.now) (g.S.RowStore.regs l.asking.store.now)))
+      (period_is_wide l.asking.source.now.meta.now
+      (seen_of l.asking.source.now.meta.now l.asking.source.now.seer.now.user
+      (contents_of (g.S.RowStore.rows l.asking.source.now.store.now) (g.S.RowStore.events l.asking.source.now.store.now)
+      (g.S.RowStore.regs l.asking.source.now.store.now)))
       l.item.dx.now (unit_slots l.asking.query.now))
       (take l.place (period_slots l.asking.query.now)) ≡ false;
   rows :
       l.rows.items ≡ l.initial.rows.items
       ++ flat_map
-      (period_rows l.asking.meta.now
-      (seen_of l.asking.meta.now l.asking.seer.now.user
-      (contents_of (g.S.RowStore.rows l.asking.store.now) (g.S.RowStore.events l.asking.store.now) (g.S.RowStore.regs l.asking.store.now)))
+      (period_rows l.asking.source.now.meta.now
+      (seen_of l.asking.source.now.meta.now l.asking.source.now.seer.now.user
+      (contents_of (g.S.RowStore.rows l.asking.source.now.store.now) (g.S.RowStore.events l.asking.source.now.store.now)
+      (g.S.RowStore.regs l.asking.source.now.store.now)))
       l.item.place l.item.dx.now (unit_slots l.asking.query.now))
       (take l.place (period_slots l.asking.query.now));
 }

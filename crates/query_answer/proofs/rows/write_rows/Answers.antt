@@ -10,10 +10,10 @@ use Rattle.query_answer.proofs.rows.write_rows.Goals as goal
 
 pub returns-then-branch-clause-wide : goal.returns-then-branch-clause-wide
 returns-then-branch-clause-wide g c =
-    let test = dx_is_wide c.args.asking.now.meta.now
-    (seen_of c.args.asking.now.meta.now c.args.asking.now.seer.now.user
-    (contents_of (g.S.RowStore.rows c.args.asking.now.store.now) (g.S.RowStore.events c.args.asking.now.store.now)
-    (g.S.RowStore.regs c.args.asking.now.store.now)))
+    let test = dx_is_wide c.args.asking.now.source.now.meta.now
+    (seen_of c.args.asking.now.source.now.meta.now c.args.asking.now.source.now.seer.now.user
+    (contents_of (g.S.RowStore.rows c.args.asking.now.source.now.store.now) (g.S.RowStore.events c.args.asking.now.source.now.store.now)
+    (g.S.RowStore.regs c.args.asking.now.source.now.store.now)))
     c.args.asking.now.query.now in
     let items : List Dx = c.as_slice-items.result.now in
     let x : Dx = c.index-items-place.result in
@@ -27,10 +27,10 @@ returns-then-branch-clause-wide g c =
 
 pub returns-clause-wide : goal.returns-clause-wide
 returns-clause-wide g c =
-    let test = dx_is_wide c.args.asking.now.meta.now
-    (seen_of c.args.asking.now.meta.now c.args.asking.now.seer.now.user
-    (contents_of (g.S.RowStore.rows c.args.asking.now.store.now) (g.S.RowStore.events c.args.asking.now.store.now)
-    (g.S.RowStore.regs c.args.asking.now.store.now)))
+    let test = dx_is_wide c.args.asking.now.source.now.meta.now
+    (seen_of c.args.asking.now.source.now.meta.now c.args.asking.now.source.now.seer.now.user
+    (contents_of (g.S.RowStore.rows c.args.asking.now.source.now.store.now) (g.S.RowStore.events c.args.asking.now.source.now.store.now)
+    (g.S.RowStore.regs c.args.asking.now.source.now.store.now)))
     c.args.asking.now.query.now in
     let items : List Dx = c.as_slice-items.result.now in
     let all : take c.loop-place.place items ≡ items = take_all c.loop-place.place items (omega arith) in

@@ -6,17 +6,20 @@ use Rattle.query_answer.proofs.rows.write_rows.Given as goal
 
 abbrev pub invariant-loop-place : goal.invariant-loop-place
 invariant-loop-place g l = record {
-  none : list_any (dx_is_wide l.asking.meta.now
-      (seen_of l.asking.meta.now l.asking.seer.now.user
-      (contents_of (g.S.RowStore.rows l.asking.store.now) (g.S.RowStore.events l.asking.store.now) (g.S.RowStore.regs l.asking.store.now)))
+  none : list_any (dx_is_wide l.asking.source.now.meta.now
+      (seen_of l.asking.source.now.meta.now l.asking.source.now.seer.now.user
+      (contents_of (g.S.RowStore.rows l.asking.source.now.store.now) (g.S.RowStore.events l.asking.source.now.store.now)
+      (g.S.RowStore.regs l.asking.source.now.store.now)))
       l.asking.query.now) (take l.place l.items) ≡ false;
   rows :
-      l.rows.items ++ rows_from l.asking.meta.now
-      (seen_of l.asking.meta.now l.asking.seer.now.user
-      (contents_of (g.S.RowStore.rows l.asking.store.now) (g.S.RowStore.events l.asking.store.now) (g.S.RowStore.regs l.asking.store.now)))
+      l.rows.items ++ rows_from l.asking.source.now.meta.now
+      (seen_of l.asking.source.now.meta.now l.asking.source.now.seer.now.user
+      (contents_of (g.S.RowStore.rows l.asking.source.now.store.now) (g.S.RowStore.events l.asking.source.now.store.now)
+      (g.S.RowStore.regs l.asking.source.now.store.now)))
       l.asking.query.now l.place (drop l.place l.items)
-      ≡ rows_from l.asking.meta.now
-      (seen_of l.asking.meta.now l.asking.seer.now.user
-      (contents_of (g.S.RowStore.rows l.asking.store.now) (g.S.RowStore.events l.asking.store.now) (g.S.RowStore.regs l.asking.store.now)))
+      ≡ rows_from l.asking.source.now.meta.now
+      (seen_of l.asking.source.now.meta.now l.asking.source.now.seer.now.user
+      (contents_of (g.S.RowStore.rows l.asking.source.now.store.now) (g.S.RowStore.events l.asking.source.now.store.now)
+      (g.S.RowStore.regs l.asking.source.now.store.now)))
       l.asking.query.now 0 l.items;
 }

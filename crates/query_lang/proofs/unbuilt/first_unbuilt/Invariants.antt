@@ -3,4 +3,4 @@ use Rattle.query_lang.specs.Named.{first_unbuilt}
 use Rattle.query_lang.proofs.unbuilt.first_unbuilt.Given as goal
 
 abbrev pub invariant-loop-own : goal.invariant-loop-own
-invariant-loop-own l = first_unbuilt l.meta l.dx ≡ first_unbuilt l.meta (drop l.own-index l.dx)
+invariant-loop-own l = first_unbuilt l.dx ≡ first_unbuilt (drop l.own-index l.dx)

@@ -5,7 +5,7 @@ use Rattle.meta_parts.specs.declared.kind.Kind.TheVariants as kind
 use Rattle.meta_links.specs.Reference.{field_path, one, optional, several, several_in}
 use Rattle.meta_links.specs.Table.{set_elements, sharing_references, indicator_references}
 use Rattle.meta_links.specs.Told.{after}
-use Rattle.meta_links.proofs.UnknownLemmas.{after_append}
+use Rattle.meta_links.proofs.Walk.{after_append}
 use Rattle.meta_links.proofs.objects.RawIndicatorLink.link.Goals as goal
 
 pub returns-clause-told : goal.returns-clause-told

@@ -1,0 +1,165 @@
+//! What is made of a `dx` item before its cells.
+
+ghost use Rattle.std.specs.Prelude.{◌≡◌, true, IfOk};
+ghost use Rattle.dh_metadata.specs.Linked.{IsLinkedIndicator};
+ghost use Rattle.cell_values.specs.Held.{IsSeer};
+ghost use Rattle.cell_values.specs.Seen.{contents_of};
+ghost use Rattle.query_forms.specs.declared.plain.DxKind.TheVariants as dx_kind;
+ghost use Rattle.query_answer.specs.Asked.{can_answer_dx};
+ghost use Rattle.query_answer.specs.Plans.{IsIndicatorPlan, IsPlan, ArePlanGroups};
+
+use crate::sides::{Sides, sides_of};
+use cell_values::{
+    CellPeriods, ElementPlan, ItemPlan, Operand, RateAsked, RatePlan, Source, element_groups,
+    element_plan, item_groups, item_plans, rate_due, rate_plan,
+};
+use dh_base::items::Items;
+use dh_base::memory::Memory;
+use dh_base::plain::Rate;
+use meta_parts::records::Indicator;
+use query_forms::{Dx, DxKind};
+use rate_items::Due;
+use std::alloc::Global;
+use table_rows::{Group, RowStore};
+
+/// What is made of an indicator once a query: its sides, and the plans of the items of each.
+#[derive(Drop)]
+pub struct IndicatorPlan {
+    pub sides: Sides,
+    pub over: Items<ItemPlan>,
+    pub under: Items<ItemPlan>,
+}
+
+/// What is made of a `dx` item once a query.
+#[derive(Drop)]
+pub enum Plan {
+    Element(ElementPlan),
+    Indicator(IndicatorPlan),
+    Rate(RatePlan),
+}
+
+/// What is made of a plan once for some periods: the groups of its element, or those of each planned
+/// item, inside them, or what is due in them. What isn't the plan's is empty.
+#[derive(Drop)]
+pub struct PlanGroups {
+    pub own: Items<Group>,
+    pub over: Items<Items<Group>>,
+    pub under: Items<Items<Group>>,
+    pub due: Due,
+}
+
+fn indicator_plan<S: RowStore>(
+    alloc: Global,
+    source: &Source<'_, S>,
+    indicator: &Indicator,
+) -> Result<IndicatorPlan, Memory>
+    requires seer { IsSeer source.now.meta.now source.now.seer.now }
+    requires linked { IsLinkedIndicator source.now.meta.now indicator.now }
+    ensures { IfOk result (λ plan. IsIndicatorPlan source.now.meta.now source.now.seer.now.user
+        (contents_of (S.rows source.now.store.now) (S.events source.now.store.now) (S.regs source.now.store.now)) indicator.now plan) }
+{
+    let sides = sides_of(alloc, source.meta, indicator)?;
+    let over = item_plans(alloc, source, indicator.numerator.items())?;
+    let under = item_plans(alloc, source, indicator.denominator.items())?;
+    Ok(IndicatorPlan { sides, over, under })
+}
+
+#[tactic(auto, using(crate::proofs::AskedLemmas::element_there))]
+fn operand_plan<S: RowStore>(alloc: Global, source: &Source<'_, S>, dx: &Dx) -> Result<Plan, Memory>
+    requires seer { IsSeer source.now.meta.now source.now.seer.now }
+    requires dx { can_answer_dx source.now.meta.now dx.now ≡ true }
+    requires kind { dx.now.kind ≡ dx_kind.Element }
+    ensures { IfOk result (λ plan. IsPlan source.now.meta.now source.now.seer.now.user
+        (contents_of (S.rows source.now.store.now) (S.events source.now.store.now) (S.regs source.now.store.now)) dx.now plan) }
+{
+    let operand = Operand {
+        element: dx.number,
+        combo: dx.part,
+        attribute: None,
+    };
+    let plan = element_plan(alloc, source, &operand)?;
+    Ok(Plan::Element(plan))
+}
+
+#[tactic(auto, using(crate::proofs::AskedLemmas::rate_there))]
+fn set_plan<S: RowStore>(
+    alloc: Global,
+    source: &Source<'_, S>,
+    dx: &Dx,
+    which: Rate,
+) -> Result<Plan, Memory>
+    requires seer { IsSeer source.now.meta.now source.now.seer.now }
+    requires dx { can_answer_dx source.now.meta.now dx.now ≡ true }
+    requires kind { dx.now.kind ≡ dx_kind.Rate which }
+    ensures { IfOk result (λ plan. IsPlan source.now.meta.now source.now.seer.now.user
+        (contents_of (S.rows source.now.store.now) (S.events source.now.store.now) (S.regs source.now.store.now)) dx.now plan) }
+{
+    let asked = RateAsked {
+        set: dx.number,
+        which,
+    };
+    let plan = rate_plan(alloc, source, asked)?;
+    Ok(Plan::Rate(plan))
+}
+
+/// The plan of a `dx` item.
+#[tactic(auto, unfolding(crate::specs::Asked::can_answer_dx))]
+pub fn plan_of<S: RowStore>(alloc: Global, source: &Source<'_, S>, dx: &Dx) -> Result<Plan, Memory>
+    requires seer { IsSeer source.now.meta.now source.now.seer.now }
+    requires dx { can_answer_dx source.now.meta.now dx.now ≡ true }
+    ensures { IfOk result (λ plan. IsPlan source.now.meta.now source.now.seer.now.user
+        (contents_of (S.rows source.now.store.now) (S.events source.now.store.now) (S.regs source.now.store.now)) dx.now plan) }
+{
+    match dx.kind {
+        DxKind::Indicator => {
+            let indicator = source.meta.indicator(dx.number);
+            let plan = indicator_plan(alloc, source, indicator)?;
+            Ok(Plan::Indicator(plan))
+        }
+        DxKind::Rate(which) => set_plan(alloc, source, dx, which),
+        _ => operand_plan(alloc, source, dx),
+    }
+}
+
+fn nothing_due(alloc: Global) -> Due {
+    Due {
+        periods: 0,
+        orders: Items::new(alloc),
+    }
+}
+
+/// What is made of a plan once for some periods.
+pub fn plan_groups(alloc: Global, plan: &Plan, periods: &CellPeriods) -> Result<PlanGroups, Memory>
+    ensures { IfOk result (λ groups. ArePlanGroups periods.now plan.now groups) }
+{
+    match plan {
+        Plan::Element(plan) => {
+            let own = element_groups(alloc, plan, periods)?;
+            Ok(PlanGroups {
+                own,
+                over: Items::new(alloc),
+                under: Items::new(alloc),
+                due: nothing_due(alloc),
+            })
+        }
+        Plan::Indicator(plan) => {
+            let over = item_groups(alloc, plan.over.as_slice(), periods)?;
+            let under = item_groups(alloc, plan.under.as_slice(), periods)?;
+            Ok(PlanGroups {
+                own: Items::new(alloc),
+                over,
+                under,
+                due: nothing_due(alloc),
+            })
+        }
+        Plan::Rate(plan) => {
+            let due = rate_due(alloc, plan, periods)?;
+            Ok(PlanGroups {
+                own: Items::new(alloc),
+                over: Items::new(alloc),
+                under: Items::new(alloc),
+                due,
+            })
+        }
+    }
+}

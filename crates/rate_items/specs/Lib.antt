@@ -1,0 +1,4 @@
+pub mod Places
+pub mod Rates
+pub mod Counts
+pub mod Prepared

@@ -1,0 +1,5 @@
+pub mod Entries
+pub mod Histories
+pub mod Laws
+pub mod Ends
+pub mod Calls

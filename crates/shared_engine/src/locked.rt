@@ -1,0 +1,148 @@
+//! What lies under the lock: the engine, and the seat that knows the whole history. Each call takes its caller in, makes one step of
+//! the machine, adds its entry, and gives the caller its token back.
+ghost use Rattle.std.specs.Prelude.{◌≡◌, ◌∷◌, ℕ, [], IfOk, take};
+ghost use Rattle.history_word.specs.Views.{own};
+ghost use Rattle.std.specs.Arc.{arc_value};
+ghost use Rattle.value_import.specs.Outcomes.{IsKnown};
+ghost use Rattle.table_rows.specs.Store.{contents_in};
+ghost use Rattle.dh_base.specs.declared.plain.CutKind.TheVariants.{Full};
+ghost use Rattle.engine.specs.Machine.Act.{changed, begun, looked};
+ghost use Rattle.engine.specs.Seen.{published_in};
+ghost use Rattle.engine.specs.Tables.{tables_of};
+ghost use Rattle.shared_engine.specs.Entries.{entries_of, caller_of};
+ghost use Rattle.shared_engine.specs.Histories.{stand_of, IsLegal, IsBegunBy};
+ghost use Rattle.shared_engine.specs.Ends.{end_act};
+ghost use Rattle.shared_engine.specs.Calls.{IsCall};
+
+use crate::names::{Item, Naming};
+use crate::notes::{note_change, note_cut, note_end, note_look};
+use crate::steps::{cut_only, end_update};
+use change_requests::ChangeRequest;
+use dh_base::memory::Memory;
+use dh_base::plain::CutKind;
+use dh_outside::Keeper;
+use engine::{ChangeFault, CutFault, Engine, LookFault, Report, Staged, View};
+use history_word::{HistoryTable, LockSeat, Token};
+use record_index::outcome::Who;
+use std::alloc::Global;
+use std::marker::{Model, PhantomData};
+
+/// The engine with its history. Contracts see that it is there, and its type that it stands where a legal history leaves it.
+#[derive(Drop)]
+pub(crate) struct Locked<J: Naming, K: Keeper> {
+    pub(crate) engine: Engine<K>,
+    pub(crate) seat: LockSeat<Item>,
+    pub(crate) of: PhantomData<J>,
+}
+
+impl<J: Naming, K: Keeper> Model for Locked<J, K> {
+    ghost use Rattle.std.specs.Prelude.{ℕ};
+    ghost use Rattle.shared_engine.specs.Histories.{IsRunning};
+
+    ghost Value = { ℕ };
+
+    ghost view = { λ _. 0 };
+
+    ghost invariant = { λ locked. IsRunning J.made locked.engine locked.seat };
+}
+
+impl<J: Naming, K: Keeper> Locked<J, K> {
+    /// The token of a new caller.
+    pub(crate) fn pass(&mut self, words: &HistoryTable<Item>) -> Token<Item>
+        requires { words.now ≡ J.made.table }
+        ensures table { result.table ≡ J.made.table }
+        ensures none { own caller_of result.caller result.list ≡ [] }
+        ensures legal { IsLegal J.made result.list }
+    {
+        self.seat.new_pass(words)
+    }
+
+    /// A change of the machine, by the caller of a token.
+    pub(crate) fn change(
+        &mut self,
+        alloc: Global,
+        words: &HistoryTable<Item>,
+        token: Token<Item>,
+        who: Who,
+        moment: i64,
+        request: &ChangeRequest,
+    ) -> (Token<Item>, Result<Report, ChangeFault>)
+        requires table { (words.now ≡ J.made.table) × (token.table ≡ J.made.table) }
+        requires known { IsKnown J.made.meta who }
+        ensures { (faults : ℕ) × IsCall J.made token result.0
+            (entries_of token.caller (changed (record { who = who; moment = moment; request = request.now }) result.1) faults) }
+    {
+        self.seat.take_in(words, token);
+        let reply = self.engine.change(alloc, who, moment, request);
+        note_change(
+            &mut self.seat,
+            words,
+            &self.engine,
+            who,
+            moment,
+            request,
+            &reply,
+        );
+        let token = self.seat.give_back(words);
+        (token, reply)
+    }
+
+    /// A look at the tables, by the caller of a token.
+    pub(crate) fn look(
+        &mut self,
+        words: &HistoryTable<Item>,
+        token: Token<Item>,
+        asked: u64,
+    ) -> (Token<Item>, Result<View, LookFault>)
+        requires table { (words.now ≡ J.made.table) × (token.table ≡ J.made.table) }
+        ensures call { (faults : ℕ) × IsCall J.made token result.0 (entries_of token.caller (looked asked (published_in result.1)) faults) }
+        ensures tables { IfOk result.1 (λ view. contents_in (arc_value view.tables)
+            ≡ tables_of J.made.meta (take view.published (stand_of J.made result.0.list).machine.log)) }
+        ensures told { IfOk result.1 (λ view. view.published ≡ result.0.told) }
+    {
+        self.seat.take_in(words, token);
+        let reply = self.engine.look(asked);
+        note_look(&mut self.seat, words, &self.engine, asked, &reply);
+        let token = self.seat.give_back(words);
+        (token, reply)
+    }
+
+    /// Begins an update, by the caller of a token.
+    pub(crate) fn cut(
+        &mut self,
+        alloc: Global,
+        words: &HistoryTable<Item>,
+        token: Token<Item>,
+        kind: CutKind,
+    ) -> (Token<Item>, Result<Staged, CutFault>)
+        requires table { (words.now ≡ J.made.table) × (token.table ≡ J.made.table) }
+        requires kind { kind ≡ Full }
+        ensures call { (faults : ℕ) × IsCall J.made token result.0 (entries_of token.caller (begun kind result.1) faults) }
+        ensures begun { IfOk result.1 (λ update. IsBegunBy J.made result.0.list token.caller update.ticket) }
+    {
+        self.seat.take_in(words, token);
+        let reply = cut_only(alloc, &mut self.engine, kind);
+        note_cut(&mut self.seat, words, &self.engine, kind, &reply);
+        let token = self.seat.give_back(words);
+        (token, reply)
+    }
+
+    /// Ends an update that the caller of a token has begun: it is swapped in or, out of memory, dropped.
+    pub(crate) fn finish(
+        &mut self,
+        alloc: Global,
+        words: &HistoryTable<Item>,
+        token: Token<Item>,
+        ticket: u64,
+    ) -> (Token<Item>, Result<u64, Memory>)
+        requires table { (words.now ≡ J.made.table) × (token.table ≡ J.made.table) }
+        requires begun { IsBegunBy J.made token.list token.caller ticket }
+        ensures { (faults : ℕ) × IsCall J.made token result.0 (record { caller = token.caller; act = end_act ticket result.1; faults = faults } ∷ []) }
+    {
+        self.seat.take_in(words, token);
+        let reply = end_update(alloc, &mut self.engine, ticket);
+        note_end(&mut self.seat, words, &self.engine, ticket, &reply);
+        let token = self.seat.give_back(words);
+        (token, reply)
+    }
+}

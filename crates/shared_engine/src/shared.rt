@@ -1,0 +1,295 @@
+//! The lock, the words beside it, and the passes of its callers.
+ghost use Rattle.std.specs.Prelude.{◌≡◌, ◌≤◌, ◌∷◌, [], ℕ, List, IfOk, take};
+ghost use Rattle.dh_base.specs.declared.plain.CutKind.TheVariants.{Full};
+ghost use Rattle.std.specs.Arc.{arc_value};
+ghost use Rattle.value_import.specs.Outcomes.{IsKnown};
+ghost use Rattle.table_rows.specs.Store.{contents_in};
+ghost use Rattle.history_word.specs.Views.{own};
+ghost use Rattle.engine.specs.Machine.{start};
+ghost use Rattle.engine.specs.Machine.Act.{changed, begun, looked};
+ghost use Rattle.engine.specs.Seen.{published_in};
+ghost use Rattle.engine.specs.Tables.{tables_of};
+ghost use Rattle.shared_engine.specs.Entries.{Entry, entries_of, caller_of};
+ghost use Rattle.shared_engine.specs.Histories.{stand_of, IsLegal, IsBegunBy};
+ghost use Rattle.shared_engine.specs.Ends.{end_act, answer_of};
+ghost use Rattle.shared_engine.specs.Calls.{IsCall, IsUpdate};
+
+use crate::locked::Locked;
+use crate::names::{Item, Naming};
+use change_requests::ChangeRequest;
+use dh_base::memory::Memory;
+use dh_base::plain::CutKind;
+use dh_metadata::metadata::Metadata;
+use dh_outside::Keeper;
+use engine::{ChangeFault, CutFault, Engine, LookFault, Report, Staged, View};
+use history_word::{HistoryTable, LockSeat, Token};
+use record_index::outcome::Who;
+use std::alloc::Global;
+use std::marker::{Model, PhantomData};
+use std::sync::{Arc, Mutex, Wait};
+
+/// A caller's pass. Contracts see the caller, the history as its last call left it, and the greatest number that it was told.
+#[derive(Drop)]
+pub struct Pass<J: Naming> {
+    token: Option<Token<Item>>,
+    of: PhantomData<J>,
+}
+
+impl<J: Naming> Model for Pass<J> {
+    ghost use Rattle.std.specs.Prelude.{◌≡◌, unwrap_or, IfSome, IsSome};
+    ghost use Rattle.history_word.specs.Views.{TokenView};
+    ghost use Rattle.shared_engine.specs.Entries.{Entry};
+    ghost use Rattle.shared_engine.specs.Calls.{no_token};
+
+    ghost Value = { TokenView Entry };
+
+    ghost view = { λ pass. unwrap_or pass.token no_token };
+
+    ghost invariant = { λ pass. IsSome pass.token × ((unwrap_or pass.token no_token).table ≡ J.made.table) };
+}
+
+/// The engine that threads share.
+#[derive(Drop)]
+pub struct Shared<J: Naming, K: Keeper> {
+    words: HistoryTable<Item>,
+    meta: Arc<Metadata>,
+    lock: Mutex<Locked<J, K>>,
+}
+
+impl<J: Naming, K: Keeper> Model for Shared<J, K> {
+    ghost use Rattle.std.specs.Prelude.{◌≡◌, ℕ};
+    ghost use Rattle.std.specs.Arc.{arc_value};
+
+    ghost Value = { ℕ };
+
+    ghost view = { λ _. 0 };
+
+    ghost invariant = { λ shared. (shared.words ≡ J.made.table) × (arc_value shared.meta ≡ J.made.meta) };
+}
+
+/// An engine with words of its own and an empty history, which has no name yet. Contracts see what it is made for.
+#[derive(Drop)]
+pub struct Opened<K: Keeper> {
+    words: HistoryTable<Item>,
+    seat: LockSeat<Item>,
+    meta: Arc<Metadata>,
+    engine: Engine<K>,
+}
+
+impl<K: Keeper> Model for Opened<K> {
+    ghost use Rattle.std.specs.Coded.{codes};
+    ghost use Rattle.expr_lang.specs.contracts.expr.Expr as expression;
+    ghost use Rattle.std.specs.Prelude.{◌≡◌, [], None};
+    ghost use Rattle.std.specs.Arc.{arc_value};
+    ghost use Rattle.engine.specs.Machine.{start};
+    ghost use Rattle.shared_engine.specs.Histories.{Made};
+
+    ghost Value = { Made };
+
+    ghost coded = { Prim.hlevel (codes, expression.the_row.coded) };
+
+    ghost view = { λ opened. record {
+      table = opened.words;
+      meta = arc_value opened.meta;
+      limits = opened.engine.limits;
+      opening = opened.engine.faults;
+    } };
+
+    ghost invariant = { λ opened.
+        (opened.seat ≡ record { table = opened.words; list = []; told = 0; count = 0; taken = None })
+        × (opened.engine.state ≡ start) × (opened.engine.meta ≡ arc_value opened.meta) };
+}
+
+impl<K: Keeper> Opened<K> {
+    /// Puts the engine and the history under a lock. The name says which system it is.
+    pub fn named<J: Naming>(self) -> Shared<J, K>
+        requires { self ≡ J.made }
+    {
+        let Opened {
+            words,
+            seat,
+            meta,
+            engine,
+        } = self;
+        let lock = Mutex::new(Locked {
+            engine,
+            seat,
+            of: PhantomData,
+        });
+        Shared { words, meta, lock }
+    }
+}
+
+/// Gives an engine in the start state words that count its history. `meta` is the engine's metadata.
+pub fn open<K: Keeper>(
+    alloc: Global,
+    engine: Engine<K>,
+    meta: Arc<Metadata>,
+) -> Result<Opened<K>, Memory>
+    requires start { engine.state ≡ start }
+    requires meta { engine.meta ≡ arc_value meta }
+    ensures { IfOk result (λ opened. (opened.meta ≡ engine.meta) × (opened.limits ≡ engine.limits) × (opened.opening ≡ engine.faults)) }
+{
+    let (words, seat) = HistoryTable::new(alloc)?;
+    Ok(Opened {
+        words,
+        seat,
+        meta,
+        engine,
+    })
+}
+
+impl<J: Naming, K: Keeper> Shared<J, K> {
+    /// A new caller's pass.
+    pub fn pass<R: Wait>(&self, rt: &R) -> Pass<J>
+        ensures none { own caller_of result.caller result.list ≡ [] }
+        ensures legal { IsLegal J.made result.list }
+    {
+        let mut locked = self.lock.lock(rt);
+        let token = Some(locked.pass(&self.words));
+        Pass {
+            token,
+            of: PhantomData,
+        }
+    }
+
+    /// The metadata.
+    pub fn meta(&self) -> &Metadata
+        ensures { result.now ≡ J.made.meta }
+    {
+        &self.meta
+    }
+
+    /// The number that was told last, which is no lower than any that this caller was told. It takes no lock.
+    pub fn published(&self, pass: &mut Pass<J>) -> u64
+        ensures told { pass.new ≡ record pass.old { told = result } }
+        ensures rises { pass.old.told ≤ result }
+    {
+        let Some(mut token) = pass.token.take() else {
+            unreachable!()
+        };
+        let published = self.words.published(&mut token);
+        pass.token = Some(token);
+        published
+    }
+
+    /// Changes the log as the request says.
+    pub fn change<R: Wait>(
+        &self,
+        rt: &R,
+        alloc: Global,
+        pass: &mut Pass<J>,
+        who: Who,
+        moment: i64,
+        request: &ChangeRequest,
+    ) -> Result<Report, ChangeFault>
+        requires { IsKnown J.made.meta who }
+        ensures { (faults : ℕ) × IsCall J.made pass.old pass.new
+            (entries_of pass.old.caller (changed (record { who = who; moment = moment; request = request.now }) result) faults) }
+    {
+        let Some(token) = pass.token.take() else {
+            unreachable!()
+        };
+        let mut locked = self.lock.lock(rt);
+        let (token, reply) = locked.change(alloc, &self.words, token, who, moment, request);
+        pass.token = Some(token);
+        reply
+    }
+
+    /// The tables, if so many changes are published.
+    pub fn look<R: Wait>(&self, rt: &R, pass: &mut Pass<J>, asked: u64) -> Result<View, LookFault>
+        ensures call { (faults : ℕ) × IsCall J.made pass.old pass.new (entries_of pass.old.caller (looked asked (published_in result)) faults) }
+        ensures tables { IfOk result (λ view. contents_in (arc_value view.tables)
+            ≡ tables_of J.made.meta (take view.published (stand_of J.made pass.new.list).machine.log)) }
+        ensures told { IfOk result (λ view. view.published ≡ pass.new.told) }
+    {
+        let Some(token) = pass.token.take() else {
+            unreachable!()
+        };
+        let mut locked = self.lock.lock(rt);
+        let (token, reply) = locked.look(&self.words, token, asked);
+        pass.token = Some(token);
+        reply
+    }
+
+    /// Makes new tables and answers how many changes they stand for. Other callers' calls may come between its beginning and its end;
+    /// out of memory it is dropped.
+    pub fn update<R: Wait>(
+        &self,
+        rt: &R,
+        alloc: Global,
+        pass: &mut Pass<J>,
+        kind: CutKind,
+    ) -> Result<u64, CutFault>
+        requires { kind ≡ Full }
+        ensures { (entries : List Entry) × IsCall J.made pass.old pass.new entries × IsUpdate pass.old.caller kind result entries }
+    {
+        let Some(token) = pass.token.take() else {
+            unreachable!()
+        };
+        let (token, answer) = self.update_by(rt, alloc, token, kind);
+        pass.token = Some(token);
+        answer
+    }
+
+    fn update_by<R: Wait>(
+        &self,
+        rt: &R,
+        alloc: Global,
+        token: Token<Item>,
+        kind: CutKind,
+    ) -> (Token<Item>, Result<u64, CutFault>)
+        requires table { token.table ≡ J.made.table }
+        requires kind { kind ≡ Full }
+        ensures { (entries : List Entry) × IsCall J.made token result.0 entries × IsUpdate token.caller kind result.1 entries }
+    {
+        let (token, begun) = self.begin(rt, alloc, token, kind);
+        match begun {
+            Ok(update) => {
+                let (token, ended) = self.end(rt, alloc, token, update.ticket);
+                (token, answer_of(ended))
+            }
+            Err(fault) => (token, Err(fault)),
+        }
+    }
+
+    fn begin<R: Wait>(
+        &self,
+        rt: &R,
+        alloc: Global,
+        token: Token<Item>,
+        kind: CutKind,
+    ) -> (Token<Item>, Result<Staged, CutFault>)
+        requires table { token.table ≡ J.made.table }
+        requires kind { kind ≡ Full }
+        ensures call { (faults : ℕ) × IsCall J.made token result.0 (entries_of token.caller (begun kind result.1) faults) }
+        ensures begun { IfOk result.1 (λ update. IsBegunBy J.made result.0.list token.caller update.ticket) }
+    {
+        let mut locked = self.lock.lock(rt);
+        locked.cut(alloc, &self.words, token, kind)
+    }
+
+    fn end<R: Wait>(
+        &self,
+        rt: &R,
+        alloc: Global,
+        token: Token<Item>,
+        ticket: u64,
+    ) -> (Token<Item>, Result<u64, Memory>)
+        requires table { token.table ≡ J.made.table }
+        requires begun { IsBegunBy J.made token.list token.caller ticket }
+        ensures { (faults : ℕ) × IsCall J.made token result.0 (record { caller = token.caller; act = end_act ticket result.1; faults = faults } ∷ []) }
+    {
+        let mut locked = self.lock.lock(rt);
+        locked.finish(alloc, &self.words, token, ticket)
+    }
+}
+
+fn answer_of(ended: Result<u64, Memory>) -> Result<u64, CutFault>
+    ensures { result ≡ answer_of ended }
+{
+    match ended {
+        Ok(number) => Ok(number),
+        Err(_) => Err(CutFault::Memory),
+    }
+}

@@ -1,0 +1,63 @@
+//! The tables by year of the rows, registrations and events that a list of changes leaves.
+ghost use Rattle.std.specs.Prelude.{◌≡◌, ◌≤◌, length, map, IsTrue, IfOk};
+ghost use Rattle.std.specs.List.{list_all};
+ghost use Rattle.std.specs.Arc.{arc_value};
+ghost use Rattle.table_build.specs.Log.{writes_of, is_of_days};
+ghost use Rattle.table_build.specs.Listed.{listed_in};
+ghost use Rattle.table_rows.specs.Store.{contents_in};
+ghost use Rattle.year_tables.specs.Parts.{AreOfYears, listed_as, together, years_in};
+ghost use Rattle.dh_base.specs.declared.limits.TheConstants.{MOST_RECORDS};
+
+use crate::events::events_of;
+use crate::named::{events_named, regs_named, values_named};
+use crate::regs::regs_of;
+use crate::values::rows_of;
+use crate::world::world_of;
+use crate::years::years_of;
+use dh_base::memory::Memory;
+use dh_changes::change::Change;
+use dh_metadata::metadata::Metadata;
+use std::alloc::Global;
+use std::sync::Arc;
+use table_rows::{EventRow, RegRow, Row};
+use year_tables::{Lists, Tables, tables_of};
+
+// The tables of these lists, which are dropped.
+fn cut(
+    alloc: Global,
+    rows: Vec<Row>,
+    events: Vec<EventRow>,
+    regs: Vec<RegRow>,
+    years: Vec<i32>,
+    base_cut: u64,
+) -> Result<Tables, Memory>
+    requires { AreOfYears (listed_as rows.items events.items regs.items) years.items }
+    ensures contents { IfOk result (λ tables. together tables.parts ≡ listed_as rows.items events.items regs.items) }
+    ensures years { IfOk result (λ tables. years_in tables.parts ≡ years.items) }
+    ensures base_cut { IfOk result (λ tables. tables.base_cut ≡ base_cut) }
+{
+    let lists = Lists {
+        rows: &rows,
+        events: &events,
+        regs: &regs,
+    };
+    tables_of(alloc, &lists, &years, base_cut)
+}
+
+/// The tables of the rows, registrations and events that the changes leave, under these metadata, with a part of each
+/// year in which one stands. The log is read once for all years.
+pub fn build(alloc: Global, meta: &Metadata, changes: &[Arc<Change>]) -> Result<Tables, Memory>
+    requires few { length (writes_of (map arc_value changes.now)) ≤ MOST_RECORDS }
+    requires days { IsTrue (list_all is_of_days (writes_of (map arc_value changes.now))) }
+    ensures contents { IfOk result (λ tables. together tables.parts ≡ contents_in (listed_in meta.now (writes_of (map arc_value changes.now)))) }
+    ensures years { IfOk result (λ tables. years_in tables.parts ≡ (listed_in meta.now (writes_of (map arc_value changes.now))).years) }
+    ensures base_cut { IfOk result (λ tables. tables.base_cut ≡ length changes.now) }
+{
+    let world = world_of(alloc, changes)?;
+    let rows = rows_of(alloc, meta, &world, &values_named(alloc, changes)?)?;
+    let events = events_of(alloc, meta, &world, &events_named(alloc, changes)?)?;
+    let regs = regs_of(alloc, meta, &world, &regs_named(alloc, changes)?)?;
+    let years = years_of(alloc, &rows, &regs, &events)?;
+    let tables = cut(alloc, rows, events, regs, years, changes.len() as u64)?;
+    Ok(tables)
+}

@@ -1,0 +1,22 @@
+use Rattle.std.proofs.Common.{◌∙◌, map, ap}
+use Rattle.record_index.specs.Said.{said_by, last_said, of_enrollment}
+use Rattle.record_index.specs.World.{facts}
+use Rattle.tracker_import.specs.Known.{enrollment_now, enrollment_place}
+use Rattle.tracker_import.proofs.SaidLemmas.{held-here, held-else}
+use Rattle.tracker_import.proofs.batch.enrollment_now.Goals as goal
+
+pub returns-in-Some : goal.returns-in-Some
+unfolding enrollment_now
+returns-in-Some c =
+    held-here enrollment_place (last_said (of_enrollment c.args.id) (map said_by c.args.batch.now.verdict.writes))
+    ((facts c.args.world.now).enrollment c.args.id)
+    c.in-Some.held.now
+    (c.in-Some.ensures.value ∙ c.requires.said.enrollments c.args.id)
+
+pub returns-in-None : goal.returns-in-None
+unfolding enrollment_now
+returns-in-None c =
+    c.enrollment_place.ensures ∙ ap enrollment_place c.enrollment.ensures
+    ∙ held-else enrollment_place (last_said (of_enrollment c.args.id) (map said_by c.args.batch.now.verdict.writes))
+    ((facts c.args.world.now).enrollment c.args.id)
+    (c.in-None.ensures.value ∙ c.requires.said.enrollments c.args.id)

@@ -1,0 +1,20 @@
+use Rattle.std.proofs.Common.{◌∙◌, map, ap}
+use Rattle.record_index.specs.Said.{said_by, last_said, of_event}
+use Rattle.record_index.specs.World.{facts}
+use Rattle.tracker_import.specs.Known.{event_now, event_place}
+use Rattle.tracker_import.proofs.SaidLemmas.{held-here, held-else}
+use Rattle.tracker_import.proofs.batch.event_now.Goals as goal
+
+pub returns-in-Some : goal.returns-in-Some
+unfolding event_now
+returns-in-Some c =
+    held-here event_place (last_said (of_event c.args.id) (map said_by c.args.batch.now.verdict.writes)) ((facts c.args.world.now).event c.args.id)
+    c.in-Some.held.now
+    (c.in-Some.ensures.value ∙ c.requires.said.events c.args.id)
+
+pub returns-in-None : goal.returns-in-None
+unfolding event_now
+returns-in-None c =
+    c.event_place.ensures ∙ ap event_place c.event.ensures
+    ∙ held-else event_place (last_said (of_event c.args.id) (map said_by c.args.batch.now.verdict.writes)) ((facts c.args.world.now).event c.args.id)
+    (c.in-None.ensures.value ∙ c.requires.said.events c.args.id)

@@ -1,0 +1,15 @@
+use Rattle.std.proofs.Common.{Some, None, refl, ap}
+use Rattle.record_index.specs.Said.{said_by}
+use Rattle.tracker_import.proofs.SaidLemmas.{noted-enrollment}
+use Rattle.tracker_import.proofs.batch.note_enrollment.Goals as goal
+
+pub returns-in_ok-insert-in-EnrollmentWritten : goal.returns-in_ok-insert-in-EnrollmentWritten
+returns-in_ok-insert-in-EnrollmentWritten c =
+    noted-enrollment c.args.write.now c.in-EnrollmentWritten.enrollment.id (Some c.in-EnrollmentWritten.enrollment)
+    c.enrollment_place.result c.args.enrollments.now c.insert.new.self
+    (ap said_by c.in-EnrollmentWritten.is) c.enrollment_place.ensures c.in_ok-insert-in-EnrollmentWritten.ensures.updates.0
+
+pub returns-in_ok-insert-in-EnrollmentDeleted : goal.returns-in_ok-insert-in-EnrollmentDeleted
+returns-in_ok-insert-in-EnrollmentDeleted c =
+    noted-enrollment c.args.write.now c.in-EnrollmentDeleted.id None None c.args.enrollments.now c.insert-in-EnrollmentDeleted.new.self
+    (ap said_by c.in-EnrollmentDeleted.is) refl c.in_ok-insert-in-EnrollmentDeleted.ensures.updates.0

@@ -1,0 +1,5 @@
+pub mod Known
+pub mod Outcomes
+pub mod Deletes
+pub mod Verdicts
+pub mod Batches

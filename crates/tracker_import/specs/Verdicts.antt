@@ -1,0 +1,108 @@
+-- The verdict on a tracker bundle: its objects one after another, each judged by what holds after the log and the writes accepted so far.
+use Rattle.std.specs.Prelude.{ℕ, cond, List, [], ◌∷◌, Option, option_and_then, option_map}
+use Rattle.std.specs.Option.{is_some}
+use Rattle.meta_parts.specs.declared.held.Records.{Records}
+use Rattle.meta_parts.specs.declared.kind.Kind.TheVariants as kind
+use Rattle.dh_changes.specs.declared.change.Write.TheVariants as write
+use Rattle.record_index.specs.Facts.{Facts}
+use Rattle.record_index.specs.declared.outcome.Verdict.{Verdict}
+use Rattle.record_index.specs.declared.outcome.Who.{Who}
+use Rattle.record_index.specs.declared.outcome.ImportStrategy.{ImportStrategy}
+use Rattle.tracker_forms.specs.declared.bundle.Bundle.{Bundle}
+use Rattle.tracker_forms.specs.declared.entity.BundleEntity.{BundleEntity}
+use Rattle.tracker_forms.specs.declared.enrollment.BundleEnrollment.{BundleEnrollment}
+use Rattle.tracker_forms.specs.declared.event.BundleEvent.{BundleEvent}
+use Rattle.value_import.specs.Values.{is_delete_all}
+use Rattle.tracker_rules.specs.declared.judged.Judged.{Judged}
+use Rattle.tracker_import.specs.Known.{entity_now, enrollment_now, event_now}
+use Rattle.tracker_rules.specs.Rules.{id_in, is_repeated}
+use Rattle.tracker_rules.specs.Entities.{judged_entity}
+use Rattle.tracker_rules.specs.Enrollments.{judged_enrollment}
+use Rattle.tracker_rules.specs.Events.{judged_event}
+use Rattle.tracker_import.specs.Deletes.{live_entity, live_enrollment, live_event, delete_conflict, judged_delete, enrollment_gone, entity_gone}
+use Rattle.tracker_import.specs.Outcomes.{Sofar, none, taken, finished}
+
+-- what an object of the bundle comes to: it is taken away under DELETE, and else written
+
+unfoldable pub entity_delete : Facts → Records → Who → ImportStrategy → Sofar → Option (List ℕ) → Judged
+entity_delete facts r who chosen sofar id = judged_delete (
+    delete_conflict facts r who chosen (is_repeated sofar.judged id) kind.TrackedEntityType id
+    (option_map live_entity (option_and_then (entity_now facts sofar.verdict.writes) id)))
+    (entity_gone facts sofar.verdict.writes) id
+
+unfoldable pub entity_write : Facts → Records → Who → ImportStrategy → Sofar → BundleEntity → Judged
+entity_write facts r who chosen sofar asked =
+    judged_entity facts r who chosen (option_and_then (entity_now facts sofar.verdict.writes) (id_in asked.id))
+    (is_repeated sofar.judged (id_in asked.id)) asked
+
+unfoldable pub entity_outcome : Facts → Records → Who → ImportStrategy → Sofar → BundleEntity → Judged
+entity_outcome facts r who chosen sofar asked =
+    cond (is_delete_all chosen) (entity_delete facts r who chosen sofar (id_in asked.id)) (entity_write facts r who chosen sofar asked)
+
+unfoldable pub with_entity : Facts → Records → Who → ImportStrategy → BundleEntity → Sofar → Sofar
+with_entity facts r who chosen asked sofar = taken (id_in asked.id) (entity_outcome facts r who chosen sofar asked) sofar
+
+unfoldable pub enrollment_delete : Facts → Records → Who → ImportStrategy → Sofar → Option (List ℕ) → Judged
+enrollment_delete facts r who chosen sofar id = judged_delete (
+    delete_conflict facts r who chosen (is_repeated sofar.judged id) kind.Program id
+    (option_map (live_enrollment facts sofar.verdict.writes) (option_and_then (enrollment_now facts sofar.verdict.writes) id)))
+    (enrollment_gone facts sofar.verdict.writes) id
+
+unfoldable pub enrollment_write : Facts → Records → Who → ImportStrategy → Sofar → BundleEnrollment → Judged
+enrollment_write facts r who chosen sofar asked =
+    judged_enrollment facts r who chosen (is_some (option_and_then (enrollment_now facts sofar.verdict.writes) (id_in asked.id)))
+    (is_repeated sofar.judged (id_in asked.id)) (option_and_then (entity_now facts sofar.verdict.writes) (id_in asked.entity)) asked
+
+unfoldable pub enrollment_outcome : Facts → Records → Who → ImportStrategy → Sofar → BundleEnrollment → Judged
+enrollment_outcome facts r who chosen sofar asked =
+    cond (is_delete_all chosen) (enrollment_delete facts r who chosen sofar (id_in asked.id)) (enrollment_write facts r who chosen sofar asked)
+
+unfoldable pub with_enrollment : Facts → Records → Who → ImportStrategy → BundleEnrollment → Sofar → Sofar
+with_enrollment facts r who chosen asked sofar = taken (id_in asked.id) (enrollment_outcome facts r who chosen sofar asked) sofar
+
+unfoldable pub event_delete : Facts → Records → Who → ImportStrategy → Sofar → Option (List ℕ) → Judged
+event_delete facts r who chosen sofar id = judged_delete (
+    delete_conflict facts r who chosen (is_repeated sofar.judged id) kind.Program id
+    (option_map (live_event facts sofar.verdict.writes) (option_and_then (event_now facts sofar.verdict.writes) id)))
+    (λ own. write.EventDeleted own ∷ []) id
+
+unfoldable pub event_write : Facts → Records → Who → ImportStrategy → Sofar → BundleEvent → Judged
+event_write facts r who chosen sofar asked =
+    judged_event facts r who chosen (is_some (option_and_then (event_now facts sofar.verdict.writes) (id_in asked.id)))
+    (is_repeated sofar.judged (id_in asked.id)) (option_and_then (enrollment_now facts sofar.verdict.writes) (id_in asked.enrollment)) asked
+
+unfoldable pub event_outcome : Facts → Records → Who → ImportStrategy → Sofar → BundleEvent → Judged
+event_outcome facts r who chosen sofar asked =
+    cond (is_delete_all chosen) (event_delete facts r who chosen sofar (id_in asked.id)) (event_write facts r who chosen sofar asked)
+
+unfoldable pub with_event : Facts → Records → Who → ImportStrategy → BundleEvent → Sofar → Sofar
+with_event facts r who chosen asked sofar = taken (id_in asked.id) (event_outcome facts r who chosen sofar asked) sofar
+
+-- objects of one kind, one after another
+abbrev pub with_entities : Facts → Records → Who → ImportStrategy → List BundleEntity → Sofar → Sofar
+with_entities facts r who chosen [] sofar = sofar
+with_entities facts r who chosen (asked ∷ more) sofar = with_entities facts r who chosen more (with_entity facts r who chosen asked sofar)
+
+abbrev pub with_enrollments : Facts → Records → Who → ImportStrategy → List BundleEnrollment → Sofar → Sofar
+with_enrollments facts r who chosen [] sofar = sofar
+with_enrollments facts r who chosen (asked ∷ more) sofar = with_enrollments facts r who chosen more (with_enrollment facts r who chosen asked sofar)
+
+abbrev pub with_events : Facts → Records → Who → ImportStrategy → List BundleEvent → Sofar → Sofar
+with_events facts r who chosen [] sofar = sofar
+with_events facts r who chosen (asked ∷ more) sofar = with_events facts r who chosen more (with_event facts r who chosen asked sofar)
+
+-- all objects: entities, enrollments, events; under DELETE the other way round
+unfoldable pub with_all : Facts → Records → Who → Bundle → Sofar
+with_all facts r who bundle =
+    let chosen = bundle.params.strategy in
+    cond (is_delete_all chosen)
+    (with_entities facts r who chosen bundle.entities
+    (with_enrollments facts r who chosen bundle.enrollments
+    (with_events facts r who chosen bundle.events none)))
+    (with_events facts r who chosen bundle.events
+    (with_enrollments facts r who chosen bundle.enrollments
+    (with_entities facts r who chosen bundle.entities none)))
+
+-- the verdict on a bundle; its imported objects are those created
+unfoldable pub verdict_of : Facts → Records → Who → Bundle → Verdict
+verdict_of facts r who bundle = finished bundle.params.atomic (with_all facts r who bundle)

@@ -1,0 +1,393 @@
+//! The verdict so far, and what its writes say.
+
+ghost use Rattle.std.specs.Prelude.{◌≡◌, ◌+◌, ◌<◌, ◌^◌, ◌++◌, ◌∷◌, [], Some, None, IfOk, OnOk};
+ghost use Rattle.std.specs.Option.{option_copied};
+ghost use Rattle.record_index.specs.World.{facts};
+ghost use Rattle.tracker_import.specs.Known as known;
+ghost use Rattle.tracker_import.specs.Known.{AreSaid, AreSeen, NotesEntity, NotesEnrollment, NotesEvent};
+ghost use Rattle.tracker_import.specs.Batches.{IsBatch};
+ghost use Rattle.tracker_import.specs.Outcomes.{sofar_of, none, counted, taken, AreAtMost};
+ghost use Rattle.tracker_rules.specs.Rules as rules;
+
+use crate::places::EventPlace;
+use dh_base::codes::Code;
+use dh_base::items::Items;
+use dh_base::memory::Memory;
+use dh_base::uid::Uid;
+use dh_changes::change::Write;
+use dh_changes::tracker::{Enrollment, Entity, Event};
+use record_index::outcome::{Conflict, Verdict};
+use record_index::world::World;
+use std::alloc::Global;
+use std::collections::{HashMap, HashSet};
+use tracker_rules::judged::Judged;
+use tracker_rules::names::EnrollmentPlace;
+
+/// What the writes of a verdict say of each object that they name.
+#[derive(Drop)]
+pub struct Notes {
+    pub entities: HashMap<Uid, Option<Entity>>,
+    pub enrollments: HashMap<Uid, Option<EnrollmentPlace>>,
+    pub events: HashMap<Uid, Option<EventPlace>>,
+}
+
+/// The verdict so far with its notes, and the identifiers of the objects judged so far.
+#[derive(Drop)]
+pub struct Batch {
+    pub verdict: Verdict,
+    pub judged: Items<Option<Uid>>,
+    pub seen: HashSet<Uid>,
+    pub notes: Notes,
+}
+
+/// Nothing is judged.
+pub fn empty_batch(alloc: Global) -> Batch
+    ensures sofar { sofar_of result.verdict result.judged ≡ none }
+    ensures held { IsBatch result }
+{
+    Batch {
+        verdict: Verdict {
+            writes: Items::new(alloc),
+            conflicts: Items::new(alloc),
+            imported: 0,
+            updated: 0,
+            ignored: 0,
+            deleted: 0,
+        },
+        judged: Items::new(alloc),
+        seen: HashSet::new(alloc),
+        notes: Notes {
+            entities: HashMap::new(alloc),
+            enrollments: HashMap::new(alloc),
+            events: HashMap::new(alloc),
+        },
+    }
+}
+
+// ---- what there is
+
+/// The entity of an identifier.
+pub fn entity_now<'a>(world: &'a World, batch: &'a Batch, id: Uid) -> Option<&'a Entity>
+    requires { IsBatch batch.now }
+    ensures { option_copied result ≡ known.entity_now (facts world.now) batch.now.verdict.writes id }
+{
+    match batch.notes.entities.get(&id) {
+        Some(held) => held.as_ref(),
+        None => world.entity(id),
+    }
+}
+
+fn enrollment_place(found: Option<&Enrollment>) -> Option<EnrollmentPlace>
+    ensures { result ≡ known.enrollment_place (option_copied found.entry) }
+{
+    match found {
+        Some(found) => Some(EnrollmentPlace {
+            entity: found.entity,
+            program: found.program,
+            unit: found.unit,
+        }),
+        None => None,
+    }
+}
+
+fn event_place(found: Option<&Event>) -> Option<EventPlace>
+    ensures { result ≡ known.event_place (option_copied found.entry) }
+{
+    match found {
+        Some(found) => Some(EventPlace {
+            enrollment: found.enrollment,
+            program: found.program,
+            unit: found.unit,
+        }),
+        None => None,
+    }
+}
+
+/// Where the enrollment of an identifier stands.
+pub fn enrollment_now(world: &World, batch: &Batch, id: Uid) -> Option<EnrollmentPlace>
+    requires { IsBatch batch.now }
+    ensures { result ≡ known.enrollment_now (facts world.now) batch.now.verdict.writes id }
+{
+    match batch.notes.enrollments.get(&id) {
+        Some(held) => *held,
+        None => enrollment_place(world.enrollment(id)),
+    }
+}
+
+/// Where the event of an identifier stands.
+pub fn event_now(world: &World, batch: &Batch, id: Uid) -> Option<EventPlace>
+    requires { IsBatch batch.now }
+    ensures { result ≡ known.event_now (facts world.now) batch.now.verdict.writes id }
+{
+    match batch.notes.events.get(&id) {
+        Some(held) => *held,
+        None => event_place(world.event(id)),
+    }
+}
+
+/// Whether an object of this identifier was judged before.
+pub fn is_repeated(batch: &Batch, id: &Option<Uid>) -> bool
+    requires { IsBatch batch.now }
+    ensures { result ≡ rules.is_repeated batch.now.judged id.now }
+{
+    match id {
+        Some(id) => batch.seen.contains(id),
+        None => false,
+    }
+}
+
+// ---- what is taken in
+
+fn copied_pairs(
+    alloc: Global,
+    pairs: &[(Uid, Items<u8>)],
+) -> Result<Items<(Uid, Items<u8>)>, Memory>
+    ensures { IfOk result (λ copy. copy ≡ pairs.now) }
+{
+    let mut copy = Vec::new(alloc);
+    for pair in pairs {
+        copy.push((pair.0, Items::from(pair.1.as_slice().to_vec(alloc)?)))?;
+    }
+    Ok(Items::from(copy))
+}
+
+fn copied_entity(alloc: Global, entity: &Entity) -> Result<Entity, Memory>
+    ensures { IfOk result (λ copy. copy ≡ entity.now) }
+{
+    Ok(Entity {
+        id: entity.id,
+        kind: entity.kind,
+        unit: entity.unit,
+        attributes: copied_pairs(alloc, entity.attributes.as_slice())?,
+    })
+}
+
+fn note_entity(
+    alloc: Global,
+    entities: &mut HashMap<Uid, Option<Entity>>,
+    write: &Write,
+) -> Result<(), Memory>
+    ensures { OnOk result (NotesEntity write.now entities.old entities.new) }
+{
+    match write {
+        Write::ValueSet { .. } => {}
+        Write::ValueCleared { .. } => {}
+        Write::EventWritten(_) => {}
+        Write::EventDeleted(_) => {}
+        Write::EnrollmentWritten(_) => {}
+        Write::EnrollmentDeleted(_) => {}
+        Write::EntityWritten(entity) => {
+            let copy = copied_entity(alloc, entity)?;
+            entities.insert(entity.id, Some(copy))?;
+        }
+        Write::EntityDeleted(id) => {
+            entities.insert(*id, None)?;
+        }
+        Write::Approve(_) => {}
+        Write::Unapprove(_) => {}
+        Write::Accept(_) => {}
+        Write::Unaccept(_) => {}
+        Write::Complete { .. } => {}
+        Write::Uncomplete { .. } => {}
+    }
+    Ok(())
+}
+
+fn note_enrollment(
+    enrollments: &mut HashMap<Uid, Option<EnrollmentPlace>>,
+    write: &Write,
+) -> Result<(), Memory>
+    ensures { OnOk result (NotesEnrollment write.now enrollments.old enrollments.new) }
+{
+    match write {
+        Write::ValueSet { .. } => {}
+        Write::ValueCleared { .. } => {}
+        Write::EventWritten(_) => {}
+        Write::EventDeleted(_) => {}
+        Write::EnrollmentWritten(enrollment) => {
+            enrollments.insert(enrollment.id, enrollment_place(Some(enrollment)))?;
+        }
+        Write::EnrollmentDeleted(id) => {
+            enrollments.insert(*id, None)?;
+        }
+        Write::EntityWritten(_) => {}
+        Write::EntityDeleted(_) => {}
+        Write::Approve(_) => {}
+        Write::Unapprove(_) => {}
+        Write::Accept(_) => {}
+        Write::Unaccept(_) => {}
+        Write::Complete { .. } => {}
+        Write::Uncomplete { .. } => {}
+    }
+    Ok(())
+}
+
+fn note_event(events: &mut HashMap<Uid, Option<EventPlace>>, write: &Write) -> Result<(), Memory>
+    ensures { OnOk result (NotesEvent write.now events.old events.new) }
+{
+    match write {
+        Write::ValueSet { .. } => {}
+        Write::ValueCleared { .. } => {}
+        Write::EventWritten(event) => {
+            events.insert(event.id, event_place(Some(event)))?;
+        }
+        Write::EventDeleted(id) => {
+            events.insert(*id, None)?;
+        }
+        Write::EnrollmentWritten(_) => {}
+        Write::EnrollmentDeleted(_) => {}
+        Write::EntityWritten(_) => {}
+        Write::EntityDeleted(_) => {}
+        Write::Approve(_) => {}
+        Write::Unapprove(_) => {}
+        Write::Accept(_) => {}
+        Write::Unaccept(_) => {}
+        Write::Complete { .. } => {}
+        Write::Uncomplete { .. } => {}
+    }
+    Ok(())
+}
+
+// Accepts a write.
+fn accept(
+    alloc: Global,
+    notes: &mut Notes,
+    writes: &mut Items<Write>,
+    write: Write,
+) -> Result<(), Memory>
+    requires { AreSaid notes.old.entities notes.old.enrollments notes.old.events writes.old }
+    ensures writes { OnOk result (writes.new ≡ writes.old ++ write ∷ []) }
+    ensures said { OnOk result (AreSaid notes.new.entities notes.new.enrollments notes.new.events writes.new) }
+{
+    note_entity(alloc, &mut notes.entities, &write)?;
+    note_enrollment(&mut notes.enrollments, &write)?;
+    note_event(&mut notes.events, &write)?;
+    writes.push(write)?;
+    Ok(())
+}
+
+fn accept_all(
+    alloc: Global,
+    notes: &mut Notes,
+    writes: &mut Items<Write>,
+    more: Items<Write>,
+) -> Result<(), Memory>
+    requires { AreSaid notes.old.entities notes.old.enrollments notes.old.events writes.old }
+    ensures writes { OnOk result (writes.new ≡ writes.old ++ more) }
+    ensures said { OnOk result (AreSaid notes.new.entities notes.new.enrollments notes.new.events writes.new) }
+{
+    for write in more.items {
+        accept(alloc, notes, writes, write)?;
+    }
+    Ok(())
+}
+
+fn refuse(verdict: &mut Verdict, index: u64, uid: &Option<Uid>, code: Code) -> Result<(), Memory>
+    requires { verdict.old.ignored + 1 < 2 ^ 64 }
+    ensures { OnOk result (verdict.new ≡ counted index uid.now (Judged.Refused code) verdict.old) }
+{
+    let uid = *uid;
+    let conflict = Conflict { code, index, uid };
+    verdict.conflicts.push(conflict)?;
+    verdict.ignored += 1;
+    Ok(())
+}
+
+// Counts what an object comes to, and accepts its writes.
+fn count(
+    alloc: Global,
+    notes: &mut Notes,
+    verdict: &mut Verdict,
+    index: u64,
+    uid: &Option<Uid>,
+    judged: Judged,
+) -> Result<(), Memory>
+    requires said { AreSaid notes.old.entities notes.old.enrollments notes.old.events verdict.old.writes }
+    requires counts { AreAtMost index verdict.old }
+    requires few { index + 1 < 2 ^ 64 }
+    ensures verdict { OnOk result (verdict.new ≡ counted index uid.now judged verdict.old) }
+    ensures said { OnOk result (AreSaid notes.new.entities notes.new.enrollments notes.new.events verdict.new.writes) }
+    ensures counts { OnOk result (AreAtMost (index + 1) verdict.new) }
+{
+    match judged {
+        Judged::Refused(code) => refuse(verdict, index, uid, code),
+        Judged::Nothing => Ok(()),
+        Judged::Created(writes) => {
+            verdict.imported += 1;
+            accept_all(alloc, notes, &mut verdict.writes, writes)
+        }
+        Judged::Updated(writes) => {
+            verdict.updated += 1;
+            accept_all(alloc, notes, &mut verdict.writes, writes)
+        }
+        Judged::Deleted(writes) => {
+            verdict.deleted += 1;
+            accept_all(alloc, notes, &mut verdict.writes, writes)
+        }
+    }
+}
+
+// Notes that an object of this identifier was judged.
+fn note_some(
+    judged: &mut Items<Option<Uid>>,
+    seen: &mut HashSet<Uid>,
+    id: Uid,
+) -> Result<(), Memory>
+    requires { AreSeen seen.old judged.old }
+    ensures judged { OnOk result (judged.new ≡ judged.old ++ Some id ∷ []) }
+    ensures seen { OnOk result (AreSeen seen.new judged.new) }
+{
+    seen.insert(id)?;
+    judged.push(Some(id))?;
+    Ok(())
+}
+
+// Notes that an object without an identifier was judged.
+fn note_none(judged: &mut Items<Option<Uid>>, seen: &HashSet<Uid>) -> Result<(), Memory>
+    requires { AreSeen seen.now judged.old }
+    ensures judged { OnOk result (judged.new ≡ judged.old ++ None ∷ []) }
+    ensures seen { OnOk result (AreSeen seen.now judged.new) }
+{
+    let _seen = seen;
+    judged.push(None)?;
+    Ok(())
+}
+
+fn note_judged(
+    judged: &mut Items<Option<Uid>>,
+    seen: &mut HashSet<Uid>,
+    id: &Option<Uid>,
+) -> Result<(), Memory>
+    requires { AreSeen seen.old judged.old }
+    ensures judged { OnOk result (judged.new ≡ judged.old ++ id.now ∷ []) }
+    ensures seen { OnOk result (AreSeen seen.new judged.new) }
+{
+    match id {
+        Some(own) => note_some(judged, seen, *own),
+        None => note_none(judged, seen),
+    }
+}
+
+/// Takes in what an object comes to.
+#[tactic(auto, unfolding(crate::specs::Outcomes::taken))]
+pub fn take_in(
+    alloc: Global,
+    batch: &mut Batch,
+    id: &Option<Uid>,
+    judged: Judged,
+) -> Result<(), Memory>
+    requires { IsBatch batch.old }
+    ensures sofar { OnOk result (sofar_of batch.new.verdict batch.new.judged ≡ taken id.now judged (sofar_of batch.old.verdict batch.old.judged)) }
+    ensures held { OnOk result (IsBatch batch.new) }
+{
+    let index = batch.judged.as_slice().len() as u64;
+    count(
+        alloc,
+        &mut batch.notes,
+        &mut batch.verdict,
+        index,
+        id,
+        judged,
+    )?;
+    note_judged(&mut batch.judged, &mut batch.seen, id)
+}

@@ -1,0 +1,482 @@
+//! The verdict on a tracker bundle.
+
+ghost use Rattle.std.specs.Prelude.{◌≡◌, ◌<◌, ◌^◌, ◌∷◌, [], length, option_map, option_and_then, IfOk, OnOk};
+ghost use Rattle.std.specs.Option.{option_copied, option_map_or};
+ghost use Rattle.record_index.specs.World.{facts};
+ghost use Rattle.value_import.specs.Outcomes.{IsKnown};
+ghost use Rattle.tracker_import.specs.Batches.{IsBatch};
+ghost use Rattle.tracker_import.specs.Deletes as deletes;
+ghost use Rattle.tracker_import.specs.Known as known;
+ghost use Rattle.tracker_import.specs.Outcomes as outcomes;
+ghost use Rattle.tracker_import.specs.Outcomes.{sofar_of, AreAtMost};
+ghost use Rattle.tracker_import.specs.Verdicts as verdicts;
+
+use crate::batch::{
+    Batch, empty_batch, enrollment_now, entity_now, event_now, is_repeated, take_in,
+};
+use crate::deletes::{
+    delete_conflict, enrollment_gone, entity_gone, live_enrollment, live_entity, live_event,
+};
+use crate::places::{EventPlace, Live};
+use dh_base::items::Items;
+use dh_base::memory::Memory;
+use dh_base::uid::Uid;
+use dh_changes::change::Write;
+use dh_changes::tracker::Entity;
+use dh_metadata::metadata::Metadata;
+use meta_parts::kind::Kind;
+use record_index::outcome::{Verdict, Who};
+use record_index::world::World;
+use std::alloc::Global;
+use tracker_forms::bundle::Bundle;
+use tracker_forms::enrollment::BundleEnrollment;
+use tracker_forms::entity::BundleEntity;
+use tracker_forms::event::BundleEvent;
+use tracker_rules::asking::Asking;
+use tracker_rules::enrollments::judge_enrollment;
+use tracker_rules::entities::{Standing, judge_entity, only};
+use tracker_rules::events::judge_event;
+use tracker_rules::items::id_in;
+use tracker_rules::judged::Judged;
+use tracker_rules::names::EnrollmentPlace;
+use tracker_rules::standing::is_delete_all;
+
+fn entity_of<'a>(world: &'a World, batch: &'a Batch, id: &Option<Uid>) -> Option<&'a Entity>
+    requires { IsBatch batch.now }
+    ensures { option_copied result ≡ option_and_then (known.entity_now (facts world.now) batch.now.verdict.writes) id.now }
+{
+    match id {
+        Some(id) => entity_now(world, batch, *id),
+        None => None,
+    }
+}
+
+fn enrollment_of(world: &World, batch: &Batch, id: &Option<Uid>) -> Option<EnrollmentPlace>
+    requires { IsBatch batch.now }
+    ensures { result ≡ option_and_then (known.enrollment_now (facts world.now) batch.now.verdict.writes) id.now }
+{
+    match id {
+        Some(id) => enrollment_now(world, batch, *id),
+        None => None,
+    }
+}
+
+fn event_of(world: &World, batch: &Batch, id: &Option<Uid>) -> Option<EventPlace>
+    requires { IsBatch batch.now }
+    ensures { result ≡ option_and_then (known.event_now (facts world.now) batch.now.verdict.writes) id.now }
+{
+    match id {
+        Some(id) => event_now(world, batch, *id),
+        None => None,
+    }
+}
+
+fn live_entity_of(before: Option<&Entity>) -> Option<Live>
+    ensures { result ≡ option_map deletes.live_entity (option_copied before.entry) }
+{
+    match before {
+        Some(entity) => Some(live_entity(entity)),
+        None => None,
+    }
+}
+
+fn live_entity_at(world: &World, batch: &Batch, id: &Option<Uid>) -> Option<Live>
+    requires { IsBatch batch.now }
+    ensures { result ≡ option_map deletes.live_entity (option_and_then (known.entity_now (facts world.now) batch.now.verdict.writes) id.now) }
+{
+    live_entity_of(entity_of(world, batch, id))
+}
+
+fn live_enrollment_of(
+    world: &World,
+    batch: &Batch,
+    before: &Option<EnrollmentPlace>,
+) -> Option<Live>
+    requires { IsBatch batch.now }
+    ensures { result ≡ option_map (deletes.live_enrollment (facts world.now) batch.now.verdict.writes) before.now }
+{
+    match before {
+        Some(at) => Some(live_enrollment(world, batch, at)),
+        None => None,
+    }
+}
+
+fn live_event_of(world: &World, batch: &Batch, before: &Option<EventPlace>) -> Option<Live>
+    requires { IsBatch batch.now }
+    ensures { result ≡ option_map (deletes.live_event (facts world.now) batch.now.verdict.writes) before.now }
+{
+    match before {
+        Some(at) => Some(live_event(world, batch, at)),
+        None => None,
+    }
+}
+
+fn entity_deleted(
+    alloc: Global,
+    asking: &Asking<'_>,
+    batch: &Batch,
+    id: &Option<Uid>,
+) -> Result<Judged, Memory>
+    requires { IsBatch batch.now }
+    ensures { IfOk result (λ judged. judged ≡ option_map_or
+        (λ own. Judged.Deleted (deletes.entity_gone (facts asking.now.world.now) batch.now.verdict.writes own)) id.now Judged.Nothing) }
+{
+    match id {
+        Some(id) => {
+            let writes = entity_gone(alloc, asking.world, batch, *id)?;
+            Ok(Judged::Deleted(writes))
+        }
+        None => Ok(Judged::Nothing),
+    }
+}
+
+fn enrollment_deleted(
+    alloc: Global,
+    asking: &Asking<'_>,
+    batch: &Batch,
+    id: &Option<Uid>,
+) -> Result<Judged, Memory>
+    requires { IsBatch batch.now }
+    ensures { IfOk result (λ judged. judged ≡ option_map_or
+        (λ own. Judged.Deleted (deletes.enrollment_gone (facts asking.now.world.now) batch.now.verdict.writes own)) id.now Judged.Nothing) }
+{
+    match id {
+        Some(id) => {
+            let writes = enrollment_gone(alloc, asking.world, batch, *id)?;
+            Ok(Judged::Deleted(writes))
+        }
+        None => Ok(Judged::Nothing),
+    }
+}
+
+fn event_deleted(alloc: Global, id: &Option<Uid>) -> Result<Judged, Memory>
+    ensures { IfOk result (λ judged. judged ≡ option_map_or (λ own. Judged.Deleted (Write.EventDeleted own ∷ [])) id.now Judged.Nothing) }
+{
+    match id {
+        Some(id) => {
+            let writes = only(alloc, Write::EventDeleted(*id))?;
+            Ok(Judged::Deleted(writes))
+        }
+        None => Ok(Judged::Nothing),
+    }
+}
+
+// What an entity comes to that is to be taken away.
+#[tactic(auto, unfolding(crate::specs::Verdicts::entity_delete))]
+fn delete_entity(
+    alloc: Global,
+    asking: &Asking<'_>,
+    batch: &Batch,
+    id: &Option<Uid>,
+) -> Result<Judged, Memory>
+    requires who { IsKnown asking.now.meta.now asking.now.who }
+    requires held { IsBatch batch.now }
+    ensures { IfOk result (λ judged. judged ≡ verdicts.entity_delete (facts asking.now.world.now) asking.now.meta.now asking.now.who
+        asking.now.strategy (sofar_of batch.now.verdict batch.now.judged) id.now) }
+{
+    let live = live_entity_at(asking.world, batch, id);
+    let repeated = is_repeated(batch, id);
+    match delete_conflict(asking, repeated, Kind::TrackedEntityType, id, &live) {
+        Some(code) => Ok(Judged::Refused(code)),
+        None => entity_deleted(alloc, asking, batch, id),
+    }
+}
+
+// What an enrollment comes to that is to be taken away.
+#[tactic(auto, unfolding(crate::specs::Verdicts::enrollment_delete))]
+fn delete_enrollment(
+    alloc: Global,
+    asking: &Asking<'_>,
+    batch: &Batch,
+    id: &Option<Uid>,
+) -> Result<Judged, Memory>
+    requires who { IsKnown asking.now.meta.now asking.now.who }
+    requires held { IsBatch batch.now }
+    ensures { IfOk result (λ judged. judged ≡ verdicts.enrollment_delete (facts asking.now.world.now) asking.now.meta.now asking.now.who
+        asking.now.strategy (sofar_of batch.now.verdict batch.now.judged) id.now) }
+{
+    let before = enrollment_of(asking.world, batch, id);
+    let live = live_enrollment_of(asking.world, batch, &before);
+    let repeated = is_repeated(batch, id);
+    match delete_conflict(asking, repeated, Kind::Program, id, &live) {
+        Some(code) => Ok(Judged::Refused(code)),
+        None => enrollment_deleted(alloc, asking, batch, id),
+    }
+}
+
+// What an event comes to that is to be taken away.
+#[tactic(auto, unfolding(crate::specs::Verdicts::event_delete))]
+fn delete_event(
+    alloc: Global,
+    asking: &Asking<'_>,
+    batch: &Batch,
+    id: &Option<Uid>,
+) -> Result<Judged, Memory>
+    requires who { IsKnown asking.now.meta.now asking.now.who }
+    requires held { IsBatch batch.now }
+    ensures { IfOk result (λ judged. judged ≡ verdicts.event_delete (facts asking.now.world.now) asking.now.meta.now asking.now.who
+        asking.now.strategy (sofar_of batch.now.verdict batch.now.judged) id.now) }
+{
+    let before = event_of(asking.world, batch, id);
+    let live = live_event_of(asking.world, batch, &before);
+    let repeated = is_repeated(batch, id);
+    match delete_conflict(asking, repeated, Kind::Program, id, &live) {
+        Some(code) => Ok(Judged::Refused(code)),
+        None => event_deleted(alloc, id),
+    }
+}
+
+// What an entity comes to that is to be written.
+#[tactic(auto, unfolding(crate::specs::Verdicts::entity_write))]
+fn write_entity(
+    alloc: Global,
+    asking: &Asking<'_>,
+    world: &World,
+    batch: &Batch,
+    asked: &BundleEntity,
+) -> Result<Judged, Memory>
+    requires who { IsKnown asking.now.meta.now asking.now.who }
+    requires same { world.now ≡ asking.now.world.now }
+    requires held { IsBatch batch.now }
+    ensures { IfOk result (λ judged. judged ≡ verdicts.entity_write (facts asking.now.world.now) asking.now.meta.now asking.now.who
+        asking.now.strategy (sofar_of batch.now.verdict batch.now.judged) asked.now) }
+{
+    let id = id_in(&asked.id);
+    let before = entity_of(world, batch, &id);
+    judge_entity(alloc, asking, before, is_repeated(batch, &id), asked)
+}
+
+// What an enrollment comes to that is to be written.
+#[tactic(auto, unfolding(crate::specs::Verdicts::enrollment_write))]
+fn write_enrollment(
+    alloc: Global,
+    asking: &Asking<'_>,
+    world: &World,
+    batch: &Batch,
+    asked: &BundleEnrollment,
+) -> Result<Judged, Memory>
+    requires who { IsKnown asking.now.meta.now asking.now.who }
+    requires same { world.now ≡ asking.now.world.now }
+    requires held { IsBatch batch.now }
+    ensures { IfOk result (λ judged. judged ≡ verdicts.enrollment_write (facts asking.now.world.now) asking.now.meta.now asking.now.who
+        asking.now.strategy (sofar_of batch.now.verdict batch.now.judged) asked.now) }
+{
+    let id = id_in(&asked.id);
+    let live = enrollment_of(world, batch, &id).is_some();
+    let repeated = is_repeated(batch, &id);
+    let parent = entity_of(world, batch, &id_in(&asked.entity));
+    judge_enrollment(alloc, asking, Standing { live, repeated }, parent, asked)
+}
+
+// What an event comes to that is to be written.
+#[tactic(auto, unfolding(crate::specs::Verdicts::event_write))]
+fn write_event(
+    alloc: Global,
+    asking: &Asking<'_>,
+    batch: &Batch,
+    asked: &BundleEvent,
+) -> Result<Judged, Memory>
+    requires who { IsKnown asking.now.meta.now asking.now.who }
+    requires held { IsBatch batch.now }
+    ensures { IfOk result (λ judged. judged ≡ verdicts.event_write (facts asking.now.world.now) asking.now.meta.now asking.now.who
+        asking.now.strategy (sofar_of batch.now.verdict batch.now.judged) asked.now) }
+{
+    let id = id_in(&asked.id);
+    let live = event_of(asking.world, batch, &id).is_some();
+    let repeated = is_repeated(batch, &id);
+    let parent = enrollment_of(asking.world, batch, &id_in(&asked.enrollment));
+    judge_event(alloc, asking, Standing { live, repeated }, parent, asked)
+}
+
+#[tactic(auto, unfolding(crate::specs::Verdicts::with_entity, crate::specs::Verdicts::entity_outcome))]
+fn with_entity(
+    alloc: Global,
+    asking: &Asking<'_>,
+    batch: &mut Batch,
+    asked: &BundleEntity,
+) -> Result<(), Memory>
+    requires who { IsKnown asking.now.meta.now asking.now.who }
+    requires held { IsBatch batch.old }
+    ensures sofar { OnOk result (sofar_of batch.new.verdict batch.new.judged ≡ verdicts.with_entity (facts asking.now.world.now) asking.now.meta.now
+        asking.now.who asking.now.strategy asked.now (sofar_of batch.old.verdict batch.old.judged)) }
+    ensures held { OnOk result (IsBatch batch.new) }
+{
+    let id = id_in(&asked.id);
+    let judged = if is_delete_all(asking.strategy) {
+        delete_entity(alloc, asking, batch, &id)?
+    } else {
+        write_entity(alloc, asking, asking.world, batch, asked)?
+    };
+    take_in(alloc, batch, &id, judged)
+}
+
+#[tactic(auto, unfolding(crate::specs::Verdicts::with_enrollment, crate::specs::Verdicts::enrollment_outcome))]
+fn with_enrollment(
+    alloc: Global,
+    asking: &Asking<'_>,
+    batch: &mut Batch,
+    asked: &BundleEnrollment,
+) -> Result<(), Memory>
+    requires who { IsKnown asking.now.meta.now asking.now.who }
+    requires held { IsBatch batch.old }
+    ensures sofar { OnOk result (sofar_of batch.new.verdict batch.new.judged ≡ verdicts.with_enrollment (facts asking.now.world.now) asking.now.meta.now
+        asking.now.who asking.now.strategy asked.now (sofar_of batch.old.verdict batch.old.judged)) }
+    ensures held { OnOk result (IsBatch batch.new) }
+{
+    let id = id_in(&asked.id);
+    let judged = if is_delete_all(asking.strategy) {
+        delete_enrollment(alloc, asking, batch, &id)?
+    } else {
+        write_enrollment(alloc, asking, asking.world, batch, asked)?
+    };
+    take_in(alloc, batch, &id, judged)
+}
+
+#[tactic(auto, unfolding(crate::specs::Verdicts::with_event, crate::specs::Verdicts::event_outcome))]
+fn with_event(
+    alloc: Global,
+    asking: &Asking<'_>,
+    batch: &mut Batch,
+    asked: &BundleEvent,
+) -> Result<(), Memory>
+    requires who { IsKnown asking.now.meta.now asking.now.who }
+    requires held { IsBatch batch.old }
+    ensures sofar { OnOk result (sofar_of batch.new.verdict batch.new.judged ≡ verdicts.with_event (facts asking.now.world.now) asking.now.meta.now
+        asking.now.who asking.now.strategy asked.now (sofar_of batch.old.verdict batch.old.judged)) }
+    ensures held { OnOk result (IsBatch batch.new) }
+{
+    let id = id_in(&asked.id);
+    let judged = if is_delete_all(asking.strategy) {
+        delete_event(alloc, asking, batch, &id)?
+    } else {
+        write_event(alloc, asking, batch, asked)?
+    };
+    take_in(alloc, batch, &id, judged)
+}
+
+fn with_entities(
+    alloc: Global,
+    asking: &Asking<'_>,
+    batch: &mut Batch,
+    list: &[BundleEntity],
+) -> Result<(), Memory>
+    requires who { IsKnown asking.now.meta.now asking.now.who }
+    requires held { IsBatch batch.old }
+    ensures sofar { OnOk result (sofar_of batch.new.verdict batch.new.judged ≡ verdicts.with_entities (facts asking.now.world.now) asking.now.meta.now
+        asking.now.who asking.now.strategy list.now (sofar_of batch.old.verdict batch.old.judged)) }
+    ensures held { OnOk result (IsBatch batch.new) }
+{
+    for asked in list {
+        with_entity(alloc, asking, batch, asked)?;
+    }
+    Ok(())
+}
+
+fn with_enrollments(
+    alloc: Global,
+    asking: &Asking<'_>,
+    batch: &mut Batch,
+    list: &[BundleEnrollment],
+) -> Result<(), Memory>
+    requires who { IsKnown asking.now.meta.now asking.now.who }
+    requires held { IsBatch batch.old }
+    ensures sofar { OnOk result (sofar_of batch.new.verdict batch.new.judged ≡ verdicts.with_enrollments (facts asking.now.world.now) asking.now.meta.now
+        asking.now.who asking.now.strategy list.now (sofar_of batch.old.verdict batch.old.judged)) }
+    ensures held { OnOk result (IsBatch batch.new) }
+{
+    for asked in list {
+        with_enrollment(alloc, asking, batch, asked)?;
+    }
+    Ok(())
+}
+
+fn with_events(
+    alloc: Global,
+    asking: &Asking<'_>,
+    batch: &mut Batch,
+    list: &[BundleEvent],
+) -> Result<(), Memory>
+    requires who { IsKnown asking.now.meta.now asking.now.who }
+    requires held { IsBatch batch.old }
+    ensures sofar { OnOk result (sofar_of batch.new.verdict batch.new.judged ≡ verdicts.with_events (facts asking.now.world.now) asking.now.meta.now
+        asking.now.who asking.now.strategy list.now (sofar_of batch.old.verdict batch.old.judged)) }
+    ensures held { OnOk result (IsBatch batch.new) }
+{
+    for asked in list {
+        with_event(alloc, asking, batch, asked)?;
+    }
+    Ok(())
+}
+
+#[tactic(auto, unfolding(crate::specs::Verdicts::with_all))]
+fn with_all(
+    alloc: Global,
+    asking: &Asking<'_>,
+    batch: &mut Batch,
+    bundle: &Bundle,
+) -> Result<(), Memory>
+    requires who { IsKnown asking.now.meta.now asking.now.who }
+    requires held { IsBatch batch.old }
+    requires none { sofar_of batch.old.verdict batch.old.judged ≡ outcomes.none }
+    requires strategy { asking.now.strategy ≡ bundle.now.params.strategy }
+    ensures sofar { OnOk result (sofar_of batch.new.verdict batch.new.judged ≡ verdicts.with_all (facts asking.now.world.now) asking.now.meta.now
+        asking.now.who bundle.now) }
+    ensures held { OnOk result (IsBatch batch.new) }
+{
+    if is_delete_all(asking.strategy) {
+        with_events(alloc, asking, batch, bundle.events.as_slice())?;
+        with_enrollments(alloc, asking, batch, bundle.enrollments.as_slice())?;
+        with_entities(alloc, asking, batch, bundle.entities.as_slice())
+    } else {
+        with_entities(alloc, asking, batch, bundle.entities.as_slice())?;
+        with_enrollments(alloc, asking, batch, bundle.enrollments.as_slice())?;
+        with_events(alloc, asking, batch, bundle.events.as_slice())
+    }
+}
+
+#[tactic(auto, unfolding(crate::specs::Outcomes::finished))]
+fn finished(alloc: Global, atomic: bool, batch: Batch) -> Verdict
+    requires { AreAtMost (length batch.judged) batch.verdict }
+    ensures value { result ≡ outcomes.finished atomic (sofar_of batch.verdict batch.judged) }
+    ensures total { outcomes.total_of result < 2 ^ 64 }
+{
+    let Batch {
+        mut verdict,
+        judged,
+        seen: _,
+        notes: _,
+    } = batch;
+    if atomic && !verdict.conflicts.is_empty() {
+        verdict.writes = Items::new(alloc);
+        verdict.imported = 0;
+        verdict.updated = 0;
+        verdict.ignored = judged.len() as u64;
+        verdict.deleted = 0;
+    }
+    verdict
+}
+
+/// The verdict on a tracker bundle. Each object is judged by what holds after the log and the writes accepted before it
+/// in the bundle. A user is named by a number of the metadata. `imported` counts the objects created.
+#[tactic(auto, unfolding(crate::specs::Verdicts::verdict_of))]
+pub fn verdict(
+    alloc: Global,
+    world: &World,
+    meta: &Metadata,
+    who: Who,
+    bundle: &Bundle,
+) -> Result<Verdict, Memory>
+    requires { IsKnown meta.now who }
+    ensures value { IfOk result (λ verdict. verdict ≡ verdicts.verdict_of (facts world.now) meta.now who bundle.now) }
+    ensures total { IfOk result (λ verdict. outcomes.total_of verdict < 2 ^ 64) }
+{
+    let asking = Asking {
+        world,
+        meta,
+        who,
+        strategy: bundle.params.strategy,
+    };
+    let mut batch = empty_batch(alloc);
+    with_all(alloc, &asking, &mut batch, bundle)?;
+    Ok(finished(alloc, bundle.params.atomic, batch))
+}

@@ -1,0 +1,5 @@
+pub mod CheckLemmas
+pub mod OrderLemmas
+pub mod SideLemmas
+pub mod BodyLemmas
+pub mod UnseenLemmas

@@ -1,0 +1,26 @@
+use Rattle.std.proofs.Common.{◌≡◌, ◌∙◌, Option, get_or, sym, ap}
+use Rattle.std.proofs.lemmas.List.{get_or_default}
+use Rattle.cell_values.specs.Seen.{seen_of, contents_of}
+use Rattle.validation.specs.declared.outcome.Violation.{Violation}
+use Rattle.validation.specs.Run.{violation_in, with_violation}
+use Rattle.validation.specs.Check.{id_of, outcome_of}
+use Rattle.validation.proofs.CheckLemmas.{SoFar-more, rules-more}
+use Rattle.validation.proofs.checks.check_all.Goals as goal
+
+pub loop-number-preserved : goal.loop-number-preserved
+loop-number-preserved g c =
+    let r = c.args.source.now.meta.now in
+    let i = c.loop-number.number-index in
+    let n = get_or c.args.order.now i 0 in
+    let at : n ≡ get_or c.args.order.now i n = get_or_default c.args.order.now i 0 n c.loop-number-test.true in
+    let list : c.add.new.violations ≡ with_violation (violation_in c.in_ok-outcome.outcome) c.loop-number.violations =
+    c.in_ok-add.ensures ∙ ap (λ (f : Option Violation). with_violation f c.loop-number.violations) c.violation_in-found.ensures in
+    record {
+      is = SoFar-more (id_of r) (outcome_of r c.args.source.now.seer.now.user (seen_of r c.args.source.now.seer.now.user
+          (contents_of (g.S.RowStore.rows c.args.source.now.store.now) (g.S.RowStore.events c.args.source.now.store.now)
+          (g.S.RowStore.regs c.args.source.now.store.now))) c.args.place.now)
+          c.args.order.now i n c.loop-number.violations c.add.new.violations c.in_ok-outcome.outcome c.loop-number-test.true at
+          c.in_ok-outcome.ensures.value (sym c.is_wide_outcome.ensures ∙ c.if-is_wide_outcome.false) list c.loop-number.invariant.is;
+      rules = rules-more r n c.in_ok-outcome.outcome c.loop-number.violations c.add.new.violations list c.in_ok-outcome.ensures.rule
+          c.loop-number.invariant.rules;
+    }

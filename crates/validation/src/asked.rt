@@ -1,0 +1,56 @@
+//! Which rules are asked of a data set and a period.
+ghost use Rattle.std.specs.Prelude.{◌≡◌, ◌<◌, length};
+ghost use Rattle.std.specs.List.{list_all};
+ghost use Rattle.validation.specs.Check.{has_element_named, is_in_set, are_in_set, fits};
+
+use dh_base::uid::Uid;
+use dh_metadata::metadata::Metadata;
+use dh_periods::PeriodType;
+use expr_lang::{Expr, Item};
+use meta_parts::kind::Kind;
+use meta_parts::records::Rule;
+
+fn has_element(meta: &Metadata, set: u32, element: &Uid) -> bool
+    requires { set < length meta.now.data_sets }
+    ensures { result ≡ has_element_named meta.now set element.now }
+{
+    match meta.find(Kind::DataElement, *element) {
+        None => false,
+        Some(number) => meta.has_element(set, number),
+    }
+}
+
+fn is_in_set(meta: &Metadata, set: u32, item: &Item) -> bool
+    requires { set < length meta.now.data_sets }
+    ensures { result ≡ is_in_set meta.now set item.now }
+{
+    match item {
+        Item::Element { element, .. } => has_element(meta, set, element),
+        _ => true,
+    }
+}
+
+/// Whether all elements of the expression stand in the data set.
+#[tactic(auto, unfolding(crate::specs::Check::are_in_set))]
+fn are_in_set(meta: &Metadata, set: u32, expr: &Expr) -> bool
+    requires { set < length meta.now.data_sets }
+    ensures { result ≡ are_in_set meta.now set expr.now }
+{
+    for item in expr.items() {
+        if !is_in_set(meta, set, item) {
+            return false;
+        }
+    }
+    true
+}
+
+/// Whether the rule is one of periods of that type, and its elements stand in the data set.
+#[tactic(auto, unfolding(crate::specs::Check::fits))]
+pub(crate) fn fits(meta: &Metadata, set: u32, kind: PeriodType, rule: &Rule) -> bool
+    requires { set < length meta.now.data_sets }
+    ensures { result ≡ fits meta.now set kind rule.now }
+{
+    rule.period_type == kind
+        && are_in_set(meta, set, &rule.left_side.0)
+        && are_in_set(meta, set, &rule.right_side.0)
+}

@@ -1,0 +1,198 @@
+//! The check.
+ghost use Rattle.std.specs.Prelude.{◌≡◌, ◌<◌, Some, length, IfOk, OnOk};
+ghost use Rattle.std.specs.List.{All};
+ghost use Rattle.dh_base.specs.Memory.{Answers};
+ghost use Rattle.cell_values.specs.Seen.{seen_of, contents_of};
+ghost use Rattle.validation.specs.Check.{id_of, rule_outcome, outcome_of, check_all, check_of};
+ghost use Rattle.validation.specs.Run.{cause_of, IsChecking, IsRuleOf, IsOutcomeOf, is_wide_outcome, violation_in, with_violation};
+
+use crate::asked::fits;
+use crate::judge::judged;
+use crate::order::rules_by_id;
+use crate::outcome::{Outcome, Violation};
+use crate::place::Place;
+use crate::sides::side_value;
+use cell_values::Source;
+use dh_base::frac::Frac;
+use dh_base::items::Items;
+use dh_base::memory::Memory;
+use dh_base::uid::Uid;
+use dh_metadata::metadata::Metadata;
+use meta_parts::kind::Kind;
+use meta_parts::records::Rule;
+use std::alloc::{AllocFailed, Global};
+use table_rows::RowStore;
+
+/// Why a check gives no violations.
+#[derive(Clone, Copy, PartialEq, Eq)]
+pub enum CheckFault {
+    /// A side or the comparison of a rule is too wide to be computed. It carries the identifier of
+    /// the first such rule.
+    Wide { id: Uid },
+    /// Memory ran out.
+    Memory,
+}
+
+impl From<Memory> for CheckFault {
+    ghost use Rattle.validation.specs.declared.checks.CheckFault.TheVariants as fault;
+
+    ghost from_gives = { λ _ made. made ≡ fault.Memory };
+
+    fn from(_fault: Memory) -> CheckFault {
+        CheckFault::Memory
+    }
+}
+
+impl<T: Drop> From<AllocFailed<T>> for CheckFault {
+    ghost use Rattle.validation.specs.declared.checks.CheckFault.TheVariants as fault;
+
+    ghost from_gives = { λ _ made. made ≡ fault.Memory };
+
+    fn from(_error: AllocFailed<T>) -> CheckFault {
+        CheckFault::Memory
+    }
+}
+
+/// What comes of a rule that is asked.
+fn rule_outcome<S: RowStore>(
+    alloc: Global,
+    source: &Source<'_, S>,
+    place: &Place,
+    number: u32,
+    rule: &Rule,
+) -> Result<Outcome, Memory>
+    requires place { IsChecking source.now.meta.now source.now.seer.now place.now }
+    requires rule { number < length source.now.meta.now.validation_rules }
+    ensures rule { IfOk result (λ outcome. IsOutcomeOf source.now.meta.now number outcome) }
+    ensures value { IfOk result (λ outcome. outcome ≡ rule_outcome source.now.meta.now
+        (seen_of source.now.meta.now source.now.seer.now.user
+        (contents_of (S.rows source.now.store.now) (S.events source.now.store.now) (S.regs source.now.store.now)))
+        place.now number rule.now) }
+{
+    if !fits(source.meta, place.set, place.period.kind(), rule) {
+        return Ok(Outcome::Kept);
+    }
+    let left = side_value(alloc, source, place, &rule.left_side)?;
+    let right = side_value(alloc, source, place, &rule.right_side)?;
+    Ok(judged(rule.operator, number, &left, &right))
+}
+
+/// What comes of the rule with that number. One that the user may not read isn't asked.
+#[tactic(auto, unfolding(crate::specs::Check::outcome_of))]
+fn outcome_of<S: RowStore>(
+    alloc: Global,
+    source: &Source<'_, S>,
+    place: &Place,
+    number: u32,
+) -> Result<Outcome, Memory>
+    requires { IsChecking source.now.meta.now source.now.seer.now place.now }
+    ensures rule { IfOk result (λ outcome. IsOutcomeOf source.now.meta.now number outcome) }
+    ensures value { IfOk result (λ outcome. outcome ≡ outcome_of source.now.meta.now source.now.seer.now.user
+        (seen_of source.now.meta.now source.now.seer.now.user
+        (contents_of (S.rows source.now.store.now) (S.events source.now.store.now) (S.regs source.now.store.now)))
+        place.now number) }
+{
+    let meta = source.meta;
+    if !source.seer.may_read(meta, Kind::ValidationRule, number) {
+        return Ok(Outcome::Kept);
+    }
+    if meta.count(Kind::ValidationRule) <= number {
+        return Ok(Outcome::Kept);
+    }
+    rule_outcome(alloc, source, place, number, meta.rule(number))
+}
+
+/// The rule's identifier.
+fn wide_rule(meta: &Metadata, number: u32) -> CheckFault
+    requires { number < length meta.now.validation_rules }
+    ensures { cause_of result ≡ Some (id_of meta.now number) }
+{
+    CheckFault::Wide {
+        id: meta.rule(number).id,
+    }
+}
+
+fn is_wide_outcome(outcome: &Outcome) -> bool
+    ensures { result ≡ is_wide_outcome outcome.now }
+{
+    match outcome {
+        Outcome::Wide => true,
+        Outcome::Kept | Outcome::Violated(_) => false,
+    }
+}
+
+fn violation_in(outcome: &Outcome) -> Option<Violation>
+    ensures { result ≡ violation_in outcome.now }
+{
+    match outcome {
+        Outcome::Violated(violation) => Some(*violation),
+        Outcome::Wide | Outcome::Kept => None,
+    }
+}
+
+// The fields are named one by one, since the prover has to be told of their types where the list is changed.
+fn push(
+    violations: &mut Items<Violation>,
+    rule: u32,
+    left: Option<Frac>,
+    right: Option<Frac>,
+) -> Result<(), Memory>
+    ensures { OnOk result (violations.new ≡ with_violation (Some (record { rule = rule; left = left; right = right })) violations.old) }
+{
+    violations.push(Violation { rule, left, right })?;
+    Ok(())
+}
+
+/// Adds the violation, where there is one.
+fn add(violations: &mut Items<Violation>, found: &Option<Violation>) -> Result<(), Memory>
+    ensures { OnOk result (violations.new ≡ with_violation found.now violations.old) }
+{
+    match found {
+        None => Ok(()),
+        Some(violation) => push(violations, violation.rule, violation.left, violation.right),
+    }
+}
+
+/// The violations of these rules, one after the other.
+fn check_all<S: RowStore>(
+    alloc: Global,
+    source: &Source<'_, S>,
+    place: &Place,
+    order: &[u32],
+) -> Result<Items<Violation>, CheckFault>
+    requires { IsChecking source.now.meta.now source.now.seer.now place.now }
+    ensures rules { IfOk result (λ violations. All (IsRuleOf source.now.meta.now) violations) }
+    ensures value { Answers cause_of (check_all (id_of source.now.meta.now) (outcome_of source.now.meta.now source.now.seer.now.user
+        (seen_of source.now.meta.now source.now.seer.now.user
+        (contents_of (S.rows source.now.store.now) (S.events source.now.store.now) (S.regs source.now.store.now)))
+        place.now) order.now) result }
+{
+    let mut violations = Items::new(alloc);
+    for number in order {
+        let outcome = outcome_of(alloc, source, place, *number)?;
+        if is_wide_outcome(&outcome) {
+            return Err(wide_rule(source.meta, *number));
+        }
+        let found = violation_in(&outcome);
+        add(&mut violations, &found)?;
+    }
+    Ok(violations)
+}
+
+/// The violations over the records that the user sees, in the order of the rules' identifiers.
+#[tactic(auto, unfolding(crate::specs::Check::check_of))]
+pub fn run<S: RowStore>(
+    alloc: Global,
+    source: &Source<'_, S>,
+    place: &Place,
+) -> Result<Items<Violation>, CheckFault>
+    requires { IsChecking source.now.meta.now source.now.seer.now place.now }
+    ensures rules { IfOk result (λ violations. All (IsRuleOf source.now.meta.now) violations) }
+    ensures value { Answers cause_of (check_of source.now.meta.now source.now.seer.now.user
+        (seen_of source.now.meta.now source.now.seer.now.user
+        (contents_of (S.rows source.now.store.now) (S.events source.now.store.now) (S.regs source.now.store.now)))
+        place.now) result }
+{
+    let order = rules_by_id(alloc, source.meta)?;
+    check_all(alloc, source, place, &order)
+}

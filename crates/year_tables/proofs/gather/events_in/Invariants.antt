@@ -1,0 +1,9 @@
+use Rattle.std.proofs.Common.{◌≡◌, take}
+use Rattle.table_rows.specs.Cells.{gathered}
+use Rattle.table_rows.specs.Events.{events_of}
+use Rattle.year_tables.specs.Parts.{YearPart}
+use Rattle.year_tables.proofs.gather.events_in.Given as goal
+
+abbrev pub invariant-loop-part : goal.invariant-loop-part
+invariant-loop-part l =
+    l.events.items ≡ gathered (λ (part : YearPart). events_of l.asked.program l.asked.from_day l.asked.to_day part.contents.events) (take l.part-index l.parts)

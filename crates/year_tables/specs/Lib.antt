@@ -1,0 +1,3 @@
+pub mod Years
+pub mod Ascending
+pub mod Parts

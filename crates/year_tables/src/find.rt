@@ -1,0 +1,68 @@
+//! Answers from the one part of a group's year.
+ghost use Rattle.std.specs.Prelude.{◌≡◌, ◌<◌, true, false, ℤ, length, get_or, IfOk, IfSome, IfNone};
+ghost use Rattle.std.specs.List.{list_any};
+ghost use Rattle.std.specs.Ordering.{int_cmp, int_eq};
+ghost use Rattle.table_rows.specs.Rows.{wanted_rows};
+ghost use Rattle.table_rows.specs.Store.{rises};
+ghost use Rattle.table_rows.specs.Sums.{sum_of_rows, IsSized};
+ghost use Rattle.year_tables.specs.Parts.{ArePartitions, rows_together, years_in};
+
+use crate::part::Partition;
+use dh_base::items::Items;
+use dh_base::memory::Memory;
+use dh_base::plain::Need;
+use std::alloc::Global;
+use table_rows::{Group, Row, Sum};
+
+// Where a year stands among ascending years.
+fn place_of(years: &[i32], year: i32) -> Option<usize>
+    requires { rises int_cmp years.now ≡ true }
+    ensures found { IfSome result (λ at. at < length years.now) }
+    ensures year { IfSome result (λ at. (d : ℤ) → get_or years.now at d ≡ year) }
+    ensures none { IfNone result (list_any (int_eq year) years.now ≡ false) }
+{
+    match years.binary_search(&year) {
+        Ok(at) => Some(at),
+        Err(_) => None,
+    }
+}
+
+/// The sum of the rows of the group that meet the need, in a range of orders.
+pub(crate) fn sum_in(
+    parts: &[Partition],
+    years: &[i32],
+    group: &Group,
+    need: Need,
+    from: u32,
+    to: u32,
+) -> Sum
+    requires parts { ArePartitions parts.now }
+    requires years { years.now ≡ years_in parts.now }
+    ensures sum { result ≡ sum_of_rows (wanted_rows group.now need from to (rows_together parts.now)) }
+    ensures size { IsSized result }
+{
+    match place_of(years, group.period.year()) {
+        Some(at) => parts[at].range_sum(group, need, from, to),
+        None => Sum::none(),
+    }
+}
+
+/// These rows themselves.
+pub(crate) fn rows_in(
+    alloc: Global,
+    parts: &[Partition],
+    years: &[i32],
+    group: &Group,
+    need: Need,
+    from: u32,
+    to: u32,
+) -> Result<Items<Row>, Memory>
+    requires parts { ArePartitions parts.now }
+    requires years { years.now ≡ years_in parts.now }
+    ensures { IfOk result (λ found. found ≡ wanted_rows group.now need from to (rows_together parts.now)) }
+{
+    match place_of(years, group.period.year()) {
+        Some(at) => parts[at].rows_of(alloc, group, need, from, to),
+        None => Ok(Items::new(alloc)),
+    }
+}

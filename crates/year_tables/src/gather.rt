@@ -1,0 +1,113 @@
+//! Answers from the parts of all years.
+ghost use Rattle.std.specs.Prelude.{◌≡◌, ◌++◌, IfOk, OnOk};
+ghost use Rattle.std.specs.List.Sorted.{IsStrictlySortedBy};
+ghost use Rattle.table_rows.specs.Events.{events_of, regs_of, reg_cmp};
+ghost use Rattle.table_rows.specs.Groups.{groups_of};
+ghost use Rattle.table_rows.specs.Order.{group_cmp};
+ghost use Rattle.year_tables.specs.Ascending.{ascending};
+ghost use Rattle.year_tables.specs.Parts.{ArePartitions, rows_together, events_together, regs_together};
+
+use crate::part::Partition;
+use crate::ranked::merged;
+use dh_base::items::Items;
+use dh_base::memory::Memory;
+use std::alloc::Global;
+use table_rows::{EventRow, Group, RegRow};
+
+fn with_groups(
+    alloc: Global,
+    groups: &[Group],
+    part: &Partition,
+    element: u32,
+) -> Result<Vec<Group>, Memory>
+    requires known { IsStrictlySortedBy group_cmp groups.now }
+    requires more { IsStrictlySortedBy group_cmp (groups_of element part.now.contents.rows) }
+    ensures { IfOk result (λ all. all.items ≡ ascending group_cmp (groups.now ++ groups_of element part.now.contents.rows)) }
+{
+    let more = part.groups(alloc, element)?;
+    merged(alloc, groups, more.as_slice())
+}
+
+/// The groups of an element, in order.
+pub(crate) fn groups_in(
+    alloc: Global,
+    parts: &[Partition],
+    element: u32,
+) -> Result<Items<Group>, Memory>
+    requires { ArePartitions parts.now }
+    ensures { IfOk result (λ groups. groups ≡ groups_of element (rows_together parts.now)) }
+{
+    let mut groups: Vec<Group> = Vec::new(alloc);
+    for part in parts {
+        groups = with_groups(alloc, &groups, part, element)?;
+    }
+    Ok(Items::from(groups))
+}
+
+fn with_regs(
+    alloc: Global,
+    regs: &[RegRow],
+    part: &Partition,
+    set: u32,
+) -> Result<Vec<RegRow>, Memory>
+    requires known { IsStrictlySortedBy reg_cmp regs.now }
+    requires more { IsStrictlySortedBy reg_cmp (regs_of set part.now.contents.regs) }
+    ensures { IfOk result (λ all. all.items ≡ ascending reg_cmp (regs.now ++ regs_of set part.now.contents.regs)) }
+{
+    let more = part.regs_of(alloc, set)?;
+    merged(alloc, regs, more.as_slice())
+}
+
+/// The registrations of a data set, in order.
+pub(crate) fn regs_in(alloc: Global, parts: &[Partition], set: u32) -> Result<Items<RegRow>, Memory>
+    requires { ArePartitions parts.now }
+    ensures { IfOk result (λ regs. regs ≡ regs_of set (regs_together parts.now)) }
+{
+    let mut regs: Vec<RegRow> = Vec::new(alloc);
+    for part in parts {
+        regs = with_regs(alloc, &regs, part, set)?;
+    }
+    Ok(Items::from(regs))
+}
+
+/// The events that are asked for, by program and days.
+#[derive(Clone, Copy)]
+pub(crate) struct Asked {
+    pub program: u32,
+    pub from_day: i32,
+    pub to_day: i32,
+}
+
+fn add_events(
+    alloc: Global,
+    events: &mut Vec<EventRow>,
+    part: &Partition,
+    asked: &Asked,
+) -> Result<(), Memory>
+    ensures { OnOk result (events.new.items ≡ events.old.items ++ events_of asked.now.program asked.now.from_day asked.now.to_day part.now.contents.events) }
+{
+    let Items { items: mut more } = part.events_of(
+        alloc,
+        asked.program,
+        asked.from_day,
+        asked.to_day,
+    )?;
+    events.append(&mut more)?;
+    Ok(())
+}
+
+/// The events of a program from the one day to the other, by day and identifier.
+pub(crate) fn events_in(
+    alloc: Global,
+    parts: &[Partition],
+    asked: &Asked,
+) -> Result<Items<EventRow>, Memory>
+    requires { ArePartitions parts.now }
+    ensures { IfOk result (λ found. found ≡ events_of asked.now.program asked.now.from_day asked.now.to_day (events_together parts.now)) }
+{
+    let mut events: Vec<EventRow> = Vec::new(alloc);
+    for part in parts {
+        add_events(alloc, &mut events, part, asked)?;
+    }
+    Ok(Items::from(events))
+}
