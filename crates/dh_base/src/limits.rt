@@ -21,6 +21,12 @@ pub const FIRST_DAY: i32 = -25_567;
 /// 31 December 2100, the last day of a record, as days since 1 January 1970.
 pub const LAST_DAY: i32 = 47_846;
 
+/// 1 January 1910, the first day on which a query may be asked, as days since 1 January 1970.
+pub const FIRST_QUERY_DAY: i64 = -21_915;
+
+/// 31 December 2099, the last day on which a query may be asked, as days since 1 January 1970.
+pub const LAST_QUERY_DAY: i64 = 47_481;
+
 /// How many days are counted, from 1 January 1900 to 30 September 2101.
 pub const COUNTED_DAYS: u32 = 73_687;
 

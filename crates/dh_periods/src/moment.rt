@@ -1,12 +1,9 @@
 //! The day of a moment.
-ghost use Rattle.std.specs.Prelude.{◌≡◌, pos, neg_ℤ, ◌≤ℤ◌};
+ghost use Rattle.std.specs.Prelude.{◌≡◌, ◌≤ℤ◌};
+ghost use Rattle.dh_base.specs.declared.limits.TheConstants.{FIRST_QUERY_DAY, LAST_QUERY_DAY};
 ghost use Rattle.dh_periods.specs.Moment.{day_of, whole_days};
 
-/// 1910-01-01.
-const FIRST: i64 = -21_915;
-
-/// 2099-12-31.
-const LAST: i64 = 47_481;
+use dh_base::limits::{FIRST_QUERY_DAY, LAST_QUERY_DAY};
 
 const SECONDS: i64 = 86_400;
 
@@ -21,15 +18,15 @@ fn whole_days(moment: i64) -> i64
 #[tactic(auto, unfolding(crate::specs::Moment::day_of))]
 pub fn day_of(moment: i64) -> i32
     ensures value { result ≡ day_of moment }
-    ensures from { neg_ℤ (pos 21915) ≤ℤ result }
-    ensures to { result ≤ℤ pos 47481 }
+    ensures from { FIRST_QUERY_DAY ≤ℤ result }
+    ensures to { result ≤ℤ LAST_QUERY_DAY }
 {
     let days = whole_days(moment);
-    if days < FIRST {
-        return FIRST as i32;
+    if days < FIRST_QUERY_DAY {
+        return FIRST_QUERY_DAY as i32;
     }
-    if LAST < days {
-        return LAST as i32;
+    if LAST_QUERY_DAY < days {
+        return LAST_QUERY_DAY as i32;
     }
     days as i32
 }

@@ -1,5 +1,6 @@
 //! Relative periods.
-ghost use Rattle.std.specs.Prelude.{◌≡◌, ◌≤◌, ◌<◌, ◌+◌, ◌-◌, ◌*◌, ℕ, pos, neg_ℤ, ◌≤ℤ◌, IsTrue, IfSome, IfOk, option_map};
+ghost use Rattle.std.specs.Prelude.{◌≡◌, ◌≤◌, ◌<◌, ◌+◌, ◌-◌, ◌*◌, ℕ, ◌≤ℤ◌, IsTrue, IfSome, IfOk, option_map};
+ghost use Rattle.dh_base.specs.declared.limits.TheConstants.{FIRST_QUERY_DAY, LAST_QUERY_DAY};
 ghost use Rattle.dh_periods.specs.Days.{is_listed};
 ghost use Rattle.dh_periods.specs.Places.{nth_period, place_with};
 ghost use Rattle.dh_periods.specs.Relative.{before_of, single_named, several_named, relative_named, IsReach, IsYearRun, HasReach, run_of, periods_on};
@@ -184,8 +185,8 @@ fn periods_on(alloc: Global, relative: Stretch, place: u32) -> Result<Vec<Period
 /// The periods that a relative name stands for on a day from 1 January 1910 to 31 December 2099,
 /// oldest first, or `None` where there is no such name.
 pub fn relative(alloc: Global, name: &[u8], day: i32) -> Result<Option<Vec<Period>>, Memory>
-    requires from { neg_ℤ (pos 21915) ≤ℤ day }
-    requires to { day ≤ℤ pos 47481 }
+    requires from { FIRST_QUERY_DAY ≤ℤ day }
+    requires to { day ≤ℤ LAST_QUERY_DAY }
     ensures { IfOk result
         (λ found. option_map (λ periods. periods.items) found ≡ relative_of name.now day) }
 {

@@ -1,5 +1,6 @@
 //! The periods of the dimension `pe`.
-ghost use Rattle.std.specs.Prelude.{◌≡◌, [], ◌∷◌, pos, neg_ℤ, ◌≤ℤ◌, IfOk, OnOk, Some, None, if◌then◌else◌, option_map};
+ghost use Rattle.std.specs.Prelude.{◌≡◌, [], ◌∷◌, ◌≤ℤ◌, IfOk, OnOk, Some, None, if◌then◌else◌, option_map};
+ghost use Rattle.dh_base.specs.declared.limits.TheConstants.{FIRST_QUERY_DAY, LAST_QUERY_DAY};
 ghost use Rattle.dh_periods.specs.Keys.{same_period};
 ghost use Rattle.query_forms.specs.Once.{with_new, once_from, KnowsPeriods};
 ghost use Rattle.query_forms.specs.Items.{period_form, periods_from, period_items};
@@ -13,8 +14,8 @@ use std::collections::HashSet;
 
 #[tactic(auto, unfolding(crate::specs::Items::period_form))]
 fn period_form(alloc: Global, text: &[u8], day: i32) -> Result<Option<Vec<Period>>, Memory>
-    requires from { neg_ℤ (pos 21915) ≤ℤ day }
-    requires to { day ≤ℤ pos 47481 }
+    requires from { FIRST_QUERY_DAY ≤ℤ day }
+    requires to { day ≤ℤ LAST_QUERY_DAY }
     ensures { IfOk result (λ found. option_map (λ periods. periods.items) found ≡ period_form day text.now) }
 {
     match Period::parse(text) {
@@ -68,8 +69,8 @@ fn put_each(
     texts: &[Items<u8>],
     day: i32,
 ) -> Result<bool, Memory>
-    requires from { neg_ℤ (pos 21915) ≤ℤ day }
-    requires to { day ≤ℤ pos 47481 }
+    requires from { FIRST_QUERY_DAY ≤ℤ day }
+    requires to { day ≤ℤ LAST_QUERY_DAY }
     requires known { KnowsPeriods seen.old kept.old.items }
     ensures { IfOk result (λ whole. periods_from day kept.old.items texts.now ≡ (if whole then Some kept.new.items else None)) }
 {
@@ -87,8 +88,8 @@ fn each_period(
     texts: &[Items<u8>],
     day: i32,
 ) -> Result<Option<Items<Period>>, Memory>
-    requires from { neg_ℤ (pos 21915) ≤ℤ day }
-    requires to { day ≤ℤ pos 47481 }
+    requires from { FIRST_QUERY_DAY ≤ℤ day }
+    requires to { day ≤ℤ LAST_QUERY_DAY }
     ensures { IfOk result (λ found. found ≡ periods_from day [] texts.now) }
 {
     let mut kept = Vec::new(alloc);
@@ -107,8 +108,8 @@ pub(crate) fn period_items(
     text: &[u8],
     day: i32,
 ) -> Result<Option<Items<Period>>, Memory>
-    requires from { neg_ℤ (pos 21915) ≤ℤ day }
-    requires to { day ≤ℤ pos 47481 }
+    requires from { FIRST_QUERY_DAY ≤ℤ day }
+    requires to { day ≤ℤ LAST_QUERY_DAY }
     ensures { IfOk result (λ found. found ≡ period_items day text.now) }
 {
     let texts = item_texts(alloc, text)?;

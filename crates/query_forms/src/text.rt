@@ -1,5 +1,6 @@
 //! The pairs of a query's text.
-ghost use Rattle.std.specs.Prelude.{◌≡◌, [], true, false, not, bytes_eq, codes, pos, neg_ℤ, ◌≤ℤ◌, ◌<◌, IfOk, IfSome, length, position, option_map};
+ghost use Rattle.std.specs.Prelude.{◌≡◌, [], true, false, not, bytes_eq, codes, ◌≤ℤ◌, ◌<◌, IfOk, IfSome, length, position, option_map};
+ghost use Rattle.dh_base.specs.declared.limits.TheConstants.{FIRST_QUERY_DAY, LAST_QUERY_DAY};
 ghost use Rattle.std.specs.Prelude.{option_and_then};
 ghost use Rattle.std.specs.Option.{option_copied};
 ghost use Rattle.dh_base.specs.Memory.{Answers, IsFirst};
@@ -170,8 +171,8 @@ fn fresh_periods(
     value: &[u8],
     day: i32,
 ) -> Result<Option<Items<Period>>, Memory>
-    requires from { neg_ℤ (pos 21915) ≤ℤ day }
-    requires to { day ≤ℤ pos 47481 }
+    requires from { FIRST_QUERY_DAY ≤ℤ day }
+    requires to { day ≤ℤ LAST_QUERY_DAY }
     ensures { IfOk result (λ items. items ≡ option_and_then (period_items day) (fresh draft.now.periods value.now)) }
 {
     if draft.periods.is_some() {
@@ -191,8 +192,8 @@ fn with_periods(
     value: &[u8],
     day: i32,
 ) -> Result<(), QueryFault>
-    requires from { neg_ℤ (pos 21915) ≤ℤ day }
-    requires to { day ≤ℤ pos 47481 }
+    requires from { FIRST_QUERY_DAY ≤ℤ day }
+    requires to { day ≤ℤ LAST_QUERY_DAY }
     ensures { Answers cause_of (with_periods day draft.old filter value.now) (left_in draft.new result) }
 {
     match fresh_periods(alloc, draft, value, day)? {
@@ -246,8 +247,8 @@ fn with_dimension(
     value: &[u8],
     day: i32,
 ) -> Result<(), QueryFault>
-    requires from { neg_ℤ (pos 21915) ≤ℤ day }
-    requires to { day ≤ℤ pos 47481 }
+    requires from { FIRST_QUERY_DAY ≤ℤ day }
+    requires to { day ≤ℤ LAST_QUERY_DAY }
     ensures { Answers cause_of (with_dimension day draft.old filter value.now) (left_in draft.new result) }
 {
     let head = head_of(value);
@@ -271,8 +272,8 @@ fn with_pair(
     value: &[u8],
     day: i32,
 ) -> Result<(), QueryFault>
-    requires from { neg_ℤ (pos 21915) ≤ℤ day }
-    requires to { day ≤ℤ pos 47481 }
+    requires from { FIRST_QUERY_DAY ≤ℤ day }
+    requires to { day ≤ℤ LAST_QUERY_DAY }
     ensures { Answers cause_of (with_pair day draft.old name.now value.now) (left_in draft.new result) }
 {
     if is_unsupported(name) {
@@ -307,8 +308,8 @@ fn with_encoded(
     value: &[u8],
     day: i32,
 ) -> Result<(), QueryFault>
-    requires from { neg_ℤ (pos 21915) ≤ℤ day }
-    requires to { day ≤ℤ pos 47481 }
+    requires from { FIRST_QUERY_DAY ≤ℤ day }
+    requires to { day ≤ℤ LAST_QUERY_DAY }
     ensures { Answers cause_of (with_pair day draft.old (decoded name.now) (decoded value.now)) (left_in draft.new result) }
 {
     let name = decoded(alloc, name)?;
@@ -318,8 +319,8 @@ fn with_encoded(
 
 #[tactic(auto, unfolding(crate::specs::Form::pairs_of))]
 fn put_pairs(alloc: Global, draft: &mut Draft, text: &[u8], day: i32) -> Result<(), QueryFault>
-    requires from { neg_ℤ (pos 21915) ≤ℤ day }
-    requires to { day ≤ℤ pos 47481 }
+    requires from { FIRST_QUERY_DAY ≤ℤ day }
+    requires to { day ≤ℤ LAST_QUERY_DAY }
     ensures { Answers cause_of (with_pairs day draft.old (pairs_of text.now)) (left_in draft.new result) }
 {
     for (name, value) in raw_pairs(text) {
@@ -329,8 +330,8 @@ fn put_pairs(alloc: Global, draft: &mut Draft, text: &[u8], day: i32) -> Result<
 }
 
 fn drafted(alloc: Global, text: &[u8], day: i32) -> Result<Draft, QueryFault>
-    requires from { neg_ℤ (pos 21915) ≤ℤ day }
-    requires to { day ≤ℤ pos 47481 }
+    requires from { FIRST_QUERY_DAY ≤ℤ day }
+    requires to { day ≤ℤ LAST_QUERY_DAY }
     ensures { Answers cause_of (with_pairs day nothing (pairs_of text.now)) result }
 {
     let mut draft = Draft {
@@ -378,8 +379,8 @@ fn whole(alloc: Global, draft: Draft) -> Result<Form, QueryFault>
 /// The form of a query's text on a day from 1 January 1910 to 31 December 2099.
 #[tactic(auto, unfolding(crate::specs::Form::form_of))]
 pub fn form_of(alloc: Global, text: &[u8], day: i32) -> Result<Form, QueryFault>
-    requires from { neg_ℤ (pos 21915) ≤ℤ day }
-    requires to { day ≤ℤ pos 47481 }
+    requires from { FIRST_QUERY_DAY ≤ℤ day }
+    requires to { day ≤ℤ LAST_QUERY_DAY }
     ensures { Answers cause_of (form_of day text.now) result }
 {
     let draft = drafted(alloc, text, day)?;

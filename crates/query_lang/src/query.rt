@@ -1,5 +1,6 @@
 //! A query of its text.
-ghost use Rattle.std.specs.Prelude.{◌≡◌, ◌<◌, length, pos, neg_ℤ, ◌≤ℤ◌, IfOk};
+ghost use Rattle.std.specs.Prelude.{◌≡◌, ◌<◌, length, ◌≤ℤ◌, IfOk};
+ghost use Rattle.dh_base.specs.declared.limits.TheConstants.{FIRST_QUERY_DAY, LAST_QUERY_DAY};
 ghost use Rattle.query_lang.specs.Askable.{IsAskable};
 ghost use Rattle.dh_base.specs.Memory.{Answers};
 ghost use Rattle.query_forms.specs.Given.{cause_of};
@@ -98,8 +99,8 @@ fn query_of(
     cells: u64,
 ) -> Result<Query, QueryFault>
     requires user { user < length meta.now.users }
-    requires from { neg_ℤ (pos 21915) ≤ℤ day }
-    requires to { day ≤ℤ pos 47481 }
+    requires from { FIRST_QUERY_DAY ≤ℤ day }
+    requires to { day ≤ℤ LAST_QUERY_DAY }
     ensures { Answers cause_of (query_of meta.now user day cells text.now) result }
 {
     let form = form_of(alloc, text, day)?;
@@ -117,8 +118,8 @@ pub fn read_query(
     cells: u64,
 ) -> Result<Query, QueryFault>
     requires user { user < length meta.now.users }
-    requires from { neg_ℤ (pos 21915) ≤ℤ day }
-    requires to { day ≤ℤ pos 47481 }
+    requires from { FIRST_QUERY_DAY ≤ℤ day }
+    requires to { day ≤ℤ LAST_QUERY_DAY }
     ensures value { Answers cause_of (query_of meta.now user day cells text.now) result }
     ensures askable { IfOk result (λ query. IsAskable meta.now user query) }
 {

@@ -1,5 +1,6 @@
 //! What a user asks for by a route.
-ghost use Rattle.std.specs.Prelude.{◌≡◌, ℕ, pos, neg_ℤ, ◌≤ℤ◌, ◌<◌, length, IfOk};
+ghost use Rattle.std.specs.Prelude.{◌≡◌, ℕ, ◌≤ℤ◌, ◌<◌, length, IfOk};
+ghost use Rattle.dh_base.specs.declared.limits.TheConstants.{FIRST_QUERY_DAY, LAST_QUERY_DAY};
 ghost use Rattle.std.specs.Option.{option_copied};
 ghost use Rattle.meta_parts.specs.declared.held.Records.{Records};
 ghost use Rattle.dh_base.specs.Memory.{Answers};
@@ -64,8 +65,8 @@ fn query_call(
     day: i32,
 ) -> Result<Call, RouteFault>
     requires user { user < length meta.now.users }
-    requires from { neg_ℤ (pos 21915) ≤ℤ day }
-    requires to { day ≤ℤ pos 47481 }
+    requires from { FIRST_QUERY_DAY ≤ℤ day }
+    requires to { day ≤ℤ LAST_QUERY_DAY }
     ensures value { Answers cause_of (query_call meta.now day user request.now) result }
     ensures user { IfOk result (λ call. IsBy meta.now user call) }
 {
@@ -172,8 +173,8 @@ fn call_of(
     day: i32,
 ) -> Result<Call, RouteFault>
     requires user { user < length meta.now.users }
-    requires from { neg_ℤ (pos 21915) ≤ℤ day }
-    requires to { day ≤ℤ pos 47481 }
+    requires from { FIRST_QUERY_DAY ≤ℤ day }
+    requires to { day ≤ℤ LAST_QUERY_DAY }
     ensures value { Answers cause_of (call_of meta.now day user route request.now) result }
     ensures user { IfOk result (λ call. IsBy meta.now user call) }
 {
@@ -202,8 +203,8 @@ pub(crate) fn allowed_call(
     day: i32,
 ) -> Result<Call, RouteFault>
     requires user { user < length meta.now.users }
-    requires from { neg_ℤ (pos 21915) ≤ℤ day }
-    requires to { day ≤ℤ pos 47481 }
+    requires from { FIRST_QUERY_DAY ≤ℤ day }
+    requires to { day ≤ℤ LAST_QUERY_DAY }
     ensures value { Answers cause_of (allowed_call meta.now day user route request.now) result }
     ensures user { IfOk result (λ call. IsBy meta.now user call) }
 {

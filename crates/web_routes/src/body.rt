@@ -1,5 +1,6 @@
 //! Bodies and queries, with their faults as refusals of requests.
-ghost use Rattle.std.specs.Prelude.{◌≡◌, pos, neg_ℤ, ◌≤ℤ◌, ◌<◌, length, IfOk};
+ghost use Rattle.std.specs.Prelude.{◌≡◌, ◌≤ℤ◌, ◌<◌, length, IfOk};
+ghost use Rattle.dh_base.specs.declared.limits.TheConstants.{FIRST_QUERY_DAY, LAST_QUERY_DAY};
 ghost use Rattle.value_forms.specs.Bodies.{body_of};
 ghost use Rattle.value_forms.specs.Sets.{set_of};
 ghost use Rattle.value_forms.specs.Completions.{completions_of};
@@ -68,8 +69,8 @@ pub(crate) fn query_in(
     day: i32,
 ) -> Result<Query, RouteFault>
     requires user { user < length meta.now.users }
-    requires from { neg_ℤ (pos 21915) ≤ℤ day }
-    requires to { day ≤ℤ pos 47481 }
+    requires from { FIRST_QUERY_DAY ≤ℤ day }
+    requires to { day ≤ℤ LAST_QUERY_DAY }
     ensures value { Answers cause_of (query_of meta.now user day MOST_CELLS text.now) result }
     ensures askable { IfOk result (λ query. IsAskable meta.now user query) }
 {
