@@ -10,10 +10,12 @@ use Rattle.record_index.specs.declared.outcome.Who.{Who}
 use Rattle.record_index.specs.declared.outcome.Who.TheVariants as who
 use Rattle.record_index.specs.Facts.{Facts, facts_in}
 use Rattle.change_requests.specs.Summary.{is_clean}
+use Rattle.tracker_import.specs.Verdicts as tracker
+use Rattle.tracker_report.specs.Report as report
 use Rattle.value_import.specs.Verdicts.{verdict_of, completions_verdict_of}
-use Rattle.change_requests.specs.Requests.{Asked, import_report, approval_report, by_decision, judged, judged_by, is_report_status}
+use Rattle.change_requests.specs.Requests.{Asked, import_report, bundle_report, approval_report, by_decision, judged, judged_by, is_report_status}
 use Rattle.change_requests.specs.declared.request.ChangeRequest.{ChangeRequest}
-use Rattle.change_requests.specs.declared.request.ChangeRequest.TheVariants.{Values, Completion, Approval}
+use Rattle.change_requests.specs.declared.request.ChangeRequest.TheVariants.{Values, Completion, Approval, Tracker}
 use Rattle.change_requests.specs.declared.request.Judged.{Judged}
 
 of-clean : (clean : Bool) → is_report_status (cond clean 200 409) ≡ true
@@ -25,6 +27,17 @@ of-import : (verdict : Verdict) (found : Judged) (meant : Result Judged Refusal)
 of-import verdict found meant made is =
     let e : found ≡ import_report verdict = cc in
     ap (λ (j : Judged). is_report_status j.status) e ∙ of-clean (is_clean verdict)
+
+of-outcome : (clean idle : Bool) → is_report_status (cond clean 200 (cond idle 409 200)) ≡ true
+of-outcome true idle = refl
+of-outcome false true = refl
+of-outcome false false = refl
+
+of-bundle : (verdict : Verdict) (found : Judged) (meant : Result Judged Refusal) → meant ≡ Ok (bundle_report verdict) → meant ≡ Ok found
+    → is_report_status found.status ≡ true
+of-bundle verdict found meant made is =
+    let e : found ≡ bundle_report verdict = cc in
+    ap (λ (j : Judged). is_report_status j.status) e ∙ of-outcome (report.is_clean verdict) (report.is_idle verdict)
 
 of-decision : (decision : Result Write ApprovalFault) (found : Judged) → by_decision decision ≡ Ok found → is_report_status found.status ≡ true
 of-decision (Ok write) found is =
@@ -41,6 +54,8 @@ by-kind facts meta who moment (Completion list) found is =
     of-import (completions_verdict_of facts meta who moment list) found (judged_by facts meta who moment (Completion list)) refl is
 by-kind facts meta (who.User user) moment (Approval act) found is = of-decision (decided facts meta user act) found is
 by-kind facts meta who.Loader moment (Approval act) found is = absurd (cc)
+by-kind facts meta who moment (Tracker bundle) found is =
+    of-bundle (tracker.verdict_of facts meta who bundle) found (judged_by facts meta who moment (Tracker bundle)) refl is
 
 pub report-status : (meta : Records) (writes : List Write) (asked : Asked) (found : Judged) → judged meta writes asked ≡ Ok found
     → is_report_status found.status ≡ true

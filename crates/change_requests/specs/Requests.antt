@@ -13,10 +13,12 @@ use Rattle.record_index.specs.declared.outcome.Who.{Who}
 use Rattle.record_index.specs.declared.outcome.Who.TheVariants as who
 use Rattle.record_index.specs.declared.outcome.Verdict.{Verdict}
 use Rattle.record_index.specs.Facts.{Facts, facts_in}
+use Rattle.tracker_import.specs.Verdicts as tracker
+use Rattle.tracker_report.specs.Report.{report_text, report_status_of}
 use Rattle.value_import.specs.Verdicts.{verdict_of, completions_verdict_of}
 use Rattle.change_requests.specs.Summary.{summary_text, summary_status_of}
 use Rattle.change_requests.specs.declared.request.ChangeRequest.{ChangeRequest}
-use Rattle.change_requests.specs.declared.request.ChangeRequest.TheVariants.{Values, Completion, Approval}
+use Rattle.change_requests.specs.declared.request.ChangeRequest.TheVariants.{Values, Completion, Approval, Tracker}
 use Rattle.change_requests.specs.declared.request.Judged.{Judged}
 use Rattle.change_requests.specs.declared.request.JudgeFault.{JudgeFault}
 use Rattle.change_requests.specs.declared.request.JudgeFault.TheVariants as fault
@@ -35,6 +37,10 @@ maker_of meta who.Loader = None
 -- the report on an import is its summary
 abbrev pub import_report : Verdict → Judged
 import_report verdict = record { writes = verdict.writes; body = summary_text verdict; status = summary_status_of verdict }
+
+-- the report on a tracker bundle
+abbrev pub bundle_report : Verdict → Judged
+bundle_report verdict = record { writes = verdict.writes; body = report_text verdict; status = report_status_of verdict }
 
 -- the body of the report on an approval
 unfoldable pub approval_body : List ℕ
@@ -61,11 +67,12 @@ abbrev pub approval_by : Facts → Records → Who → ApprovalAct → Result Ju
 approval_by facts meta (who.User user) act = by_decision (decided facts meta user act)
 approval_by facts meta who.Loader act = Err (refusal_of approval.NoRight)
 
--- by the request's kind; an import is never refused as a whole
+-- by the request's kind; an import and a tracker bundle are never refused as a whole
 abbrev pub judged_by : Facts → Records → Who → ℤ → ChangeRequest → Result Judged Refusal
 judged_by facts meta asker moment (Values set) = Ok (import_report (verdict_of facts meta asker moment set))
 judged_by facts meta asker moment (Completion list) = Ok (import_report (completions_verdict_of facts meta asker moment list))
 judged_by facts meta asker moment (Approval act) = approval_by facts meta asker act
+judged_by facts meta asker moment (Tracker bundle) = Ok (bundle_report (tracker.verdict_of facts meta asker bundle))
 
 -- over a log of these writes
 unfoldable pub judged : Records → List Write → Asked → Result Judged Refusal

@@ -8,6 +8,7 @@ ghost use Rattle.value_import.specs.Outcomes.{IsKnown};
 ghost use Rattle.change_requests.specs.Requests.{cause_of, import_report, judged_by};
 
 use crate::approval::judge_approval;
+use crate::bundle::judge_bundle;
 use crate::request::{ChangeRequest, JudgeFault, Judged};
 use crate::summary::{summary_body, summary_status};
 use dh_base::items::Items;
@@ -56,5 +57,6 @@ pub fn judge(
             Ok(import_report(alloc, found)?)
         }
         ChangeRequest::Approval(act) => judge_approval(alloc, world, meta, who, act),
+        ChangeRequest::Tracker(bundle) => Ok(judge_bundle(alloc, world, meta, who, bundle)?),
     }
 }

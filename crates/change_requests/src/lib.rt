@@ -3,6 +3,7 @@
 #![tactic(auto)]
 
 mod approval;
+mod bundle;
 mod kinds;
 mod laws;
 mod maker;

@@ -6,6 +6,7 @@ use dh_base::codes::Refusal;
 use dh_base::items::Items;
 use dh_base::memory::Memory;
 use dh_changes::change::Write;
+use tracker_forms::bundle::Bundle;
 use value_forms::completion::Completion;
 use value_forms::set::ValueSet;
 
@@ -18,6 +19,8 @@ pub enum ChangeRequest {
     Completion(Items<Completion>),
     /// Data is approved or accepted, or no longer.
     Approval(ApprovalAct),
+    /// Tracker objects are written or taken away.
+    Tracker(Bundle),
 }
 
 /// The writes that a request comes to, and the body and status of the report on it.

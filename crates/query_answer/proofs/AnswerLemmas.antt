@@ -1,6 +1,6 @@
 -- From the rows that were written to the answer.
 use Rattle.std.proofs.Common.{◌≡◌, ℕ, ◌+◌, ◌<◌, Bool, true, false, List, [], ◌∷◌, length, map, Option, Some, None, Ok, Err, Vec, Global, refl, sym, subst}
-use Rattle.std.proofs.Common.{◌∙◌, arith, suc, true≢false, zero-add}
+use Rattle.std.proofs.Common.{arith, suc, zero-add}
 use Rattle.std.proofs.lemmas.Bool.{and_parts}
 use Rattle.std.specs.List.{flat_map, list_all, All, AllByRecursion}
 use Rattle.std.specs.Option.{option_map}
@@ -24,7 +24,7 @@ use Rattle.query_answer.specs.declared.whole.AnswerFault.TheVariants.{Wide}
 use Rattle.query_answer.specs.Asked.{can_answer_dx, CanAnswer}
 use Rattle.query_answer.specs.Rows.{Slot, alone, slots, period_slots, unit_slots, row_with, slot_value, unit_rows, period_rows, dx_rows, rows_from}
 use Rattle.query_answer.specs.Answer.{wide_dx, answer_with, answer_of, Answers}
-use Rattle.query_answer.proofs.AskedLemmas.{element_there, indicator_there, rate_there, no_program}
+use Rattle.query_answer.proofs.AskedLemmas.{element_there, indicator_there, rate_there, program_there}
 
 all_flat : {X Y : Type 0} (P : X → Type 0) (Q : Y → Type 0) (f : X → List Y) (xs : List X) → ((x : X) → P x → All Q (f x)) → AllByRecursion P xs
     → All Q (flat_map f xs)
@@ -80,7 +80,8 @@ there_by r dx dx_kind.Element is can =
     subst (λ k. dx.number < count_of r (kind_of k)) (sym is) (element_there r dx can is)
 there_by r dx dx_kind.Indicator is can =
     subst (λ k. dx.number < count_of r (kind_of k)) (sym is) (indicator_there r dx can is)
-there_by r dx dx_kind.ProgramIndicator is can = absurd (true≢false (sym can ∙ no_program r dx is))
+there_by r dx dx_kind.ProgramIndicator is can =
+    subst (λ k. dx.number < count_of r (kind_of k)) (sym is) (program_there r dx can is)
 there_by r dx (dx_kind.Rate rate) is can =
     subst (λ k. dx.number < count_of r (kind_of k)) (sym is) (rate_there r dx rate can is)
 

@@ -23,9 +23,9 @@ pub rate_there : (r : Records) (dx : Dx) (which : Rate) → can_answer_dx r dx �
 unfolding can_answer_dx
 rate_there r dx which can is = ltb-true _ _ (sym (ap (λ k. can_answer_kind r dx.number k) is) ∙ can)
 
-pub no_program : (r : Records) (dx : Dx) → dx.kind ≡ dx_kind.ProgramIndicator → can_answer_dx r dx ≡ false
+pub program_there : (r : Records) (dx : Dx) → can_answer_dx r dx ≡ true → dx.kind ≡ dx_kind.ProgramIndicator → dx.number < length r.program_indicators
 unfolding can_answer_dx
-no_program r dx is = ap (λ k. can_answer_kind r dx.number k) is
+program_there r dx can is = ltb-true _ _ (sym (ap (λ k. can_answer_kind r dx.number k) is) ∙ can)
 
 at_one : (end x k d : ℕ) → x < end → k < 1 → get_or (x ∷ []) k d < end
 at_one end x zero d is within = is

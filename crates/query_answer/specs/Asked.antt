@@ -1,5 +1,5 @@
--- Which queries are answered: those of data elements, their operands, indicators and reporting rates.
-use Rattle.std.specs.Prelude.{ℕ, ◌<◌, Bool, false, nat_lt, length, IsTrue}
+-- Which queries are answered: those of data elements, their operands, indicators, program indicators and reporting rates.
+use Rattle.std.specs.Prelude.{ℕ, ◌<◌, Bool, nat_lt, length, IsTrue}
 use Rattle.std.specs.List.{list_all}
 use Rattle.meta_parts.specs.declared.held.Records.{Records}
 use Rattle.dh_metadata.specs.Linked.{AreBelow}
@@ -8,11 +8,11 @@ use Rattle.query_forms.specs.declared.plain.DxKind.{DxKind}
 use Rattle.query_forms.specs.declared.plain.DxKind.TheVariants as dx_kind
 use Rattle.query_forms.specs.declared.plain.Query.{Query}
 
--- the item is that of a data element, an indicator or a data set, and the object is there
+-- the object of the item is there
 abbrev pub can_answer_kind : Records → ℕ → DxKind → Bool
 can_answer_kind r n dx_kind.Element = nat_lt n (length r.data_elements)
 can_answer_kind r n dx_kind.Indicator = nat_lt n (length r.indicators)
-can_answer_kind r n dx_kind.ProgramIndicator = false
+can_answer_kind r n dx_kind.ProgramIndicator = nat_lt n (length r.program_indicators)
 can_answer_kind r n (dx_kind.Rate which) = nat_lt n (length r.data_sets)
 
 unfoldable pub can_answer_dx : Records → Dx → Bool

@@ -7,9 +7,13 @@ use Rattle.dh_base.specs.declared.plain.Rate.{Rate}
 use Rattle.dh_periods.specs.declared.name.PeriodName.{PeriodName}
 use Rattle.meta_parts.specs.declared.held.Records.{Records}
 use Rattle.meta_parts.specs.declared.records.Indicator.{Indicator}
+use Rattle.meta_parts.specs.declared.records.ProgramIndicator.{ProgramIndicator}
+use Rattle.table_rows.specs.declared.event.EventRow.{EventRow}
 use Rattle.table_rows.specs.declared.event.RegRow.{RegRow}
 use Rattle.table_rows.specs.declared.sample.Sample.{Sample}
 use Rattle.rate_items.specs.Rates.{rate_of}
+use Rattle.pi_eval.specs.Value.{ProgramValue, Number, NoValue, Wide, program_value}
+use Rattle.event_cells.specs.Cells.{cell_events}
 use Rattle.cell_values.specs.Seen.{SeenRecords}
 use Rattle.cell_values.specs.Cells.{cell_of, aggregate_of, days_in}
 use Rattle.cell_values.specs.Items.{item_value_of}
@@ -33,6 +37,17 @@ unfoldable pub indicator_cell : Records → SeenRecords → Indicator → List P
 indicator_cell r shown indicator periods units =
     indicator_value_of r (λ item. item_value_of r shown item periods units false) (days_in periods) indicator
 
+abbrev pub of_program : ProgramValue → CellValue
+of_program (Number x) = cell.Number x
+of_program NoValue = cell.None
+of_program Wide = cell.Wide
+
+-- a program indicator's cell is its value over the events of its program in the cell
+unfoldable pub program_cell : Records → List EventRow → ℕ → List PeriodName → List ℕ → CellValue
+program_cell r events n periods units =
+    option_map_or (λ (indicator : ProgramIndicator). of_program (program_value r n (cell_events r indicator.program periods units events)))
+    (slice_get r.program_indicators n) cell.None
+
 -- a rate's cell is that of the registrations
 unfoldable pub rate_cell : Records → List RegRow → Rate → ℕ → List PeriodName → List ℕ → CellValue
 rate_cell r regs which set periods units = of_option (rate_of r which set periods units regs false)
@@ -42,7 +57,7 @@ cell_by r shown dx_kind.Element n part periods units = element_cell r shown.samp
 cell_by r shown dx_kind.Indicator n part periods units =
     option_map_or (λ indicator. indicator_cell r shown indicator periods units) (slice_get r.indicators n) cell.None
 cell_by r shown (dx_kind.Rate which) n part periods units = rate_cell r shown.regs which n periods units
-cell_by r shown dx_kind.ProgramIndicator n part periods units = cell.None
+cell_by r shown dx_kind.ProgramIndicator n part periods units = program_cell r shown.events n periods units
 
 -- the value of a dx item over the seen records in some periods and under some units
 unfoldable pub cell_value : Records → SeenRecords → Dx → List PeriodName → List ℕ → CellValue
@@ -58,6 +73,8 @@ places_of decimals = min (unsigned_abs decimals) 6
 
 abbrev pub decimals_by : Records → ℕ → DxKind → ℕ
 decimals_by r n dx_kind.Indicator = option_map_or (λ (indicator : Indicator). places_of indicator.decimals) (slice_get r.indicators n) 6
+decimals_by r n dx_kind.ProgramIndicator =
+    option_map_or (λ (indicator : ProgramIndicator). places_of indicator.decimals) (slice_get r.program_indicators n) 6
 decimals_by r n (dx_kind.Rate which) = 1
 decimals_by r n _ = 6
 

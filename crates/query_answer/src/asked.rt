@@ -15,12 +15,12 @@ fn can_answer_dx(meta: &Metadata, dx: &Dx) -> bool
     match dx.kind {
         DxKind::Element => dx.number < meta.count(Kind::DataElement),
         DxKind::Indicator => dx.number < meta.count(Kind::Indicator),
-        DxKind::ProgramIndicator => false,
+        DxKind::ProgramIndicator => dx.number < meta.count(Kind::ProgramIndicator),
         DxKind::Rate(_) => dx.number < meta.count(Kind::DataSet),
     }
 }
 
-/// Whether each of these items can be answered: those of program indicators can't be yet.
+/// Whether each of these items can be answered.
 pub fn can_answer(meta: &Metadata, dx: &[Dx]) -> bool
     ensures { result ≡ list_all (can_answer_dx meta.now) dx.now }
 {

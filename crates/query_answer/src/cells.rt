@@ -1,17 +1,22 @@
 //! The value of a cell.
 
-ghost use Rattle.std.specs.Prelude.{◌≡◌, ◌≤◌, List, map, None, false, true, IfOk};
+ghost use Rattle.std.specs.Prelude.{◌≡◌, ◌≤◌, ℕ, List, map, None, false, true, IfOk};
 ghost use Rattle.dh_base.specs.Decimals.{printed};
 ghost use Rattle.dh_periods.specs.declared.name.PeriodName.{PeriodName};
+ghost use Rattle.event_cells.specs.Cells.{cell_events, AreDuring};
+ghost use Rattle.meta_parts.specs.declared.held.Records.{Records};
+ghost use Rattle.pi_eval.specs.Code.{IsCode};
+ghost use Rattle.pi_eval.specs.Value.{ProgramValue, program_value, Values};
+ghost use Rattle.table_rows.specs.declared.event.EventRow.{EventRow};
 ghost use Rattle.rate_items.specs.Prepared.{IsDue, IsPrepared};
 ghost use Rattle.rate_items.specs.Rates.{rate_of};
 ghost use Rattle.cell_values.specs.Held.{AreCellUnits};
 ghost use Rattle.cell_values.specs.Rates.{IsRatePlan};
-ghost use Rattle.cell_values.specs.Seen.{seen, seen_regs, seen_of, contents_of};
+ghost use Rattle.cell_values.specs.Seen.{seen, seen_events, seen_regs, seen_of, contents_of};
 ghost use Rattle.cell_values.specs.Cells.{cell_of, aggregate_of};
 ghost use Rattle.cell_values.specs.Plans.{IsElementPlan, inside, groups_inside};
 ghost use Rattle.query_answer.specs.Asked.{can_answer_dx};
-ghost use Rattle.query_answer.specs.Cells.{of_option, indicator_cell, cell_value, places_of, decimals_of, value_text};
+ghost use Rattle.query_answer.specs.Cells.{of_option, of_program, indicator_cell, cell_value, places_of, decimals_of, value_text};
 ghost use Rattle.query_answer.specs.Parts.{IsUnitPart};
 ghost use Rattle.query_answer.specs.Plans.{IsIndicatorPlan, IsPlan, ArePlanGroups};
 
@@ -27,11 +32,14 @@ use dh_base::items::Items;
 use dh_base::memory::Memory;
 use dh_base::print::print_rounded;
 use dh_metadata::metadata::Metadata;
+use event_cells::events_under;
+use expr_eval::{PiCode, PiFault};
 use meta_parts::records::Indicator;
+use pi_eval::value;
 use query_forms::{Dx, DxKind};
 use rate_items::Due;
 use std::alloc::Global;
-use table_rows::{Group, RowStore};
+use table_rows::{EventRow, Group, RowStore};
 
 fn from_option(value: Option<Frac>) -> CellValue
     ensures { result ≡ of_option value }
@@ -125,6 +133,33 @@ fn indicator_cell<S: RowStore>(
     )
 }
 
+fn from_program(found: Result<Option<Frac>, PiFault>) -> Result<CellValue, Memory>
+    ensures { (value : ProgramValue) → Values found value → IfOk result (λ cell. cell ≡ of_program value) }
+{
+    match found {
+        Ok(None) => Ok(CellValue::None),
+        Ok(Some(number)) => Ok(CellValue::Number(number)),
+        Err(PiFault::Wide) => Ok(CellValue::Wide),
+        Err(PiFault::Memory) => Err(Memory),
+    }
+}
+
+fn program_cell(
+    alloc: Global,
+    code: &PiCode,
+    events: &[EventRow],
+    unit: &UnitPart,
+) -> Result<CellValue, Memory>
+    ensures { (r : Records) (user n : ℕ) (periods : List PeriodName) (all : List EventRow)
+        → IsCode r n code.now → IsUnitPart r user unit.now → AreDuring r user code.now.program periods all events.now
+        → IfOk result (λ cell. cell ≡ of_program (program_value r n
+        (cell_events r code.now.program periods unit.now.units.units (seen_events r user all)))) }
+{
+    let own = events_under(alloc, events, &unit.units)?;
+    let found = value(alloc, code, own.as_slice());
+    from_program(found)
+}
+
 /// The value of the item's cell over these periods and units, by its groups inside the periods.
 #[tactic(auto, unfolding(crate::specs::Cells::cell_value, crate::specs::Cells::element_cell, cell_values::specs::Seen::seen_of))]
 pub fn cell_value<S: RowStore>(
@@ -139,7 +174,8 @@ pub fn cell_value<S: RowStore>(
     requires dx { can_answer_dx source.now.meta.now dx.now ≡ true }
     requires plan { IsPlan source.now.meta.now source.now.seer.now.user
         (contents_of (S.rows source.now.store.now) (S.events source.now.store.now) (S.regs source.now.store.now)) dx.now plan.now }
-    requires groups { ArePlanGroups periods.now plan.now groups.now }
+    requires groups { ArePlanGroups source.now.meta.now source.now.seer.now.user
+        (contents_of (S.rows source.now.store.now) (S.events source.now.store.now) (S.regs source.now.store.now)) periods.now plan.now groups.now }
     requires unit { IsUnitPart source.now.meta.now source.now.seer.now.user unit.now }
     ensures { IfOk result (λ cell. cell ≡ cell_value source.now.meta.now
         (seen_of source.now.meta.now source.now.seer.now.user
@@ -159,6 +195,10 @@ pub fn cell_value<S: RowStore>(
             indicator_cell(alloc, source, indicator, plan, groups, periods, unit)
         }
         Plan::Rate(plan) => rate_cell(alloc, source, plan, &groups.due, &unit.units),
+        Plan::Program(code) => {
+            let events = groups.events.as_slice();
+            program_cell(alloc, code, events, unit)
+        }
     }
 }
 
@@ -178,8 +218,9 @@ pub fn decimals(meta: &Metadata, dx: &Dx) -> u8
 {
     match dx.kind {
         DxKind::Indicator => places(meta.indicator(dx.number).decimals),
+        DxKind::ProgramIndicator => places(meta.program_indicator(dx.number).decimals),
         DxKind::Rate(_) => 1,
-        _ => 6,
+        DxKind::Element => 6,
     }
 }
 

@@ -16,11 +16,14 @@ use cell_values::{
 use dh_base::items::Items;
 use dh_base::memory::Memory;
 use dh_base::plain::Rate;
+use event_cells::events_during;
+use expr_eval::PiCode;
 use meta_parts::records::Indicator;
+use pi_eval::code;
 use query_forms::{Dx, DxKind};
 use rate_items::Due;
 use std::alloc::Global;
-use table_rows::{Group, RowStore};
+use table_rows::{EventRow, Group, RowStore};
 
 /// What is made of an indicator once a query: its sides, and the plans of the items of each.
 #[derive(Drop)]
@@ -36,16 +39,19 @@ pub enum Plan {
     Element(ElementPlan),
     Indicator(IndicatorPlan),
     Rate(RatePlan),
+    Program(PiCode),
 }
 
 /// What is made of a plan once for some periods: the groups of its element, or those of each planned
-/// item, inside them, or what is due in them. What isn't the plan's is empty.
+/// item, inside them, what is due in them, or the events of its program that the user sees. What
+/// isn't the plan's is empty.
 #[derive(Drop)]
 pub struct PlanGroups {
     pub own: Items<Group>,
     pub over: Items<Items<Group>>,
     pub under: Items<Items<Group>>,
     pub due: Due,
+    pub events: Items<EventRow>,
 }
 
 fn indicator_plan<S: RowStore>(
@@ -102,6 +108,17 @@ fn set_plan<S: RowStore>(
     Ok(Plan::Rate(plan))
 }
 
+#[tactic(auto, using(crate::proofs::AskedLemmas::program_there))]
+fn program_plan<S: RowStore>(alloc: Global, source: &Source<'_, S>, dx: &Dx) -> Result<Plan, Memory>
+    requires dx { can_answer_dx source.now.meta.now dx.now ≡ true }
+    requires kind { dx.now.kind ≡ dx_kind.ProgramIndicator }
+    ensures { IfOk result (λ plan. IsPlan source.now.meta.now source.now.seer.now.user
+        (contents_of (S.rows source.now.store.now) (S.events source.now.store.now) (S.regs source.now.store.now)) dx.now plan) }
+{
+    let code = code(alloc, source.meta, dx.number)?;
+    Ok(Plan::Program(code))
+}
+
 /// The plan of a `dx` item.
 #[tactic(auto, unfolding(crate::specs::Asked::can_answer_dx))]
 pub fn plan_of<S: RowStore>(alloc: Global, source: &Source<'_, S>, dx: &Dx) -> Result<Plan, Memory>
@@ -117,7 +134,8 @@ pub fn plan_of<S: RowStore>(alloc: Global, source: &Source<'_, S>, dx: &Dx) -> R
             Ok(Plan::Indicator(plan))
         }
         DxKind::Rate(which) => set_plan(alloc, source, dx, which),
-        _ => operand_plan(alloc, source, dx),
+        DxKind::ProgramIndicator => program_plan(alloc, source, dx),
+        DxKind::Element => operand_plan(alloc, source, dx),
     }
 }
 
@@ -129,8 +147,15 @@ fn nothing_due(alloc: Global) -> Due {
 }
 
 /// What is made of a plan once for some periods.
-pub fn plan_groups(alloc: Global, plan: &Plan, periods: &CellPeriods) -> Result<PlanGroups, Memory>
-    ensures { IfOk result (λ groups. ArePlanGroups periods.now plan.now groups) }
+pub fn plan_groups<S: RowStore>(
+    alloc: Global,
+    source: &Source<'_, S>,
+    plan: &Plan,
+    periods: &CellPeriods,
+) -> Result<PlanGroups, Memory>
+    requires seer { IsSeer source.now.meta.now source.now.seer.now }
+    ensures { IfOk result (λ groups. ArePlanGroups source.now.meta.now source.now.seer.now.user
+        (contents_of (S.rows source.now.store.now) (S.events source.now.store.now) (S.regs source.now.store.now)) periods.now plan.now groups) }
 {
     match plan {
         Plan::Element(plan) => {
@@ -140,6 +165,7 @@ pub fn plan_groups(alloc: Global, plan: &Plan, periods: &CellPeriods) -> Result<
                 over: Items::new(alloc),
                 under: Items::new(alloc),
                 due: nothing_due(alloc),
+                events: Items::new(alloc),
             })
         }
         Plan::Indicator(plan) => {
@@ -150,6 +176,7 @@ pub fn plan_groups(alloc: Global, plan: &Plan, periods: &CellPeriods) -> Result<
                 over,
                 under,
                 due: nothing_due(alloc),
+                events: Items::new(alloc),
             })
         }
         Plan::Rate(plan) => {
@@ -159,6 +186,17 @@ pub fn plan_groups(alloc: Global, plan: &Plan, periods: &CellPeriods) -> Result<
                 over: Items::new(alloc),
                 under: Items::new(alloc),
                 due,
+                events: Items::new(alloc),
+            })
+        }
+        Plan::Program(code) => {
+            let events = events_during(alloc, source, code.program, periods)?;
+            Ok(PlanGroups {
+                own: Items::new(alloc),
+                over: Items::new(alloc),
+                under: Items::new(alloc),
+                due: nothing_due(alloc),
+                events,
             })
         }
     }

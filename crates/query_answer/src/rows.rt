@@ -86,7 +86,9 @@ fn write_cell<S: RowStore>(
     requires plan { IsPlan asking.now.source.now.meta.now asking.now.source.now.seer.now.user
         (contents_of (S.rows asking.now.source.now.store.now) (S.events asking.now.source.now.store.now)
         (S.regs asking.now.source.now.store.now)) item.now.dx.now item.now.plan.now }
-    requires groups { ArePlanGroups period.now.part.now.periods item.now.plan.now period.now.groups.now }
+    requires groups { ArePlanGroups asking.now.source.now.meta.now asking.now.source.now.seer.now.user
+        (contents_of (S.rows asking.now.source.now.store.now) (S.events asking.now.source.now.store.now)
+        (S.regs asking.now.source.now.store.now)) period.now.part.now.periods item.now.plan.now period.now.groups.now }
     requires unit { IsUnitPart asking.now.source.now.meta.now asking.now.source.now.seer.now.user unit.now }
     ensures wide { IfOk result (λ wide. wide ≡ unit_is_wide asking.now.source.now.meta.now
         (seen_of asking.now.source.now.meta.now asking.now.source.now.seer.now.user
@@ -138,7 +140,9 @@ fn write_units<S: RowStore>(
     requires plan { IsPlan asking.now.source.now.meta.now asking.now.source.now.seer.now.user
         (contents_of (S.rows asking.now.source.now.store.now) (S.events asking.now.source.now.store.now)
         (S.regs asking.now.source.now.store.now)) item.now.dx.now item.now.plan.now }
-    requires groups { ArePlanGroups period.now.part.now.periods item.now.plan.now period.now.groups.now }
+    requires groups { ArePlanGroups asking.now.source.now.meta.now asking.now.source.now.seer.now.user
+        (contents_of (S.rows asking.now.source.now.store.now) (S.events asking.now.source.now.store.now)
+        (S.regs asking.now.source.now.store.now)) period.now.part.now.periods item.now.plan.now period.now.groups.now }
     requires parts { AreParts asking.now.source.now.meta.now asking.now.source.now.seer.now.user asking.now.query.now
         asking.now.periods.now asking.now.units.now }
     ensures wide { IfOk result (λ wide. wide ≡ period_is_wide asking.now.source.now.meta.now
@@ -169,6 +173,7 @@ fn write_period<S: RowStore>(
     part: &PeriodPart,
     rows: &mut Vec<AnswerRow>,
 ) -> Result<bool, Memory>
+    requires seer { IsSeer asking.now.source.now.meta.now asking.now.source.now.seer.now }
     requires dx { can_answer_dx asking.now.source.now.meta.now item.now.dx.now ≡ true }
     requires plan { IsPlan asking.now.source.now.meta.now asking.now.source.now.seer.now.user
         (contents_of (S.rows asking.now.source.now.store.now) (S.events asking.now.source.now.store.now)
@@ -186,7 +191,7 @@ fn write_period<S: RowStore>(
         (S.regs asking.now.source.now.store.now)))
         item.now.place item.now.dx.now (unit_slots asking.now.query.now) (period_slot part.now)) }
 {
-    let groups = plan_groups(alloc, item.plan, &part.periods)?;
+    let groups = plan_groups(alloc, asking.source, item.plan, &part.periods)?;
     let period = PeriodItem {
         part,
         groups: &groups,
@@ -202,6 +207,7 @@ fn write_periods<S: RowStore>(
     item: &DxItem<'_>,
     rows: &mut Vec<AnswerRow>,
 ) -> Result<bool, Memory>
+    requires seer { IsSeer asking.now.source.now.meta.now asking.now.source.now.seer.now }
     requires dx { can_answer_dx asking.now.source.now.meta.now item.now.dx.now ≡ true }
     requires plan { IsPlan asking.now.source.now.meta.now asking.now.source.now.seer.now.user
         (contents_of (S.rows asking.now.source.now.store.now) (S.events asking.now.source.now.store.now)

@@ -5,7 +5,6 @@ use Rattle.std.specs.List.{AllByRecursion}
 use Rattle.std.specs.Option.{option_or}
 use Rattle.std.specs.Fmt.{decimal}
 use Rattle.dh_base.specs.Memory.{Answers}
-use Rattle.dh_base.specs.declared.codes.Code.{Code}
 use Rattle.dh_base.specs.declared.codes.Code.TheVariants as code
 use Rattle.dh_base.specs.declared.codes.Refusal.{Refusal}
 use Rattle.dh_sharing.specs.declared.access.Right.TheVariants.{Read}
@@ -35,9 +34,9 @@ use Rattle.query_lang.proofs.RangeLemmas.{chosen_in}
 use Rattle.query_lang.specs.declared.named.Found.{Found}
 use Rattle.query_lang.specs.Each.{each_of}
 use Rattle.query_lang.specs.Named.{readable, alone, object_named, combo_named, is_combo_of, operand_named, named, offered, is_over_enrollments, dx_from}
-use Rattle.query_lang.specs.Named.{dx_of, first_unbuilt}
+use Rattle.query_lang.specs.Named.{dx_of}
 use Rattle.query_lang.specs.Units.{part_of, members_of, units_of}
-use Rattle.query_lang.specs.Query.{unless_there, cells_of, within, assembled, named_in, query_from, query_of}
+use Rattle.query_lang.specs.Query.{cells_of, within, assembled, named_in, query_from, query_of}
 use Rattle.query_lang.specs.Askable.{IsFormed, IsForm, kind_of, IsSeen, IsAsked, IsAskable}
 use Rattle.query_lang.proofs.FormLaws.{bound, form_law}
 use Rattle.query_lang.proofs.TextLaws.{form_utf8}
@@ -130,9 +129,9 @@ filled [] some = absurd (cc)
 filled (x ∷ xs) some = omega arith
 
 within_law : (r : Records) (user most : ℕ) (query : Query) → 0 < length query.periods.items → AreIn (length r.organisation_units) query.units.items
-    → AllByRecursion (IsAsked r user) query.dx → first_unbuilt query.dx ≡ None → IfOk (within most query) (IsAskable r user)
+    → AllByRecursion (IsAsked r user) query.dx → IfOk (within most query) (IsAskable r user)
 unfolding within
-within_law r user most query periods units asked built =
+within_law r user most query periods units asked =
     elim (length query.units.items == 0) as (λ b. (length query.units.items == 0) ≡ b
     → IfOk (let q : Result Query Refusal =
     cond b (Err (refusal code.F13 [])) (cond (nat_lt most (cells_of query)) (Err (refusal code.F16 (decimal (cells_of query)))) (Ok query)) in q)
@@ -141,14 +140,9 @@ within_law r user most query periods units asked built =
       | false ↦ λ some. elim (nat_lt most (cells_of query)) as (λ b.
           IfOk (let q : Result Query Refusal = cond b (Err (refusal code.F16 (decimal (cells_of query)))) (Ok query) in q) (IsAskable r user)) [
             | true ↦ tt
-            | false ↦ record { periods = periods; units = filled query.units.items some; in_range = units; dx = asked; built = built }
+            | false ↦ record { periods = periods; units = filled query.units.items some; in_range = units; dx = asked }
           ]
     ] refl
-
-unless_law : {A : Type 0} (P : A → Type 0) (c : Code) (o : Option (List ℕ)) (next : Result A Refusal) → (o ≡ None → IfOk next P)
-    → IfOk (unless_there c o next) P
-unless_law P c None next ok = ok refl
-unless_law P c (Some detail) next ok = tt
 
 ok_always : {A : Type 0} (r : Result A Refusal) → IfOk r (λ _. Unit {0})
 ok_always (Ok x) = tt
@@ -157,21 +151,20 @@ ok_always (Err e) = tt
 -- what is named may be asked
 abbrev AreAsked : Records → ℕ → List Dx × List ℕ → Type 0
 AreAsked r user found =
-    (AllByRecursion (IsAsked r user) found.0) × (AreIn (length r.organisation_units) found.1) × (first_unbuilt found.0 ≡ None)
+    (AllByRecursion (IsAsked r user) found.0) × (AreIn (length r.organisation_units) found.1)
 
 named_in_law : (r : Records) (user : ℕ) (f : Form) → IsForm f → IfOk (named_in r user f) (AreAsked r user)
 unfolding named_in
 named_in_law r user f is =
     bound (AllByRecursion (IsAsked r user)) (AreAsked r user) (each_of (dx_of r user) f.dx) _
     (each_law IsFormed (IsAsked r user) (dx_of r user) (dx_law r user) f.dx is.dx) (λ dx asked.
-    bound (λ _. Unit {0}) (AreAsked r user) (each_of (part_of r user) f.units.items) _ (ok_always _) (λ parts _.
-    unless_law (AreAsked r user) code.F9 (first_unbuilt dx) (Ok (dx, units_of r user parts)) (λ built. (asked, units_in r user parts, built))))
+    bound (λ _. Unit {0}) (AreAsked r user) (each_of (part_of r user) f.units.items) _ (ok_always _) (λ parts _. (asked, units_in r user parts)))
 
 from_law : (r : Records) (user cells : ℕ) (f : Form) → IsForm f → IfOk (query_from r user cells f) (IsAskable r user)
 unfolding query_from
 from_law r user cells f is =
     bound (AreAsked r user) (IsAskable r user) (named_in r user f) _ (named_in_law r user f is) (λ found asked.
-    within_law r user cells (assembled f found.0 found.1) is.periods asked.1 asked.0 asked.2)
+    within_law r user cells (assembled f found.0 found.1) is.periods asked.1 asked.0)
 
 -- a query that is read may be answered
 pub query_law : (r : Records) (user : ℕ) (day : ℤ) (cells : ℕ) (text : List ℕ) → IfOk (query_of r user day cells text) (IsAskable r user)

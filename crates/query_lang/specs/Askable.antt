@@ -1,5 +1,5 @@
 -- What holds of every query that is read.
-use Rattle.std.specs.Prelude.{◌≡◌, ℕ, ◌<◌, true, length, Some, IfSome, IsUtf8, None}
+use Rattle.std.specs.Prelude.{◌≡◌, ℕ, ◌<◌, true, length, Some, IfSome, IsUtf8}
 use Rattle.std.specs.List.{AllByRecursion}
 use Rattle.dh_sharing.specs.declared.access.Right.TheVariants.{Read}
 use Rattle.meta_parts.specs.declared.held.Records.{Records}
@@ -17,7 +17,7 @@ use Rattle.query_forms.specs.declared.form.Form.{Form}
 use Rattle.query_forms.specs.Items.{dx_form}
 use Rattle.query_lang.specs.Walk.{AreIn}
 use Rattle.query_lang.specs.declared.named.Found.{Found}
-use Rattle.query_lang.specs.Named.{named, first_unbuilt}
+use Rattle.query_lang.specs.Named.{named}
 
 -- the text of the item has its form
 abbrev pub IsFormed : DxItem → Type 0
@@ -52,10 +52,9 @@ pub record IsAsked (r : Records) (user : ℕ) (d : Dx) : Type 0 where
   pub seen : IsSeen r user (found_in d)
   pub utf8 : IsUtf8 d.text
 
--- there are a period and a unit, the units are units, the user may read each item, and the server computes each
+-- there are a period and a unit, the units are units, and the user may read each item
 pub record IsAskable (r : Records) (user : ℕ) (query : Query) : Type 0 where
   pub periods : 0 < length query.periods.items
   pub units : 0 < length query.units.items
   pub in_range : AreIn (length r.organisation_units) query.units.items
   pub dx : AllByRecursion (IsAsked r user) query.dx
-  pub built : first_unbuilt query.dx ≡ None

@@ -1,5 +1,5 @@
 -- What the items of the dimension `dx` name, for a user.
-use Rattle.std.specs.Prelude.{ℕ, ◌==◌, Bool, true, false, if◌then◌else◌, List, [], ◌∷◌, slice_get, Option, None, Some, option_map, option_and_then}
+use Rattle.std.specs.Prelude.{ℕ, ◌==◌, Bool, true, false, if◌then◌else◌, List, slice_get, Option, None, Some, option_map, option_and_then}
 use Rattle.std.specs.Prelude.{Result, Ok, Err}
 use Rattle.std.specs.Option.{option_map_or, option_or}
 use Rattle.dh_base.specs.declared.codes.Code.TheVariants as code
@@ -82,15 +82,3 @@ offered r text n = if is_over_enrollments r n.kind n.number then Err (refusal co
 -- an item, or its refusal
 unfoldable pub dx_of : Records → ℕ → DxItem → Result Dx Refusal
 dx_of r user item = and_then (or_refuse code.F14 item.text (named r user item.form)) (offered r item.text)
-
--- what the server doesn't compute yet
-abbrev pub is_unbuilt : DxKind → Bool
-is_unbuilt dx.Element = false
-is_unbuilt dx.Indicator = false
-is_unbuilt dx.ProgramIndicator = true
-is_unbuilt (dx.Rate figure) = false
-
--- the first item that the server doesn't compute yet
-abbrev pub first_unbuilt : List Dx → Option (List ℕ)
-first_unbuilt [] = None
-first_unbuilt (d ∷ ds) = if is_unbuilt d.kind then Some d.text else first_unbuilt ds

@@ -1,7 +1,6 @@
 -- A query, or the first refusal.
-use Rattle.std.specs.Prelude.{ℕ, ℤ, ◌*◌, ◌==◌, nat_lt, if◌then◌else◌, List, [], length, Option, None, Some, Result, Ok, Err}
+use Rattle.std.specs.Prelude.{ℕ, ℤ, ◌*◌, ◌==◌, nat_lt, if◌then◌else◌, List, [], length, Result, Ok, Err}
 use Rattle.std.specs.Fmt.{decimal}
-use Rattle.dh_base.specs.declared.codes.Code.{Code}
 use Rattle.dh_base.specs.declared.codes.Code.TheVariants as code
 use Rattle.dh_base.specs.declared.codes.Refusal.{Refusal}
 use Rattle.meta_parts.specs.declared.held.Records.{Records}
@@ -12,13 +11,8 @@ use Rattle.query_forms.specs.declared.form.Form.{Form}
 use Rattle.query_forms.specs.Form.{form_of}
 use Rattle.query_forms.specs.Given.{and_then, refusal}
 use Rattle.query_lang.specs.Each.{each_of}
-use Rattle.query_lang.specs.Named.{dx_of, first_unbuilt}
+use Rattle.query_lang.specs.Named.{dx_of}
 use Rattle.query_lang.specs.Units.{part_of, units_of}
-
--- refused with this detail if there is one
-abbrev pub unless_there : {A : Type 0} → Code → Option (List ℕ) → Result A Refusal → Result A Refusal
-unless_there code None next = next
-unless_there code (Some detail) next = Err (refusal code detail)
 
 -- how many values of a dimension have a cell of their own
 abbrev pub axis_count : {A : Type 0} → Axis A → ℕ
@@ -42,12 +36,11 @@ assembled form dx units = record {
   meta = form.meta;
 }
 
--- what the items of a form name, and the units that they choose: the first refusal of an item, or the first item that isn't computed yet
+-- what the items of a form name, and the units that they choose: the first refusal of an item
 unfoldable pub named_in : Records → ℕ → Form → Result (List Dx × List ℕ) Refusal
 named_in r user form =
     and_then (each_of (dx_of r user) form.dx) (λ dx.
-    and_then (each_of (part_of r user) form.units.items) (λ parts.
-    unless_there code.F9 (first_unbuilt dx) (Ok (dx, units_of r user parts))))
+    and_then (each_of (part_of r user) form.units.items) (λ parts. Ok (dx, units_of r user parts)))
 
 -- a query's form against metadata
 unfoldable pub query_from : Records → ℕ → ℕ → Form → Result Query Refusal

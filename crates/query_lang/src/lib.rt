@@ -10,7 +10,6 @@ pub mod part;
 mod parts;
 mod query;
 mod set;
-mod unbuilt;
 mod units;
 pub mod view;
 

@@ -11,12 +11,9 @@ ghost use Rattle.query_lang.specs.Query.{named_in, assembled, query_from, query_
 use crate::cells::within;
 use crate::named::each_dx;
 use crate::part::Part;
-use crate::unbuilt::first_unbuilt;
 use crate::units::{each_part, units_of, view_of};
-use dh_base::codes::Code;
 use dh_base::items::Items;
 use dh_metadata::metadata::Metadata;
-use query_forms::fault::refused;
 use query_forms::form::Form;
 use query_forms::item::UnitItem;
 use query_forms::text::form_of;
@@ -53,9 +50,6 @@ fn named_in(
 {
     let dx = each_dx(alloc, meta, user, form.dx.as_slice())?;
     let parts = parts_of(alloc, meta, user, form.units.items.as_slice())?;
-    if let Some(text) = first_unbuilt(dx.as_slice()) {
-        return Err(refused(alloc, Code::F9, text));
-    }
     let units = units_of(alloc, meta, user, parts.as_slice())?;
     Ok((dx, units))
 }

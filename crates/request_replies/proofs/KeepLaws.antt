@@ -147,6 +147,7 @@ routed-keeps old new moment (Ok (call.Update kind)) keep made reply = update-kee
 routed-keeps old new moment (Ok (call.Values user set)) keep made reply = change-keeps old new _ keep made reply.found reply.steps reply.brought reply.sure
 routed-keeps old new moment (Ok (call.Completion user list)) keep made reply = change-keeps old new _ keep made reply.found reply.steps reply.brought reply.sure
 routed-keeps old new moment (Ok (call.Approval user act)) keep made reply = change-keeps old new _ keep made reply.found reply.steps reply.brought reply.sure
+routed-keeps old new moment (Ok (call.Tracker user bundle)) keep made reply = change-keeps old new _ keep made reply.found reply.steps reply.brought reply.sure
 
 pub reply-keeps : (old new : Seen) (moment : ℤ) (request : Request) (keep : Bool) (made : Option (List ℕ)) → ReplyAt old moment request keep made new
     → Keeps old made new

@@ -21,6 +21,7 @@ gives_up seen moment (Ok (call.Update kind)) keep =
 gives_up seen moment (Ok (call.Values user set)) keep = record { found = Err change.Memory; steps = refl; brought = refl; tells = tt; sure = tt }
 gives_up seen moment (Ok (call.Completion user list)) keep = record { found = Err change.Memory; steps = refl; brought = refl; tells = tt; sure = tt }
 gives_up seen moment (Ok (call.Approval user act)) keep = record { found = Err change.Memory; steps = refl; brought = refl; tells = tt; sure = tt }
+gives_up seen moment (Ok (call.Tracker user bundle)) keep = record { found = Err change.Memory; steps = refl; brought = refl; tells = tt; sure = tt }
 
 pub of_call : (old new : Seen) (moment : ℤ) (meant : Result Call Refusal) (asked : Call) (keep : Bool) (made : Option (List ℕ)) → meant ≡ Ok asked
     → CallReply old moment asked keep made new → RoutedReply old moment meant keep made new

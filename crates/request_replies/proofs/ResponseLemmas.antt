@@ -12,7 +12,7 @@ use Rattle.wire_head.specs.declared.request.Request.{Request}
 use Rattle.meta_parts.specs.declared.held.Records.{Records}
 use Rattle.change_log.specs.declared.limits.Limits.{Limits}
 use Rattle.change_requests.specs.Requests.{Asked}
-use Rattle.change_requests.specs.declared.request.ChangeRequest.TheVariants.{Values, Completion, Approval}
+use Rattle.change_requests.specs.declared.request.ChangeRequest.TheVariants.{Values, Completion, Approval, Tracker}
 use Rattle.query_forms.specs.Given.{refusal}
 use Rattle.query_forms.specs.declared.plain.Query.{Query}
 use Rattle.web_routes.specs.Calls.{routed}
@@ -199,6 +199,7 @@ routed-is old new moment keep text (Ok (call.Update kind)) none reply = update-i
 routed-is old new moment keep text (Ok (call.Values user set)) none reply = asked-is old new (asking moment user (Values set)) keep text none reply
 routed-is old new moment keep text (Ok (call.Completion user list)) none reply = asked-is old new (asking moment user (Completion list)) keep text none reply
 routed-is old new moment keep text (Ok (call.Approval user act)) none reply = asked-is old new (asking moment user (Approval act)) keep text none reply
+routed-is old new moment keep text (Ok (call.Tracker user bundle)) none reply = asked-is old new (asking moment user (Tracker bundle)) keep text none reply
 
 -- one request has one response
 pub reply_is : (old new : Seen) (moment : ℤ) (request : Request) (keep : Bool) (text : List ℕ) → new.faults ≡ 0

@@ -8,7 +8,7 @@ use Rattle.wire_head.specs.declared.request.Request.{Request}
 use Rattle.meta_parts.specs.declared.held.Records.{Records}
 use Rattle.change_log.specs.declared.limits.Limits.{Limits}
 use Rattle.change_requests.specs.Requests.{Asked}
-use Rattle.change_requests.specs.declared.request.ChangeRequest.TheVariants.{Values, Completion, Approval}
+use Rattle.change_requests.specs.declared.request.ChangeRequest.TheVariants.{Values, Completion, Approval, Tracker}
 use Rattle.query_forms.specs.Given.{refusal}
 use Rattle.query_forms.specs.declared.plain.Query.{Query}
 use Rattle.web_routes.specs.Calls.{routed}
@@ -89,6 +89,7 @@ call_response meta limits state moment keep (call.Update kind) = update_response
 call_response meta limits state moment keep (call.Values user set) = change_response meta limits state (asking moment user (Values set)) keep
 call_response meta limits state moment keep (call.Completion user list) = change_response meta limits state (asking moment user (Completion list)) keep
 call_response meta limits state moment keep (call.Approval user act) = change_response meta limits state (asking moment user (Approval act)) keep
+call_response meta limits state moment keep (call.Tracker user bundle) = change_response meta limits state (asking moment user (Tracker bundle)) keep
 
 abbrev pub routed_response : Records → Limits → State → ℤ → Bool → Result Call Refusal → Response
 routed_response meta limits state moment keep (Ok asked) = call_response meta limits state moment keep asked

@@ -9,7 +9,7 @@ use Rattle.web_routes.specs.declared.call.Call.TheVariants as call
 use Rattle.change_log.specs.Log.{NeverFails}
 use Rattle.engine.specs.Seen.{Seen, IsSound}
 use Rattle.engine.specs.MetaAfter.{published_meta}
-use Rattle.change_requests.specs.declared.request.ChangeRequest.TheVariants.{Values, Completion, Approval}
+use Rattle.change_requests.specs.declared.request.ChangeRequest.TheVariants.{Values, Completion, Approval, Tracker}
 use Rattle.request_replies.specs.Texts.{text_of, IsTold, refusal_reply}
 use Rattle.request_replies.specs.Queries.{QueryReply}
 use Rattle.request_replies.specs.Checks.{CheckReply, place_of}
@@ -24,6 +24,7 @@ CallReply old moment (call.Update kind) keep text new = OwnUpdateReply old kind 
 CallReply old moment (call.Values user set) keep text new = ChangeReply old (asking moment user (Values set)) keep text new
 CallReply old moment (call.Completion user list) keep text new = ChangeReply old (asking moment user (Completion list)) keep text new
 CallReply old moment (call.Approval user act) keep text new = ChangeReply old (asking moment user (Approval act)) keep text new
+CallReply old moment (call.Tracker user bundle) keep text new = ChangeReply old (asking moment user (Tracker bundle)) keep text new
 
 -- a request that is no call is told its refusal
 abbrev pub RoutedReply : Seen → ℤ → Result Call Refusal → Bool → Option (List ℕ) → Seen → Type 0

@@ -73,6 +73,14 @@ fn reply_to_call<K: Keeper>(
             &ChangeRequest::Approval(act),
             keep,
         ),
+        Call::Tracker { user, bundle } => reply_to_change(
+            alloc,
+            engine,
+            user,
+            moment,
+            &ChangeRequest::Tracker(bundle),
+            keep,
+        ),
     }
 }
 

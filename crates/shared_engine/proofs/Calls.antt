@@ -7,7 +7,7 @@ use Rattle.dh_base.specs.declared.memory.Memory.{Memory}
 use Rattle.history_word.specs.Views.{own, LockView, TokenView, Follows, IsOneOf}
 use Rattle.history_word.specs.Rule.{Names}
 use Rattle.history_word.proofs.Histories.{own-append}
-use Rattle.std.proofs.lemmas.List.{get_or_push}
+use Rattle.std.proofs.lemmas.List.{get_or_push, take_all}
 use Rattle.meta_parts.specs.declared.held.Records.{Records}
 use Rattle.change_log.specs.declared.limits.Limits.{Limits}
 use Rattle.change_requests.specs.Requests.{Asked}
@@ -19,20 +19,22 @@ use Rattle.engine.specs.declared.machine.Staged.{Staged}
 use Rattle.engine.specs.declared.machine.CutFault.{CutFault}
 use Rattle.engine.specs.declared.machine.CutFault.TheVariants as cut
 use Rattle.dh_base.specs.declared.plain.CutKind.{CutKind}
-use Rattle.dh_base.specs.declared.plain.CutKind.TheVariants.{Full}
-use Rattle.engine.specs.Machine.{State, start, Act, IsReply, next, lacks_memory, Step, StepBy, by_kind, has_ticket, is_begun}
+use Rattle.dh_base.specs.declared.plain.CutKind.TheVariants.{Full, Latest}
+use Rattle.engine.specs.Machine.{State, start, Act, IsReply, next, lacks_memory, Step, StepBy, by_kind, staged_of, changes_for, is_begun}
 use Rattle.engine.specs.Machine.Act.{changed, begun, swapped, dropped, looked}
-use Rattle.engine.specs.Seen.{Seen, Brought}
+use Rattle.engine.specs.Seen.{Seen, Brought, IsCutOf, update_in}
+use Rattle.engine.specs.declared.machine.Cut.{Cut}
+use Rattle.dh_changes.specs.declared.change.Change.{Change}
 use Rattle.engine.specs.Tables.{tables_of}
 use Rattle.engine.specs.declared.machine.View.{View}
 use Rattle.table_rows.specs.Store.{contents_in}
 use Rattle.std.specs.Arc.{arc_value}
-use Rattle.std.specs.Prelude.{take, IfOk}
+use Rattle.std.specs.Prelude.{take, map, IfOk}
 use Rattle.shared_engine.specs.Entries.{Entry, caller_of, named_of, Stand, entries_if, entries_of, entry_by, entries_by, after_entries, IsRight, IsFault, Owns}
 use Rattle.shared_engine.specs.Histories.{Made, begin, stand_of, IsLegal, StandsAt, IsRunning, IsBegunBy}
-use Rattle.shared_engine.specs.Calls.{IsCall, IsUpdate}
-use Rattle.shared_engine.specs.Ends.{end_act, told_after, answer_of, Goes}
-use Rattle.shared_engine.proofs.Growth.{after_both, legal_both, updates_stay, from_left}
+use Rattle.shared_engine.specs.Calls.{IsCall, IsUpdate, last_of}
+use Rattle.shared_engine.specs.Ends.{staged_in, end_act, told_after, answer_of, Goes}
+use Rattle.shared_engine.proofs.Growth.{after_both, legal_both, updates_stay, has_staged}
 
 -- ---- an entry is added
 
@@ -51,6 +53,11 @@ one_added v w b e is added = added ∙ ap (λ b. record v { list = v.list ++ ent
 own_entries : (b : Bool) (e : Entry) → own caller_of e.caller (entries_if b e) ≡ entries_if b e
 own_entries true e = refl
 own_entries false e = ap (λ b. cond b (e ∷ []) []) (eq-eqb e.caller e.caller refl)
+
+-- the last of no entry or one
+last_if : (b : Bool) (e : Entry) → last_of (entries_if b e) ≡ entries_if b e
+last_if true e = refl
+last_if false e = refl
 
 -- ---- the engine makes a step
 
@@ -180,6 +187,10 @@ module _ (made : Made) (engine new : Seen) (old lock : LockView Entry) (token no
             (own_entries (lacks_memory act) (record { caller = token.caller; act = act; faults = new.faults }));
         least = le_trans follows.told rises;
         told = published ∙ ap (λ (s : State). s.published) stands.state;
+        last = (
+          old.list,
+          ap (λ l. old.list ++ l) (sym (last_if (lacks_memory act) (record { caller = token.caller; act = act; faults = new.faults }))),
+        );
       })
 
 -- the same from what each call under the lock says
@@ -275,22 +286,44 @@ look_told made engine lock now (Err fault) r same h = tt
 cut_owner : (caller ticket : ℕ) (owner : ℕ → Option ℕ) → cond (ticket == ticket) (Some caller) (owner ticket) ≡ Some caller
 cut_owner caller ticket owner = ap (λ b. cond b (Some caller) (owner ticket)) (eq-eqb ticket ticket refl)
 
--- after a cut its update is begun, and its caller's
-pub cut_begun : (made : Made) (list : List Entry) (caller : ℕ) (kind : CutKind) (reply : Result Staged CutFault) (faults : ℕ) → kind ≡ Full
-    → IfOk reply (λ update. IsBegunBy made (list ++ entries_of caller (begun kind reply) faults) caller update.ticket)
-cut_begun made list caller kind (Err fault) faults full = tt
-cut_begun made list caller kind (Ok update) faults full =
+cut_staged : (full latest : Option Staged) (kind : CutKind) (update : Staged)
+    → by_kind kind (by_kind kind (Some update) full) (by_kind kind latest (Some update)) ≡ Some update
+cut_staged full latest Full update = refl
+cut_staged full latest Latest update = refl
+
+-- after a cut its update is begun, and its caller's, and the changes before it are the log's
+cut_begins : (made : Made) (engine new : Seen) (list : List Entry) (caller : ℕ) (kind : CutKind) (update : Staged) (faults : ℕ) → StandsAt made engine list
+    → Step engine.meta engine.limits engine.state (begun kind (Ok update)) new.state
+    → IsBegunBy made (list ++ entries_of caller (begun kind (Ok update)) faults) caller kind update engine.state.log
+cut_begins made engine new list caller kind update faults s step =
     let e : Entry = record { caller = caller; act = begun kind (Ok update); faults = faults } in
-    let after : stand_of made (list ++ e ∷ []) ≡ after_entries made.meta (stand_of made list) (e ∷ []) =
-    after_both made.meta (begin made.opening) list (e ∷ []) in
-    let state = (stand_of made list).machine in
-    let here : has_ticket update.ticket (by_kind kind (Some update) state.full) ≡ true =
-    subst (λ (k : CutKind). has_ticket update.ticket (by_kind k (Some update) state.full) ≡ true) (sym full) (eq-eqb update.ticket update.ticket refl) in
+    let stand : Stand = stand_of made list in
+    let after : stand_of made (list ++ e ∷ []) ≡ after_entries made.meta stand (e ∷ []) = after_both made.meta (begin made.opening) list (e ∷ []) in
+    let number : update.number ≡ length engine.state.log = ap (λ (u : Staged). u.number) step.0.1.1 in
+    let log : stand.machine.log ≡ engine.state.log = ap (λ (st : State). st.log) (sym s.state) in
+    let low : update.number ≤ length stand.machine.log =
+    subst (λ (l : List Change). update.number ≤ length l) (sym log) (subst (λ (n : ℕ). n ≤ length engine.state.log) (sym number) (le_refl (length engine.state.log))) in
+    let high : length stand.machine.log ≤ update.number =
+    subst (λ (l : List Change). length l ≤ update.number) (sym log) (subst (λ (n : ℕ). length engine.state.log ≤ n) (sym number) (le_refl (length engine.state.log))) in
     record {
-      begun = subst (λ (s : Stand). is_begun s.machine update.ticket ≡ true) (sym after) (from_left _ _ here);
-      given = subst (λ (s : Stand). update.ticket ≤ s.machine.ticket) (sym after) (le_refl update.ticket);
-      owner = subst (λ (s : Stand). s.owner update.ticket ≡ Some caller) (sym after) (cut_owner caller update.ticket (stand_of made list).owner);
+      begun = subst (λ (st : Stand). staged_of st.machine kind ≡ Some update) (sym after) (cut_staged stand.machine.full stand.machine.latest kind update);
+      given = subst (λ (st : Stand). update.ticket ≤ st.machine.ticket) (sym after) (le_refl update.ticket);
+      owner = subst (λ (st : Stand). st.owner update.ticket ≡ Some caller) (sym after) (cut_owner caller update.ticket stand.owner);
+      there = subst (λ (st : Stand). update.number ≤ length st.machine.log) (sym after) low;
+      before = subst (λ (st : Stand). take update.number st.machine.log ≡ engine.state.log) (sym after) (take_all update.number stand.machine.log high ∙ log);
     }
+
+pub cut_begun : (made : Made) (engine new : Seen) (list : List Entry) (caller : ℕ) (kind : CutKind) (reply : Result Cut CutFault) (faults : ℕ)
+    → StandsAt made engine list → Step engine.meta engine.limits engine.state (begun kind (update_in reply)) new.state → kind ≡ Full
+    → IfOk reply (IsCutOf engine.state kind)
+    → IfOk reply (λ cut. IsBegunBy made (list ++ entries_of caller (begun kind (update_in reply)) faults) caller kind (staged_in cut)
+    (map arc_value cut.changes.items))
+cut_begun made engine new list caller kind (Err fault) faults s step full given = tt
+cut_begun made engine new list caller kind (Ok cut) faults s step full given =
+    let changes : map arc_value cut.changes.items ≡ engine.state.log =
+    given.changes_are ∙ ap (λ (k : CutKind). changes_for engine.state k) full in
+    subst (λ (l : List Change). IsBegunBy made (list ++ entries_of caller (begun kind (Ok (staged_in cut))) faults) caller kind (staged_in cut) l) (sym changes)
+    (cut_begins made engine new list caller kind (staged_in cut) faults s step)
 
 nothing_more : (xs ys : List Entry) → xs ++ ys ≡ xs → ys ≡ []
 nothing_more xs [] e = refl
@@ -298,48 +331,52 @@ nothing_more xs (y ∷ ys) e =
     let long = length-append xs (y ∷ ys) in let same = ap length e in absurd (omega (arith, long, same))
 
 -- the update is still begun when its caller comes back
-pub still_begun : (made : Made) (engine : Seen) (l0 : LockView Entry) (token : TokenView Entry) (ticket : ℕ) → IsRunning made engine l0
-    → Follows caller_of token (record l0 { taken = Some token.caller }) → IsBegunBy made token.list token.caller ticket
-    → IsBegunBy made l0.list token.caller ticket
-still_begun made engine l0 token ticket r f h =
+pub still_begun : (made : Made) (engine : Seen) (l0 : LockView Entry) (token : TokenView Entry) (kind : CutKind) (update : Staged) (changes : List Change)
+    → IsRunning made engine l0 → Follows caller_of token (record l0 { taken = Some token.caller })
+    → IsBegunBy made token.list token.caller kind update changes → IsBegunBy made l0.list token.caller kind update changes
+still_begun made engine l0 token kind update changes r f h =
     let rest = f.front.0 in
     let blank : own caller_of token.caller rest ≡ [] =
     nothing_more (own caller_of token.caller token.list) (own caller_of token.caller rest)
     (sym (own-append caller_of token.caller token.list rest) ∙ ap (λ l. own caller_of token.caller l) f.front.1 ∙ f.same) in
-    subst (λ (l : List Entry). IsBegunBy made l token.caller ticket) f.front.1
-    (updates_stay made token.list rest token.caller ticket (subst (λ (l : List Entry). IsLegal made l) (sym f.front.1) r.stands.legal) h blank)
+    subst (λ (l : List Entry). IsBegunBy made l token.caller kind update changes) f.front.1
+    (updates_stay made token.list rest token.caller kind update changes
+    (subst (λ (l : List Entry). IsLegal made l) (sym f.front.1) r.stands.legal) h blank)
 
--- two calls of one caller, one after the other
-pub joined : (made : Made) (a b c : TokenView Entry) (es fs : List Entry) → IsCall made a b es → IsCall made b c fs → IsCall made a c (es ++ fs)
-joined made a b c es fs x y = record {
+-- two calls of one caller, one after the other, which add an entry each
+joined : (made : Made) (a b c : TokenView Entry) (e f : Entry) → IsCall made a b (e ∷ []) → IsCall made b c (f ∷ []) → IsCall made a c (e ∷ f ∷ [])
+joined made a b c e f x y = record {
   table = y.table ∙ x.table;
   caller = y.caller ∙ x.caller;
   front = (x.front.0 ++ y.front.0, sym (append_assoc a.list x.front.0 y.front.0) ∙ ap (λ l. l ++ y.front.0) x.front.1 ∙ y.front.1);
   legal = y.legal;
-  mine = subst (λ (n : ℕ). own caller_of n c.list ≡ own caller_of n b.list ++ fs) x.caller y.mine ∙ ap (λ l. l ++ fs) x.mine
-      ∙ append_assoc (own caller_of a.caller a.list) es fs;
+  mine = subst (λ (n : ℕ). own caller_of n c.list ≡ own caller_of n b.list ++ f ∷ []) x.caller y.mine ∙ ap (λ l. l ++ f ∷ []) x.mine
+      ∙ append_assoc (own caller_of a.caller a.list) (e ∷ []) (f ∷ []);
   least = le_trans x.least y.least;
   told = y.told;
+  last = y.last;
 }
 
 -- the end of an update
 pub end_made : (made : Made) (engine new : Seen) (l0 l1 l2 l3 : LockView Entry) (token now : TokenView Entry) (ticket : ℕ) (reply : Result ℕ Memory)
     → IsRunning made engine l0 → token.table ≡ made.table → l1 ≡ record l0 { taken = Some token.caller } → Follows caller_of token l1
-    → IsBegunBy made token.list token.caller ticket → Goes engine (end_act ticket reply) new
+    → (kind : CutKind) (number : ℕ) (changes : List Change)
+    → IsBegunBy made token.list token.caller kind (record { ticket = ticket; number = number }) changes → Goes engine (end_act ticket reply) new
     → new.state.published ≡ told_after engine.state.published reply → IfOk reply (λ number. engine.state.published ≤ number)
     → l2 ≡ record l1 { list = l1.list ++ entry_by l1.taken (end_act ticket reply) new.faults ∷ []; told = told_after l1.told reply }
     → l3 ≡ record l2 { taken = None } → IfSome l2.taken (λ caller. now ≡ record { table = l2.table; caller = caller; list = l2.list; told = l2.told })
     → IsRunning made new l3 × IsCall made token now (record { caller = token.caller; act = end_act ticket reply; faults = new.faults } ∷ [])
-end_made made engine new l0 l1 l2 l3 token now ticket (Ok number) running table taken follows begun_is goes published rises noted back given =
+end_made made engine new l0 l1 l2 l3 token now ticket (Ok published_now) running table taken follows kind number changes begun_is goes published rises noted back given =
     let from = subst (λ (l : LockView Entry). Follows caller_of token l) taken follows in
-    let all = call_made made engine new l0 l1 l2 l3 token now (swapped ticket (Ok number)) number running table taken follows goes
-    (still_begun made engine l0 token ticket running from begun_is).owner (subst (λ (n : ℕ). n ≤ number) (sym running.told) rises) (sym published)
+    let all = call_made made engine new l0 l1 l2 l3 token now (swapped ticket (Ok published_now)) published_now running table taken follows goes
+    (still_begun made engine l0 token kind (record { ticket = ticket; number = number }) changes running from begun_is).owner
+    (subst (λ (n : ℕ). n ≤ published_now) (sym running.told) rises) (sym published)
     noted back given in
     (all.0, all.1)
-end_made made engine new l0 l1 l2 l3 token now ticket (Err memory) running table taken follows begun_is goes published rises noted back given =
+end_made made engine new l0 l1 l2 l3 token now ticket (Err memory) running table taken follows kind number changes begun_is goes published rises noted back given =
     let from = subst (λ (l : LockView Entry). Follows caller_of token l) taken follows in
     let all = quiet_made made engine new l0 l1 l2 l3 token now (dropped ticket) running table taken follows goes
-    (still_begun made engine l0 token ticket running from begun_is).owner published noted back given in
+    (still_begun made engine l0 token kind (record { ticket = ticket; number = number }) changes running from begun_is).owner published noted back given in
     (all.0, all.1)
 
 pub cut_made : (made : Made) (engine new : Seen) (l0 l1 l2 l3 : LockView Entry) (token now : TokenView Entry) (kind : CutKind)
@@ -407,38 +444,27 @@ pub ruleset ends = (swapped_goes, swapped_published, dropped_goes, dropped_publi
 
 -- ---- an update as one call
 
-pub update_ended : (made : Made) (a b c : TokenView Entry) (kind : CutKind) (update : Staged) (reply : Result ℕ Memory) (first last : ℕ)
-    → IsCall made a b (entries_of a.caller (begun kind (Ok update)) first)
-    → IsCall made b c (record { caller = b.caller; act = end_act update.ticket reply; faults = last } ∷ [])
-    → (entries : List Entry) × IsCall made a c entries × IsUpdate a.caller kind (answer_of reply) entries
-update_ended made a b c kind update (Ok number) first last x y = (
-  record { caller = a.caller; act = begun kind (Ok update); faults = first }
-      ∷ record { caller = b.caller; act = swapped update.ticket (Ok number); faults = last } ∷ [],
-  joined made a b c _ _ x y,
-  (
-    update,
-    (
-      first,
-      last,
-      ap (λ n. record { caller = a.caller; act = begun kind (Ok update); faults = first }
-          ∷ record { caller = n; act = swapped update.ticket (Ok number); faults = last } ∷ []) x.caller,
-    ),
-  ),
-)
-update_ended made a b c kind update (Err memory) first last x y = (
-  record { caller = a.caller; act = begun kind (Ok update); faults = first }
-      ∷ record { caller = b.caller; act = dropped update.ticket; faults = last } ∷ [],
-  joined made a b c _ _ x y,
-  inr (
-    update,
-    (
-      first,
-      last,
-      ap (λ n. record { caller = a.caller; act = begun kind (Ok update); faults = first }
-          ∷ record { caller = n; act = dropped update.ticket; faults = last } ∷ []) x.caller,
-    ),
-  ),
-)
+pub update_ended : (made : Made) (a b c : TokenView Entry) (kind : CutKind) (ticket cut : ℕ) (reply : Result ℕ Memory) (answer : Result ℕ CutFault)
+    (first last : ℕ) → answer ≡ answer_of reply
+    → IsCall made a b (entries_of a.caller (begun kind (Ok (record { ticket = ticket; number = cut }))) first)
+    → IsCall made b c (record { caller = b.caller; act = end_act ticket reply; faults = last } ∷ [])
+    → (entries : List Entry) × IsCall made a c entries × IsUpdate a.caller kind answer entries
+update_ended made a b c kind ticket cut (Ok number) answer first last is x y =
+    let one : Entry = record { caller = a.caller; act = begun kind (Ok (record { ticket = ticket; number = cut })); faults = first } in
+    let ended : ℕ → Entry = λ caller. record { caller = caller; act = swapped ticket (Ok number); faults = last } in (
+      one ∷ ended b.caller ∷ [],
+      joined made a b c one (ended b.caller) x y,
+      subst (λ (found : Result ℕ CutFault). IsUpdate a.caller kind found (one ∷ ended b.caller ∷ [])) (sym is)
+          (record { ticket = ticket; number = cut }, (first, last, ap (λ n. one ∷ ended n ∷ []) x.caller)),
+    )
+update_ended made a b c kind ticket cut (Err memory) answer first last is x y =
+    let one : Entry = record { caller = a.caller; act = begun kind (Ok (record { ticket = ticket; number = cut })); faults = first } in
+    let ended : ℕ → Entry = λ caller. record { caller = caller; act = dropped ticket; faults = last } in (
+      one ∷ ended b.caller ∷ [],
+      joined made a b c one (ended b.caller) x y,
+      subst (λ (found : Result ℕ CutFault). IsUpdate a.caller kind found (one ∷ ended b.caller ∷ [])) (sym is)
+          (inr (record { ticket = ticket; number = cut }, (first, last, ap (λ n. one ∷ ended n ∷ []) x.caller))),
+    )
 
 pub update_refused : (made : Made) (a b : TokenView Entry) (kind : CutKind) (fault : CutFault) (faults : ℕ)
     → IsCall made a b (entries_of a.caller (begun kind (Err fault)) faults)
@@ -474,12 +500,20 @@ pub ended_err : (v w : LockView Entry) (list : List Entry) (memory : Memory) (re
     → w ≡ record v { list = list; told = told_after v.told reply }
 ended_err v w list memory reply err is = is ∙ ap (λ r. record v { list = list; told = told_after v.told r }) (sym err)
 
-pub end_begun : (made : Made) (engine : Seen) (l0 l1 : LockView Entry) (token : TokenView Entry) (ticket : ℕ) → IsRunning made engine l0
-    → l1 ≡ record l0 { taken = Some token.caller } → Follows caller_of token l1 → IsBegunBy made token.list token.caller ticket
-    → IsTrue (is_begun engine.state ticket)
-end_begun made engine l0 l1 token ticket running taken follows h =
+-- the update that ends is begun, of these changes
+pub end_staged : (made : Made) (engine : Seen) (l0 l1 : LockView Entry) (token : TokenView Entry) (kind : CutKind) (update : Staged) (changes : List Change)
+    → IsRunning made engine l0 → l1 ≡ record l0 { taken = Some token.caller } → Follows caller_of token l1
+    → IsBegunBy made token.list token.caller kind update changes
+    → (staged_of engine.state kind ≡ Some update) × (take update.number engine.state.log ≡ changes)
+end_staged made engine l0 l1 token kind update changes running taken follows h =
     let from = subst (λ (l : LockView Entry). Follows caller_of token l) taken follows in
-    subst (λ (s : State). is_begun s ticket ≡ true) (sym running.stands.state) (still_begun made engine l0 token ticket running from h).begun
+    let still = still_begun made engine l0 token kind update changes running from h in (
+      subst (λ (s : State). staged_of s kind ≡ Some update) (sym running.stands.state) still.begun,
+      subst (λ (s : State). take update.number s.log ≡ changes) (sym running.stands.state) still.before,
+    )
+
+pub end_begun : (state : State) (kind : CutKind) (update : Staged) → staged_of state kind ≡ Some update → IsTrue (is_begun state update.ticket)
+end_begun state kind update is = has_staged state.full state.latest kind update is
 
 pub end_low : (made : Made) (engine : Seen) (l0 l1 : LockView Entry) (caller : ℕ) (reply : Result ℕ Memory) → IsRunning made engine l0
     → l1 ≡ record l0 { taken = Some caller } → IfOk reply (λ number. engine.state.published ≤ number) → IfOk reply (λ number. l1.told ≤ number)

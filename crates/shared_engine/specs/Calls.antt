@@ -14,8 +14,14 @@ use Rattle.shared_engine.specs.Histories.{Made, IsLegal, stand_of}
 abbrev pub no_token : TokenView Entry
 no_token = record { table = Rattle.shared_engine.specs.Histories.no_table; caller = 0; list = []; told = 0 }
 
--- the history begins with all that the caller knew, and is legal; of the caller's entries it has those that it had and then these;
--- the caller is told what is published after it, which is no lower than what it was told before
+-- the last of these entries, if there is one
+abbrev pub last_of : List Entry → List Entry
+last_of [] = []
+last_of (entry ∷ []) = entry ∷ []
+last_of (entry ∷ other ∷ entries) = last_of (other ∷ entries)
+
+-- the history begins with all that the caller knew, and is legal; of the caller's entries it has those that it had and then these, the
+-- last of which ends it; the caller is told what is published after it, which is no lower than what it was told before
 pub record IsCall (made : Made) (before now : TokenView Entry) (entries : List Entry) : Type 0 where
   pub table : now.table ≡ before.table
   pub caller : now.caller ≡ before.caller
@@ -24,6 +30,7 @@ pub record IsCall (made : Made) (before now : TokenView Entry) (entries : List E
   pub mine : own caller_of before.caller now.list ≡ own caller_of before.caller before.list ++ entries
   pub least : before.told ≤ now.told
   pub told : now.told ≡ (stand_of made now.list).machine.published
+  pub last : (earlier : List Entry) × (now.list ≡ earlier ++ last_of entries)
 
 -- an update that is begun, and how it ended
 abbrev pub IsEnd : ℕ → CutKind → Staged → Result ℕ CutFault → List Entry → Type 0

@@ -1,12 +1,18 @@
 -- How an update ends, and what a step of the engine does.
 use Rattle.std.specs.Prelude.{◌≡◌, ◌≤◌, ℕ, true, Result, Ok, Err}
 use Rattle.dh_base.specs.declared.memory.Memory.{Memory}
+use Rattle.engine.specs.declared.machine.Cut.{Cut}
+use Rattle.engine.specs.declared.machine.Staged.{Staged}
 use Rattle.engine.specs.declared.machine.CutFault.{CutFault}
 use Rattle.engine.specs.declared.machine.CutFault.TheVariants as cut
 use Rattle.engine.specs.Machine.{Act, Step, lacks_memory}
 use Rattle.engine.specs.Machine.Act.{swapped, dropped}
 use Rattle.engine.specs.Seen.{Seen}
 use Rattle.shared_engine.specs.Entries.{IsFault}
+
+-- the update that a cut begins
+abbrev pub staged_in : Cut → Staged
+staged_in cut = record { ticket = cut.ticket; number = cut.number }
 
 -- an update is swapped in, or out of memory dropped
 abbrev pub end_act : ℕ → Result ℕ Memory → Act

@@ -1,10 +1,13 @@
 -- Legal histories of one system, made for one metadata and one set of limits, over a keeper that had so many faults when it began.
-use Rattle.std.specs.Prelude.{◌≡◌, ◌≤◌, ℕ, List, [], false, true, map, None, Some}
+use Rattle.std.specs.Prelude.{◌≡◌, ◌≤◌, ℕ, List, [], false, true, map, take, length, None, Some}
 use Rattle.atomic_table.specs.Seated.{TableId}
 use Rattle.history_word.specs.Views.{LockView}
 use Rattle.meta_parts.specs.declared.held.Records.{Records}
 use Rattle.change_log.specs.declared.limits.Limits.{Limits}
-use Rattle.engine.specs.Machine.{start, Act, is_begun}
+use Rattle.dh_base.specs.declared.plain.CutKind.{CutKind}
+use Rattle.dh_changes.specs.declared.change.Change.{Change}
+use Rattle.engine.specs.declared.machine.Staged.{Staged}
+use Rattle.engine.specs.Machine.{start, Act, staged_of}
 use Rattle.engine.specs.Seen.{Seen}
 use Rattle.shared_engine.specs.Entries.{Entry, Stand, after_entries, IsLegalFrom}
 
@@ -74,11 +77,13 @@ pub record IsRunning (made : Made) (engine : Seen) (lock : LockView Entry) : Typ
   pub stands : StandsAt made engine lock.list
   pub told : lock.told ≡ engine.state.published
 
--- the update with this ticket is begun, and it is this caller's
-pub record IsBegunBy (made : Made) (entries : List Entry) (caller ticket : ℕ) : Type 0 where
-  pub begun : is_begun (stand_of made entries).machine ticket ≡ true
-  pub given : ticket ≤ (stand_of made entries).machine.ticket
-  pub owner : (stand_of made entries).owner ticket ≡ Some caller
+-- this update of a kind is begun, and it is this caller's; these are the changes before its cut
+pub record IsBegunBy (made : Made) (entries : List Entry) (caller : ℕ) (kind : CutKind) (update : Staged) (changes : List Change) : Type 0 where
+  pub begun : staged_of (stand_of made entries).machine kind ≡ Some update
+  pub given : update.ticket ≤ (stand_of made entries).machine.ticket
+  pub owner : (stand_of made entries).owner update.ticket ≡ Some caller
+  pub there : update.number ≤ length (stand_of made entries).machine.log
+  pub before : take update.number (stand_of made entries).machine.log ≡ changes
 
 abbrev pub acts_of : List Entry → List Act
 acts_of entries = map (λ (entry : Entry). entry.act) entries

@@ -3,3 +3,4 @@ pub mod Histories
 pub mod Laws
 pub mod Ends
 pub mod Calls
+pub mod Unseen

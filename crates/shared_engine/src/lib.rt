@@ -9,6 +9,9 @@ mod notes;
 mod shared;
 mod steps;
 
-pub use laws::{looks_show_the_last_swap, published_never_falls, updates_stay_begun};
+pub use laws::{
+    looks_are_current, looks_show_the_last_swap, published_never_falls, unseen_changes_nothing,
+    updates_stay_begun,
+};
 pub use names::{Item, Naming};
 pub use shared::{Opened, Pass, Shared, open};

@@ -1,27 +1,27 @@
 //! What lies under the lock: the engine, and the seat that knows the whole history. Each call takes its caller in, makes one step of
 //! the machine, adds its entry, and gives the caller its token back.
-ghost use Rattle.std.specs.Prelude.{◌≡◌, ◌∷◌, ℕ, [], IfOk, take};
+ghost use Rattle.std.specs.Prelude.{◌≡◌, ◌∷◌, ℕ, [], IfOk, map, take};
 ghost use Rattle.history_word.specs.Views.{own};
 ghost use Rattle.std.specs.Arc.{arc_value};
 ghost use Rattle.value_import.specs.Outcomes.{IsKnown};
 ghost use Rattle.table_rows.specs.Store.{contents_in};
 ghost use Rattle.dh_base.specs.declared.plain.CutKind.TheVariants.{Full};
 ghost use Rattle.engine.specs.Machine.Act.{changed, begun, looked};
-ghost use Rattle.engine.specs.Seen.{published_in};
+ghost use Rattle.engine.specs.Seen.{update_in, published_in};
 ghost use Rattle.engine.specs.Tables.{tables_of};
 ghost use Rattle.shared_engine.specs.Entries.{entries_of, caller_of};
 ghost use Rattle.shared_engine.specs.Histories.{stand_of, IsLegal, IsBegunBy};
-ghost use Rattle.shared_engine.specs.Ends.{end_act};
+ghost use Rattle.shared_engine.specs.Ends.{staged_in, end_act};
 ghost use Rattle.shared_engine.specs.Calls.{IsCall};
 
 use crate::names::{Item, Naming};
 use crate::notes::{note_change, note_cut, note_end, note_look};
-use crate::steps::{cut_only, end_update};
+use crate::steps::end_update;
 use change_requests::ChangeRequest;
 use dh_base::memory::Memory;
 use dh_base::plain::CutKind;
 use dh_outside::Keeper;
-use engine::{ChangeFault, CutFault, Engine, LookFault, Report, Staged, View};
+use engine::{ChangeFault, Cut, CutFault, Engine, LookFault, Report, View};
 use history_word::{HistoryTable, LockSeat, Token};
 use record_index::outcome::Who;
 use std::alloc::Global;
@@ -53,6 +53,7 @@ impl<J: Naming, K: Keeper> Locked<J, K> {
         ensures table { result.table ≡ J.made.table }
         ensures none { own caller_of result.caller result.list ≡ [] }
         ensures legal { IsLegal J.made result.list }
+        ensures told { result.told ≡ (stand_of J.made result.list).machine.published }
     {
         self.seat.new_pass(words)
     }
@@ -114,14 +115,14 @@ impl<J: Naming, K: Keeper> Locked<J, K> {
         words: &HistoryTable<Item>,
         token: Token<Item>,
         kind: CutKind,
-    ) -> (Token<Item>, Result<Staged, CutFault>)
+    ) -> (Token<Item>, Result<Cut, CutFault>)
         requires table { (words.now ≡ J.made.table) × (token.table ≡ J.made.table) }
         requires kind { kind ≡ Full }
-        ensures call { (faults : ℕ) × IsCall J.made token result.0 (entries_of token.caller (begun kind result.1) faults) }
-        ensures begun { IfOk result.1 (λ update. IsBegunBy J.made result.0.list token.caller update.ticket) }
+        ensures call { (faults : ℕ) × IsCall J.made token result.0 (entries_of token.caller (begun kind (update_in result.1)) faults) }
+        ensures begun { IfOk result.1 (λ cut. IsBegunBy J.made result.0.list token.caller kind (staged_in cut) (map arc_value cut.changes.items)) }
     {
         self.seat.take_in(words, token);
-        let reply = cut_only(alloc, &mut self.engine, kind);
+        let reply = self.engine.cut(alloc, kind);
         note_cut(&mut self.seat, words, &self.engine, kind, &reply);
         let token = self.seat.give_back(words);
         (token, reply)
@@ -133,15 +134,16 @@ impl<J: Naming, K: Keeper> Locked<J, K> {
         alloc: Global,
         words: &HistoryTable<Item>,
         token: Token<Item>,
-        ticket: u64,
+        cut: &Cut,
     ) -> (Token<Item>, Result<u64, Memory>)
         requires table { (words.now ≡ J.made.table) × (token.table ≡ J.made.table) }
-        requires begun { IsBegunBy J.made token.list token.caller ticket }
-        ensures { (faults : ℕ) × IsCall J.made token result.0 (record { caller = token.caller; act = end_act ticket result.1; faults = faults } ∷ []) }
+        requires begun { IsBegunBy J.made token.list token.caller Full (staged_in cut.now) (map arc_value cut.now.changes.items) }
+        ensures { (faults : ℕ) × IsCall J.made token result.0
+            (record { caller = token.caller; act = end_act cut.now.ticket result.1; faults = faults } ∷ []) }
     {
         self.seat.take_in(words, token);
-        let reply = end_update(alloc, &mut self.engine, ticket);
-        note_end(&mut self.seat, words, &self.engine, ticket, &reply);
+        let reply = end_update(alloc, &mut self.engine, cut.ticket);
+        note_end(&mut self.seat, words, &self.engine, cut.ticket, &reply);
         let token = self.seat.give_back(words);
         (token, reply)
     }

@@ -2,7 +2,7 @@
 ghost use Rattle.std.specs.Prelude.{◌≡◌, ◌≤◌, ◌++◌, ◌∷◌, [], IsSome, IfOk};
 ghost use Rattle.engine.specs.Machine.{change_lacks, cut_lacks, look_lacks};
 ghost use Rattle.engine.specs.Machine.Act.{changed, begun, looked};
-ghost use Rattle.engine.specs.Seen.{published_in};
+ghost use Rattle.engine.specs.Seen.{update_in, published_in};
 ghost use Rattle.shared_engine.specs.Entries.{entry_by, entries_by};
 ghost use Rattle.shared_engine.specs.Ends.{end_act, told_after};
 
@@ -11,7 +11,7 @@ use change_requests::ChangeRequest;
 use dh_base::memory::Memory;
 use dh_base::plain::CutKind;
 use dh_outside::Keeper;
-use engine::{ChangeFault, CutFault, Engine, LookFault, Report, Staged, View};
+use engine::{ChangeFault, Cut, CutFault, Engine, LookFault, Report, View};
 use history_word::{EntryName, HistoryTable, LockSeat};
 use record_index::outcome::Who;
 use std::marker::Brand;
@@ -117,8 +117,8 @@ pub(crate) fn note_look<K: Keeper>(
     stamp_look::<Brand, K>(seat, words, engine, asked, reply);
 }
 
-fn cut_lacks(reply: &Result<Staged, CutFault>) -> bool
-    ensures { result ≡ cut_lacks reply.now }
+fn cut_lacks(reply: &Result<Cut, CutFault>) -> bool
+    ensures { result ≡ cut_lacks (update_in reply.now) }
 {
     match reply {
         Ok(_) => false,
@@ -133,12 +133,12 @@ fn stamp_cut<N: EntryName<Item>, K: Keeper>(
     words: &HistoryTable<Item>,
     engine: &Engine<K>,
     kind: CutKind,
-    reply: &Result<Staged, CutFault>,
+    reply: &Result<Cut, CutFault>,
 )
     requires table { seat.old.table ≡ words.now }
     requires taken { IsSome seat.old.taken }
-    requires entry { N.added ≡ entry_by seat.old.taken (begun kind reply.now) engine.now.faults ∷ [] }
-    ensures { seat.new ≡ record seat.old { list = seat.old.list ++ entry_by seat.old.taken (begun kind reply.now) engine.now.faults ∷ [] } }
+    requires entry { N.added ≡ entry_by seat.old.taken (begun kind (update_in reply.now)) engine.now.faults ∷ [] }
+    ensures { seat.new ≡ record seat.old { list = seat.old.list ++ entry_by seat.old.taken (begun kind (update_in reply.now)) engine.now.faults ∷ [] } }
 {
     seat.stamp::<N>(words);
 }
@@ -150,11 +150,11 @@ pub(crate) fn note_cut<K: Keeper>(
     words: &HistoryTable<Item>,
     engine: &Engine<K>,
     kind: CutKind,
-    reply: &Result<Staged, CutFault>,
+    reply: &Result<Cut, CutFault>,
 )
     requires table { seat.old.table ≡ words.now }
     requires taken { IsSome seat.old.taken }
-    ensures { seat.new ≡ record seat.old { list = seat.old.list ++ entries_by seat.old.taken (begun kind reply.now) engine.now.faults } }
+    ensures { seat.new ≡ record seat.old { list = seat.old.list ++ entries_by seat.old.taken (begun kind (update_in reply.now)) engine.now.faults } }
 {
     if cut_lacks(reply) {
         return;

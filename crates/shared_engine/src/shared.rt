@@ -1,5 +1,5 @@
 //! The lock, the words beside it, and the passes of its callers.
-ghost use Rattle.std.specs.Prelude.{◌≡◌, ◌≤◌, ◌∷◌, [], ℕ, List, IfOk, take};
+ghost use Rattle.std.specs.Prelude.{◌≡◌, ◌≤◌, ◌∷◌, [], ℕ, List, IfOk, map, take};
 ghost use Rattle.dh_base.specs.declared.plain.CutKind.TheVariants.{Full};
 ghost use Rattle.std.specs.Arc.{arc_value};
 ghost use Rattle.value_import.specs.Outcomes.{IsKnown};
@@ -7,11 +7,11 @@ ghost use Rattle.table_rows.specs.Store.{contents_in};
 ghost use Rattle.history_word.specs.Views.{own};
 ghost use Rattle.engine.specs.Machine.{start};
 ghost use Rattle.engine.specs.Machine.Act.{changed, begun, looked};
-ghost use Rattle.engine.specs.Seen.{published_in};
+ghost use Rattle.engine.specs.Seen.{update_in, published_in};
 ghost use Rattle.engine.specs.Tables.{tables_of};
 ghost use Rattle.shared_engine.specs.Entries.{Entry, entries_of, caller_of};
 ghost use Rattle.shared_engine.specs.Histories.{stand_of, IsLegal, IsBegunBy};
-ghost use Rattle.shared_engine.specs.Ends.{end_act, answer_of};
+ghost use Rattle.shared_engine.specs.Ends.{staged_in, end_act, answer_of};
 ghost use Rattle.shared_engine.specs.Calls.{IsCall, IsUpdate};
 
 use crate::locked::Locked;
@@ -21,7 +21,7 @@ use dh_base::memory::Memory;
 use dh_base::plain::CutKind;
 use dh_metadata::metadata::Metadata;
 use dh_outside::Keeper;
-use engine::{ChangeFault, CutFault, Engine, LookFault, Report, Staged, View};
+use engine::{ChangeFault, Cut, CutFault, Engine, LookFault, Report, View};
 use history_word::{HistoryTable, LockSeat, Token};
 use record_index::outcome::Who;
 use std::alloc::Global;
@@ -140,10 +140,11 @@ pub fn open<K: Keeper>(
 }
 
 impl<J: Naming, K: Keeper> Shared<J, K> {
-    /// A new caller's pass.
+    /// A new caller's pass, which is told what is published.
     pub fn pass<R: Wait>(&self, rt: &R) -> Pass<J>
         ensures none { own caller_of result.caller result.list ≡ [] }
         ensures legal { IsLegal J.made result.list }
+        ensures told { result.told ≡ (stand_of J.made result.list).machine.published }
     {
         let mut locked = self.lock.lock(rt);
         let token = Some(locked.pass(&self.words));
@@ -232,6 +233,7 @@ impl<J: Naming, K: Keeper> Shared<J, K> {
         answer
     }
 
+    #[tactic(auto, using(crate::proofs::Calls::update_refused))]
     fn update_by<R: Wait>(
         &self,
         rt: &R,
@@ -245,8 +247,8 @@ impl<J: Naming, K: Keeper> Shared<J, K> {
     {
         let (token, begun) = self.begin(rt, alloc, token, kind);
         match begun {
-            Ok(update) => {
-                let (token, ended) = self.end(rt, alloc, token, update.ticket);
+            Ok(cut) => {
+                let (token, ended) = self.end(rt, alloc, token, &cut);
                 (token, answer_of(ended))
             }
             Err(fault) => (token, Err(fault)),
@@ -259,11 +261,11 @@ impl<J: Naming, K: Keeper> Shared<J, K> {
         alloc: Global,
         token: Token<Item>,
         kind: CutKind,
-    ) -> (Token<Item>, Result<Staged, CutFault>)
+    ) -> (Token<Item>, Result<Cut, CutFault>)
         requires table { token.table ≡ J.made.table }
         requires kind { kind ≡ Full }
-        ensures call { (faults : ℕ) × IsCall J.made token result.0 (entries_of token.caller (begun kind result.1) faults) }
-        ensures begun { IfOk result.1 (λ update. IsBegunBy J.made result.0.list token.caller update.ticket) }
+        ensures call { (faults : ℕ) × IsCall J.made token result.0 (entries_of token.caller (begun kind (update_in result.1)) faults) }
+        ensures begun { IfOk result.1 (λ cut. IsBegunBy J.made result.0.list token.caller kind (staged_in cut) (map arc_value cut.changes.items)) }
     {
         let mut locked = self.lock.lock(rt);
         locked.cut(alloc, &self.words, token, kind)
@@ -274,14 +276,15 @@ impl<J: Naming, K: Keeper> Shared<J, K> {
         rt: &R,
         alloc: Global,
         token: Token<Item>,
-        ticket: u64,
+        cut: &Cut,
     ) -> (Token<Item>, Result<u64, Memory>)
         requires table { token.table ≡ J.made.table }
-        requires begun { IsBegunBy J.made token.list token.caller ticket }
-        ensures { (faults : ℕ) × IsCall J.made token result.0 (record { caller = token.caller; act = end_act ticket result.1; faults = faults } ∷ []) }
+        requires begun { IsBegunBy J.made token.list token.caller Full (staged_in cut.now) (map arc_value cut.now.changes.items) }
+        ensures { (faults : ℕ) × IsCall J.made token result.0
+            (record { caller = token.caller; act = end_act cut.now.ticket result.1; faults = faults } ∷ []) }
     {
         let mut locked = self.lock.lock(rt);
-        locked.finish(alloc, &self.words, token, ticket)
+        locked.finish(alloc, &self.words, token, cut)
     }
 }
 

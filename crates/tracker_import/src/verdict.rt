@@ -1,7 +1,9 @@
 //! The verdict on a tracker bundle.
 
 ghost use Rattle.std.specs.Prelude.{◌≡◌, ◌<◌, ◌^◌, ◌∷◌, [], length, option_map, option_and_then, IfOk, OnOk};
+ghost use Rattle.std.specs.List.{All};
 ghost use Rattle.std.specs.Option.{option_copied, option_map_or};
+ghost use Rattle.change_bytes.specs.Forms.{WriteFits};
 ghost use Rattle.record_index.specs.World.{facts};
 ghost use Rattle.value_import.specs.Outcomes.{IsKnown};
 ghost use Rattle.tracker_import.specs.Batches.{IsBatch};
@@ -456,10 +458,8 @@ fn finished(alloc: Global, atomic: bool, batch: Batch) -> Verdict
     verdict
 }
 
-/// The verdict on a tracker bundle. Each object is judged by what holds after the log and the writes accepted before it
-/// in the bundle. A user is named by a number of the metadata. `imported` counts the objects created.
 #[tactic(auto, unfolding(crate::specs::Verdicts::verdict_of))]
-pub fn verdict(
+fn judged_bundle(
     alloc: Global,
     world: &World,
     meta: &Metadata,
@@ -479,4 +479,22 @@ pub fn verdict(
     let mut batch = empty_batch(alloc);
     with_all(alloc, &asking, &mut batch, bundle)?;
     Ok(finished(alloc, bundle.params.atomic, batch))
+}
+
+/// The verdict on a tracker bundle. Each object is judged by what holds after the log and the writes accepted before it
+/// in the bundle. A user is named by a number of the metadata. `imported` counts the objects created. Each write fits the
+/// bytes of a change.
+pub fn verdict(
+    alloc: Global,
+    world: &World,
+    meta: &Metadata,
+    who: Who,
+    bundle: &Bundle,
+) -> Result<Verdict, Memory>
+    requires { IsKnown meta.now who }
+    ensures value { IfOk result (λ verdict. verdict ≡ verdicts.verdict_of (facts world.now) meta.now who bundle.now) }
+    ensures total { IfOk result (λ verdict. outcomes.total_of verdict < 2 ^ 64) }
+    ensures fits { IfOk result (λ verdict. All WriteFits verdict.writes) }
+{
+    judged_bundle(alloc, world, meta, who, bundle)
 }

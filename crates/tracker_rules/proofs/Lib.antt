@@ -1,1 +1,4 @@
 mod PairLemmas
+mod OrderLemmas
+mod ListLemmas
+pub mod FitLemmas

@@ -118,15 +118,15 @@ enrollment_after r names asked =
     (status_in enrollment_status_of asked.status)) names.unit) names.program) names.entity) names.id
 
 -- the attributes that an enrollment names are put on its entity
-unfoldable pub entity_writes : Option Entity → List Pair → List Write
-entity_writes parent pairs =
+unfoldable pub entity_writes : Records → Option Entity → List Pair → List Write
+entity_writes r parent pairs =
     cond (length pairs == 0) []
-    (option_map_or (λ (entity : Entity). write.EntityWritten (record entity { attributes = merged entity.attributes pairs }) ∷ []) parent [])
+    (option_map_or (λ (entity : Entity). write.EntityWritten (record entity { attributes = merged r entity.attributes pairs }) ∷ []) parent [])
 
 -- what an enrollment comes to, which is there or isn't, and whose entity is the parent
 unfoldable pub judged_enrollment : Facts → Records → Who → ImportStrategy → Bool → Bool → Option Entity → BundleEnrollment → Judged
 judged_enrollment facts r who chosen live repeated parent asked =
     judged_by (enrollment_conflict facts r who chosen live repeated parent (enrollment_names r asked) asked)
-    (option_map_or (λ after. put live (write.EnrollmentWritten after ∷ entity_writes parent asked.attributes))
+    (option_map_or (λ after. put live (write.EnrollmentWritten after ∷ entity_writes r parent asked.attributes))
     (enrollment_after r (enrollment_names r asked) asked)
     judged.Nothing)

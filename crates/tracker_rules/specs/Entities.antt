@@ -63,13 +63,13 @@ type_id r kind = option_map_or (λ (found : EntityType). found.id) (slice_get r.
 abbrev pub attributes_of : Option Entity → List Told
 attributes_of entity = option_map_or (λ (e : Entity). e.attributes) entity []
 
--- the entity as it is after the write: attributes that aren't named stay
+-- the entity as it is after the write: attributes that the pairs don't name stay
 unfoldable pub entity_after : Records → Option Entity → EntityNames → List Pair → Option Entity
 entity_after r before names pairs =
     option_and_then (λ id.
     option_and_then (λ kind.
     option_and_then (λ unit.
-    Some (record { id = id; kind = type_id r kind; unit = unit_id r unit; attributes = merged (attributes_of before) pairs }))
+    Some (record { id = id; kind = type_id r kind; unit = unit_id r unit; attributes = merged r (attributes_of before) pairs }))
     names.unit) names.kind) names.id
 
 -- what an entity comes to, which is there as it is before or isn't

@@ -146,7 +146,7 @@ event_after r names asked =
       status = status;
       occurred = day_in asked.occurred;
       scheduled = day_in asked.scheduled;
-      values = merged [] asked.values;
+      values = merged r [] asked.values;
     }))
     (status_in event_status_of asked.status)) names.unit) names.stage) names.program) names.id
 

@@ -1,6 +1,6 @@
 -- Attributes and data elements with their values.
-use Rattle.std.specs.Prelude.{ℕ, Bool, false, not, List, [], ◌∷◌, ◌++◌, slice_get, Option, option_map, option_and_then}
-use Rattle.std.specs.Option.{option_map_or, is_none}
+use Rattle.std.specs.Prelude.{ℕ, Bool, false, ◌&&◌, not, List, [], ◌∷◌, ◌++◌, length, filter, slice_get, Option, option_map, option_and_then, nat_lt, nat_le}
+use Rattle.std.specs.Option.{option_map_or, is_some, is_none}
 use Rattle.std.specs.List.{list_any, filter_map}
 use Rattle.std.specs.BTreeMap.{insert_entry}
 use Rattle.std.specs.Cmp.Lexicographic.{slice_cmp}
@@ -14,7 +14,9 @@ use Rattle.meta_parts.specs.declared.names.ValueType.{ValueType}
 use Rattle.meta_parts.specs.declared.records.Element as elements
 use Rattle.meta_parts.specs.declared.records.Attribute as attributes
 use Rattle.tracker_forms.specs.declared.pair.Pair.{Pair}
-use Rattle.value_import.specs.Names.{object_named}
+use Rattle.dh_metadata.specs.Objects.{find_of}
+use Rattle.value_import.specs.Names.{if_so}
+use Rattle.tracker_rules.specs.declared.pairs.TheConstants.{MOST_ITEMS, MOST_BYTES}
 use Rattle.tracker_rules.specs.declared.pairs.ItemKind.{ItemKind}
 use Rattle.tracker_rules.specs.declared.pairs.ItemKind.TheVariants as item
 use Rattle.tracker_rules.specs.Rules.{id_in}
@@ -23,9 +25,13 @@ abbrev pub kind_of : ItemKind → Kind
 kind_of item.Attribute = TrackedEntityAttribute
 kind_of item.Element = DataElement
 
+-- the attribute or element with an identifier, which is there and one of as many as can be written
+unfoldable pub item_of : Records → ItemKind → List ℕ → Option ℕ
+item_of r kind id = if_so (λ number. nat_lt number MOST_ITEMS) (find_of r (kind_of kind) id)
+
 -- the attribute or element that a pair names
 unfoldable pub item_named : Records → ItemKind → Pair → Option ℕ
-item_named r kind pair = object_named r (kind_of kind) pair.item
+item_named r kind pair = option_and_then (item_of r kind) (id_in pair.item)
 
 -- the value type of an attribute or element
 abbrev pub type_of : Records → ItemKind → ℕ → Option ValueType
@@ -77,6 +83,10 @@ put_all entries (t ∷ more) = put_all (insert_entry (slice_cmp nat_cmp) entries
 unfoldable pub in_order : List Told → List Told
 in_order all = put_all [] all
 
--- what stood, with what pairs tell; what they don't name stays
-unfoldable pub merged : List Told → List Pair → List Told
-merged old pairs = in_order (old ++ told pairs)
+-- an attribute that stood stays if it is one of the metadata's, and its text has bytes in a change, as each text of a log has
+unfoldable pub is_kept : Records → Told → Bool
+is_kept r t = is_some (item_of r item.Attribute t.0) && nat_le (length t.1) MOST_BYTES
+
+-- what stood and stays, with what pairs tell
+unfoldable pub merged : Records → List Told → List Pair → List Told
+merged r old pairs = in_order (filter (is_kept r) old ++ told pairs)

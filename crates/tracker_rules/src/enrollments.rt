@@ -227,14 +227,19 @@ fn enrollment_after(
 }
 
 // The entity with the attributes that an enrollment names.
-fn with_attributes(alloc: Global, entity: &Entity, pairs: &[Pair]) -> Result<Entity, Memory>
-    ensures { IfOk result (λ after. after ≡ record entity.now { attributes = merged entity.now.attributes pairs.now }) }
+fn with_attributes(
+    alloc: Global,
+    meta: &Metadata,
+    entity: &Entity,
+    pairs: &[Pair],
+) -> Result<Entity, Memory>
+    ensures { IfOk result (λ after. after ≡ record entity.now { attributes = merged meta.now entity.now.attributes pairs.now }) }
 {
     Ok(Entity {
         id: entity.id,
         kind: entity.kind,
         unit: entity.unit,
-        attributes: merged(alloc, entity.attributes.as_slice(), pairs)?,
+        attributes: merged(alloc, meta, entity.attributes.as_slice(), pairs)?,
     })
 }
 
@@ -243,17 +248,18 @@ fn with_attributes(alloc: Global, entity: &Entity, pairs: &[Pair]) -> Result<Ent
 fn put_entity(
     alloc: Global,
     writes: &mut Items<Write>,
+    meta: &Metadata,
     parent: Option<&Entity>,
     pairs: &[Pair],
 ) -> Result<(), Memory>
-    ensures { OnOk result (writes.new ≡ writes.old ++ known.entity_writes (option_copied parent.entry) pairs.now) }
+    ensures { OnOk result (writes.new ≡ writes.old ++ known.entity_writes meta.now (option_copied parent.entry) pairs.now) }
 {
     if pairs.len() == 0 {
         return Ok(());
     }
     match parent {
         Some(entity) => {
-            let after = with_attributes(alloc, entity, pairs)?;
+            let after = with_attributes(alloc, meta, entity, pairs)?;
             writes.push(Write::EntityWritten(after))?;
             Ok(())
         }
@@ -263,18 +269,19 @@ fn put_entity(
 
 fn accepted(
     alloc: Global,
+    meta: &Metadata,
     live: bool,
     parent: Option<&Entity>,
     after: Option<Enrollment>,
     pairs: &[Pair],
 ) -> Result<Judged, Memory>
     ensures { IfOk result (λ judged. judged ≡ option_map_or
-        (λ own. put live (Write.EnrollmentWritten own ∷ known.entity_writes (option_copied parent.entry) pairs.now)) after Judged.Nothing) }
+        (λ own. put live (Write.EnrollmentWritten own ∷ known.entity_writes meta.now (option_copied parent.entry) pairs.now)) after Judged.Nothing) }
 {
     match after {
         Some(own) => {
             let mut writes = only(alloc, Write::EnrollmentWritten(own))?;
-            put_entity(alloc, &mut writes, parent, pairs)?;
+            put_entity(alloc, &mut writes, meta, parent, pairs)?;
             Ok(put(live, writes))
         }
         None => Ok(Judged::Nothing),
@@ -301,6 +308,7 @@ pub fn judge_enrollment(
             let after = enrollment_after(asking.meta, &names, asked);
             accepted(
                 alloc,
+                asking.meta,
                 standing.live,
                 parent,
                 after,

@@ -151,7 +151,7 @@ fn entity_after(
         id,
         kind: type_id(meta, kind),
         unit: unit_id(meta, unit),
-        attributes: merged(alloc, attributes_of(before), pairs)?,
+        attributes: merged(alloc, meta, attributes_of(before), pairs)?,
     }))
 }
 

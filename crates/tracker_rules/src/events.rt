@@ -295,7 +295,7 @@ fn event_after(
         status,
         occurred: day_in(&asked.occurred),
         scheduled: day_in(&asked.scheduled),
-        values: merged(alloc, &[], asked.values.as_slice())?,
+        values: merged(alloc, meta, &[], asked.values.as_slice())?,
     }))
 }
 

@@ -1,12 +1,12 @@
 //! Attributes and data elements with their values.
 
-ghost use Rattle.std.specs.Prelude.{◌≡◌, ◌<◌, ◌∷◌, ◌++◌, [], Some, option_map, IfOk, OnOk};
+ghost use Rattle.std.specs.Prelude.{◌≡◌, ◌<◌, ◌∷◌, ◌++◌, [], Some, option_map, filter, IfOk, OnOk};
 ghost use Rattle.dh_metadata.specs.Linked.{IsBelow};
 ghost use Rattle.dh_metadata.specs.Members as members;
 ghost use Rattle.dh_metadata.specs.Objects.{count_of};
 ghost use Rattle.tracker_rules.specs.Pairs as known;
 
-use crate::items::{id_in, object_named};
+use crate::items::id_in;
 use dh_base::items::Items;
 use dh_base::memory::Memory;
 use dh_base::uid::Uid;
@@ -17,6 +17,13 @@ use meta_parts::names::ValueType;
 use std::alloc::Global;
 use std::collections::BTreeMap;
 use tracker_forms::pair::Pair;
+
+/// How many attributes, and how many elements, can be written: so many members has a list in the bytes of a change.
+/// A metadata file has fewer of each.
+pub const MOST_ITEMS: u32 = 65_535;
+
+/// How long a text in the bytes of a change is at most.
+pub const MOST_BYTES: usize = 65_535;
 
 /// What pairs name.
 #[derive(Clone, Copy)]
@@ -34,12 +41,30 @@ fn kind_of(kind: ItemKind) -> Kind
     }
 }
 
+#[tactic(auto, unfolding(crate::specs::Pairs::item_of))]
+fn item_of(meta: &Metadata, kind: ItemKind, id: Uid) -> Option<u32>
+    ensures value { result ≡ known.item_of meta.now kind id }
+    ensures in_range { IsBelow (count_of meta.now (known.kind_of kind)) result }
+{
+    match meta.find(kind_of(kind), id) {
+        Some(number) => if number < MOST_ITEMS {
+            Some(number)
+        } else {
+            None
+        },
+        None => None,
+    }
+}
+
 #[tactic(auto, unfolding(crate::specs::Pairs::item_named))]
 fn item_named(meta: &Metadata, kind: ItemKind, pair: &Pair) -> Option<u32>
     ensures value { result ≡ known.item_named meta.now kind pair.now }
     ensures in_range { IsBelow (count_of meta.now (known.kind_of kind)) result }
 {
-    object_named(meta, kind_of(kind), &pair.item)
+    match id_in(&pair.item) {
+        Some(id) => item_of(meta, kind, id),
+        None => None,
+    }
 }
 
 fn type_of(meta: &Metadata, kind: ItemKind, number: u32) -> ValueType
@@ -149,16 +174,30 @@ fn told_by(pair: &Pair) -> Option<(Uid, &[u8])>
     }
 }
 
-// Puts what stood.
-fn put_told(
+// Whether an attribute that stood stays.
+#[tactic(auto, unfolding(crate::specs::Pairs::is_kept))]
+fn is_kept(meta: &Metadata, id: Uid, text: &[u8]) -> bool
+    ensures { result ≡ known.is_kept meta.now (id, text.now) }
+{
+    if item_of(meta, ItemKind::Attribute, id).is_none() {
+        return false;
+    }
+    text.len() <= MOST_BYTES
+}
+
+// Puts what stood and stays.
+fn put_kept(
     alloc: Global,
     all: &mut BTreeMap<Uid, Items<u8>>,
+    meta: &Metadata,
     old: &[(Uid, Items<u8>)],
 ) -> Result<(), Memory>
-    ensures { OnOk result (all.new.entries ≡ known.put_all all.old.entries old.now) }
+    ensures { OnOk result (all.new.entries ≡ known.put_all all.old.entries (filter (known.is_kept meta.now) old.now)) }
 {
     for each in old {
-        put(alloc, all, each.0, each.1.as_slice())?;
+        if is_kept(meta, each.0, each.1.as_slice()) {
+            put(alloc, all, each.0, each.1.as_slice())?;
+        }
     }
     Ok(())
 }
@@ -190,26 +229,28 @@ fn listed(alloc: Global, all: BTreeMap<Uid, Items<u8>>) -> Result<Items<(Uid, It
 fn put_both(
     alloc: Global,
     all: &mut BTreeMap<Uid, Items<u8>>,
+    meta: &Metadata,
     old: &[(Uid, Items<u8>)],
     pairs: &[Pair],
 ) -> Result<(), Memory>
-    ensures { OnOk result (all.new.entries ≡ known.put_all all.old.entries (old.now ++ known.told pairs.now)) }
+    ensures { OnOk result (all.new.entries ≡ known.put_all all.old.entries (filter (known.is_kept meta.now) old.now ++ known.told pairs.now)) }
 {
-    put_told(alloc, all, old)?;
+    put_kept(alloc, all, meta, old)?;
     put_pairs(alloc, all, pairs)?;
     Ok(())
 }
 
-/// What stood, with what pairs tell, in the order of the identifiers' bytes.
+/// What stood and stays, with what pairs tell, in the order of the identifiers' bytes.
 #[tactic(auto, unfolding(crate::specs::Pairs::merged, crate::specs::Pairs::in_order))]
 pub fn merged(
     alloc: Global,
+    meta: &Metadata,
     old: &[(Uid, Items<u8>)],
     pairs: &[Pair],
 ) -> Result<Items<(Uid, Items<u8>)>, Memory>
-    ensures { IfOk result (λ list. list ≡ known.merged old.now pairs.now) }
+    ensures { IfOk result (λ list. list ≡ known.merged meta.now old.now pairs.now) }
 {
     let mut all = BTreeMap::new(alloc);
-    put_both(alloc, &mut all, old, pairs)?;
+    put_both(alloc, &mut all, meta, old, pairs)?;
     listed(alloc, all)
 }

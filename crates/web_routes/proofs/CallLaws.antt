@@ -18,4 +18,5 @@ sound_call r by (Ok (call.Update kind)) below found = found
 sound_call r by (Ok (call.Values user set)) below found = omega (arith, below, found)
 sound_call r by (Ok (call.Completion user list)) below found = omega (arith, below, found)
 sound_call r by (Ok (call.Approval user act)) below found = omega (arith, below, found)
+sound_call r by (Ok (call.Tracker user bundle)) below found = omega (arith, below, found)
 sound_call r by (Err fault) below found = found

@@ -17,7 +17,8 @@ use Rattle.query_lang.specs.declared.query.TheConstants.{MOST_CELLS}
 use Rattle.value_forms.specs.Bodies.{body_of}
 use Rattle.value_forms.specs.Sets.{set_of}
 use Rattle.value_forms.specs.Completions.{completions_of}
-use Rattle.web_routes.specs.Parameters.{asked_of, kind_of, params_of}
+use Rattle.tracker_forms.specs.Bundles.{bundle_of}
+use Rattle.web_routes.specs.Parameters.{asked_of, kind_of, params_of, bundle_params_of}
 use Rattle.web_routes.specs.Routes.{authority_of, route_of}
 use Rattle.web_routes.specs.declared.table.Route.{Route}
 use Rattle.web_routes.specs.declared.table.Route.TheVariants as route
@@ -75,9 +76,11 @@ uncompletion_call r user text =
 unfoldable pub approval_call : Records → ℕ → Verb → List ℕ → Result Call Refusal
 approval_call r user verb text = and_then (act_of r verb (pairs_of text)) (λ act. Ok (call.Approval user act))
 
--- routes that are not built have F9
-abbrev pub not_built : Result Call Refusal
-not_built = Err (refusal code.F9 [])
+unfoldable pub tracker_call : ℕ → Request → Result Call Refusal
+tracker_call user request =
+    and_then (bundle_params_of (pairs_of request.query)) (λ params.
+    and_then (or_body (body_of (bundle_of params) request.body)) (λ bundle.
+    Ok (call.Tracker user bundle)))
 
 -- what a user asks for by a route
 abbrev pub call_of : Records → ℤ → ℕ → Route → Request → Result Call Refusal
@@ -87,7 +90,7 @@ call_of r day user route.Update request = update_call request.query
 call_of r day user route.Values request = values_call user request
 call_of r day user route.Complete request = completions_call user request.body
 call_of r day user route.Uncomplete request = uncompletion_call r user request.query
-call_of r day user route.Tracker request = not_built
+call_of r day user route.Tracker request = tracker_call user request
 call_of r day user route.Approve request = approval_call r user verb.Approve request.query
 call_of r day user route.Unapprove request = approval_call r user verb.Unapprove request.query
 call_of r day user route.Accept request = approval_call r user verb.Accept request.query
@@ -112,6 +115,7 @@ IsBy r by (call.Update kind) = kind ≡ Full
 IsBy r by (call.Values user set) = user ≡ by
 IsBy r by (call.Completion user list) = user ≡ by
 IsBy r by (call.Approval user act) = user ≡ by
+IsBy r by (call.Tracker user bundle) = user ≡ by
 
 -- the user of the call is one of the metadata's, and may ask its query; an update is of all tables
 abbrev pub IsSound : Records → Call → Type 0
@@ -122,3 +126,4 @@ IsSound r (call.Update kind) = kind ≡ Full
 IsSound r (call.Values user set) = user < length r.users
 IsSound r (call.Completion user list) = user < length r.users
 IsSound r (call.Approval user act) = user < length r.users
+IsSound r (call.Tracker user bundle) = user < length r.users

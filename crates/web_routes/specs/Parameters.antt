@@ -11,6 +11,7 @@ use Rattle.dh_base.specs.declared.plain.CutKind.{CutKind}
 use Rattle.dh_base.specs.declared.plain.CutKind.TheVariants as cut
 use Rattle.record_index.specs.declared.outcome.ImportStrategy.{ImportStrategy}
 use Rattle.record_index.specs.declared.outcome.ImportStrategy.TheVariants as strategy
+use Rattle.tracker_forms.specs.declared.bundle.BundleParams.{BundleParams}
 use Rattle.value_forms.specs.declared.set.SetParams.{SetParams}
 use Rattle.query_forms.specs.Given.{and_then, refusal, or_refuse}
 
@@ -92,3 +93,17 @@ params_of pairs =
     and_then (parameter (codes "importStrategy") strategy_of strategy.CreateAndUpdate (value_of (codes "importStrategy") pairs)) (λ chosen.
     and_then (parameter (codes "dryRun") truth_of false (value_of (codes "dryRun") pairs)) (λ dry.
     unless_bad (bad_scheme pairs) (record { strategy = chosen; dry = dry })))
+
+-- one conflict leaves all objects of a tracker bundle unwritten, or each object stands for itself
+unfoldable pub atomic_of : List ℕ → Option Bool
+atomic_of text =
+    if bytes_eq text (codes "ALL") then Some true
+    else (if bytes_eq text (codes "OBJECT") then Some false
+    else None)
+
+-- how a tracker bundle is to be imported
+unfoldable pub bundle_params_of : List (List ℕ × List ℕ) → Result BundleParams Refusal
+bundle_params_of pairs =
+    and_then (parameter (codes "importStrategy") strategy_of strategy.CreateAndUpdate (value_of (codes "importStrategy") pairs)) (λ chosen.
+    and_then (parameter (codes "atomicMode") atomic_of true (value_of (codes "atomicMode") pairs)) (λ atomic.
+    Ok (record { strategy = chosen; atomic = atomic })))

@@ -7,15 +7,15 @@ ghost use Rattle.dh_base.specs.Memory.{Answers};
 ghost use Rattle.web_routes.specs.Given.{cause_of};
 ghost use Rattle.web_routes.specs.Routes.{authority_of};
 ghost use Rattle.web_routes.specs.Calls.{user_for, lacked, query_call, check_call, update_call, values_call, completions_call, uncompletion_call};
-ghost use Rattle.web_routes.specs.Calls.{approval_call, not_built, call_of, allowed_call, IsBy};
+ghost use Rattle.web_routes.specs.Calls.{approval_call, tracker_call, call_of, allowed_call, IsBy};
 
 use crate::approval::act_of;
-use crate::body::{completions_in, query_in, set_in};
+use crate::body::{bundle_in, completions_in, query_in, set_in};
 use crate::call::Call;
 use crate::checked::checked_of;
 use crate::completion::{only, uncompletion_of};
 use crate::fault::{RouteFault, refused};
-use crate::form::{asked_of, kind_of, params_of};
+use crate::form::{asked_of, bundle_params_of, kind_of, params_of};
 use crate::pairs::pairs_of;
 use crate::table::{Route, authority_of};
 use dh_approvals::Verb;
@@ -158,10 +158,15 @@ fn approval_call(
     Ok(Call::Approval { user, act })
 }
 
-fn not_built(alloc: Global) -> Result<Call, RouteFault>
-    ensures { Answers cause_of not_built result }
+#[tactic(auto, unfolding(crate::specs::Calls::tracker_call))]
+fn tracker_call(alloc: Global, request: &Request, user: u32) -> Result<Call, RouteFault>
+    ensures value { Answers cause_of (tracker_call user request.now) result }
+    ensures user { (r : Records) → IfOk result (λ call. IsBy r user call) }
 {
-    Err(refused(alloc, Code::F9, b""))
+    let pairs = pairs_of(alloc, request.query.as_slice())?;
+    let params = bundle_params_of(alloc, &pairs)?;
+    let bundle = bundle_in(alloc, request.body.as_slice(), params)?;
+    Ok(Call::Tracker { user, bundle })
 }
 
 fn call_of(
@@ -189,7 +194,7 @@ fn call_of(
         Route::Unapprove => approval_call(alloc, request, meta, user, Verb::Unapprove),
         Route::Accept => approval_call(alloc, request, meta, user, Verb::Accept),
         Route::Unaccept => approval_call(alloc, request, meta, user, Verb::Unaccept),
-        Route::Tracker => not_built(alloc),
+        Route::Tracker => tracker_call(alloc, request, user),
     }
 }
 

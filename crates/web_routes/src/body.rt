@@ -4,6 +4,7 @@ ghost use Rattle.dh_base.specs.declared.limits.TheConstants.{FIRST_QUERY_DAY, LA
 ghost use Rattle.value_forms.specs.Bodies.{body_of};
 ghost use Rattle.value_forms.specs.Sets.{set_of};
 ghost use Rattle.value_forms.specs.Completions.{completions_of};
+ghost use Rattle.tracker_forms.specs.Bundles.{bundle_of};
 ghost use Rattle.query_lang.specs.Askable.{IsAskable};
 ghost use Rattle.query_lang.specs.Query.{query_of};
 ghost use Rattle.dh_base.specs.Memory.{Answers};
@@ -19,6 +20,7 @@ use query_forms::{Query, QueryFault};
 use query_lang::{MOST_CELLS, read_query};
 use record_index::outcome::BodyFault;
 use std::alloc::Global;
+use tracker_forms::bundle::{Bundle, BundleParams, read_bundle};
 use value_forms::completion::{Completion, read_completions};
 use value_forms::set::{SetParams, ValueSet, read_set};
 
@@ -57,6 +59,19 @@ pub(crate) fn completions_in(alloc: Global, body: &[u8]) -> Result<Items<Complet
 {
     match read_completions(alloc, body) {
         Ok(list) => Ok(list),
+        Err(fault) => Err(of_body(fault)),
+    }
+}
+
+pub(crate) fn bundle_in(
+    alloc: Global,
+    body: &[u8],
+    params: BundleParams,
+) -> Result<Bundle, RouteFault>
+    ensures { Answers cause_of (or_body (body_of (bundle_of params) body.now)) result }
+{
+    match read_bundle(alloc, body, params) {
+        Ok(bundle) => Ok(bundle),
         Err(fault) => Err(of_body(fault)),
     }
 }

@@ -5,6 +5,7 @@ use dh_approvals::ApprovalAct;
 use dh_base::items::Items;
 use dh_base::plain::CutKind;
 use query_forms::Query;
+use tracker_forms::bundle::Bundle;
 use value_forms::completion::Completion;
 use value_forms::set::ValueSet;
 
@@ -41,5 +42,10 @@ pub enum Call {
     Approval {
         user: u32,
         act: ApprovalAct,
+    },
+    /// A tracker bundle.
+    Tracker {
+        user: u32,
+        bundle: Bundle,
     },
 }

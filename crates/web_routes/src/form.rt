@@ -7,7 +7,7 @@ ghost use Rattle.std.specs.Str.Parse.{digits_value};
 ghost use Rattle.dh_base.specs.Memory.{Answers};
 ghost use Rattle.web_routes.specs.Given.{cause_of};
 ghost use Rattle.web_routes.specs.Parameters.{value_of, or_default, parameter, truth_of, strategy_of, is_number, number_of, is_scheme, asked_of, kind_of};
-ghost use Rattle.web_routes.specs.Parameters.{is_bad_scheme, bad_scheme, params_of};
+ghost use Rattle.web_routes.specs.Parameters.{is_bad_scheme, bad_scheme, params_of, atomic_of, bundle_params_of};
 ghost use Rattle.dh_base.specs.declared.plain.CutKind.TheVariants as cut;
 
 use crate::fault::{RouteFault, refused};
@@ -18,6 +18,7 @@ use dh_base::items::Items;
 use dh_base::plain::CutKind;
 use record_index::outcome::ImportStrategy;
 use std::alloc::Global;
+use tracker_forms::bundle::BundleParams;
 use value_forms::set::SetParams;
 
 #[tactic(auto, unfolding(crate::specs::Parameters::truth_of))]
@@ -200,4 +201,42 @@ pub fn params_of(alloc: Global, pairs: &[(Items<u8>, Items<u8>)]) -> Result<SetP
         Some(name) => Err(refused(alloc, Code::F21, name)),
         None => Ok(SetParams { strategy, dry }),
     }
+}
+
+#[tactic(auto, unfolding(crate::specs::Parameters::atomic_of))]
+fn atomic_of(text: &[u8]) -> Option<bool>
+    ensures { result ≡ atomic_of text.now }
+{
+    if text == b"ALL".as_slice() {
+        return Some(true);
+    }
+    if text == b"OBJECT".as_slice() {
+        return Some(false);
+    }
+    None
+}
+
+fn atomic_in(alloc: Global, pairs: &[(Items<u8>, Items<u8>)]) -> Result<bool, RouteFault>
+    ensures { Answers cause_of (parameter (codes "atomicMode") atomic_of true (value_of (codes "atomicMode") pairs.now)) result }
+{
+    let Some(text) = value_of(pairs, b"atomicMode") else {
+        return Ok(true);
+    };
+    match atomic_of(text) {
+        Some(atomic) => Ok(atomic),
+        None => Err(refused(alloc, Code::F21, b"atomicMode")),
+    }
+}
+
+/// How a tracker bundle is to be imported. F21 with the name of the first parameter that isn't of its form.
+#[tactic(auto, unfolding(crate::specs::Parameters::bundle_params_of))]
+pub fn bundle_params_of(
+    alloc: Global,
+    pairs: &[(Items<u8>, Items<u8>)],
+) -> Result<BundleParams, RouteFault>
+    ensures { Answers cause_of (bundle_params_of pairs.now) result }
+{
+    let strategy = strategy_in(alloc, pairs)?;
+    let atomic = atomic_in(alloc, pairs)?;
+    Ok(BundleParams { strategy, atomic })
 }

@@ -5,7 +5,8 @@ use Rattle.rate_items.proofs.RateLemmas.{prepared}
 use Rattle.cell_values.specs.Seen.{seen_regs, seen_of, contents_of}
 use Rattle.query_answer.specs.Plans.{IsPlan, ArePlanGroups}
 use Rattle.query_answer.proofs.AskedLemmas.{indicator_there}
-use Rattle.query_answer.proofs.PlanLemmas.{element-cell, indicator-cell, rate-cell}
+use Rattle.event_cells.specs.Cells.{AreDuring}
+use Rattle.query_answer.proofs.PlanLemmas.{element-cell, indicator-cell, rate-cell, program-cell}
 use Rattle.query_answer.proofs.cells.cell_value.Goals as goal
 
 pub element_cell-requires-clause-plan : goal.element_cell-requires-clause-plan
@@ -67,7 +68,7 @@ rate_cell-requires-clause-due g c =
     let held : Contents = contents_of (g.S.RowStore.rows s) (g.S.RowStore.events s) (g.S.RowStore.regs s) in
     let plan = c.in-Rate.plan in
     let is = subst (IsPlan r user held c.args.dx.now) c.in-Rate.is c.requires.plan in
-    let due = subst (λ p. ArePlanGroups c.args.periods.now p c.args.groups.now) c.in-Rate.is c.requires.groups in
+    let due = subst (λ p. ArePlanGroups r user held c.args.periods.now p c.args.groups.now) c.in-Rate.is c.requires.groups in
     prepared r plan.asked.which plan.asked.set (seen_regs r user (regs_of plan.asked.set held.regs)) c.args.periods.now plan.reports c.args.groups.now.due
     is.1.0 due
 
@@ -80,7 +81,22 @@ returns-in-Rate g c =
     let units = c.args.unit.now.units in
     let plan = c.in-Rate.plan in
     let is = subst (IsPlan r user held c.args.dx.now) c.in-Rate.is c.requires.plan in
-    let due = subst (λ p. ArePlanGroups c.args.periods.now p c.args.groups.now) c.in-Rate.is c.requires.groups in
+    let due = subst (λ p. ArePlanGroups r user held c.args.periods.now p c.args.groups.now) c.in-Rate.is c.requires.groups in
     subst (λ v. IfOk c.rate_cell.result (λ cell. cell ≡ v))
     (rate-cell r user held c.args.dx.now plan.asked c.args.periods.now units.units units.alone is.0 is.1.1 c.requires.unit.alone)
     (c.rate_cell.ensures c.args.periods.now due)
+
+pub returns-in-Program : goal.returns-in-Program
+returns-in-Program g c =
+    let s = c.args.source.now.store.now in
+    let r = c.args.source.now.meta.now in
+    let user = c.args.source.now.seer.now.user in
+    let held : Contents = contents_of (g.S.RowStore.rows s) (g.S.RowStore.events s) (g.S.RowStore.regs s) in
+    let dx = c.args.dx.now in
+    let code = c.in-Program.code in
+    let is = subst (IsPlan r user held dx) c.in-Program.is c.requires.plan in
+    let kept = subst (λ p. ArePlanGroups r user held c.args.periods.now p c.args.groups.now) c.in-Program.is c.requires.groups in
+    let events = subst (AreDuring r user code.program c.args.periods.now held.events) (sym c.as_slice-events.ensures) kept in
+    subst (λ v. IfOk c.program_cell.result (λ cell. cell ≡ v))
+    (program-cell r user held dx code.program c.args.periods.now c.args.unit.now.units.units is.0 is.1.1)
+    (c.program_cell.ensures r user dx.number c.args.periods.now held.events is.1.0 c.requires.unit events)

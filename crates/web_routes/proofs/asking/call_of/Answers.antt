@@ -8,3 +8,6 @@ returns-in-Values-clause-user c = c.values_call.ensures.user c.args.meta.now
 
 pub returns-in-Complete-clause-user : goal.returns-in-Complete-clause-user
 returns-in-Complete-clause-user c = c.completions_call.ensures.user c.args.meta.now
+
+pub returns-in-Tracker-clause-user : goal.returns-in-Tracker-clause-user
+returns-in-Tracker-clause-user c = c.tracker_call.ensures.user c.args.meta.now

@@ -1,6 +1,7 @@
 use Rattle.std.proofs.Common.{sym, ap, ◌∙◌, subst, List}
 use Rattle.shared_engine.specs.Entries.{Entry}
-use Rattle.shared_engine.specs.Histories.{IsLegal}
+use Rattle.engine.specs.Machine.{State}
+use Rattle.shared_engine.specs.Histories.{IsLegal, stand_of}
 use Rattle.shared_engine.proofs.Calls.{more_callers}
 use Rattle.shared_engine.proofs.locked.Locked.pass.Goals as goal
 
@@ -16,3 +17,8 @@ returns-clause-table g c = ap (λ t. t.table) c.new_pass.ensures.token ∙ c.sel
 pub returns-clause-legal : goal.returns-clause-legal
 returns-clause-legal g c =
     subst (λ (l : List Entry). IsLegal g.J.Naming.made l) (sym (ap (λ t. t.list) c.new_pass.ensures.token)) c.self.invariant.stands.legal
+
+pub returns-clause-told : goal.returns-clause-told
+returns-clause-told g c =
+    ap (λ t. t.told) c.new_pass.ensures.token ∙ c.self.invariant.told ∙ ap (λ (s : State). s.published) c.self.invariant.stands.state
+    ∙ ap (λ (l : List Entry). (stand_of g.J.Naming.made l).machine.published) (sym (ap (λ t. t.list) c.new_pass.ensures.token))

@@ -1,0 +1,3 @@
+pub mod OrderLemmas
+mod DayLemmas
+pub mod CellLemmas

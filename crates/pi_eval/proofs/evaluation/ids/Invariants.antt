@@ -1,0 +1,12 @@
+use Rattle.std.proofs.Common.{◌≡◌, ◌++◌, Some, map, drop}
+use Rattle.std.specs.Prelude.{option_map}
+use Rattle.table_rows.specs.declared.event.EventRow.{EventRow}
+use Rattle.pi_eval.specs.Value.{sample_by, id_of, collected}
+use Rattle.pi_eval.specs.Code.{form_value, passes_form}
+use Rattle.pi_eval.proofs.evaluation.ids.Given as goal
+
+abbrev pub invariant-loop-event : goal.invariant-loop-event
+invariant-loop-event l =
+    collected (passes_form l.code.filter l.code.filter_items) (λ event. Some (id_of l.measure event)) (map (λ event. event.now) l.events)
+    ≡ option_map (λ more. l.ids.items ++ more)
+    (collected (passes_form l.code.filter l.code.filter_items) (λ event. Some (id_of l.measure event)) (map (λ event. event.now) (drop l.event-index l.events)))

@@ -1,0 +1,3 @@
+pub mod Items
+pub mod Value
+pub mod Code

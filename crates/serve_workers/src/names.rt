@@ -1,0 +1,23 @@
+//! What one call began with, as a name that the type of the locked value carries.
+ghost use Rattle.std.specs.Prelude.{ℕ, None, false, ⊤};
+ghost use Rattle.net_doors.specs.Doors.{Shown};
+
+use std::marker::Brand;
+use std::sync::ledger::Ledger;
+
+/// Names one call: what the listener showed when it began, how links are served, and how many are wanted.
+pub trait Opening<N>: Ledger {
+    ghost began: { Shown N };
+
+    ghost serves: { N → N → Type 0 };
+
+    ghost most: { ℕ };
+}
+
+impl<N> Opening<N> for Brand {
+    ghost began = { record { accepted = 0; closed = false; back = None; faults = 0 } };
+
+    ghost serves = { λ _ _. ⊤ };
+
+    ghost most = { 0 };
+}

@@ -1,0 +1,19 @@
+use Rattle.std.proofs.Common.{subst}
+use Rattle.std.specs.Prelude.{Result}
+use Rattle.engine.specs.declared.machine.Cut.{Cut}
+use Rattle.engine.specs.declared.machine.CutFault.{CutFault}
+use Rattle.engine.specs.Machine.Act.{begun}
+use Rattle.engine.specs.Seen.{update_in}
+use Rattle.shared_engine.specs.Entries.{entries_of}
+use Rattle.shared_engine.specs.Calls.{IsCall}
+use Rattle.shared_engine.proofs.Calls.{update_ended}
+use Rattle.shared_engine.proofs.shared.Shared.update_by.Goals as goal
+
+pub returns-in-Ok : goal.returns-in-Ok
+returns-in-Ok g c =
+    let first = c.begin-token.ensures.call in
+    update_ended g.J.Naming.made c.args.token c.begin-token.result.0 c.end-token.result.0 c.args.kind c.in-Ok.cut.ticket c.in-Ok.cut.number
+    c.end-token.result.1 c.answer_of.result first.0 c.end-token.ensures.0 c.answer_of.ensures
+    (subst (λ (r : Result Cut CutFault). IsCall g.J.Naming.made c.args.token c.begin-token.result.0
+    (entries_of c.args.token.caller (begun c.args.kind (update_in r)) first.0)) c.in-Ok.is first.1)
+    c.end-token.ensures.1

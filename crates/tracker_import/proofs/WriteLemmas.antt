@@ -1,0 +1,175 @@
+-- Each write of the verdict on a bundle fits the bytes of a change.
+use Rattle.std.proofs.Common.{◌≡◌, Bool, true, false, cond, List, [], ◌∷◌, ◌++◌, ℕ, length, map, Option, Some, None, sym, subst}
+use Rattle.std.proofs.Common.{Result, Ok, Err, IfOk}
+use Rattle.std.specs.Prelude.{◌&&◌, not, option_and_then, option_map}
+use Rattle.std.specs.Option.{is_some}
+use Rattle.std.specs.List.{All, AllByRecursion, flat_map}
+use Rattle.std.proofs.lemmas.List.Elements.{All-from_recursion}
+use Rattle.change_bytes.specs.Forms.{WriteFits}
+use Rattle.dh_base.specs.declared.codes.Code.{Code}
+use Rattle.dh_base.specs.declared.memory.Memory.{Memory}
+use Rattle.dh_changes.specs.declared.change.Write.{Write}
+use Rattle.dh_changes.specs.declared.change.Write.TheVariants as write
+use Rattle.meta_parts.specs.declared.held.Records.{Records}
+use Rattle.meta_parts.specs.declared.kind.Kind.TheVariants as kind
+use Rattle.record_index.specs.Facts.{Facts}
+use Rattle.record_index.specs.declared.outcome.ImportStrategy.{ImportStrategy}
+use Rattle.record_index.specs.declared.outcome.Verdict.{Verdict}
+use Rattle.record_index.specs.declared.outcome.Who.{Who}
+use Rattle.tracker_forms.specs.declared.bundle.Bundle.{Bundle}
+use Rattle.tracker_forms.specs.declared.entity.BundleEntity.{BundleEntity}
+use Rattle.tracker_forms.specs.declared.enrollment.BundleEnrollment.{BundleEnrollment}
+use Rattle.tracker_forms.specs.declared.event.BundleEvent.{BundleEvent}
+use Rattle.value_import.specs.Values.{is_delete_all}
+use Rattle.tracker_rules.specs.declared.judged.Judged.{Judged}
+use Rattle.tracker_rules.specs.declared.judged.Judged.TheVariants as outcome
+use Rattle.tracker_rules.specs.Rules.{id_in, is_repeated}
+use Rattle.tracker_rules.proofs.FitLemmas.{Fits, by-judged, entity-fits, enrollment-fits, event-fits}
+use Rattle.tracker_import.specs.Known.{entity_now, enrollment_now, event_now}
+use Rattle.tracker_import.specs.Deletes.{live_entity, live_enrollment, live_event, delete_conflict, events_left, enrollments_left, enrollment_gone, ordered}
+use Rattle.tracker_import.specs.Deletes.{entity_gone, judged_delete}
+use Rattle.tracker_import.specs.Outcomes.{Sofar, none, counted, taken, is_whole, unwritten, finished}
+use Rattle.tracker_import.specs.Verdicts.{entity_delete, entity_write, entity_outcome, with_entity, enrollment_delete, enrollment_write, enrollment_outcome}
+use Rattle.tracker_import.specs.Verdicts.{with_enrollment, event_delete, event_write, event_outcome, with_event, with_entities, with_enrollments, with_events}
+use Rattle.tracker_import.specs.Verdicts.{with_all, verdict_of}
+
+-- ---- what is taken away
+
+each-fits : (f : List ℕ → Write) → ((id : List ℕ) → WriteFits (f id)) → (ids : List (List ℕ)) → AllByRecursion WriteFits (map f ids)
+each-fits f fits [] = tt
+each-fits f fits (id ∷ ids) = (fits id, each-fits f fits ids)
+
+both-fit : (xs ys : List Write) → AllByRecursion WriteFits xs → AllByRecursion WriteFits ys → AllByRecursion WriteFits (xs ++ ys)
+both-fit [] ys first second = second
+both-fit (x ∷ xs) ys first second = (first.0, both-fit xs ys first.1 second)
+
+enrollment_gone-fits : (facts : Facts) (accepted : List Write) (id : List ℕ) → AllByRecursion WriteFits (enrollment_gone facts accepted id)
+unfolding enrollment_gone
+enrollment_gone-fits facts accepted id =
+    both-fit (map write.EventDeleted (events_left facts accepted id)) (write.EnrollmentDeleted id ∷ [])
+    (each-fits write.EventDeleted (λ own. tt) (events_left facts accepted id)) (tt, tt)
+
+entity_gone-fits : (facts : Facts) (accepted : List Write) (id : List ℕ) → AllByRecursion WriteFits (entity_gone facts accepted id)
+unfolding entity_gone
+entity_gone-fits facts accepted id =
+    let events = ordered (flat_map (events_left facts accepted) (enrollments_left facts accepted id)) in
+    let enrollments = enrollments_left facts accepted id in
+    both-fit (map write.EventDeleted events ++ map write.EnrollmentDeleted enrollments) (write.EntityDeleted id ∷ [])
+    (both-fit (map write.EventDeleted events) (map write.EnrollmentDeleted enrollments) (each-fits write.EventDeleted (λ own. tt) events)
+    (each-fits write.EnrollmentDeleted (λ own. tt) enrollments)) (tt, tt)
+
+delete-fits : (conflict : Option Code) (gone : List ℕ → List Write) (id : Option (List ℕ)) → ((own : List ℕ) → AllByRecursion WriteFits (gone own))
+    → Fits (judged_delete conflict gone id)
+delete-fits conflict gone None fits = by-judged conflict outcome.Nothing (λ clear. tt)
+delete-fits conflict gone (Some own) fits = by-judged conflict (outcome.Deleted (gone own)) (λ clear. fits own)
+
+-- ---- one object
+
+either : (b : Bool) (x y : Judged) → Fits x → Fits y → Fits (cond b x y)
+either true x y first second = first
+either false x y first second = second
+
+counted-fits : (index : ℕ) (id : Option (List ℕ)) (what : Judged) (v : Verdict) → AllByRecursion WriteFits v.writes → Fits what
+    → AllByRecursion WriteFits (counted index id what v).writes
+counted-fits index id (outcome.Refused code) v all fits = all
+counted-fits index id outcome.Nothing v all fits = all
+counted-fits index id (outcome.Created writes) v all fits = both-fit v.writes writes all fits
+counted-fits index id (outcome.Updated writes) v all fits = both-fit v.writes writes all fits
+counted-fits index id (outcome.Deleted writes) v all fits = both-fit v.writes writes all fits
+
+-- the writes so far fit
+abbrev AreFit : Sofar → Type 0
+AreFit sofar = AllByRecursion WriteFits sofar.verdict.writes
+
+taken-fits : (id : Option (List ℕ)) (what : Judged) (sofar : Sofar) → AreFit sofar → Fits what → AreFit (taken id what sofar)
+unfolding taken
+taken-fits id what sofar all fits = counted-fits (length sofar.judged) id what sofar.verdict all fits
+
+module _ (facts : Facts) (r : Records) (who : Who) (chosen : ImportStrategy) where
+  entity_outcome-fits : (sofar : Sofar) (asked : BundleEntity) → Fits (entity_outcome facts r who chosen sofar asked)
+  unfolding entity_outcome entity_delete entity_write
+  entity_outcome-fits sofar asked =
+      either (is_delete_all chosen) (entity_delete facts r who chosen sofar (id_in asked.id)) (entity_write facts r who chosen sofar asked)
+      (delete-fits (delete_conflict facts r who chosen (is_repeated sofar.judged (id_in asked.id)) kind.TrackedEntityType (id_in asked.id)
+      (option_map live_entity (option_and_then (entity_now facts sofar.verdict.writes) (id_in asked.id))))
+      (entity_gone facts sofar.verdict.writes) (id_in asked.id) (entity_gone-fits facts sofar.verdict.writes))
+      (entity-fits facts r who chosen (option_and_then (entity_now facts sofar.verdict.writes) (id_in asked.id)) (is_repeated sofar.judged (id_in asked.id)) asked)
+
+  enrollment_outcome-fits : (sofar : Sofar) (asked : BundleEnrollment) → Fits (enrollment_outcome facts r who chosen sofar asked)
+  unfolding enrollment_outcome enrollment_delete enrollment_write
+  enrollment_outcome-fits sofar asked =
+      either (is_delete_all chosen) (enrollment_delete facts r who chosen sofar (id_in asked.id)) (enrollment_write facts r who chosen sofar asked)
+      (delete-fits (delete_conflict facts r who chosen (is_repeated sofar.judged (id_in asked.id)) kind.Program (id_in asked.id)
+      (option_map (live_enrollment facts sofar.verdict.writes) (option_and_then (enrollment_now facts sofar.verdict.writes) (id_in asked.id))))
+      (enrollment_gone facts sofar.verdict.writes) (id_in asked.id) (enrollment_gone-fits facts sofar.verdict.writes))
+      (enrollment-fits facts r who chosen (is_some (option_and_then (enrollment_now facts sofar.verdict.writes) (id_in asked.id)))
+      (is_repeated sofar.judged (id_in asked.id)) (option_and_then (entity_now facts sofar.verdict.writes) (id_in asked.entity)) asked)
+
+  event_outcome-fits : (sofar : Sofar) (asked : BundleEvent) → Fits (event_outcome facts r who chosen sofar asked)
+  unfolding event_outcome event_delete event_write
+  event_outcome-fits sofar asked =
+      either (is_delete_all chosen) (event_delete facts r who chosen sofar (id_in asked.id)) (event_write facts r who chosen sofar asked)
+      (delete-fits (delete_conflict facts r who chosen (is_repeated sofar.judged (id_in asked.id)) kind.Program (id_in asked.id)
+      (option_map (live_event facts sofar.verdict.writes) (option_and_then (event_now facts sofar.verdict.writes) (id_in asked.id))))
+      (λ own. write.EventDeleted own ∷ []) (id_in asked.id) (λ own. (tt, tt)))
+      (event-fits facts r who chosen (is_some (option_and_then (event_now facts sofar.verdict.writes) (id_in asked.id)))
+      (is_repeated sofar.judged (id_in asked.id)) (option_and_then (enrollment_now facts sofar.verdict.writes) (id_in asked.enrollment)) asked)
+
+  -- ---- all objects
+
+  with_entities-fit : (list : List BundleEntity) (sofar : Sofar) → AreFit sofar → AreFit (with_entities facts r who chosen list sofar)
+  unfolding with_entity
+  with_entities-fit [] sofar all = all
+  with_entities-fit (asked ∷ more) sofar all =
+      with_entities-fit more (with_entity facts r who chosen asked sofar)
+      (taken-fits (id_in asked.id) (entity_outcome facts r who chosen sofar asked) sofar all (entity_outcome-fits sofar asked))
+
+  with_enrollments-fit : (list : List BundleEnrollment) (sofar : Sofar) → AreFit sofar → AreFit (with_enrollments facts r who chosen list sofar)
+  unfolding with_enrollment
+  with_enrollments-fit [] sofar all = all
+  with_enrollments-fit (asked ∷ more) sofar all =
+      with_enrollments-fit more (with_enrollment facts r who chosen asked sofar)
+      (taken-fits (id_in asked.id) (enrollment_outcome facts r who chosen sofar asked) sofar all (enrollment_outcome-fits sofar asked))
+
+  with_events-fit : (list : List BundleEvent) (sofar : Sofar) → AreFit sofar → AreFit (with_events facts r who chosen list sofar)
+  unfolding with_event
+  with_events-fit [] sofar all = all
+  with_events-fit (asked ∷ more) sofar all =
+      with_events-fit more (with_event facts r who chosen asked sofar)
+      (taken-fits (id_in asked.id) (event_outcome facts r who chosen sofar asked) sofar all (event_outcome-fits sofar asked))
+
+-- one way or the other
+or-other : (b : Bool) (x y : Sofar) → AreFit x → AreFit y → AreFit (cond b x y)
+or-other true x y first second = first
+or-other false x y first second = second
+
+with_all-fits : (facts : Facts) (r : Records) (who : Who) (bundle : Bundle) → AreFit (with_all facts r who bundle)
+unfolding with_all
+with_all-fits facts r who bundle =
+    let chosen = bundle.params.strategy in
+    let events = with_events facts r who chosen bundle.events none in
+    let later = with_enrollments facts r who chosen bundle.enrollments events in
+    let entities = with_entities facts r who chosen bundle.entities none in
+    let earlier = with_enrollments facts r who chosen bundle.enrollments entities in
+    or-other (is_delete_all chosen) (with_entities facts r who chosen bundle.entities later) (with_events facts r who chosen bundle.events earlier)
+    (with_entities-fit facts r who chosen bundle.entities later
+    (with_enrollments-fit facts r who chosen bundle.enrollments events (with_events-fit facts r who chosen bundle.events none tt)))
+    (with_events-fit facts r who chosen bundle.events earlier
+    (with_enrollments-fit facts r who chosen bundle.enrollments entities (with_entities-fit facts r who chosen bundle.entities none tt)))
+
+finished-fits : (atomic : Bool) (sofar : Sofar) → AreFit sofar → AllByRecursion WriteFits (finished atomic sofar).writes
+unfolding finished
+finished-fits atomic sofar all =
+    elim (atomic && not (is_whole sofar.verdict)) as (λ b. AllByRecursion WriteFits (cond b (unwritten (length sofar.judged) sofar.verdict) sofar.verdict).writes)
+    [ true ↦ tt | false ↦ all ]
+
+verdict_of-fits : (facts : Facts) (r : Records) (who : Who) (bundle : Bundle) → AllByRecursion WriteFits (verdict_of facts r who bundle).writes
+unfolding verdict_of
+verdict_of-fits facts r who bundle = finished-fits bundle.params.atomic (with_all facts r who bundle) (with_all-fits facts r who bundle)
+
+-- so do those of a verdict that is told
+pub told-fits : (facts : Facts) (r : Records) (who : Who) (bundle : Bundle) (result : Result Verdict Memory)
+    → IfOk result (λ v. v ≡ verdict_of facts r who bundle) → IfOk result (λ v. All WriteFits v.writes)
+told-fits facts r who bundle (Ok v) is =
+    subst (λ (w : Verdict). All WriteFits w.writes) (sym is) (All-from_recursion WriteFits _ (verdict_of-fits facts r who bundle))
+told-fits facts r who bundle (Err memory) is = tt
