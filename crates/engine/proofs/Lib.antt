@@ -4,3 +4,4 @@ pub mod Days
 pub mod Orders
 pub mod HistoryLaws
 pub mod LoadLemmas
+pub mod SlotLemmas

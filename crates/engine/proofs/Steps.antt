@@ -1,12 +1,13 @@
 -- The steps of the machine, from what its parts do.
 use Rattle.std.proofs.Common.{◌≡◌, ◌∙◌, ◌≤◌, ◌<◌, ℕ, List, [], ◌∷◌, ◌++◌, length, take, drop, sym, ap, subst, refl, arith, Bool, true, false}
-use Rattle.std.specs.Prelude.{is_some, option_map, Option, None, Some, Result, Ok, Err, if◌then◌else◌}
+use Rattle.std.specs.Prelude.{is_some, option_map, Option, None, Some, IfSome, Result, Ok, Err, if◌then◌else◌}
 use Rattle.std.specs.List.{All}
+use Rattle.std.specs.Global.{Vec}
 use Rattle.std.proofs.lemmas.Bool.{lt-ltb}
 use Rattle.std.proofs.lemmas.Bool.Decides.{nat_tests}
 use Rattle.std.proofs.lemmas.Grind.{flat_map-append}
-use Rattle.std.proofs.lemmas.List.{length-append, take-append-le, take-append-drop, take_at}
-use Rattle.std.proofs.lemmas.List.Elements.{All-take}
+use Rattle.std.proofs.lemmas.List.{length-append, take-append-le, take-append-drop, take_at, drop_at}
+use Rattle.std.proofs.lemmas.List.Elements.{All-take, All-drop}
 use Rattle.dh_base.specs.declared.codes.Refusal.{Refusal}
 use Rattle.dh_changes.specs.declared.change.Change.{Change}
 use Rattle.change_bytes.specs.Forms.{WriteFits}
@@ -19,13 +20,15 @@ use Rattle.change_requests.specs.declared.request.JudgeFault.{JudgeFault}
 use Rattle.change_requests.specs.declared.request.JudgeFault.TheVariants as judge
 use Rattle.change_requests.specs.Requests.{Asked, judged, judged_by, maker_of, cause_of}
 use Rattle.change_requests.specs.declared.request.Judged.{Judged}
-use Rattle.engine.specs.Histories.{IsInOrder}
+use Rattle.table_build.specs.declared.slots.Slot.{Slot}
+use Rattle.engine.specs.Histories.{IsInOrder, IsUpdate}
 use Rattle.engine.specs.Machine.{State, Step, StepBy, IsReplyBy, log_by, has_writes, grown, judged_in, change_of, change_lacks, report_of}
 use Rattle.engine.specs.Machine.Act.{changed}
-use Rattle.engine.specs.Seen.{seen_of, state_of, AreParts, Puts, BringsBy, BringsIf, Brings, Brought, fault_by}
+use Rattle.engine.specs.Seen.{seen_of, state_of, AreParts, FitSlots, HaveSlots, Puts, BringsBy, BringsIf, Brings, Brought, fault_by}
 use Rattle.engine.specs.Tables.{tables_of}
 use Rattle.engine.specs.declared.updates.Shown.{Shown}
 use Rattle.engine.specs.declared.machine.Report.{Report}
+use Rattle.engine.specs.declared.machine.Staged.{Staged}
 use Rattle.engine.specs.declared.machine.ChangeFault.{ChangeFault}
 use Rattle.engine.specs.declared.machine.ChangeFault.TheVariants as change
 use Rattle.engine.proofs.Orders.{longer_in_order}
@@ -191,6 +194,7 @@ same-parts meta shown old new w c l p = record {
   whole = w;
   order = subst (λ x. IsInOrder new.limits (state_of x shown)) (sym c) (subst (λ x. IsInOrder x (state_of old.changes shown)) (sym l) p.order);
   tables = p.tables ∙ ap (λ x. tables_of meta (take shown.published x)) (sym c);
+  slots = subst (λ x. HaveSlots meta x shown) (sym c) p.slots;
 }
 
 first-of : (b : Bool) (log : List Change) (c : Change) (n : ℕ) → n ≤ length log → take n (if b then log ++ c ∷ [] else log) ≡ take n log
@@ -200,6 +204,19 @@ first-of false log c n h = refl
 longer-by : (b : Bool) (log : List Change) (c : Change) → length log ≤ length (if b then log ++ c ∷ [] else log)
 longer-by true log c = let e = length-append log (c ∷ []) in omega arith
 longer-by false log c = omega arith
+
+-- the changes of the full update stay
+still-first : (state : State) (full : Option Staged) (c : Change) → IfSome full (IsUpdate state)
+    → IfSome full (λ (update : Staged). take update.number (grown state.log c) ≡ take update.number state.log)
+still-first state None c given = tt
+still-first state (Some update) c given = first-of (has_writes c) state.log c update.number given.there
+
+still-fit : (meta : Records) (full : Option Staged) (slots : Option (Vec Slot)) (old log : List Change)
+    → IfSome full (λ (update : Staged). take update.number log ≡ take update.number old)
+    → IfSome full (λ (update : Staged). FitSlots meta (take update.number old) slots)
+    → IfSome full (λ (update : Staged). FitSlots meta (take update.number log) slots)
+still-fit meta None slots old log same fit = tt
+still-fit meta (Some update) slots old log same fit = subst (λ changes. FitSlots meta changes slots) (sym same) fit
 
 -- a log of the same limits with a change last, if it has writes
 grown-parts : (meta : Records) (shown : Shown) (old new : LogSeen) (c : Change) → IsWhole new → new.changes ≡ grown old.changes c → new.limits ≡ old.limits
@@ -211,6 +228,8 @@ grown-parts meta shown old new c w is l p = record {
       (longer_in_order old.limits (state_of old.changes shown) (grown old.changes c) (longer-by (has_writes c) old.changes c) p.order));
   tables = p.tables ∙ ap (tables_of meta) (sym (first-of (has_writes c) old.changes c shown.published p.order.published))
       ∙ ap (λ x. tables_of meta (take shown.published x)) (sym is);
+  slots = subst (λ x. HaveSlots meta x shown) (sym is)
+      (still-fit meta shown.full shown.slots old.changes (grown old.changes c) (still-first (state_of old.changes shown) shown.full c p.order.full) p.slots);
 }
 
 parts-by : (meta : Records) (shown : Shown) (old new : LogSeen) (asked : Asked) (found : Result Judged Refusal) (result : Result Report ChangeFault)
@@ -261,3 +280,15 @@ first-fits n log h =
     let e : take (length first) (writes_of log) ≡ first = ap (λ x. take (length first) x) (writes-parts n log)
     ∙ take_at first (writes_of (drop n log)) (length first) refl in
     subst (All WriteFits) e (All-take WriteFits (length first) (writes_of log) h)
+
+-- ---- the changes after the first
+
+pub rest-few : (n : ℕ) (log : List Change) → length (writes_of log) ≤ 4194304 → length (writes_of (drop n log)) ≤ 4194304
+rest-few n log h = let e = ap length (writes-parts n log) in let f = length-append (writes_of (take n log)) (writes_of (drop n log)) in omega arith
+
+pub rest-fits : (n : ℕ) (log : List Change) → All WriteFits (writes_of log) → All WriteFits (writes_of (drop n log))
+rest-fits n log h =
+    let first = writes_of (take n log) in
+    let e : drop (length first) (writes_of log) ≡ writes_of (drop n log) = ap (λ x. drop (length first) x) (writes-parts n log)
+    ∙ drop_at first (writes_of (drop n log)) (length first) refl in
+    subst (All WriteFits) e (All-drop WriteFits (length first) (writes_of log) h)

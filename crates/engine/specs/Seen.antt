@@ -1,16 +1,19 @@
 -- What the engine shows of itself, and what always holds of it.
-use Rattle.std.specs.Prelude.{is_some, [], map, ◌≡◌, ◌==◌, ◌≤◌, if◌then◌else◌, ℕ, Bool, true, false, List, length, take, Option, None, Some, IfSome, Result}
+use Rattle.std.specs.Prelude.{is_some, [], map, ◌≡◌, ◌==◌, ◌≤◌, if◌then◌else◌, ℕ, ℤ, Bool, true, false, List, length, take, Option, None, Some, IfSome, Result}
 use Rattle.std.specs.Prelude.{Ok, Err}
 use Rattle.std.specs.Arc.{arc_value}
+use Rattle.std.specs.List.{All}
+use Rattle.std.specs.Global.{Vec}
 use Rattle.dh_base.specs.declared.codes.Refusal.{Refusal}
 use Rattle.dh_base.specs.declared.memory.Memory.{Memory}
 use Rattle.dh_base.specs.declared.plain.CutKind.{CutKind}
 use Rattle.dh_outside.specs.Faults.{Rose}
 use Rattle.dh_changes.specs.declared.change.Change.{Change}
 use Rattle.meta_parts.specs.declared.held.Records.{Records}
+use Rattle.change_bytes.specs.Forms.{WriteFits}
 use Rattle.change_bytes.specs.Log.{log_bytes}
 use Rattle.change_log.specs.declared.limits.Limits.{Limits}
-use Rattle.change_log.specs.Log.{LogSeen, IsWhole}
+use Rattle.change_log.specs.Log.{LogSeen, IsWhole, writes_of}
 use Rattle.change_requests.specs.declared.request.JudgeFault.{JudgeFault}
 use Rattle.change_requests.specs.declared.request.JudgeFault.TheVariants as judge
 use Rattle.change_requests.specs.Requests.{Asked}
@@ -27,9 +30,14 @@ use Rattle.engine.specs.declared.machine.View.{View}
 use Rattle.engine.specs.declared.machine.LookFault.{LookFault}
 use Rattle.engine.specs.Histories.{IsInOrder}
 use Rattle.engine.specs.Machine.{State, StepBy, IsPutReply, judged_in, change_of, change_lacks, grown, IsCutReply, after_cut, cut_lacks, IsSwapReply}
-use Rattle.engine.specs.Machine.{after_swap, swap_lacks, IsLookReply, look_lacks, changes_for}
+use Rattle.engine.specs.Machine.{after_swap, swap_lacks, IsLookReply, look_lacks, changes_for, by_kind}
 use Rattle.table_rows.specs.Store.{contents_in}
-use Rattle.engine.specs.Tables.{tables_of}
+use Rattle.table_build.specs.Listed.{listed_in}
+use Rattle.table_build.specs.Slots.{AreSlots}
+use Rattle.table_build.specs.declared.slots.Slot.{Slot}
+use Rattle.year_tables.specs.Parts.{YearPart, part_of}
+use Rattle.dh_base.specs.declared.limits.TheConstants.{MOST_RECORDS}
+use Rattle.engine.specs.Tables.{tables_of, years_of}
 
 -- the machine's state, its limits and metadata; of the keeper, how many bytes are acknowledged, those that are kept, where they
 -- are known, and how many of its calls failed
@@ -68,11 +76,21 @@ abbrev pub published_in : Result View LookFault → Result ℕ LookFault
 published_in (Ok view) = Ok view.published
 published_in (Err fault) = Err fault
 
--- a cut has the changes from which its tables are made
-pub record IsCutOf (state : State) (kind : CutKind) (found : Cut) : Type 0 where
+-- the years of which parts may be handed in: of a full update those in which the log leaves something
+abbrev pub years_for : Records → State → CutKind → List ℤ
+years_for meta state kind = by_kind kind (years_of meta state.log) []
+
+-- a cut has the changes from which its tables are made, and their years
+pub record IsCutOf (meta : Records) (state : State) (kind : CutKind) (found : Cut) : Type 0 where
   pub kind_is : found.kind ≡ kind
-  pub none_before : found.years ≡ []
+  pub years_are : found.years ≡ years_for meta state kind
   pub changes_are : map arc_value found.changes.items ≡ changes_for state kind
+  pub few : length (writes_of (map arc_value found.changes.items)) ≤ MOST_RECORDS
+  pub fits : All WriteFits (writes_of (map arc_value found.changes.items))
+
+-- a part is that of its year, of what these changes leave
+abbrev pub IsPartOf : Records → List Change → YearPart → Type 0
+IsPartOf meta changes part = part ≡ part_of (tables_of meta changes) part.year
 
 -- ---- of the parts
 
@@ -96,11 +114,20 @@ seen_of log meta shown = record {
   faults = log.faults;
 }
 
+-- the slots that are kept are those of these changes
+abbrev pub FitSlots : Records → List Change → Option (Vec Slot) → Type 0
+FitSlots meta changes slots = IfSome slots (λ (kept : Vec Slot). AreSlots (listed_in meta (writes_of changes)) kept.items)
+
+-- the parts that were handed in stand for the changes of the full update
+abbrev pub HaveSlots : Records → List Change → Shown → Type 0
+HaveSlots meta log shown = IfSome shown.full (λ (update : Staged). FitSlots meta (take update.number log) shown.slots)
+
 -- the tables stand for the first changes of the log, as many as are published
 pub record AreParts (log : LogSeen) (meta : Records) (shown : Shown) : Type 0 where
   pub whole : IsWhole log
   pub order : IsInOrder log.limits (state_of log.changes shown)
   pub tables : contents_in (arc_value shown.tables) ≡ tables_of meta (take shown.published log.changes)
+  pub slots : HaveSlots meta log.changes shown
 
 -- what it does to the log to put a change last
 abbrev pub Puts : LogSeen → Change → Judged → Result Report ChangeFault → LogSeen → Type 0

@@ -1,21 +1,21 @@
 //! The engine: the machine as a value, over a keeper that stores the log.
-ghost use Rattle.std.specs.Prelude.{◌≡◌, ◌≤◌, IsTrue, List, length, take, option_map, IfOk};
+ghost use Rattle.std.specs.Prelude.{◌≡◌, ◌≤◌, true, IsTrue, List, length, take, option_map, IfOk};
 ghost use Rattle.std.specs.Arc.{arc_value};
 ghost use Rattle.dh_base.specs.declared.plain.CutKind.TheVariants.{Full};
 ghost use Rattle.dh_changes.specs.declared.change.Change.{Change};
 ghost use Rattle.change_log.specs.Log.{AreLimits, NeverFails};
 ghost use Rattle.value_import.specs.Outcomes.{IsKnown};
-ghost use Rattle.engine.specs.Machine.{start, Step, is_begun};
+ghost use Rattle.engine.specs.Machine.{start, Step, is_begun, has_ticket, number_in};
 ghost use Rattle.engine.specs.Machine.Act.{changed, begun, swapped, dropped, looked};
 ghost use Rattle.table_rows.specs.Store.{contents_in};
 ghost use Rattle.engine.specs.MetaAfter.{meta_after, IsAfter, published_meta};
 ghost use Rattle.engine.specs.Tables.{tables_of};
-ghost use Rattle.engine.specs.Seen.{IsSound, Brought, IsCutOf, update_in, published_in};
+ghost use Rattle.engine.specs.Seen.{IsSound, Brought, IsCutOf, IsPartOf, update_in, published_in};
 
 use crate::bring::change;
 use crate::machine::{ChangeFault, Cut, CutFault, LookFault, Report, Staged, Standing, View};
 use crate::tables::tables_of;
-use crate::updates::{Shown, cut, drop_staged, look, swap};
+use crate::updates::{Shown, cut, drop_staged, hand_in, look, swap};
 use change_log::{ChangeLog, Limits};
 use change_requests::ChangeRequest;
 use dh_base::memory::Memory;
@@ -27,6 +27,7 @@ use record_index::outcome::Who;
 use std::alloc::Global;
 use std::marker::Model;
 use std::sync::Arc;
+use year_tables::Partition;
 
 fn ticket_of(staged: Option<Staged>) -> Option<u64>
     ensures { result ≡ option_map (λ update. update.ticket) staged }
@@ -87,6 +88,7 @@ impl<K: Keeper> Engine<K> {
             ticket: 0,
             full: None,
             latest: None,
+            slots: None,
         };
         Ok(Engine { log, meta, shown })
     }
@@ -123,16 +125,36 @@ impl<K: Keeper> Engine<K> {
         requires { kind ≡ Full }
         ensures step { Step self.old.meta self.old.limits self.old.state (begun kind (update_in result)) self.new.state }
         ensures same { self.new ≡ record self.old { state = self.new.state } }
-        ensures given { IfOk result (IsCutOf self.old.state kind) }
+        ensures given { IfOk result (IsCutOf self.old.meta self.old.state kind) }
         ensures sound { IsSound self.new }
     {
         let limits = self.log.limits();
-        cut(alloc, &mut self.shown, &limits, self.log.changes(), kind)
+        cut(
+            alloc,
+            &mut self.shown,
+            &limits,
+            &self.meta,
+            self.log.world(),
+            self.log.changes(),
+            kind,
+        )
+    }
+
+    /// Takes in the part of one year of the full update with this ticket. It takes no memory, and nothing of it is seen
+    /// before the update is published; a part of a year of which the update has none is dropped.
+    pub fn hand_in(&mut self, ticket: u64, part: Partition)
+        requires begun { has_ticket ticket self.old.state.full ≡ true }
+        requires part { IsPartOf self.old.meta (take (number_in self.old.state.full) self.old.state.log) part }
+        ensures same { self.new ≡ self.old }
+        ensures sound { IsSound self.new }
+    {
+        let _ticket = ticket;
+        hand_in(&mut self.shown, part);
     }
 
     /// Publishes the update with this ticket, and answers how many changes the tables then stand for:
-    /// those of the update, or those that are published already if these are more. Out of memory the
-    /// update is still begun.
+    /// those of the update, or those that are published already if these are more. It builds the parts
+    /// that weren't handed in. Out of memory the update is still begun, without the parts.
     pub fn swap(&mut self, alloc: Global, ticket: u64) -> Result<u64, Memory>
         requires { IsTrue (is_begun self.old.state ticket) }
         ensures step { Step self.old.meta self.old.limits self.old.state (swapped ticket result) self.new.state }

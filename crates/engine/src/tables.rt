@@ -5,6 +5,10 @@ ghost use Rattle.std.specs.List.{All};
 ghost use Rattle.change_bytes.specs.Forms.{WriteFits};
 ghost use Rattle.change_log.specs.Log.{writes_of};
 ghost use Rattle.table_rows.specs.Store.{contents_in};
+ghost use Rattle.table_build.specs.Listed.{listed_in};
+ghost use Rattle.table_build.specs.Slots.{AreSlots};
+ghost use Rattle.year_tables.specs.Parts.{part_of};
+ghost use Rattle.engine.specs.Seen.{IsPartOf};
 ghost use Rattle.engine.specs.Tables.{tables_of};
 ghost use Rattle.dh_base.specs.declared.limits.TheConstants.{MOST_RECORDS};
 
@@ -16,22 +20,24 @@ use dh_metadata::metadata::Metadata;
 use std::alloc::Global;
 use std::marker::Model;
 use std::sync::Arc;
-use table_build::listed::build;
+use table_build::by_year::{build, build_part};
+use table_build::slots::{Slot, build_with};
 use table_rows::{EventRow, Group, RegRow, Row, RowStore, Sum};
-use table_sums::SummedRows;
+use year_tables::{Partition, Tables as YearTables};
 
 /// The tables, as a store of rows. How they are kept is not shown.
 #[derive(Drop)]
 pub struct Tables {
-    store: SummedRows,
+    store: YearTables,
 }
 
 impl Model for Tables {
     ghost use Rattle.table_rows.specs.Store.{Listed};
+    ghost use Rattle.year_tables.specs.Parts.{rows_together, events_together, regs_together, years_in};
 
     ghost Value = { Listed };
 
-    ghost view = { λ tables. tables.store };
+    ghost view = { λ tables. record { rows = rows_together tables.store.parts; events = events_together tables.store.parts; regs = regs_together tables.store.parts; years = years_in tables.store.parts } };
 }
 
 impl RowStore for Tables {
@@ -94,4 +100,37 @@ pub(crate) fn tables_of(
 {
     let store = build(alloc, meta, changes)?;
     Ok(Arc::new(alloc, Tables { store })?)
+}
+
+// The same, of the parts that were handed in, and of parts that are made for the other years.
+#[tactic(auto, unfolding(crate::specs::Tables::tables_of))]
+pub(crate) fn tables_with(
+    alloc: Global,
+    meta: &Metadata,
+    changes: &[Arc<Change>],
+    slots: Vec<Slot>,
+) -> Result<Arc<Tables>, Memory>
+    requires few { length (writes_of (map arc_value changes.now)) ≤ MOST_RECORDS }
+    requires fits { All WriteFits (writes_of (map arc_value changes.now)) }
+    requires slots { AreSlots (listed_in meta.now (writes_of (map arc_value changes.now))) slots.items }
+    ensures { IfOk result (λ tables. contents_in (arc_value tables) ≡ tables_of meta.now (map arc_value changes.now)) }
+{
+    let store = build_with(alloc, meta, changes, slots)?;
+    Ok(Arc::new(alloc, Tables { store })?)
+}
+
+/// The part of one year of the tables that stand for these changes, as it may be handed in.
+pub fn build_year(
+    alloc: Global,
+    meta: &Metadata,
+    changes: &[Arc<Change>],
+    year: i32,
+) -> Result<Partition, Memory>
+    requires few { length (writes_of (map arc_value changes.now)) ≤ MOST_RECORDS }
+    requires fits { All WriteFits (writes_of (map arc_value changes.now)) }
+    ensures value { IfOk result (λ part. part ≡ part_of (tables_of meta.now (map arc_value changes.now)) year) }
+    ensures own { IfOk result (IsPartOf meta.now (map arc_value changes.now)) }
+{
+    let part = build_part(alloc, meta, year, changes)?;
+    Ok(part)
 }

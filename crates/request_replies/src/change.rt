@@ -1,4 +1,4 @@
-// The reply to a change.
+//! The reply to a change.
 ghost use Rattle.std.specs.Prelude.{◌≡◌, ◌<◌, true, [], length, Some, None, IfOk};
 ghost use Rattle.wire_replies.specs.Heads.{is_reply_status};
 ghost use Rattle.change_log.specs.Log.{NeverFails};
@@ -44,9 +44,9 @@ fn not_stored(alloc: Global, keep: bool) -> Result<Reply, Memory>
     refusal_reply(alloc, None, keep, &refused)
 }
 
-// What the machine answered is told.
+/// What the machine answered to a change is told. A report takes no memory.
 #[tactic(auto, using(crate::proofs::TellLemmas::is_told, crate::proofs::TellLemmas::change_told))]
-fn tell(alloc: Global, found: Result<Report, ChangeFault>, keep: bool) -> Result<Reply, Memory>
+pub fn tell(alloc: Global, found: Result<Report, ChangeFault>, keep: bool) -> Result<Reply, Memory>
     requires { IfOk found (λ report. is_reply_status report.status ≡ true) }
     ensures tells { IsTold (told result) (change_text keep found) }
     ensures sure { IfOk found (λ report. told result ≡ Some (report_reply keep report)) }

@@ -27,7 +27,8 @@ use table_rows::RowStore;
 use validation::{CheckFault, Place, Violation, body, run};
 use web_routes::checked::Checked;
 
-fn place_of(checked: &Checked) -> Place
+/// What a call names, as a place to be checked.
+pub fn place_of(checked: &Checked) -> Place
     ensures { result ≡ place_of checked.now }
 {
     Place {
@@ -106,7 +107,8 @@ fn over_rows<S: RowStore>(
     }
 }
 
-fn by_user<S: RowStore>(
+/// The check for a user over tables that stand for so many changes.
+pub fn by_user<S: RowStore>(
     alloc: Global,
     meta: &Metadata,
     user: u32,

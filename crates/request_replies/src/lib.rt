@@ -2,15 +2,15 @@
 //! told. A session without a store, over the bytes of a metadata file and a source of requests.
 #![tactic(auto)]
 
-mod change;
-mod check;
+pub mod change;
+pub mod check;
 mod laws;
 mod over_file;
-mod query;
-mod replier;
+pub mod query;
+pub mod replier;
 mod serving;
-mod texts;
-mod update;
+pub mod texts;
+pub mod update;
 
 pub use laws::replies_keep;
 pub use over_file::{SessionEnd, refuse_long, session_over};

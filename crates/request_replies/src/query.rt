@@ -1,4 +1,4 @@
-// The reply to a query.
+//! The reply to a query.
 ghost use Rattle.std.specs.Prelude.{◌≡◌, ◌<◌, length, take, Some, None, IfOk};
 ghost use Rattle.std.specs.Arc.{arc_value};
 ghost use Rattle.engine.specs.Seen.{published_in};
@@ -46,9 +46,9 @@ fn too_wide(alloc: Global, published: u64, keep: bool, id: Items<u8>) -> Result<
     refusal_reply(alloc, Some(published), keep, &refused)
 }
 
-// The answer over the rows of tables that stand for so many changes.
+/// The answer to a user over the rows of tables that stand for so many changes.
 #[tactic(auto, unfolding(crate::specs::Texts::answer_reply, crate::specs::Queries::answer_by))]
-fn over_rows<S: RowStore>(
+pub fn over_rows<S: RowStore>(
     alloc: Global,
     meta: &Metadata,
     user: u32,

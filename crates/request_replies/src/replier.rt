@@ -84,8 +84,8 @@ fn reply_to_call<K: Keeper>(
     }
 }
 
-// The reply to a request that is no call.
-fn refuse(alloc: Global, keep: bool, fault: &RouteFault) -> Result<Reply, Memory>
+/// The reply to a request that is no call.
+pub fn refuse(alloc: Global, keep: bool, fault: &RouteFault) -> Result<Reply, Memory>
     ensures { Refuses keep (cause_of fault.now) (told result) }
 {
     match fault {

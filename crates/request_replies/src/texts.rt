@@ -1,4 +1,4 @@
-// The texts of replies.
+//! The texts of replies.
 ghost use Rattle.std.specs.Prelude.{◌≡◌, decimal, None, IfOk};
 ghost use Rattle.query_forms.specs.Given.{refusal};
 ghost use Rattle.request_session.specs.Replies.{text_in};
@@ -22,7 +22,7 @@ pub(crate) fn numbered(alloc: Global, code: Code, number: u64) -> Result<Refusal
 
 /// The reply that refuses a request.
 #[tactic(auto, using(crate::proofs::Statuses::has_reply), unfolding(crate::specs::Texts::refusal_reply))]
-pub(crate) fn refusal_reply(
+pub fn refusal_reply(
     alloc: Global,
     published: Option<u64>,
     keep: bool,
@@ -35,12 +35,7 @@ pub(crate) fn refusal_reply(
 }
 
 /// The same with a number as its detail.
-pub(crate) fn number_reply(
-    alloc: Global,
-    keep: bool,
-    code: Code,
-    number: u64,
-) -> Result<Reply, Memory>
+pub fn number_reply(alloc: Global, keep: bool, code: Code, number: u64) -> Result<Reply, Memory>
     ensures { IfOk result (λ reply. text_in reply ≡ refusal_reply None keep (refusal code (decimal number))) }
 {
     let refused = numbered(alloc, code, number)?;

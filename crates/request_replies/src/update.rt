@@ -1,4 +1,4 @@
-// The reply to an update of the tables.
+//! The reply to an update of the tables.
 ghost use Rattle.std.specs.Prelude.{◌≡◌, IsTrue, max, None, Some, Ok, IfOk, OnErr};
 ghost use Rattle.dh_base.specs.declared.plain.CutKind.TheVariants.{Full};
 ghost use Rattle.engine.specs.Machine.{Step, is_begun, number_of, staged_of};
@@ -17,9 +17,9 @@ use engine::{Cut, CutFault, Engine};
 use request_session::Reply;
 use std::alloc::Global;
 
-// Why no update was begun is told.
+/// Why no update was begun is told.
 #[tactic(auto, using(crate::proofs::TellLemmas::is_told))]
-fn not_begun(alloc: Global, fault: CutFault, keep: bool) -> Result<Reply, Memory>
+pub fn not_begun(alloc: Global, fault: CutFault, keep: bool) -> Result<Reply, Memory>
     ensures { IsTold (told result) (cut_text keep fault) }
 {
     match fault {

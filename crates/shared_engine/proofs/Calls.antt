@@ -315,7 +315,7 @@ cut_begins made engine new list caller kind update faults s step =
 
 pub cut_begun : (made : Made) (engine new : Seen) (list : List Entry) (caller : ℕ) (kind : CutKind) (reply : Result Cut CutFault) (faults : ℕ)
     → StandsAt made engine list → Step engine.meta engine.limits engine.state (begun kind (update_in reply)) new.state → kind ≡ Full
-    → IfOk reply (IsCutOf engine.state kind)
+    → IfOk reply (IsCutOf engine.meta engine.state kind)
     → IfOk reply (λ cut. IsBegunBy made (list ++ entries_of caller (begun kind (update_in reply)) faults) caller kind (staged_in cut)
     (map arc_value cut.changes.items))
 cut_begun made engine new list caller kind (Err fault) faults s step full given = tt

@@ -141,7 +141,7 @@ like-one r facts stands x y left right like =
 -- ---- what a function gives of the members of a list
 
 module _ {A X : Type 0} (f : A → Option X) where
-  given-in : (a : A) (x : X) → f a ≡ Some x → (list : List A) → IsIn a list → IsIn x (filter_map f list)
+  pub given-in : (a : A) (x : X) → f a ≡ Some x → (list : List A) → IsIn a list → IsIn x (filter_map f list)
   given-in a x is [] none = absurd none
   given-in a x is (b ∷ list) (inl same) = subst (λ o. IsIn x (cons_option o (filter_map f list))) (sym (ap f (sym same) ∙ is)) (inl refl)
   given-in a x is (b ∷ list) (inr later) =

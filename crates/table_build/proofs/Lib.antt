@@ -8,3 +8,5 @@ pub mod FactLemmas
 pub mod StoreLemmas
 pub mod KeyLemmas
 pub mod YearLemmas
+pub mod LeftLemmas
+pub mod SlotLemmas

@@ -302,15 +302,6 @@ made-store r writes rows events regs years few days own is =
     ap (λ (lists : Listed). is_store lists.rows lists.events lists.regs lists.years) is
     ∙ listed-store r writes few days (sym (ap (λ (lists : Listed). have_own_places lists.rows) is) ∙ own)
 
--- a store of such lists
-pub made-result : (r : Records) (writes : List Write) (store : Listed) (rows : List Row) (events : List EventRow) (regs : List RegRow) (years : List ℤ)
-    → ◌≡◌ {A = Listed} (record { rows = rows; events = events; regs = regs; years = years }) (listed_in r writes)
-    → store.rows ≡ rows → store.events ≡ events → store.regs ≡ regs → store.years ≡ years → store ≡ listed_in r writes
-made-result r writes store rows events regs years is row event reg year =
-    let same : store ≡ record { rows = rows; events = events; regs = regs; years = years } =
-    λ i. record { rows = row i; events = event i; regs = reg i; years = year i } in
-    same ∙ is
-
 pub years-seen : (years : List ℤ) (rows seen_rows : List Row) (regs seen_regs : List RegRow) (events seen_events : List EventRow)
     → years ≡ years_of seen_rows seen_regs seen_events
     → seen_rows ≡ rows → seen_regs ≡ regs → seen_events ≡ events → years ≡ years_of rows regs events

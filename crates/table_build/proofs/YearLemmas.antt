@@ -105,12 +105,12 @@ every-to : {X : Type 0} (P Q : X → Type 0) (xs : List X) → ((x : X) → P x 
 every-to P Q [] to all = tt
 every-to P Q (x ∷ xs) to all = (to x all.0, every-to P Q xs to all.1)
 
-in-map : {A B : Type 0} (f : A → B) (x : A) (xs : List A) → IsIn x xs → IsIn (f x) (map f xs)
+pub in-map : {A B : Type 0} (f : A → B) (x : A) (xs : List A) → IsIn x xs → IsIn (f x) (map f xs)
 in-map f x [] is = absurd is
 in-map f x (y ∷ ys) (inl same) = inl (ap f same)
 in-map f x (y ∷ ys) (inr later) = inr (in-map f x ys later)
 
-in-option : {A B : Type 0} (f : A → Option B) (x : A) (b : B) (xs : List A) → f x ≡ Some b → IsIn x xs → IsIn b (filter_map f xs)
+pub in-option : {A B : Type 0} (f : A → Option B) (x : A) (b : B) (xs : List A) → f x ≡ Some b → IsIn x xs → IsIn b (filter_map f xs)
 in-option f x b [] is there = absurd there
 in-option {B = B} f x b (y ∷ ys) is (inl same) = subst (λ (o : Option B). IsIn b (cons_option o (filter_map f ys))) (sym is ∙ ap f same) (inl refl)
 in-option {B = B} f x b (y ∷ ys) is (inr later) = behind (f y) (in-option f x b ys is later)
@@ -119,12 +119,12 @@ in-option {B = B} f x b (y ∷ ys) is (inr later) = behind (f y) (in-option f x 
     behind (Some c) in_rest = inr in_rest
     behind None in_rest = in_rest
 
-in-left : {A : Type 0} (x : A) (xs ys : List A) → IsIn x xs → IsIn x (xs ++ ys)
+pub in-left : {A : Type 0} (x : A) (xs ys : List A) → IsIn x xs → IsIn x (xs ++ ys)
 in-left x [] ys is = absurd is
 in-left x (z ∷ xs) ys (inl same) = inl same
 in-left x (z ∷ xs) ys (inr later) = inr (in-left x xs ys later)
 
-in-right : {A : Type 0} (x : A) (xs ys : List A) → IsIn x ys → IsIn x (xs ++ ys)
+pub in-right : {A : Type 0} (x : A) (xs ys : List A) → IsIn x ys → IsIn x (xs ++ ys)
 in-right x [] ys is = is
 in-right x (z ∷ xs) ys is = inr (in-right x xs ys is)
 

@@ -5,4 +5,6 @@ pub mod Regs
 pub mod Items
 pub mod Events
 pub mod Years
+pub mod Left
 pub mod Listed
+pub mod Slots

@@ -1,11 +1,11 @@
 //! The tables by year of the rows, registrations and events that a list of changes leaves.
-ghost use Rattle.std.specs.Prelude.{◌≡◌, ◌≤◌, length, map, IsTrue, IfOk};
+ghost use Rattle.std.specs.Prelude.{◌≡◌, ◌≤◌, [], true, length, map, IsTrue, IfOk};
 ghost use Rattle.std.specs.List.{list_all};
 ghost use Rattle.std.specs.Arc.{arc_value};
 ghost use Rattle.table_build.specs.Log.{writes_of, is_of_days};
 ghost use Rattle.table_build.specs.Listed.{listed_in};
-ghost use Rattle.table_rows.specs.Store.{contents_in};
-ghost use Rattle.year_tables.specs.Parts.{AreOfYears, listed_as, together, years_in};
+ghost use Rattle.table_rows.specs.Store.{contents_in, is_store};
+ghost use Rattle.year_tables.specs.Parts.{AreOfYears, listed_as, part_of, together, years_in};
 ghost use Rattle.dh_base.specs.declared.limits.TheConstants.{MOST_RECORDS};
 
 use crate::events::events_of;
@@ -20,7 +20,7 @@ use dh_metadata::metadata::Metadata;
 use std::alloc::Global;
 use std::sync::Arc;
 use table_rows::{EventRow, RegRow, Row};
-use year_tables::{Lists, Tables, tables_of};
+use year_tables::{Lists, Partition, Tables, part_in, tables_of};
 
 // The tables of these lists, which are dropped.
 fn cut(
@@ -42,6 +42,44 @@ fn cut(
         regs: &regs,
     };
     tables_of(alloc, &lists, &years, base_cut)
+}
+
+// The part of one year of these lists, which are dropped.
+fn one_year(
+    alloc: Global,
+    rows: Vec<Row>,
+    events: Vec<EventRow>,
+    regs: Vec<RegRow>,
+    year: i32,
+) -> Result<Partition, Memory>
+    requires { is_store rows.items events.items regs.items [] ≡ true }
+    ensures { IfOk result (λ part. part ≡ part_of (listed_as rows.items events.items regs.items) year) }
+{
+    let lists = Lists {
+        rows: &rows,
+        events: &events,
+        regs: &regs,
+    };
+    part_in(alloc, &lists, year)
+}
+
+/// The part of one year: its rows, registrations and events, of those that the changes leave.
+pub fn build_part(
+    alloc: Global,
+    meta: &Metadata,
+    year: i32,
+    changes: &[Arc<Change>],
+) -> Result<Partition, Memory>
+    requires few { length (writes_of (map arc_value changes.now)) ≤ MOST_RECORDS }
+    requires days { IsTrue (list_all is_of_days (writes_of (map arc_value changes.now))) }
+    ensures { IfOk result (λ part. part ≡ part_of (contents_in (listed_in meta.now (writes_of (map arc_value changes.now)))) year) }
+{
+    let world = world_of(alloc, changes)?;
+    let rows = rows_of(alloc, meta, &world, &values_named(alloc, changes)?)?;
+    let events = events_of(alloc, meta, &world, &events_named(alloc, changes)?)?;
+    let regs = regs_of(alloc, meta, &world, &regs_named(alloc, changes)?)?;
+    let part = one_year(alloc, rows, events, regs, year)?;
+    Ok(part)
 }
 
 /// The tables of the rows, registrations and events that the changes leave, under these metadata, with a part of each

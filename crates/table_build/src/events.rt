@@ -36,7 +36,7 @@ pub struct EventPlace {
 }
 
 #[tactic(auto, unfolding(crate::specs::Events::place_of))]
-fn place_of(world: &World, id: Uid) -> Option<EventPlace>
+pub(crate) fn place_of(world: &World, id: Uid) -> Option<EventPlace>
     ensures { result ≡ known.place_of (facts world.now) id }
 {
     let event = world.event(id)?;
@@ -78,7 +78,7 @@ fn places_of(alloc: Global, world: &World, ids: &[Uid]) -> Result<Vec<EventPlace
 }
 
 #[tactic(auto, unfolding(crate::specs::Events::objects_of))]
-fn objects_of(meta: &Metadata, event: &Event) -> Option<EventObjects>
+pub(crate) fn objects_of(meta: &Metadata, event: &Event) -> Option<EventObjects>
     ensures value { result ≡ known.objects_of meta.now event.now }
     ensures in_range { IfSome result (λ objects. objects.unit < length meta.now.organisation_units) }
 {

@@ -1,12 +1,13 @@
-//! The rows, registrations and events that a list of changes leaves, as a store of rows.
+//! The rows, registrations and events that a list of changes leaves, as tables by year.
 #![tactic(auto)]
 
 pub mod by_year;
 pub mod events;
 mod items;
-pub mod listed;
+mod left;
 mod named;
 pub mod regs;
+pub mod slots;
 pub mod values;
 mod world;
 mod years;

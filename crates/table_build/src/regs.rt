@@ -36,7 +36,7 @@ pub struct RegPlace {
 }
 
 #[tactic(auto, unfolding(crate::specs::Regs::objects_of))]
-fn objects_of(meta: &Metadata, key: &RegKey) -> Option<RegObjects>
+pub(crate) fn objects_of(meta: &Metadata, key: &RegKey) -> Option<RegObjects>
     ensures value { result ≡ known.objects_of meta.now key.now }
     ensures in_range { IfSome result (λ objects. objects.unit < length meta.now.organisation_units) }
 {

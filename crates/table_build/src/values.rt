@@ -35,7 +35,7 @@ pub struct ValueObjects {
 }
 
 #[tactic(auto, unfolding(crate::specs::Values::objects_of))]
-fn objects_of(meta: &Metadata, key: &ValueKey) -> Option<ValueObjects>
+pub(crate) fn objects_of(meta: &Metadata, key: &ValueKey) -> Option<ValueObjects>
     ensures value { result ≡ known.objects_of meta.now key.now }
     ensures in_range { IfSome result (λ objects. (objects.element < length meta.now.data_elements) × (objects.unit < length meta.now.organisation_units)) }
 {

@@ -33,7 +33,7 @@ fn event_year(event: &EventRow) -> Option<i32>
     day_year(event.day)
 }
 
-fn put_year(years: &mut BTreeMap<i32, i32>, year: i32) -> Result<(), Memory>
+pub(crate) fn put_year(years: &mut BTreeMap<i32, i32>, year: i32) -> Result<(), Memory>
     ensures { OnOk result (years.new.entries ≡ insert_entry int_cmp years.old.entries year year) }
 {
     years.insert(year, year)?;

@@ -104,8 +104,8 @@ fn store_of(
     with_sums(alloc, &rows, events, regs, Vec::new(alloc))
 }
 
-// The part of a year.
-fn part_in(alloc: Global, lists: &Lists<'_>, year: i32) -> Result<Partition, Memory>
+/// The part of a year.
+pub fn part_in(alloc: Global, lists: &Lists<'_>, year: i32) -> Result<Partition, Memory>
     requires { is_store lists.now.rows.now lists.now.events.now lists.now.regs.now [] ≡ true }
     ensures { IfOk result (λ part. part ≡ part_of (listed_as lists.now.rows.now lists.now.events.now lists.now.regs.now) year) }
 {

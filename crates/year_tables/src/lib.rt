@@ -9,6 +9,6 @@ mod part;
 mod ranked;
 mod tables;
 
-pub use cut::{Lists, day_year, tables_of};
+pub use cut::{Lists, day_year, part_in, tables_of};
 pub use part::Partition;
 pub use tables::Tables;

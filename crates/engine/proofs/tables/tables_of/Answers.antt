@@ -18,4 +18,6 @@ build-requires c =
 
 pub returns : goal.returns
 unfolding tables_of
-returns c = ap contents_in (c.in_ok-new.ensures.ok ∙ c.in_ok-store.ensures ∙ ap (listed_in c.args.meta.now) (writes-are (map arc_value c.args.changes.now)))
+returns c =
+    ap contents_in c.in_ok-new.ensures.ok ∙ c.in_ok-store.ensures.contents
+    ∙ ap (λ ws. contents_in (listed_in c.args.meta.now ws)) (writes-are (map arc_value c.args.changes.now))

@@ -12,6 +12,7 @@ invariant_of-self g c = record {
   order = c.drop_staged.ensures.order _ _ c.self.invariant.order;
   tables = ap (λ t. contents_in (arc_value t)) c.drop_staged.ensures.tables ∙ c.self.invariant.tables
       ∙ ap (λ n. tables_of (arc_value c.self.inside.meta) (take n c.self.inside.log.changes)) (sym c.drop_staged.ensures.published);
+  slots = c.drop_staged.ensures.kept _ _ c.self.invariant.slots;
 }
 
 pub returns-clause-step : goal.returns-clause-step

@@ -1,0 +1,4 @@
+pub mod Replies
+pub mod Views
+pub mod Steps
+pub mod Serving

@@ -1,0 +1,23 @@
+-- The years of an update, each with its part if that was made beforehand.
+use Rattle.std.specs.Prelude.{◌≡◌, true, ℤ, List, map, None, IfSome}
+use Rattle.std.specs.List.{AllByRecursion}
+use Rattle.table_rows.specs.Store.{Contents, Listed, contents_in, have_own_places}
+use Rattle.year_tables.specs.Parts.{YearPart, part_of}
+use Rattle.table_build.specs.declared.slots.Slot.{Slot}
+
+-- a year without a part
+abbrev pub no_part : ℤ → Slot
+no_part year = record { year = year; part = None }
+
+abbrev pub slot_years : List Slot → List ℤ
+slot_years slots = map (λ (slot : Slot). slot.year) slots
+
+-- a part that is there is that of its year
+abbrev pub IsSlotOf : Contents → Slot → Type 0
+IsSlotOf all slot = IfSome slot.part (λ (part : YearPart). part ≡ part_of all slot.year)
+
+-- a slot for each year of the lists, whose rows are those of a store
+pub record AreSlots (listed : Listed) (slots : List Slot) : Type 0 where
+  pub years : slot_years slots ≡ listed.years
+  pub parts : AllByRecursion (IsSlotOf (contents_in listed)) slots
+  pub own : have_own_places listed.rows ≡ true

@@ -1,0 +1,130 @@
+//! The years in which a log leaves something, without its rows.
+ghost use Rattle.std.specs.Prelude.{◌≡◌, [], map, OnOk, IfOk};
+ghost use Rattle.std.specs.Arc.{arc_value};
+ghost use Rattle.std.specs.List.{filter_map};
+ghost use Rattle.std.specs.Ordering.{int_cmp};
+ghost use Rattle.record_index.specs.World.{facts};
+ghost use Rattle.table_build.specs.Left as known;
+ghost use Rattle.table_build.specs.Log.{writes_of};
+ghost use Rattle.table_build.specs.Ordered.{put_all};
+
+use crate::events::{EventPlace, objects_of as event_objects, place_of};
+use crate::regs::objects_of as reg_objects;
+use crate::values::objects_of as value_objects;
+use crate::years::put_year;
+use dh_base::memory::Memory;
+use dh_base::uid::Uid;
+use dh_changes::change::{Change, Write};
+use dh_changes::keys::{RegKey, ValueKey};
+use dh_metadata::metadata::Metadata;
+use record_index::world::World;
+use std::alloc::Global;
+use std::collections::BTreeMap;
+use std::sync::Arc;
+use year_tables::day_year;
+
+#[tactic(auto, unfolding(crate::specs::Left::value_year))]
+fn value_year(meta: &Metadata, world: &World, key: &ValueKey) -> Option<i32>
+    ensures { result ≡ known.value_year meta.now (facts world.now) key.now }
+{
+    let _text = world.value(key)?;
+    let _objects = value_objects(meta, key)?;
+    Some(key.period.year())
+}
+
+#[tactic(auto, unfolding(crate::specs::Left::reg_year))]
+fn reg_year(meta: &Metadata, world: &World, key: &RegKey) -> Option<i32>
+    ensures { result ≡ known.reg_year meta.now (facts world.now) key.now }
+{
+    let _day = world.registration(key)?;
+    let _objects = reg_objects(meta, key)?;
+    Some(key.period.year())
+}
+
+#[tactic(auto, unfolding(crate::specs::Left::place_year))]
+fn place_year(meta: &Metadata, world: &World, place: EventPlace) -> Option<i32>
+    ensures { result ≡ known.place_year meta.now (facts world.now) place }
+{
+    let event = world.event(place.id)?;
+    let _objects = event_objects(meta, event)?;
+    day_year(place.day)
+}
+
+#[tactic(auto, unfolding(crate::specs::Left::event_year))]
+fn event_year(meta: &Metadata, world: &World, id: Uid) -> Option<i32>
+    ensures { result ≡ known.event_year meta.now (facts world.now) id }
+{
+    let place = place_of(world, id)?;
+    place_year(meta, world, place)
+}
+
+#[tactic(auto, unfolding(crate::specs::Left::write_year))]
+fn write_year(meta: &Metadata, world: &World, write: &Write) -> Option<i32>
+    ensures { result ≡ known.write_year meta.now (facts world.now) write.now }
+{
+    match write {
+        Write::ValueSet { key, .. } => value_year(meta, world, key),
+        Write::ValueCleared { key } => value_year(meta, world, key),
+        Write::Complete { key, .. } => reg_year(meta, world, key),
+        Write::Uncomplete { key } => reg_year(meta, world, key),
+        Write::EventWritten(event) => event_year(meta, world, event.id),
+        Write::EventDeleted(id) => event_year(meta, world, *id),
+        _ => None,
+    }
+}
+
+fn put_writes(
+    years: &mut BTreeMap<i32, i32>,
+    meta: &Metadata,
+    world: &World,
+    writes: &[Write],
+) -> Result<(), Memory>
+    ensures { OnOk result (years.new.entries ≡ put_all int_cmp (λ year. year) years.old.entries (filter_map (known.write_year meta.now (facts world.now)) writes.now)) }
+{
+    for write in writes {
+        if let Some(year) = write_year(meta, world, write) {
+            put_year(years, year)?;
+        }
+    }
+    Ok(())
+}
+
+fn put_change(
+    years: &mut BTreeMap<i32, i32>,
+    meta: &Metadata,
+    world: &World,
+    change: &Change,
+) -> Result<(), Memory>
+    ensures { OnOk result (years.new.entries ≡ put_all int_cmp (λ year. year) years.old.entries (filter_map (known.write_year meta.now (facts world.now)) change.now.writes)) }
+{
+    put_writes(years, meta, world, change.writes.as_slice())
+}
+
+fn year_map(
+    alloc: Global,
+    meta: &Metadata,
+    world: &World,
+    changes: &[Arc<Change>],
+) -> Result<BTreeMap<i32, i32>, Memory>
+    ensures { IfOk result (λ years. years.entries ≡ put_all int_cmp (λ year. year) [] (filter_map (known.write_year meta.now (facts world.now)) (writes_of (map arc_value changes.now)))) }
+{
+    let mut years = BTreeMap::new(alloc);
+    for change in changes {
+        put_change(&mut years, meta, world, &**change)?;
+    }
+    Ok(years)
+}
+
+/// The years of what the changes name and the world holds after them, ascending.
+#[tactic(auto, unfolding(crate::specs::Left::years_named))]
+pub fn years_named(
+    alloc: Global,
+    meta: &Metadata,
+    world: &World,
+    changes: &[Arc<Change>],
+) -> Result<Vec<i32>, Memory>
+    ensures { IfOk result (λ years. years.items ≡ known.years_named meta.now (facts world.now) (writes_of (map arc_value changes.now))) }
+{
+    let years = year_map(alloc, meta, world, changes)?;
+    Ok(years.into_values().collect(alloc)?)
+}

@@ -1,0 +1,183 @@
+//! An update that is built by its years: the years in which something is left, a slot for the part of each, and the tables
+//! of the parts.
+ghost use Rattle.std.specs.Prelude.{◌≡◌, ◌<◌, ◌≤◌, true, length, map, get_or, set, IsTrue, IfOk, IfSome};
+ghost use Rattle.std.specs.List.{AllByRecursion, list_all};
+ghost use Rattle.std.specs.Arc.{arc_value};
+ghost use Rattle.record_index.specs.Facts.{facts_in};
+ghost use Rattle.record_index.specs.World.{facts};
+ghost use Rattle.table_rows.specs.Store.{Listed, contents_in, have_own_places};
+ghost use Rattle.year_tables.specs.Parts.{part_of, together, years_in};
+ghost use Rattle.table_build.specs.declared.slots.Slot.{Slot as YearSlot};
+ghost use Rattle.table_build.specs.Log.{writes_of, is_of_days};
+ghost use Rattle.table_build.specs.Listed.{listed_in};
+ghost use Rattle.table_build.specs.Slots.{no_part, slot_years, IsSlotOf, AreSlots};
+ghost use Rattle.dh_base.specs.declared.limits.TheConstants.{MOST_RECORDS};
+
+use crate::by_year::build_part;
+use crate::left::years_named;
+use dh_base::items::Items;
+use dh_base::memory::Memory;
+use dh_changes::change::Change;
+use dh_metadata::metadata::Metadata;
+use dh_records::access::tree_of;
+use record_index::world::World;
+use std::alloc::Global;
+use std::sync::Arc;
+use year_tables::{Partition, Tables};
+
+/// A year, with its part if that was made beforehand.
+#[derive(Drop)]
+pub struct Slot {
+    pub year: i32,
+    pub part: Option<Partition>,
+}
+
+/// The years in which changes leave something, ascending, and a slot for each.
+#[derive(Drop)]
+pub struct Plan {
+    pub years: Items<i32>,
+    pub slots: Vec<Slot>,
+}
+
+// The years in which the changes leave a row, a registration or an event, of what the world holds after them.
+fn years_left(
+    alloc: Global,
+    meta: &Metadata,
+    world: &World,
+    changes: &[Arc<Change>],
+) -> Result<Vec<i32>, Memory>
+    requires { facts world.now ≡ facts_in (writes_of (map arc_value changes.now)) }
+    ensures years { IfOk result (λ years. years.items ≡ (listed_in meta.now (writes_of (map arc_value changes.now))).years) }
+    ensures own { IfOk result (λ years. have_own_places (listed_in meta.now (writes_of (map arc_value changes.now))).rows ≡ true) }
+{
+    // since the units are a tree, of a group no two rows have one place
+    let _units = tree_of(world, meta).count();
+    let years = years_named(alloc, meta, world, changes)?;
+    Ok(years)
+}
+
+fn slots_for(alloc: Global, years: &[i32]) -> Result<Vec<Slot>, Memory>
+    ensures { IfOk result (λ slots. slots.items ≡ map no_part years.now) }
+{
+    let mut slots = Vec::new(alloc);
+    for year in years {
+        slots.push(Slot {
+            year: *year,
+            part: None,
+        })?;
+    }
+    Ok(slots)
+}
+
+/// The years in which the changes leave something, of what the world holds after them, and a slot without a part for
+/// each.
+pub fn plan_of(
+    alloc: Global,
+    meta: &Metadata,
+    world: &World,
+    changes: &[Arc<Change>],
+) -> Result<Plan, Memory>
+    requires { facts world.now ≡ facts_in (writes_of (map arc_value changes.now)) }
+    ensures years { IfOk result (λ plan. plan.years ≡ (listed_in meta.now (writes_of (map arc_value changes.now))).years) }
+    ensures slots { IfOk result (λ plan. AreSlots (listed_in meta.now (writes_of (map arc_value changes.now))) plan.slots.items) }
+{
+    let years = years_left(alloc, meta, world, changes)?;
+    let slots = slots_for(alloc, &years)?;
+    let years = Items::from(years);
+    Ok(Plan { years, slots })
+}
+
+// Where the slot of a year stands.
+fn place_of(slots: &[Slot], year: i32) -> Option<usize>
+    ensures within { IfSome result (λ at. at < length slots.now) }
+    ensures found { IfSome result (λ at. (other : YearSlot) → (get_or slots.now at other).year ≡ year) }
+{
+    for at in 0..slots.len() {
+        if slots[at].year == year {
+            return Some(at);
+        }
+    }
+    None
+}
+
+fn fill(slots: &mut Vec<Slot>, at: usize, slot: Slot)
+    requires { at < length slots.old.items }
+    ensures { slots.new.items ≡ set slots.old.items at slot }
+{
+    slots[at] = slot;
+}
+
+/// Puts a part into the slot of its year, if there is one. It takes no memory.
+pub fn put_part(slots: &mut Vec<Slot>, part: Partition)
+    ensures { (listed : Listed) → part ≡ part_of (contents_in listed) part.year → AreSlots listed slots.old.items → AreSlots listed slots.new.items }
+{
+    let year = part.year();
+    match place_of(slots, year) {
+        Some(at) => fill(
+            slots,
+            at,
+            Slot {
+                year,
+                part: Some(part),
+            },
+        ),
+        None => drop(part),
+    }
+}
+
+// The part in a slot, or the part that is made of the changes.
+fn part_for(
+    alloc: Global,
+    meta: &Metadata,
+    changes: &[Arc<Change>],
+    slot: Slot,
+) -> Result<Partition, Memory>
+    requires few { length (writes_of (map arc_value changes.now)) ≤ MOST_RECORDS }
+    requires days { IsTrue (list_all is_of_days (writes_of (map arc_value changes.now))) }
+    requires slot { IsSlotOf (contents_in (listed_in meta.now (writes_of (map arc_value changes.now)))) slot }
+    ensures { IfOk result (λ part. part ≡ part_of (contents_in (listed_in meta.now (writes_of (map arc_value changes.now)))) slot.year) }
+{
+    let Slot { year, part } = slot;
+    match part {
+        Some(part) => Ok(part),
+        None => build_part(alloc, meta, year, changes),
+    }
+}
+
+// The parts of all slots.
+fn parts_for(
+    alloc: Global,
+    meta: &Metadata,
+    changes: &[Arc<Change>],
+    slots: Vec<Slot>,
+) -> Result<Vec<Partition>, Memory>
+    requires few { length (writes_of (map arc_value changes.now)) ≤ MOST_RECORDS }
+    requires days { IsTrue (list_all is_of_days (writes_of (map arc_value changes.now))) }
+    requires slots { AllByRecursion (IsSlotOf (contents_in (listed_in meta.now (writes_of (map arc_value changes.now))))) slots.items }
+    ensures { IfOk result (λ parts. parts.items ≡ map (part_of (contents_in (listed_in meta.now (writes_of (map arc_value changes.now))))) (slot_years slots.items)) }
+{
+    let mut parts = Vec::new(alloc);
+    for slot in slots {
+        parts.push(part_for(alloc, meta, changes, slot)?)?;
+    }
+    Ok(parts)
+}
+
+/// The tables that the changes leave, of the parts in these slots and of parts that are made for the others.
+pub fn build_with(
+    alloc: Global,
+    meta: &Metadata,
+    changes: &[Arc<Change>],
+    slots: Vec<Slot>,
+) -> Result<Tables, Memory>
+    requires few { length (writes_of (map arc_value changes.now)) ≤ MOST_RECORDS }
+    requires days { IsTrue (list_all is_of_days (writes_of (map arc_value changes.now))) }
+    requires slots { AreSlots (listed_in meta.now (writes_of (map arc_value changes.now))) slots.items }
+    ensures contents { IfOk result (λ tables. together tables.parts ≡ contents_in (listed_in meta.now (writes_of (map arc_value changes.now)))) }
+    ensures years { IfOk result (λ tables. years_in tables.parts ≡ (listed_in meta.now (writes_of (map arc_value changes.now))).years) }
+    ensures base_cut { IfOk result (λ tables. tables.base_cut ≡ length changes.now) }
+{
+    let parts = parts_for(alloc, meta, changes, slots)?;
+    let tables = Tables::of(alloc, parts, changes.len() as u64)?;
+    Ok(tables)
+}
