@@ -25,7 +25,7 @@ use Rattle.meta_parts.specs.declared.parts.MetaParts.{MetaParts}
 use Rattle.json_read.specs.Forms.{Formed}
 use Rattle.json_read.specs.Given.{Gives}
 use Rattle.json_read.specs.declared.fault.FormFault.{FormFault}
-use Rattle.value_forms.specs.declared.set.SetValue.{SetValue}
+use Rattle.import_forms.specs.declared.set.SetValue.{SetValue}
 use Rattle.bundle_reply.specs.declared.reply.Reply.{Reply}
 
 lt-test : (m n : ℕ) → m < n → nat_lt m n ≡ true

@@ -16,7 +16,7 @@ use Rattle.query_answer.proofs.UnseenLemmas.{answer_of-same}
 use Rattle.engine.proofs.AfterLemmas.{same_after}
 use Rattle.engine.specs.MetaAfter.{meta_after}
 use Rattle.cell_values.specs.Seen.{SameSeen}
-use Rattle.value_forms.specs.declared.set.SetValue.{SetValue}
+use Rattle.import_forms.specs.declared.set.SetValue.{SetValue}
 use Rattle.bundle_reply.specs.Reply.{answer_reply}
 use Rattle.bundle_reply.specs.Load.{log_of}
 use Rattle.bundle_reply.specs.Answer.{seen_after, reply_to_query, reply_by_status, reply_by_load, reply_to_load, user_named, reply_by_user}

@@ -12,7 +12,7 @@ use Rattle.meta_reader.specs.Line.{line_of}
 use Rattle.meta_reader.specs.declared.fault.MetaFault.TheVariants.{Shape}
 use Rattle.dh_periods.specs.Moment.{day_of}
 use Rattle.wire_replies.specs.Bodies.{error_text}
-use Rattle.value_forms.specs.declared.set.SetValue.{SetValue}
+use Rattle.import_forms.specs.declared.set.SetValue.{SetValue}
 use Rattle.query_forms.specs.declared.plain.Query.{Query}
 use Rattle.query_lang.specs.Query.{query_of}
 use Rattle.query_lang.specs.declared.query.TheConstants.{MOST_CELLS}

@@ -7,8 +7,8 @@ use Rattle.meta_parts.specs.declared.held.Records.{Records}
 use Rattle.meta_reader.specs.Line.{line_of}
 use Rattle.meta_reader.specs.Read.{metadata_of_bytes}
 use Rattle.meta_reader.specs.declared.fault.MetaFault.{MetaFault}
-use Rattle.value_forms.specs.Sets.{values_at}
-use Rattle.value_forms.specs.declared.set.SetValue.{SetValue}
+use Rattle.import_forms.specs.Sets.{values_at}
+use Rattle.import_forms.specs.declared.set.SetValue.{SetValue}
 use Rattle.bundle_reply.specs.Reply.{meta_refused}
 use Rattle.bundle_reply.specs.Answer.{reply_with_values}
 use Rattle.bundle_reply.specs.declared.reply.Reply.{Reply}

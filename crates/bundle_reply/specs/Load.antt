@@ -4,8 +4,8 @@ use Rattle.dh_base.specs.declared.codes.Refusal.{Refusal}
 use Rattle.dh_changes.specs.declared.change.Change.{Change}
 use Rattle.meta_parts.specs.declared.held.Records.{Records}
 use Rattle.record_index.specs.declared.outcome.ImportStrategy.TheVariants.{CreateAndUpdate}
-use Rattle.value_forms.specs.declared.set.SetValue.{SetValue}
-use Rattle.value_forms.specs.declared.set.ValueSet.{ValueSet}
+use Rattle.import_forms.specs.declared.set.SetValue.{SetValue}
+use Rattle.import_forms.specs.declared.set.ValueSet.{ValueSet}
 use Rattle.change_requests.specs.Requests.{Asked}
 use Rattle.change_requests.specs.declared.request.ChangeRequest.TheVariants.{Values}
 use Rattle.engine.specs.declared.machine.Report.{Report}

@@ -1,7 +1,5 @@
 -- What a query over a bundle comes to: how it ends, and the text that is told.
 use Rattle.std.specs.Prelude.{◌≡◌, ℕ, List, [], ◌∷◌, ◌++◌, Option, Some, None, Result, Ok, Err, codes}
-use Rattle.serde_json.specs.Data.{Data}
-use Rattle.serde_json.specs.Written.{compact_text}
 use Rattle.dh_base.specs.declared.codes.Code.{Code}
 use Rattle.dh_base.specs.declared.codes.Code.TheVariants.{F18}
 use Rattle.dh_base.specs.declared.codes.Refusal.{Refusal}
@@ -31,8 +29,8 @@ abbrev pub refusal : Code → List ℕ → Refusal
 refusal code detail = record { code = code; detail = detail }
 
 -- the body of an answer, or the item that is too wide
-unfoldable pub answer_reply : Result Data (List ℕ) → Reply
-answer_reply (Ok json) = answered (compact_text json)
+unfoldable pub answer_reply : Result (List ℕ) (List ℕ) → Reply
+answer_reply (Ok body) = answered body
 answer_reply (Err id) = query_refused (refusal F18 id)
 
 -- the reply to this refusal; there is none without one

@@ -10,7 +10,7 @@ use Rattle.meta_parts.specs.declared.parts.MetaParts.{MetaParts}
 use Rattle.meta_reader.specs.Faults.{metadata_of}
 use Rattle.meta_reader.specs.Line.{line_of}
 use Rattle.meta_reader.specs.declared.fault.MetaFault.TheVariants.{NotJson, Shape}
-use Rattle.value_forms.specs.declared.set.SetValue.{SetValue}
+use Rattle.import_forms.specs.declared.set.SetValue.{SetValue}
 use Rattle.bundle_reply.specs.Bytes.{Asked, values_of, reply_over}
 use Rattle.bundle_reply.specs.Reply.{meta_refused}
 use Rattle.bundle_reply.specs.declared.reply.Reply.{Reply}

@@ -6,7 +6,7 @@ use Rattle.meta_parts.specs.declared.held.Records.{Records}
 use Rattle.meta_reader.specs.Read.{metadata_of_bytes}
 use Rattle.engine.specs.declared.machine.Report.{Report}
 use Rattle.cell_values.specs.Seen.{SeenRecords, SameSeen}
-use Rattle.value_forms.specs.declared.set.SetValue.{SetValue}
+use Rattle.import_forms.specs.declared.set.SetValue.{SetValue}
 use Rattle.bundle_reply.specs.Load.{loaded, log_of}
 use Rattle.bundle_reply.specs.Answer.{seen_after, user_named, reply_with_values}
 use Rattle.bundle_reply.specs.Bytes.{Asked, values_in}

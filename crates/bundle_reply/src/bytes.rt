@@ -13,6 +13,7 @@ use crate::reply::{Reply, meta_refused};
 use dh_base::items::Items;
 use dh_base::limits::MOST_INPUT_BYTES;
 use dh_base::memory::Memory;
+use import_forms::set::{SetValue, read_values};
 use json::{Scratch, Value};
 use json_read::fault::FormFault;
 use json_read::read::read;
@@ -20,7 +21,6 @@ use meta_forms::parts::read_parts;
 use meta_parts::parts::MetaParts;
 use meta_reader::fault::{MetaFault, Which};
 use std::alloc::Global;
-use value_forms::set::{SetValue, read_values};
 
 /// The most bytes of a bundle.
 pub const MOST_BYTES: usize = MOST_INPUT_BYTES;

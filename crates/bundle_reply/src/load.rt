@@ -6,8 +6,8 @@ ghost use Rattle.bundle_reply.specs.Load.{set_of};
 
 use change_requests::ChangeRequest;
 use dh_base::items::Items;
+use import_forms::set::{SetParams, SetValue, ValueSet};
 use record_index::outcome::ImportStrategy;
-use value_forms::set::{SetParams, SetValue, ValueSet};
 
 #[tactic(auto, unfolding(crate::specs::Load::set_of))]
 fn set_of(values: Items<SetValue>) -> ValueSet

@@ -14,7 +14,7 @@ ghost use Rattle.query_lang.specs.Query.{query_of};
 ghost use Rattle.query_lang.specs.declared.query.TheConstants.{MOST_CELLS};
 ghost use Rattle.table_rows.specs.Store.{contents_in};
 ghost use Rattle.cell_values.specs.Seen.{seen_of};
-ghost use Rattle.value_forms.specs.declared.set.SetValue.{SetValue as Given};
+ghost use Rattle.import_forms.specs.declared.set.SetValue.{SetValue as Given};
 ghost use Rattle.bundle_reply.specs.Load.{asked_for};
 ghost use Rattle.bundle_reply.specs.Reply.{answer_reply, Refuses};
 ghost use Rattle.bundle_reply.specs.Answer.{seen_after, reply_to_query, reply_by_status, reply_to_load, user_named, reply_by_user, reply_with_values};
@@ -32,6 +32,7 @@ use dh_base::uid::Uid;
 use dh_metadata::metadata::Metadata;
 use dh_periods::day_of;
 use engine::{Engine, Report, Tables, Unkept, engine_in_memory, load, tables_of_all};
+use import_forms::set::SetValue;
 use json_read::fault::FormFault;
 use meta_parts::kind::Kind;
 use meta_reader::build::build as metadata;
@@ -40,7 +41,6 @@ use query_answer::{AnswerFault, answer};
 use query_forms::{Query, QueryFault};
 use query_lang::{MOST_CELLS, read_query};
 use std::alloc::Global;
-use value_forms::set::SetValue;
 use wire_replies::error_body;
 
 // The answer to a query over tables.
@@ -58,7 +58,7 @@ fn over_tables(
 {
     let seer = Seer::of(alloc, meta, user)?;
     match answer(alloc, meta, tables, &seer, query) {
-        Ok(body) => answered(body),
+        Ok(body) => answered(body.items),
         Err(AnswerFault::Wide { id }) => query_refused(alloc, &refusal(Code::F18, id)),
         Err(AnswerFault::Memory) => Err(Memory),
     }

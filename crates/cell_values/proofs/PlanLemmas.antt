@@ -172,7 +172,8 @@ module _ (r : Records) (shown : SeenRecords) (periods : List PeriodName) (units 
   pub item-other : (asked : Item) → operand_of r asked ≡ None → rate_asked_of r asked ≡ None
       → item_value_of r shown asked periods units alone ≡ other_value_of r asked periods units alone
   unfolding item_value_of
-  item-other (item.Element element combo attribute) is no_rate = parts-none (find_of r kind.DataElement element) (named_combo r combo) (named_combo r attribute) is
+  item-other (item.Element element combo attribute) is no_rate = parts-none (find_of r kind.DataElement element) (named_combo r combo)
+      (named_combo r attribute) is
   item-other (item.Constant id) is no_rate = refl
   item-other (item.Group id) is no_rate = refl
   item-other item.Days is no_rate = refl

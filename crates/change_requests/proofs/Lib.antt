@@ -1,3 +1,4 @@
 pub mod StatusLemmas
 pub mod SummaryLemmas
 pub mod ApprovalLemmas
+mod ReportLemmas

@@ -11,7 +11,7 @@ use Rattle.record_index.specs.declared.outcome.Who.TheVariants as who
 use Rattle.record_index.specs.Facts.{Facts, facts_in}
 use Rattle.change_requests.specs.Summary.{is_clean}
 use Rattle.tracker_import.specs.Verdicts as tracker
-use Rattle.tracker_report.specs.Report as report
+use Rattle.change_requests.specs.Report as report
 use Rattle.value_import.specs.Verdicts.{verdict_of, completions_verdict_of}
 use Rattle.change_requests.specs.Requests.{Asked, import_report, bundle_report, approval_report, by_decision, judged, judged_by, is_report_status}
 use Rattle.change_requests.specs.declared.request.ChangeRequest.{ChangeRequest}

@@ -1,5 +1,5 @@
 -- What a request to change comes to: the writes and the report's body and status, or a refusal.
-use Rattle.std.specs.Prelude.{◌≡◌, ◌||◌, ⊤, ℕ, ℤ, Bool, nat_eq, List, [], ◌∷◌, codes, slice_get, Option, None, Some, option_map, Result, Ok, Err}
+use Rattle.std.specs.Prelude.{◌≡◌, ◌||◌, ℕ, ℤ, Bool, nat_eq, List, [], ◌∷◌, codes, slice_get, Option, None, Some, option_map, Result, Ok, Err}
 use Rattle.dh_approvals.specs.Decisions.{decided}
 use Rattle.dh_approvals.specs.declared.act.ApprovalAct.{ApprovalAct}
 use Rattle.dh_approvals.specs.declared.act.ApprovalFault.{ApprovalFault}
@@ -14,7 +14,7 @@ use Rattle.record_index.specs.declared.outcome.Who.TheVariants as who
 use Rattle.record_index.specs.declared.outcome.Verdict.{Verdict}
 use Rattle.record_index.specs.Facts.{Facts, facts_in}
 use Rattle.tracker_import.specs.Verdicts as tracker
-use Rattle.tracker_report.specs.Report.{report_text, report_status_of}
+use Rattle.change_requests.specs.Report.{report_text, report_status_of}
 use Rattle.value_import.specs.Verdicts.{verdict_of, completions_verdict_of}
 use Rattle.change_requests.specs.Summary.{summary_text, summary_status_of}
 use Rattle.change_requests.specs.declared.request.ChangeRequest.{ChangeRequest}
@@ -82,11 +82,6 @@ judged meta writes asked = judged_by (facts_in writes) meta asked.who asked.mome
 abbrev pub cause_of : JudgeFault → Option Refusal
 cause_of (fault.Refused refused) = Some refused
 cause_of fault.Memory = None
-
--- the fault is this refusal, or memory ran out
-abbrev pub IsRefusal : Refusal → JudgeFault → Type 0
-IsRefusal meant (fault.Refused refused) = refused ≡ meant
-IsRefusal meant fault.Memory = ⊤
 
 -- a report's status
 abbrev pub is_report_status : ℕ → Bool

@@ -1,12 +1,12 @@
 //! What an act on an approval comes to.
-ghost use Rattle.std.specs.Prelude.{◌≡◌, ◌<◌, length, IfOk};
+ghost use Rattle.std.specs.Prelude.{◌≡◌, ◌<◌, length, IfOk, Some};
 ghost use Rattle.std.specs.List.{All};
 ghost use Rattle.change_bytes.specs.Forms.{WriteFits};
-ghost use Rattle.dh_base.specs.Memory.{Answers};
+ghost use Rattle.dh_base.specs.Memory.{Answers, IsFirst};
 ghost use Rattle.dh_approvals.specs.Decisions.{decided};
 ghost use Rattle.record_index.specs.World.{facts};
 ghost use Rattle.value_import.specs.Outcomes.{IsKnown};
-ghost use Rattle.change_requests.specs.Requests.{approval_body, approval_report, refusal_of, approval_by, cause_of, IsRefusal};
+ghost use Rattle.change_requests.specs.Requests.{approval_body, approval_report, refusal_of, approval_by, cause_of};
 
 use crate::request::{JudgeFault, Judged};
 use dh_approvals::{ApprovalAct, ApprovalFault, decide};
@@ -45,7 +45,7 @@ fn report(alloc: Global, write: Write) -> Result<Judged, Memory>
 }
 
 fn refused(alloc: Global, code: Code, detail: &[u8]) -> JudgeFault
-    ensures { IsRefusal (record { code = code; detail = detail.now }) result }
+    ensures { IsFirst (Some (record { code = code; detail = detail.now })) (cause_of result) }
 {
     match Vec::from_slice(alloc, detail) {
         Ok(detail) => JudgeFault::Refused(Refusal {
@@ -58,7 +58,7 @@ fn refused(alloc: Global, code: Code, detail: &[u8]) -> JudgeFault
 
 // How a refused act is reported.
 fn refusal_of(alloc: Global, fault: ApprovalFault) -> JudgeFault
-    ensures { IsRefusal (refusal_of fault) result }
+    ensures { IsFirst (Some (refusal_of fault)) (cause_of result) }
 {
     match fault {
         ApprovalFault::NoRight => refused(alloc, Code::F40, b""),

@@ -4,20 +4,20 @@ ghost use Rattle.std.specs.List.{All};
 ghost use Rattle.change_bytes.specs.Forms.{WriteFits};
 ghost use Rattle.record_index.specs.World.{facts};
 ghost use Rattle.tracker_import.specs.Verdicts.{verdict_of};
-ghost use Rattle.tracker_report.specs.Report.{total_of};
+ghost use Rattle.tracker_import.specs.Outcomes.{total_of};
 ghost use Rattle.value_import.specs.Outcomes.{IsKnown};
 ghost use Rattle.change_requests.specs.Requests.{bundle_report};
 
+use crate::report::{report_body, report_status};
 use crate::request::Judged;
 use dh_base::items::Items;
 use dh_base::memory::Memory;
 use dh_metadata::metadata::Metadata;
+use import_forms::bundle::Bundle;
 use record_index::outcome::{Verdict, Who};
 use record_index::world::World;
 use std::alloc::Global;
-use tracker_forms::bundle::Bundle;
 use tracker_import::verdict::verdict;
-use tracker_report::{report_body, report_status};
 
 fn bundle_report(alloc: Global, verdict: Verdict) -> Result<Judged, Memory>
     requires total { total_of verdict < 2 ^ 64 }

@@ -7,6 +7,7 @@ mod bundle;
 mod kinds;
 mod laws;
 mod maker;
+mod report;
 pub mod request;
 mod summary;
 

@@ -6,9 +6,9 @@ use dh_base::codes::Refusal;
 use dh_base::items::Items;
 use dh_base::memory::Memory;
 use dh_changes::change::Write;
-use tracker_forms::bundle::Bundle;
-use value_forms::completion::Completion;
-use value_forms::set::ValueSet;
+use import_forms::bundle::Bundle;
+use import_forms::completion::Completion;
+use import_forms::set::ValueSet;
 
 /// What may be asked to be changed.
 #[derive(Drop)]

@@ -105,3 +105,4 @@ session_answers shows name shown (status.Done outcome) came =
 session_answers shows name shown status.ReadFault came = tt
 session_answers shows name shown status.WriteFault came = tt
 session_answers shows name shown status.Memory came = tt
+session_answers shows name shown status.ListenFault came = tt

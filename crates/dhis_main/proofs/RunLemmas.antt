@@ -40,6 +40,7 @@ delivered Is (Ok reply) output (status.Done outcome) is sent = (reply, is, sent.
 delivered Is (Ok reply) output status.ReadFault is sent = absurd sent
 delivered Is (Ok reply) output status.WriteFault is sent = (sent.0, (reply, is, sent.1))
 delivered Is (Ok reply) output status.Memory is sent = absurd sent
+delivered Is (Ok reply) output status.ListenFault is sent = absurd sent
 delivered Is (Err wanting) output result is sent = subst (ReplyRuns Is output) (sym sent.0) sent.1
 
 -- the whole of what was told, where it was read to its end
@@ -103,6 +104,7 @@ reply-answers Is Over shown (status.Done outcome) over run =
 reply-answers Is Over shown status.ReadFault over run = tt
 reply-answers Is Over shown status.WriteFault over run = tt
 reply-answers Is Over shown status.Memory over run = tt
+reply-answers Is Over shown status.ListenFault over run = tt
 
 unread-answers : (Is : Reply → Type 0) (shown : Shown) (result : Status) → UnreadRuns Is shown result → ReplyAnswers (λ bytes. Is) shown result
 unread-answers Is shown result run = reply-answers Is (λ bytes. Is) shown result (fixed shown.input.before Is) run.1
@@ -115,6 +117,7 @@ query-answers user query shows shown (status.Done outcome) run =
 query-answers user query shows shown status.ReadFault run = tt
 query-answers user query shows shown status.WriteFault run = tt
 query-answers user query shows shown status.Memory run = tt
+query-answers user query shows shown status.ListenFault run = tt
 
 answers-as : (c : Command) (words : List (List ℕ)) (shows : ℤ → Type 0) (shown : Shown) (result : Status) → RunsAs c words shows shown result
     → AnswersAs c words shows shown result
@@ -124,6 +127,7 @@ answers-as command.Query words shows shown result run = query-answers (word_at w
 answers-as command.Session words shows shown result run = session_answers shows (word_at words 1) shown result run
 answers-as (command.Generate count) words shows shown result run = unread-answers (IsReportNow count shows) shown result run
 answers-as (command.Bad place) words shows shown result run = unread-answers (λ reply. reply ≡ usage_reply place) shown result run
+answers-as (command.Serve workers connections) words shows shown result run = absurd run
 
 -- a done run over told bytes has the outcome and the text of the reply to the words over them
 pub answers_told : (words : List (List ℕ)) (shows : ℤ → Type 0) (shown : Shown) (result : Status) → Runs words shows shown result
@@ -140,6 +144,7 @@ reply-usage Is bad c output (status.Done outcome) is says run = ap is_usage run.
 reply-usage Is bad c output status.ReadFault is says run = absurd run
 reply-usage Is bad c output status.WriteFault is says run = tt
 reply-usage Is bad c output status.Memory is says run = tt
+reply-usage Is bad c output status.ListenFault is says run = absurd run
 
 ending-no-usage : (how : Ending) → is_usage (outcome_of how) ≡ false
 ending-no-usage ending.Ok = refl
@@ -160,6 +165,7 @@ usage-in (status.Done outcome) = is_usage outcome
 usage-in status.ReadFault = false
 usage-in status.WriteFault = false
 usage-in status.Memory = false
+usage-in status.ListenFault = false
 
 ended-no-usage : (how : Ended) → usage-in (status_of how) ≡ false
 ended-no-usage ended.Closed = refl
@@ -182,6 +188,7 @@ session-usage shows name shown (status.Done outcome) came = ap usage-in came.sta
 session-usage shows name shown status.ReadFault came = refl
 session-usage shows name shown status.WriteFault came = tt
 session-usage shows name shown status.Memory came = tt
+session-usage shows name shown status.ListenFault came = refl
 
 queried-usage : (user query : List ℕ) (shows : ℤ → Type 0) (shown : Shown) (result : Status) → QueryRuns user query shows shown result
     → RefusesWords command.Query result
@@ -191,6 +198,7 @@ queried-usage user query shows shown (status.Done outcome) run =
 queried-usage user query shows shown status.ReadFault run = refl
 queried-usage user query shows shown status.WriteFault run = tt
 queried-usage user query shows shown status.Memory run = tt
+queried-usage user query shows shown status.ListenFault run = refl
 
 help-usage : (reply : Reply) → reply ≡ help_reply → is_usage reply.outcome ≡ false
 unfolding help_reply
@@ -215,6 +223,7 @@ refuses-as (command.Generate count) words shows shown result run =
     reply-usage (IsReportNow count shows) false (command.Generate count) shown.output result refl (report-usage count shows) run.1
 refuses-as (command.Bad place) words shows shown result run =
     reply-usage (λ reply. reply ≡ usage_reply place) true (command.Bad place) shown.output result refl (bad-usage place) run.1
+refuses-as (command.Serve workers connections) words shows shown result run = absurd run
 
 -- the outcome is a refusal of the words exactly where these are not in the grammar
 pub refuses_words : (words : List (List ℕ)) (shows : ℤ → Type 0) (shown : Shown) (result : Status) → Runs words shows shown result

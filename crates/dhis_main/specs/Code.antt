@@ -12,6 +12,7 @@ code_of (status.Done outcome.QueryRefused) = 4
 code_of status.ReadFault = 5
 code_of status.WriteFault = 6
 code_of status.Memory = 7
+code_of status.ListenFault = 10
 code_of (status.Done outcome.DataRefused) = 11
 code_of (status.Done outcome.RequestLimit) = 12
 code_of (status.Done outcome.Truncated) = 13

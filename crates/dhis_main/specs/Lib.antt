@@ -3,4 +3,5 @@ pub mod Words
 pub mod Shown
 pub mod Outcome
 pub mod Session
+pub mod Serve
 pub mod Run

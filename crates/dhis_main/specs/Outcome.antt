@@ -30,6 +30,7 @@ unfoldable pub usage_lines : List ℕ
 usage_lines =
     line (codes "usage: dhis query USER QUERY < BUNDLE")
     ++ line (codes "       dhis session META < REQUESTS")
+    ++ line (codes "       dhis serve META ADDR WORKERS CONNECTIONS")
     ++ line (codes "       dhis generate N")
     ++ line (codes "       dhis --help")
     ++ line (codes "       dhis --version")
@@ -39,6 +40,8 @@ unfoldable pub command_lines : List ℕ
 command_lines =
     line (codes "query reads a bundle of metadata and values, and writes the analytics body of QUERY for USER.")
     ++ line (codes "session reads the metadata file META, answers the HTTP requests of its input, and writes the replies.")
+    ++ line (codes "serve listens at ADDR, as 127.0.0.1:8080, and answers the requests of CONNECTIONS connections, from 1 to 1000000,")
+    ++ line (codes "by WORKERS threads, from 1 to 16, over the metadata file META. Then it writes how many it served.")
     ++ line (codes "generate brings N values of its own, from 1 to 200000, and writes what they come to.")
 
 -- what the other words do
@@ -81,7 +84,7 @@ IsReport count moment reply = (text : List ℕ) × IsGenerated count moment text
 abbrev pub IsReportNow : ℕ → (ℤ → Type 0) → Reply → Type 0
 IsReportNow count shows reply = (moment : ℤ) × shows moment × IsReport count moment reply
 
--- ---- all commands but sessions, which have no text of their own
+-- ---- all commands but sessions and servers, which have no text of their own
 
 -- the reply to a command over the bytes of the input, which only a query reads
 abbrev pub IsCommandReply : Command → List (List ℕ) → (ℤ → Type 0) → List ℕ → Reply → Type 0
@@ -91,3 +94,4 @@ IsCommandReply command.Query words shows bytes reply = IsQueryReplyNow (word_at 
 IsCommandReply command.Session words shows bytes reply = ⊥
 IsCommandReply (command.Generate count) words shows bytes reply = IsReportNow count shows reply
 IsCommandReply (command.Bad place) words shows bytes reply = reply ≡ usage_reply place
+IsCommandReply (command.Serve workers connections) words shows bytes reply = ⊥

@@ -53,6 +53,7 @@ SessionRuns shows name shown status.ReadFault =
 SessionRuns shows name shown status.WriteFault =
     Rose shown.output.faults shown.output.faults_after × Came shows name shown status.WriteFault
 SessionRuns shows name shown status.Memory = IsIdle shown ⊎ Came shows name shown status.Memory
+SessionRuns shows name shown status.ListenFault = ⊥
 
 -- over a file and an input that are told whole, a run that is done is the session over them; and it wrote the one text of both at the
 -- moments of its requests, or what goes along it up to a reply which says that memory ran out
@@ -63,3 +64,4 @@ SessionAnswers shows name shown (status.Done outcome) = IfSome (shown.files.file
 SessionAnswers shows name shown status.ReadFault = ⊤
 SessionAnswers shows name shown status.WriteFault = ⊤
 SessionAnswers shows name shown status.Memory = ⊤
+SessionAnswers shows name shown status.ListenFault = ⊤

@@ -1,22 +1,28 @@
 //! The program. `dhis query USER QUERY` reads a bundle of metadata and values from standard input and
 //! writes the analytics body of the query. `dhis session META` answers the HTTP requests of standard input
-//! over a metadata file. `dhis generate N` brings values of its own and writes what they come to.
+//! over a metadata file, and `dhis serve META ADDR WORKERS CONNECTIONS` those of the connections that come to an address.
+//! `dhis generate N` brings values of its own and writes what they come to.
 #![tactic(auto)]
 
 mod reply;
 mod run;
+mod serve;
 mod session;
 mod status;
 mod words;
 
-use crate::run::{refuse_word, run_offline};
+use crate::run::{Network, refuse_word, run};
 use crate::status::Status;
+use build_workers::OpenGate;
 use dh_outside::{RealFiles, StdIn, StdOut, SystemClock};
+use net_doors::TcpDoor;
 use std::alloc::{AllocError, Global};
 use std::env::FillError;
 use std::io;
 use std::process::ExitCode;
 use std::rt::Env;
+use std::sync::Wait;
+use std::thread::Threads;
 
 // The most bytes of one word of the command line: the system allows no more.
 const LONGEST_WORD: usize = 131_072;
@@ -91,19 +97,49 @@ fn texts_of(alloc: Global, words: &[String]) -> Result<Vec<&str>, AllocError> {
     Ok(texts)
 }
 
-// Carries out the words over the standard input and output, with two handles for the files and the clock.
-fn run_with(
-    rt: &HostRuntime,
-    alloc: Global,
-    words: &[&str],
+// Handles for the files, the clock and the network.
+struct Handles {
     files: HostRuntime,
     clock: HostRuntime,
+    net: HostRuntime,
+}
+
+fn make_handles(rt: &HostRuntime) -> Result<Handles, AllocError> {
+    Ok(Handles {
+        files: rt.clone()?,
+        clock: rt.clone()?,
+        net: rt.clone()?,
+    })
+}
+
+// Carries out the words over the standard input and output, the files, the clock and the network.
+fn run_with<R: Threads + Wait + Sync>(
+    rt: &HostRuntime,
+    threads: &R,
+    alloc: Global,
+    words: &[&str],
+    handles: Handles,
 ) -> Status {
+    let Handles { files, clock, net } = handles;
     let mut input = StdIn::new(rt.reader());
     let mut output = StdOut::new(io::writer(rt));
     let mut files = RealFiles::new(files);
     let clock = SystemClock::new(clock);
-    run_offline(alloc, words, &mut input, &mut output, &mut files, &clock)
+    let network = Network {
+        rt: threads,
+        listener: TcpDoor::new(net),
+        gate: &OpenGate,
+    };
+    let ran = run(
+        network,
+        alloc,
+        words,
+        &mut input,
+        &mut output,
+        &mut files,
+        &clock,
+    );
+    ran.status
 }
 
 fn refuse(rt: &HostRuntime, alloc: Global, words: &[&str]) -> Status {
@@ -111,25 +147,28 @@ fn refuse(rt: &HostRuntime, alloc: Global, words: &[&str]) -> Status {
     refuse_word(alloc, words, &mut output)
 }
 
-fn run_text(rt: &HostRuntime, alloc: Global, words: &[&str]) -> Result<Status, AllocError> {
-    let files = rt.clone()?;
-    let clock = rt.clone()?;
-    Ok(run_with(rt, alloc, words, files, clock))
+fn run_text<R: Threads + Wait + Sync>(
+    rt: &HostRuntime,
+    threads: &R,
+    alloc: Global,
+    words: &[&str],
+) -> Result<Status, AllocError> {
+    Ok(run_with(rt, threads, alloc, words, make_handles(rt)?))
 }
 
-fn start(rt: &HostRuntime) -> Result<Status, AllocError> {
+fn start<R: Threads + Wait + Sync>(rt: &HostRuntime, threads: &R) -> Result<Status, AllocError> {
     let alloc = rt.alloc();
     let line = command_line(rt, alloc)?;
     let words = texts_of(alloc, &line.words)?;
     if line.is_text {
-        run_text(rt, alloc, &words)
+        run_text(rt, threads, alloc, &words)
     } else {
         Ok(refuse(rt, alloc, &words))
     }
 }
 
 fn main(rt: HostRuntime) -> ExitCode {
-    match start(&rt) {
+    match start(&rt, &rt) {
         Ok(status) => ExitCode::from(status.code()),
         Err(_) => ExitCode::from(Status::Memory.code()),
     }

@@ -114,11 +114,14 @@ pub fn version_reply(alloc: Global) -> Result<Reply, Memory>
 // How each command is written, what it does, and what the other words do.
 const HELP: &str = "usage: dhis query USER QUERY < BUNDLE
        dhis session META < REQUESTS
+       dhis serve META ADDR WORKERS CONNECTIONS
        dhis generate N
        dhis --help
        dhis --version
 query reads a bundle of metadata and values, and writes the analytics body of QUERY for USER.
 session reads the metadata file META, answers the HTTP requests of its input, and writes the replies.
+serve listens at ADDR, as 127.0.0.1:8080, and answers the requests of CONNECTIONS connections, from 1 to 1000000,
+by WORKERS threads, from 1 to 16, over the metadata file META. Then it writes how many it served.
 generate brings N values of its own, from 1 to 200000, and writes what they come to.
 --help writes this text.
 --version writes the version.

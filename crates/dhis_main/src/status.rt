@@ -33,6 +33,8 @@ pub enum Status {
     WriteFault,
     /// Memory ran out.
     Memory,
+    /// To listen or to accept a connection failed.
+    ListenFault,
 }
 
 impl Status {
@@ -48,6 +50,7 @@ impl Status {
             Status::ReadFault => 5,
             Status::WriteFault => 6,
             Status::Memory => 7,
+            Status::ListenFault => 10,
             Status::Done(Outcome::DataRefused) => 11,
             Status::Done(Outcome::RequestLimit) => 12,
             Status::Done(Outcome::Truncated) => 13,

@@ -3,6 +3,7 @@ ghost use Rattle.std.specs.List.{list_all};
 ghost use Rattle.std.specs.Char.{is_ascii_digit};
 ghost use Rattle.std.specs.Str.Parse.{digits_value};
 ghost use Rattle.dhis_main.specs.Words.{fits_query, query_words, session_words, generate_words, counted, one_too_many, command_behind, command_of};
+ghost use Rattle.dhis_main.specs.Words.{serve_words, serving_of, after_workers, after_connections};
 ghost use Rattle.dhis_main.specs.Words.{begins_with_zero, is_plain_number, count_of, count_within, IsFit, is_word, flag_of};
 
 /// A command of the command line.
@@ -16,12 +17,21 @@ pub enum Command {
     Session,
     /// So many values are generated, from 1 to 200000.
     Generate(u32),
+    /// The second word is the name of the metadata file, the third the address. So many workers, from 1 to 16, serve so many
+    /// connections, from 1 to 1000000.
+    Serve { workers: u32, connections: u32 },
     /// The word at this place, from 1, doesn't fit, is missing or is one too many.
     Bad(usize),
 }
 
 // The most values that are generated.
 const MOST_VALUES: u32 = 200_000;
+
+// The most workers that serve connections.
+const MOST_WORKERS: u32 = 16;
+
+// The most connections that are served.
+const MOST_CONNECTIONS: u32 = 1_000_000;
 
 fn has_digits(word: &[u8]) -> bool
     ensures { result ≡ list_all is_ascii_digit word.now }
@@ -38,19 +48,19 @@ fn begins_with_zero(word: &[u8]) -> bool
     }
 }
 
-// 1 to 6 digits, the first of them not 0.
+// 1 to 7 digits, the first of them not 0.
 #[tactic(auto, unfolding(crate::specs::Words::is_plain_number))]
 fn is_plain_number(word: &[u8]) -> bool
     ensures value { result ≡ is_plain_number word.now }
     ensures digits { result ≡ true → list_all is_ascii_digit word.now ≡ true }
-    ensures short { result ≡ true → length word.now ≤ 6 }
+    ensures short { result ≡ true → length word.now ≤ 7 }
 {
-    0 < word.len() && (word.len() <= 6 && (has_digits(word) && !begins_with_zero(word)))
+    0 < word.len() && (word.len() <= 7 && (has_digits(word) && !begins_with_zero(word)))
 }
 
 fn digits_value(word: &[u8]) -> u32
     requires digits { list_all is_ascii_digit word.now ≡ true }
-    requires short { length word.now ≤ 6 }
+    requires short { length word.now ≤ 7 }
     ensures value { result ≡ digits_value 10 word.now }
     ensures bound { result < 10 ^ length word.now }
 {
@@ -61,25 +71,27 @@ fn digits_value(word: &[u8]) -> u32
     value
 }
 
-fn count_within(count: u32) -> Option<u32>
-    ensures value { result ≡ count_within count }
-    ensures few { IfSome result (λ n. n ≤ 200000) }
+fn count_within(most: u32, count: u32) -> Option<u32>
+    ensures value { result ≡ count_within most count }
+    ensures some { IfSome result (λ n. 0 < n) }
+    ensures few { IfSome result (λ n. n ≤ most) }
 {
-    if count <= MOST_VALUES {
+    if 0 < count && count <= most {
         Some(count)
     } else {
         None
     }
 }
 
-// A number of values, from 1 to the most.
+// A number from 1 to the most.
 #[tactic(auto, unfolding(crate::specs::Words::count_of))]
-fn count_of(word: &[u8]) -> Option<u32>
-    ensures value { result ≡ count_of word.now }
-    ensures few { IfSome result (λ n. n ≤ 200000) }
+fn count_of(most: u32, word: &[u8]) -> Option<u32>
+    ensures value { result ≡ count_of most word.now }
+    ensures some { IfSome result (λ n. 0 < n) }
+    ensures few { IfSome result (λ n. n ≤ most) }
 {
     if is_plain_number(word) {
-        count_within(digits_value(word))
+        count_within(most, digits_value(word))
     } else {
         None
     }
@@ -148,8 +160,56 @@ fn generate_words(words: &[&str]) -> Command
 {
     match words {
         [] => Command::Bad(2),
-        [count] => counted(count_of(count.as_bytes())),
-        [count, ..] => one_too_many(count_of(count.as_bytes())),
+        [count] => counted(count_of(MOST_VALUES, count.as_bytes())),
+        [count, ..] => one_too_many(count_of(MOST_VALUES, count.as_bytes())),
+    }
+}
+
+// The command for so many workers and a number of connections, if the word is one and no word follows.
+fn after_connections(workers: u32, connections: Option<u32>, rest: &[&str]) -> Command
+    requires some { 0 < workers }
+    ensures command { result ≡ after_connections workers connections (map (λ word. word.now) rest.now) }
+    ensures fits { IsFit result (length rest.now + 5) }
+{
+    match (connections, rest) {
+        (None, _) => Command::Bad(5),
+        (Some(connections), []) => Command::Serve {
+            workers,
+            connections,
+        },
+        (Some(_), [_, ..]) => Command::Bad(6),
+    }
+}
+
+fn after_workers(workers: Option<u32>, rest: &[&str]) -> Command
+    requires some { IfSome workers (λ n. 0 < n) }
+    ensures command { result ≡ after_workers workers (map (λ word. word.now) rest.now) }
+    ensures fits { IsFit result (length rest.now + 4) }
+{
+    let Some(workers) = workers else {
+        return Command::Bad(4);
+    };
+    match rest {
+        [] => Command::Bad(5),
+        [connections, rest @ ..] => after_connections(
+            workers,
+            count_of(MOST_CONNECTIONS, connections.as_bytes()),
+            rest,
+        ),
+    }
+}
+
+fn serve_words(words: &[&str]) -> Command
+    ensures command { result ≡ serve_words (map (λ word. word.now) words.now) }
+    ensures fits { IsFit result (length words.now + 1) }
+{
+    match words {
+        [] => Command::Bad(2),
+        [_] => Command::Bad(3),
+        [_, _] => Command::Bad(4),
+        [_, _, workers, rest @ ..] => {
+            after_workers(count_of(MOST_WORKERS, workers.as_bytes()), rest)
+        }
     }
 }
 
@@ -195,7 +255,28 @@ fn beyond(first: &str, rest: &[&str]) -> Command
         session_words(rest)
     } else if is_word(first, "generate") {
         generate_words(rest)
+    } else if is_word(first, "serve") {
+        serve_words(rest)
     } else {
         flag(first, rest)
+    }
+}
+
+/// How many workers and connections a server is asked for, if one is.
+pub fn serving(words: &[&str]) -> Option<(u32, u32)>
+    ensures value { result ≡ serving_of (command_of (map (λ word. word.now) words.now)) }
+    ensures fits { IfSome result (λ numbers. (length words.now ≡ 5) × (0 < numbers.0)) }
+{
+    match read_words(words) {
+        Command::Serve {
+            workers,
+            connections,
+        } => Some((workers, connections)),
+        Command::Help => None,
+        Command::Version => None,
+        Command::Query => None,
+        Command::Session => None,
+        Command::Generate(_) => None,
+        Command::Bad(_) => None,
     }
 }

@@ -15,4 +15,5 @@ pub use laws::{
     histories_are_in_order, published_never_falls, published_was_swapped, tickets_tell_updates,
 };
 pub use machine::{ChangeFault, Cut, CutFault, LookFault, Report, Staged, Standing, View};
-pub use tables::{Tables, build_year};
+pub use table_build::reading::Reading;
+pub use tables::{Tables, build_year, read_changes};

@@ -20,7 +20,8 @@ use dh_metadata::metadata::Metadata;
 use std::alloc::Global;
 use std::marker::Model;
 use std::sync::Arc;
-use table_build::by_year::{build, build_part};
+use table_build::by_year::build;
+use table_build::reading::Reading;
 use table_build::slots::{Slot, build_with};
 use table_rows::{EventRow, Group, RegRow, Row, RowStore, Sum};
 use year_tables::{Partition, Tables as YearTables};
@@ -37,7 +38,12 @@ impl Model for Tables {
 
     ghost Value = { Listed };
 
-    ghost view = { λ tables. record { rows = rows_together tables.store.parts; events = events_together tables.store.parts; regs = regs_together tables.store.parts; years = years_in tables.store.parts } };
+    ghost view = { λ tables. record {
+      rows = rows_together tables.store.parts;
+      events = events_together tables.store.parts;
+      regs = regs_together tables.store.parts;
+      years = years_in tables.store.parts;
+    } };
 }
 
 impl RowStore for Tables {
@@ -119,18 +125,25 @@ pub(crate) fn tables_with(
     Ok(Arc::new(alloc, Tables { store })?)
 }
 
-/// The part of one year of the tables that stand for these changes, as it may be handed in.
+/// Reads changes once for the parts of all their years.
+pub fn read_changes(alloc: Global, changes: &[Arc<Change>]) -> Result<Reading<'_>, Memory>
+    ensures { IfOk result (λ reading. reading ≡ map arc_value changes.now) }
+{
+    Reading::of(alloc, changes)
+}
+
+/// The part of one year of the tables that stand for the changes which were read, as it may be handed in.
 pub fn build_year(
     alloc: Global,
     meta: &Metadata,
-    changes: &[Arc<Change>],
+    reading: &Reading,
     year: i32,
 ) -> Result<Partition, Memory>
-    requires few { length (writes_of (map arc_value changes.now)) ≤ MOST_RECORDS }
-    requires fits { All WriteFits (writes_of (map arc_value changes.now)) }
-    ensures value { IfOk result (λ part. part ≡ part_of (tables_of meta.now (map arc_value changes.now)) year) }
-    ensures own { IfOk result (IsPartOf meta.now (map arc_value changes.now)) }
+    requires few { length (writes_of reading.now) ≤ MOST_RECORDS }
+    requires fits { All WriteFits (writes_of reading.now) }
+    ensures value { IfOk result (λ part. part ≡ part_of (tables_of meta.now reading.now) year) }
+    ensures own { IfOk result (IsPartOf meta.now reading.now) }
 {
-    let part = build_part(alloc, meta, year, changes)?;
+    let part = reading.part_of_year(alloc, meta, &year)?;
     Ok(part)
 }

@@ -44,6 +44,8 @@ pub enum PiItem {
     Attribute(u32),
     EventDate,
     EnrollmentDate,
+    /// What no event has, as an item that names no object.
+    Nothing,
 }
 
 /// Why a program indicator has no value.

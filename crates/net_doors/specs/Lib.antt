@@ -1,3 +1,4 @@
 pub mod Doors
 pub mod Memory
+pub mod Serving
 pub mod Sockets

@@ -1,17 +1,25 @@
-//! Where connections come from: a listener accepts links and takes each of them back when it has ended. Beside the traits stand a
-//! listener in memory, which tells the links that were given back, and the system's sockets, which tell nothing.
+//! Where connections come from, and who serves them. A listener accepts links and takes each of them back when it has ended; several
+//! workers accept the links of one listener and serve them at the same time, and each link that was accepted is served and given back,
+//! whatever the others do. Beside the traits stand a listener in memory, which tells the links that were given back, and the system's
+//! sockets, which tell nothing.
 #![tactic(auto)]
 
+mod door;
+mod ending;
 mod memory;
+mod names;
 mod sockets;
+mod workers;
 
 ghost use Rattle.std.specs.Prelude.{◌≡◌, ◌≤◌, ◌<◌, length, IfOk, IfSome, OnErr};
 ghost use Rattle.dh_outside.specs.Faults.{Rose};
 ghost use Rattle.net_doors.specs.Doors.{Shown, Accepts, IsUntouched, with_back};
 
 use dh_outside::{Failed, Link};
+pub use ending::{Ending, Served};
 pub use memory::MemDoor;
 pub use sockets::{TcpDoor, TcpEnd};
+pub use workers::serve_all;
 
 /// A link that a listener gives.
 pub trait End: Link {

@@ -30,8 +30,12 @@ impl Model for TcpEnd {
     ghost view = { λ end. end.faults };
 }
 
-// A stream whose calls wait so long at most.
+// A stream whose calls wait so long at most. A reply's head and body are two writes: what is written is sent at once, since a body
+// that waits until the peer confirms the head costs 40 ms.
 fn patient(stream: TcpStream) -> Result<TcpStream, Failed> {
+    if stream.set_nodelay(true).is_err() {
+        return Err(Failed);
+    }
     let most = Some(Duration::from_secs(PATIENCE));
     if stream.set_read_timeout(most).is_err() {
         return Err(Failed);

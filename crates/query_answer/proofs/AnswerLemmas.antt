@@ -1,5 +1,5 @@
 -- From the rows that were written to the answer.
-use Rattle.std.proofs.Common.{◌≡◌, ℕ, ◌+◌, ◌<◌, Bool, true, false, List, [], ◌∷◌, length, map, Option, Some, None, Ok, Err, Vec, Global, refl, sym, subst}
+use Rattle.std.proofs.Common.{◌≡◌, ℕ, ◌+◌, ◌<◌, Bool, true, false, List, [], ◌∷◌, length, map, Option, Some, None, Ok, Err, refl, sym, ap, subst}
 use Rattle.std.proofs.Common.{arith, suc, zero-add}
 use Rattle.std.proofs.lemmas.Bool.{and_parts}
 use Rattle.std.specs.List.{flat_map, list_all, All, AllByRecursion}
@@ -20,10 +20,9 @@ use Rattle.query_forms.specs.declared.plain.Query.{Query}
 use Rattle.query_answer.specs.Body.{body_of, IsAnswer}
 use Rattle.query_answer.specs.Names.{IsThere, kind_of}
 use Rattle.query_answer.specs.BodyRows.{IsRow}
-use Rattle.query_answer.specs.declared.whole.AnswerFault.TheVariants.{Wide}
 use Rattle.query_answer.specs.Asked.{can_answer_dx, CanAnswer}
 use Rattle.query_answer.specs.Rows.{Slot, alone, slots, period_slots, unit_slots, row_with, slot_value, unit_rows, period_rows, dx_rows, rows_from}
-use Rattle.query_answer.specs.Answer.{wide_dx, answer_with, answer_of, Answers}
+use Rattle.query_answer.specs.Answer.{wide_dx, answer_with, answer_of}
 use Rattle.query_answer.proofs.AskedLemmas.{element_there, indicator_there, rate_there, program_there}
 
 all_flat : {X Y : Type 0} (P : X → Type 0) (Q : Y → Type 0) (f : X → List Y) (xs : List X) → ((x : X) → P x → All Q (f x)) → AllByRecursion P xs
@@ -100,23 +99,23 @@ is_answer r shown query can = record {
 }
 
 wide_with : (r : Records) (query : Query) (shown : SeenRecords) (found : Option Dx) (id : List ℕ) → Some id ≡ option_map (λ (dx : Dx). dx.text) found
-    → Answers (Err (Wide id)) (answer_with r query shown found)
+    → answer_with r query shown found ≡ Err id
 wide_with r query shown None id e = absurd (cc)
 wide_with r query shown (Some dx) id e = cc
 
 -- the first dx item with a cell that is too wide is told
 pub wide_answer : (r : Records) (query : Query) (shown : SeenRecords) (id : List ℕ) → Some id ≡ option_map (λ (dx : Dx). dx.text) (wide_dx r query shown)
-    → Answers (Err (Wide id)) (answer_of r query shown)
+    → answer_of r query shown ≡ Err id
 unfolding answer_of
 wide_answer r query shown id e = wide_with r query shown (wide_dx r query shown) id e
 
-body_with : (r : Records) (query : Query) (shown : SeenRecords) (found : Option Dx) (bytes : Vec ℕ Global) → None ≡ option_map (λ (dx : Dx). dx.text) found
-    → bytes.items ≡ compact_text (body_of r query (rows_from r shown query 0 query.dx)) → Answers (Ok bytes) (answer_with r query shown found)
-body_with r query shown None bytes e is = is
-body_with r query shown (Some dx) bytes e is = absurd (cc)
+body_with : (r : Records) (query : Query) (shown : SeenRecords) (found : Option Dx) (text : List ℕ) → None ≡ option_map (λ (dx : Dx). dx.text) found
+    → text ≡ compact_text (body_of r query (rows_from r shown query 0 query.dx)) → answer_with r query shown found ≡ Ok text
+body_with r query shown None text e is = ap Ok (sym is)
+body_with r query shown (Some dx) text e is = absurd (cc)
 
 -- where there is none, the body is written
-pub body_answer : (r : Records) (query : Query) (shown : SeenRecords) (bytes : Vec ℕ Global) → None ≡ option_map (λ (dx : Dx). dx.text) (wide_dx r query shown)
-    → bytes.items ≡ compact_text (body_of r query (rows_from r shown query 0 query.dx)) → Answers (Ok bytes) (answer_of r query shown)
+pub body_answer : (r : Records) (query : Query) (shown : SeenRecords) (text : List ℕ) → None ≡ option_map (λ (dx : Dx). dx.text) (wide_dx r query shown)
+    → text ≡ compact_text (body_of r query (rows_from r shown query 0 query.dx)) → answer_of r query shown ≡ Ok text
 unfolding answer_of
-body_answer r query shown bytes e is = body_with r query shown (wide_dx r query shown) bytes e is
+body_answer r query shown text e is = body_with r query shown (wide_dx r query shown) text e is

@@ -1,15 +1,12 @@
 -- The values by plans are those of the items.
 use Rattle.std.proofs.Common.{◌≡◌, ◌∙◌, ℕ, Bool, false, List, [], ◌∷◌, map, Option, Some, None, slice_get, refl, sym, ap}
-use Rattle.std.specs.Option.{option_map_or, option_map}
+use Rattle.std.specs.Option.{option_map_or}
 use Rattle.dh_base.specs.Fractions.{Fraction}
 use Rattle.dh_periods.specs.declared.name.PeriodName.{PeriodName}
 use Rattle.expr_lang.specs.declared.tree.Item.{Item}
 use Rattle.meta_parts.specs.declared.held.Records.{Records}
 use Rattle.meta_parts.specs.declared.records.Indicator.{Indicator}
-use Rattle.meta_parts.specs.declared.records.ProgramIndicator.{ProgramIndicator}
-use Rattle.table_rows.specs.declared.event.EventRow.{EventRow}
-use Rattle.pi_eval.specs.Value.{program_value}
-use Rattle.event_cells.specs.Cells.{cell_events}
+use Rattle.program_cells.specs.Cells.{cell_value as program_value}
 use Rattle.table_rows.specs.Store.{Contents}
 use Rattle.rate_items.specs.Rates.{rate_of}
 use Rattle.cell_values.specs.declared.cell.Operand.{Operand}
@@ -24,7 +21,6 @@ use Rattle.query_forms.specs.declared.plain.DxKind.{DxKind}
 use Rattle.query_forms.specs.declared.plain.DxKind.TheVariants as dx_kind
 use Rattle.query_answer.specs.declared.arithmetic.CellValue.TheVariants as cell
 use Rattle.query_answer.specs.Cells.{of_option, of_program, element_cell, rate_cell, indicator_cell, program_cell, cell_by, cell_value}
-use Rattle.query_answer.specs.Plans.{IsProgramOf}
 
 each_planned : (r : Records) (shown : SeenRecords) (periods : List PeriodName) (units : List ℕ) (alone : Bool) (plans : List ItemPlan)
     → map (planned_value r shown periods units alone) plans
@@ -71,20 +67,9 @@ rate-cell r user held dx asked periods units alone kind is not =
     ∙ ap (λ b. of_option (rate_of r asked.which dx.number periods units (seen_regs r user held.regs) b)) not
     ∙ ap (λ (k : DxKind). cell_by r (seen_of r user held) k dx.number dx.part periods units) (sym kind)
 
-program_found : (r : Records) (events : List EventRow) (n program : ℕ) (found : Option ProgramIndicator) (periods : List PeriodName) (units : List ℕ)
-    → Some program ≡ option_map (λ (i : ProgramIndicator). i.program) found
-    → of_program (program_value r n (cell_events r program periods units events))
-    ≡ option_map_or (λ (i : ProgramIndicator). of_program (program_value r n (cell_events r i.program periods units events))) found cell.None
-program_found r events n program None periods units is = absurd (cc)
-program_found r events n program (Some i) periods units is =
-    ap (λ (o : Option ℕ). option_map_or (λ p. of_program (program_value r n (cell_events r p periods units events))) o cell.None) is
-
 -- the cell of a program indicator
-pub program-cell : (r : Records) (user : ℕ) (held : Contents) (dx : Dx) (program : ℕ) (periods : List PeriodName) (units : List ℕ)
-    → dx.kind ≡ dx_kind.ProgramIndicator → IsProgramOf r dx.number program
-    → of_program (program_value r dx.number (cell_events r program periods units (seen_events r user held.events)))
-    ≡ cell_value r (seen_of r user held) dx periods units
+pub program-cell : (r : Records) (user : ℕ) (held : Contents) (dx : Dx) (periods : List PeriodName) (units : List ℕ) → dx.kind ≡ dx_kind.ProgramIndicator
+    → of_program (program_value r dx.number periods units (seen_events r user held.events)) ≡ cell_value r (seen_of r user held) dx periods units
 unfolding cell_value program_cell seen_of
-program-cell r user held dx program periods units kind is =
-    program_found r (seen_events r user held.events) dx.number program (slice_get r.program_indicators dx.number) periods units is
-    ∙ ap (λ (k : DxKind). cell_by r (seen_of r user held) k dx.number dx.part periods units) (sym kind)
+program-cell r user held dx periods units kind =
+    ap (λ (k : DxKind). cell_by r (seen_of r user held) k dx.number dx.part periods units) (sym kind)

@@ -9,10 +9,7 @@ use Rattle.dh_periods.specs.declared.name.PeriodName.{PeriodName}
 use Rattle.expr_lang.specs.declared.tree.Item.{Item}
 use Rattle.meta_parts.specs.declared.held.Records.{Records}
 use Rattle.meta_parts.specs.declared.records.Indicator.{Indicator}
-use Rattle.meta_parts.specs.declared.records.ProgramIndicator.{ProgramIndicator}
-use Rattle.pi_eval.specs.Value.{program_value}
-use Rattle.event_cells.specs.Cells.{cell_events}
-use Rattle.event_cells.proofs.CellLemmas.{cell_events-permutation}
+use Rattle.program_cells.proofs.CellLemmas.{cell_value-permutation}
 use Rattle.cell_values.specs.Seen.{SeenRecords, SameSeen}
 use Rattle.cell_values.specs.Cells.{cell_of, days_in}
 use Rattle.cell_values.specs.Items.{item_value_of}
@@ -25,6 +22,7 @@ use Rattle.query_forms.specs.declared.plain.DxKind.{DxKind}
 use Rattle.query_forms.specs.declared.plain.DxKind.TheVariants as dx_kind
 use Rattle.query_forms.specs.declared.plain.Query.{Query}
 use Rattle.query_answer.specs.declared.body_rows.AnswerRow.{AnswerRow}
+use Rattle.serde_json.specs.Written.{compact_text}
 use Rattle.query_answer.specs.Body.{body_of}
 use Rattle.query_answer.specs.Cells.{of_option, of_program, element_cell, rate_cell, indicator_cell, program_cell, cell_by, cell_value, is_wide}
 use Rattle.query_answer.specs.Rows.{Slot, row_with, period_slots, unit_slots, unit_is_wide, unit_rows, period_is_wide, period_rows, dx_is_wide, dx_rows}
@@ -58,18 +56,10 @@ unfolding rate_cell
 rate_same r one other which set periods units same =
     ap of_option (rate_of-permutation r which set periods units one.regs other.regs false same.regs)
 
-some_program : (r : Records) (one other : SeenRecords) (n : ℕ) (found : Option ProgramIndicator) (periods : List PeriodName) (units : List ℕ)
-    → SameSeen one other
-    → option_map_or (λ (i : ProgramIndicator). of_program (program_value r n (cell_events r i.program periods units one.events))) found cell.None
-    ≡ option_map_or (λ (i : ProgramIndicator). of_program (program_value r n (cell_events r i.program periods units other.events))) found cell.None
-some_program r one other n None periods units same = refl
-some_program r one other n (Some i) periods units same =
-    ap (λ events. of_program (program_value r n events)) (cell_events-permutation r i.program periods units one.events other.events same.events)
-
 program_same : (r : Records) (one other : SeenRecords) (n : ℕ) (periods : List PeriodName) (units : List ℕ) → SameSeen one other
     → program_cell r one.events n periods units ≡ program_cell r other.events n periods units
 unfolding program_cell
-program_same r one other n periods units same = some_program r one other n (slice_get r.program_indicators n) periods units same
+program_same r one other n periods units same = ap of_program (cell_value-permutation r n periods units one.events other.events same.events)
 
 kind_same : (r : Records) (one other : SeenRecords) (kind : DxKind) (n : ℕ) (part : Option ℕ) (periods : List PeriodName) (units : List ℕ) → SameSeen one other
     → cell_by r one kind n part periods units ≡ cell_by r other kind n part periods units
@@ -151,7 +141,7 @@ rows_same r one other query place (dx ∷ more) same =
 with_same : (r : Records) (query : Query) (one other : SeenRecords) (found : Option Dx) → SameSeen one other
     → answer_with r query one found ≡ answer_with r query other found
 with_same r query one other None same =
-    ap (λ (rows : List AnswerRow). Ok (body_of r query rows)) (rows_same r one other query 0 query.dx same)
+    ap (λ (rows : List AnswerRow). Ok (compact_text (body_of r query rows))) (rows_same r one other query 0 query.dx same)
 with_same r query one other (Some dx) same = refl
 
 -- where a user sees the same, in whatever order it stands, the answers are the same

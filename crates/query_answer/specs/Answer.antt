@@ -1,7 +1,5 @@
 -- The answer to a query.
-use Rattle.std.specs.Prelude.{◌≡◌, ℕ, List, Option, Some, None, Result, Ok, Err, find, Vec}
-use Rattle.std.specs.declared.alloc.Global.{Global}
-use Rattle.serde_json.specs.Data.{Data}
+use Rattle.std.specs.Prelude.{ℕ, List, Option, Some, None, Result, Ok, Err, find}
 use Rattle.serde_json.specs.Written.{compact_text}
 use Rattle.meta_parts.specs.declared.held.Records.{Records}
 use Rattle.cell_values.specs.Seen.{SeenRecords}
@@ -9,24 +7,22 @@ use Rattle.query_forms.specs.declared.plain.Dx.{Dx}
 use Rattle.query_forms.specs.declared.plain.Query.{Query}
 use Rattle.query_answer.specs.Body.{body_of}
 use Rattle.query_answer.specs.declared.whole.AnswerFault.{AnswerFault}
-use Rattle.query_answer.specs.declared.whole.AnswerFault.TheVariants.{Wide, Memory}
+use Rattle.query_answer.specs.declared.whole.AnswerFault.TheVariants as fault
 use Rattle.query_answer.specs.Rows.{dx_is_wide, rows_from}
 
 -- the first dx item with a cell that is too wide
 abbrev pub wide_dx : Records → Query → SeenRecords → Option Dx
 wide_dx r query shown = find (dx_is_wide r shown query) query.dx
 
-abbrev pub answer_with : Records → Query → SeenRecords → Option Dx → Result Data (List ℕ)
+abbrev pub answer_with : Records → Query → SeenRecords → Option Dx → Result (List ℕ) (List ℕ)
 answer_with r query shown (Some dx) = Err dx.text
-answer_with r query shown None = Ok (body_of r query (rows_from r shown query 0 query.dx))
+answer_with r query shown None = Ok (compact_text (body_of r query (rows_from r shown query 0 query.dx)))
 
--- the body over the seen records, or the text of the first dx item with a cell that is too wide
-unfoldable pub answer_of : Records → Query → SeenRecords → Result Data (List ℕ)
+-- the text of the body over the seen records, or that of the first dx item with a cell that is too wide
+unfoldable pub answer_of : Records → Query → SeenRecords → Result (List ℕ) (List ℕ)
 answer_of r query shown = answer_with r query shown (wide_dx r query shown)
 
--- the call answers so, unless memory runs out
-abbrev pub Answers : Result (Vec ℕ Global) AnswerFault → Result Data (List ℕ) → Type 0
-Answers (Ok bytes) (Ok body) = bytes.items ≡ compact_text body
-Answers (Err (Wide id)) (Err text) = id ≡ text
-Answers (Err Memory) answer = Unit {0}
-Answers _ answer = ⊥
+-- why there is no answer; running out of memory has no cause
+abbrev pub cause_of : AnswerFault → Option (List ℕ)
+cause_of (fault.Wide id) = Some id
+cause_of fault.Memory = None

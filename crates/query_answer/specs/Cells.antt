@@ -12,8 +12,8 @@ use Rattle.table_rows.specs.declared.event.EventRow.{EventRow}
 use Rattle.table_rows.specs.declared.event.RegRow.{RegRow}
 use Rattle.table_rows.specs.declared.sample.Sample.{Sample}
 use Rattle.rate_items.specs.Rates.{rate_of}
-use Rattle.pi_eval.specs.Value.{ProgramValue, Number, NoValue, Wide, program_value}
-use Rattle.event_cells.specs.Cells.{cell_events}
+use Rattle.program_cells.specs.Value.{ProgramValue, Number, NoValue, Wide}
+use Rattle.program_cells.specs.Cells.{cell_value as program_value}
 use Rattle.cell_values.specs.Seen.{SeenRecords}
 use Rattle.cell_values.specs.Cells.{cell_of, aggregate_of, days_in}
 use Rattle.cell_values.specs.Items.{item_value_of}
@@ -42,11 +42,9 @@ of_program (Number x) = cell.Number x
 of_program NoValue = cell.None
 of_program Wide = cell.Wide
 
--- a program indicator's cell is its value over the events of its program in the cell
+-- a program indicator's cell is its value over the events of its program in the cell, or over the enrollments
 unfoldable pub program_cell : Records → List EventRow → ℕ → List PeriodName → List ℕ → CellValue
-program_cell r events n periods units =
-    option_map_or (λ (indicator : ProgramIndicator). of_program (program_value r n (cell_events r indicator.program periods units events)))
-    (slice_get r.program_indicators n) cell.None
+program_cell r events n periods units = of_program (program_value r n periods units events)
 
 -- a rate's cell is that of the registrations
 unfoldable pub rate_cell : Records → List RegRow → Rate → ℕ → List PeriodName → List ℕ → CellValue

@@ -1,16 +1,14 @@
 -- What is made of a dx item before its cells.
-use Rattle.std.specs.Prelude.{◌≡◌, ℕ, List, map, option_map, slice_get, Some, None}
+use Rattle.std.specs.Prelude.{◌≡◌, ℕ, List, map, slice_get, Some, None}
 use Rattle.std.specs.List.{All}
 use Rattle.dh_periods.specs.declared.name.PeriodName.{PeriodName}
 use Rattle.expr_lang.specs.Expr.{items_in}
 use Rattle.meta_parts.specs.declared.held.Records.{Records}
 use Rattle.meta_parts.specs.declared.records.Indicator.{Indicator}
-use Rattle.meta_parts.specs.declared.records.ProgramIndicator.{ProgramIndicator}
 use Rattle.table_rows.specs.Store.{Contents}
 use Rattle.cell_values.specs.declared.item.ItemPlan.{ItemPlan}
 use Rattle.rate_items.specs.Prepared.{IsDue}
-use Rattle.pi_eval.specs.Code.{IsCode}
-use Rattle.event_cells.specs.Cells.{AreDuring}
+use Rattle.program_cells.specs.Kept.{IsProgramPlan, AreSubjects}
 use Rattle.cell_values.specs.Rates.{IsRatePlan}
 use Rattle.cell_values.specs.Plans.{IsElementPlan, IsItemPlan, operand, inside, groups_inside}
 use Rattle.query_answer.specs.Value.{AreSides}
@@ -29,10 +27,6 @@ pub record IsIndicatorPlan (r : Records) (user : ℕ) (held : Contents) (indicat
   pub under : All (IsItemPlan r user held) made.under
   pub under_items : map (λ (each : ItemPlan). each.item) made.under ≡ items_in indicator.denominator
 
--- the program is that of the program indicator with that number
-abbrev pub IsProgramOf : Records → ℕ → ℕ → Type 0
-IsProgramOf r n program = Some program ≡ option_map (λ (indicator : ProgramIndicator). indicator.program) (slice_get r.program_indicators n)
-
 -- the plan is that of the item: of its operand, of its indicator, of its rate, or of its program indicator
 abbrev pub IsPlan : Records → ℕ → Contents → Dx → Plan → Type 0
 IsPlan r user held dx (plan.Element made) =
@@ -42,12 +36,12 @@ IsPlan r user held dx (plan.Indicator made) =
     × ((indicator : Indicator) → slice_get r.indicators dx.number ≡ Some indicator → IsIndicatorPlan r user held indicator made)
 IsPlan r user held dx (plan.Rate made) =
     (dx.kind ≡ dx_kind.Rate made.asked.which) × (IsRatePlan r user held.regs made × (made.asked.set ≡ dx.number))
-IsPlan r user held dx (plan.Program code) = (dx.kind ≡ dx_kind.ProgramIndicator) × (IsCode r dx.number code × IsProgramOf r dx.number code.program)
+IsPlan r user held dx (plan.Program made) = (dx.kind ≡ dx_kind.ProgramIndicator) × IsProgramPlan r user held.events dx.number made
 
--- what is made of it once for some periods: its groups inside them, what is due in them, or the events of its program
+-- what is made of it once for some periods: its groups inside them, what is due in them, or the subjects of a program indicator
 abbrev pub ArePlanGroups : Records → ℕ → Contents → List PeriodName → Plan → PlanGroups → Type 0
 ArePlanGroups r user held periods (plan.Element made) groups = groups.own ≡ inside periods made.groups
 ArePlanGroups r user held periods (plan.Indicator made) groups =
     (groups.over ≡ map (groups_inside periods) made.over) × (groups.under ≡ map (groups_inside periods) made.under)
 ArePlanGroups r user held periods (plan.Rate made) groups = IsDue periods made.reports groups.due
-ArePlanGroups r user held periods (plan.Program code) groups = AreDuring r user code.program periods held.events groups.events
+ArePlanGroups r user held periods (plan.Program made) groups = AreSubjects r user held.events periods made groups.subjects

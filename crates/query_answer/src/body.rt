@@ -13,6 +13,7 @@ use crate::body_rows::{AnswerRow, rows};
 use crate::heads::heads;
 use crate::members::{with_number, with_value};
 use crate::names::meta_data;
+use dh_base::items::Items;
 use dh_base::memory::Memory;
 use dh_metadata::metadata::Metadata;
 use query_forms::Query;
@@ -80,10 +81,10 @@ pub fn body(
     meta: &Metadata,
     query: &Query,
     rows: &[AnswerRow],
-) -> Result<Vec<u8>, Memory>
+) -> Result<Items<u8>, Memory>
     requires { IsAnswer meta.now query.now rows.now }
-    ensures { IfOk result (λ text. text.items ≡ compact_text (body_of meta.now query.now rows.now)) }
+    ensures { IfOk result (λ text. text ≡ compact_text (body_of meta.now query.now rows.now)) }
 {
     let body = body_value(alloc, meta, query, rows)?;
-    Ok(body.to_vec(alloc)?)
+    Ok(Items::from(body.to_vec(alloc)?))
 }

@@ -3,10 +3,10 @@
 ghost use Rattle.std.specs.Prelude.{◌≡◌, ◌≤◌, ℕ, List, map, None, false, true, IfOk};
 ghost use Rattle.dh_base.specs.Decimals.{printed};
 ghost use Rattle.dh_periods.specs.declared.name.PeriodName.{PeriodName};
-ghost use Rattle.event_cells.specs.Cells.{cell_events, AreDuring};
+ghost use Rattle.program_cells.specs.Cells.{cell_value as program_value};
+ghost use Rattle.program_cells.specs.Kept.{IsProgramPlan, AreSubjects};
 ghost use Rattle.meta_parts.specs.declared.held.Records.{Records};
-ghost use Rattle.pi_eval.specs.Code.{IsCode};
-ghost use Rattle.pi_eval.specs.Value.{ProgramValue, program_value, Values};
+ghost use Rattle.program_cells.specs.Value.{ProgramValue, Values};
 ghost use Rattle.table_rows.specs.declared.event.EventRow.{EventRow};
 ghost use Rattle.rate_items.specs.Prepared.{IsDue, IsPrepared};
 ghost use Rattle.rate_items.specs.Rates.{rate_of};
@@ -32,14 +32,13 @@ use dh_base::items::Items;
 use dh_base::memory::Memory;
 use dh_base::print::print_rounded;
 use dh_metadata::metadata::Metadata;
-use event_cells::events_under;
-use expr_eval::{PiCode, PiFault};
+use expr_eval::PiFault;
 use meta_parts::records::Indicator;
-use pi_eval::value;
+use program_cells::{ProgramPlan, Subjects, value};
 use query_forms::{Dx, DxKind};
 use rate_items::Due;
 use std::alloc::Global;
-use table_rows::{EventRow, Group, RowStore};
+use table_rows::{Group, RowStore};
 
 fn from_option(value: Option<Frac>) -> CellValue
     ensures { result ≡ of_option value }
@@ -93,7 +92,7 @@ fn indicator_cell<S: RowStore>(
     source: &Source<'_, S>,
     indicator: &Indicator,
     plan: &IndicatorPlan,
-    groups: &PlanGroups,
+    groups: &PlanGroups<'_>,
     periods: &CellPeriods,
     unit: &UnitPart,
 ) -> Result<CellValue, Memory>
@@ -105,7 +104,8 @@ fn indicator_cell<S: RowStore>(
     requires unit { IsUnitPart source.now.meta.now source.now.seer.now.user unit.now }
     ensures { IfOk result (λ cell. cell ≡ indicator_cell source.now.meta.now
         (seen_of source.now.meta.now source.now.seer.now.user
-        (contents_of (S.rows source.now.store.now) (S.events source.now.store.now) (S.regs source.now.store.now))) indicator.now periods.now unit.now.units.units) }
+        (contents_of (S.rows source.now.store.now) (S.events source.now.store.now) (S.regs source.now.store.now)))
+        indicator.now periods.now unit.now.units.units) }
 {
     let units = &unit.units;
     let over = item_values(
@@ -146,17 +146,15 @@ fn from_program(found: Result<Option<Frac>, PiFault>) -> Result<CellValue, Memor
 
 fn program_cell(
     alloc: Global,
-    code: &PiCode,
-    events: &[EventRow],
+    plan: &ProgramPlan,
+    subjects: &Subjects<'_>,
     unit: &UnitPart,
 ) -> Result<CellValue, Memory>
     ensures { (r : Records) (user n : ℕ) (periods : List PeriodName) (all : List EventRow)
-        → IsCode r n code.now → IsUnitPart r user unit.now → AreDuring r user code.now.program periods all events.now
-        → IfOk result (λ cell. cell ≡ of_program (program_value r n
-        (cell_events r code.now.program periods unit.now.units.units (seen_events r user all)))) }
+        → IsProgramPlan r user all n plan.now → AreSubjects r user all periods plan.now subjects.now → IsUnitPart r user unit.now
+        → IfOk result (λ cell. cell ≡ of_program (program_value r n periods unit.now.units.units (seen_events r user all))) }
 {
-    let own = events_under(alloc, events, &unit.units)?;
-    let found = value(alloc, code, own.as_slice());
+    let found = value(alloc, plan, subjects, &unit.units);
     from_program(found)
 }
 
@@ -167,7 +165,7 @@ pub fn cell_value<S: RowStore>(
     source: &Source<'_, S>,
     dx: &Dx,
     plan: &Plan,
-    groups: &PlanGroups,
+    groups: &PlanGroups<'_>,
     periods: &CellPeriods,
     unit: &UnitPart,
 ) -> Result<CellValue, Memory>
@@ -195,10 +193,7 @@ pub fn cell_value<S: RowStore>(
             indicator_cell(alloc, source, indicator, plan, groups, periods, unit)
         }
         Plan::Rate(plan) => rate_cell(alloc, source, plan, &groups.due, &unit.units),
-        Plan::Program(code) => {
-            let events = groups.events.as_slice();
-            program_cell(alloc, code, events, unit)
-        }
+        Plan::Program(plan) => program_cell(alloc, plan, &groups.subjects, unit),
     }
 }
 

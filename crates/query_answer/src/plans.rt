@@ -16,14 +16,12 @@ use cell_values::{
 use dh_base::items::Items;
 use dh_base::memory::Memory;
 use dh_base::plain::Rate;
-use event_cells::events_during;
-use expr_eval::PiCode;
 use meta_parts::records::Indicator;
-use pi_eval::code;
+use program_cells::{ProgramPlan, Subjects, program_plan, subjects_during};
 use query_forms::{Dx, DxKind};
 use rate_items::Due;
 use std::alloc::Global;
-use table_rows::{EventRow, Group, RowStore};
+use table_rows::{Group, RowStore};
 
 /// What is made of an indicator once a query: its sides, and the plans of the items of each.
 #[derive(Drop)]
@@ -39,19 +37,19 @@ pub enum Plan {
     Element(ElementPlan),
     Indicator(IndicatorPlan),
     Rate(RatePlan),
-    Program(PiCode),
+    Program(ProgramPlan),
 }
 
 /// What is made of a plan once for some periods: the groups of its element, or those of each planned
-/// item, inside them, what is due in them, or the events of its program that the user sees. What
-/// isn't the plan's is empty.
+/// item, inside them, what is due in them, or the subjects of a program indicator that the user sees.
+/// What isn't the plan's is empty.
 #[derive(Drop)]
-pub struct PlanGroups {
+pub struct PlanGroups<'a> {
     pub own: Items<Group>,
     pub over: Items<Items<Group>>,
     pub under: Items<Items<Group>>,
     pub due: Due,
-    pub events: Items<EventRow>,
+    pub subjects: Subjects<'a>,
 }
 
 fn indicator_plan<S: RowStore>(
@@ -109,14 +107,15 @@ fn set_plan<S: RowStore>(
 }
 
 #[tactic(auto, using(crate::proofs::AskedLemmas::program_there))]
-fn program_plan<S: RowStore>(alloc: Global, source: &Source<'_, S>, dx: &Dx) -> Result<Plan, Memory>
+fn sampled_plan<S: RowStore>(alloc: Global, source: &Source<'_, S>, dx: &Dx) -> Result<Plan, Memory>
+    requires seer { IsSeer source.now.meta.now source.now.seer.now }
     requires dx { can_answer_dx source.now.meta.now dx.now ≡ true }
     requires kind { dx.now.kind ≡ dx_kind.ProgramIndicator }
     ensures { IfOk result (λ plan. IsPlan source.now.meta.now source.now.seer.now.user
         (contents_of (S.rows source.now.store.now) (S.events source.now.store.now) (S.regs source.now.store.now)) dx.now plan) }
 {
-    let code = code(alloc, source.meta, dx.number)?;
-    Ok(Plan::Program(code))
+    let plan = program_plan(alloc, source, dx.number)?;
+    Ok(Plan::Program(plan))
 }
 
 /// The plan of a `dx` item.
@@ -134,7 +133,7 @@ pub fn plan_of<S: RowStore>(alloc: Global, source: &Source<'_, S>, dx: &Dx) -> R
             Ok(Plan::Indicator(plan))
         }
         DxKind::Rate(which) => set_plan(alloc, source, dx, which),
-        DxKind::ProgramIndicator => program_plan(alloc, source, dx),
+        DxKind::ProgramIndicator => sampled_plan(alloc, source, dx),
         DxKind::Element => operand_plan(alloc, source, dx),
     }
 }
@@ -146,13 +145,17 @@ fn nothing_due(alloc: Global) -> Due {
     }
 }
 
+fn no_subjects<'a>(alloc: Global) -> Subjects<'a> {
+    Subjects::Events(Items::new(alloc))
+}
+
 /// What is made of a plan once for some periods.
-pub fn plan_groups<S: RowStore>(
+pub fn plan_groups<'a, S: RowStore>(
     alloc: Global,
     source: &Source<'_, S>,
-    plan: &Plan,
+    plan: &'a Plan,
     periods: &CellPeriods,
-) -> Result<PlanGroups, Memory>
+) -> Result<PlanGroups<'a>, Memory>
     requires seer { IsSeer source.now.meta.now source.now.seer.now }
     ensures { IfOk result (λ groups. ArePlanGroups source.now.meta.now source.now.seer.now.user
         (contents_of (S.rows source.now.store.now) (S.events source.now.store.now) (S.regs source.now.store.now)) periods.now plan.now groups) }
@@ -165,7 +168,7 @@ pub fn plan_groups<S: RowStore>(
                 over: Items::new(alloc),
                 under: Items::new(alloc),
                 due: nothing_due(alloc),
-                events: Items::new(alloc),
+                subjects: no_subjects(alloc),
             })
         }
         Plan::Indicator(plan) => {
@@ -176,7 +179,7 @@ pub fn plan_groups<S: RowStore>(
                 over,
                 under,
                 due: nothing_due(alloc),
-                events: Items::new(alloc),
+                subjects: no_subjects(alloc),
             })
         }
         Plan::Rate(plan) => {
@@ -186,17 +189,17 @@ pub fn plan_groups<S: RowStore>(
                 over: Items::new(alloc),
                 under: Items::new(alloc),
                 due,
-                events: Items::new(alloc),
+                subjects: no_subjects(alloc),
             })
         }
-        Plan::Program(code) => {
-            let events = events_during(alloc, source, code.program, periods)?;
+        Plan::Program(plan) => {
+            let subjects = subjects_during(alloc, source, plan, periods)?;
             Ok(PlanGroups {
                 own: Items::new(alloc),
                 over: Items::new(alloc),
                 under: Items::new(alloc),
                 due: nothing_due(alloc),
-                events,
+                subjects,
             })
         }
     }

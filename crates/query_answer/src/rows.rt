@@ -32,9 +32,9 @@ struct DxItem<'a> {
 
 /// The periods of a row of cells, and the groups of a `dx` item inside them.
 #[derive(Drop)]
-struct PeriodItem<'a> {
+struct PeriodItem<'a, 'b> {
     part: &'a PeriodPart,
-    groups: &'a PlanGroups,
+    groups: &'a PlanGroups<'b>,
 }
 
 #[tactic(auto, using(crate::proofs::PartLemmas::period_many))]
@@ -78,7 +78,7 @@ fn write_cell<S: RowStore>(
     alloc: Global,
     asking: &Asking<'_, S>,
     item: &DxItem<'_>,
-    period: &PeriodItem<'_>,
+    period: &PeriodItem<'_, '_>,
     unit: &UnitPart,
     rows: &mut Vec<AnswerRow>,
 ) -> Result<bool, Memory>
@@ -133,7 +133,7 @@ fn write_units<S: RowStore>(
     alloc: Global,
     asking: &Asking<'_, S>,
     item: &DxItem<'_>,
-    period: &PeriodItem<'_>,
+    period: &PeriodItem<'_, '_>,
     rows: &mut Vec<AnswerRow>,
 ) -> Result<bool, Memory>
     requires dx { can_answer_dx asking.now.source.now.meta.now item.now.dx.now ≡ true }

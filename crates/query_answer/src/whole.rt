@@ -5,7 +5,8 @@ ghost use Rattle.table_rows.specs.Store.{Contents};
 ghost use Rattle.cell_values.specs.Held.{IsSeer};
 ghost use Rattle.cell_values.specs.Seen.{seen_of, contents_of, SameSeen};
 ghost use Rattle.query_answer.specs.Asked.{CanAnswer};
-ghost use Rattle.query_answer.specs.Answer.{wide_dx, answer_of, Answers};
+ghost use Rattle.query_answer.specs.Answer.{wide_dx, answer_of, cause_of};
+ghost use Rattle.dh_base.specs.Memory.{Answers};
 ghost use Rattle.query_answer.specs.Rows.{rows_from};
 
 use crate::asking::Asking;
@@ -73,21 +74,21 @@ fn query_rows<S: RowStore>(
     write_rows(alloc, &asking, rows)
 }
 
-/// The body that answers a query over the records that the user sees.
+/// The text of the body that answers a query over the records that the user sees.
 pub fn answer<S: RowStore>(
     alloc: Global,
     meta: &Metadata,
     store: &S,
     seer: &Seer,
     query: &Query,
-) -> Result<Vec<u8>, AnswerFault>
+) -> Result<Items<u8>, AnswerFault>
     requires seer { IsSeer meta.now seer.now }
     requires query { CanAnswer meta.now query.now }
-    ensures answer { Answers result (answer_of meta.now query.now
-        (seen_of meta.now seer.now.user (contents_of (S.rows store.now) (S.events store.now) (S.regs store.now)))) }
+    ensures answer { Answers cause_of (answer_of meta.now query.now
+        (seen_of meta.now seer.now.user (contents_of (S.rows store.now) (S.events store.now) (S.regs store.now)))) result }
     ensures unseen { (held : Contents)
         → SameSeen (seen_of meta.now seer.now.user (contents_of (S.rows store.now) (S.events store.now) (S.regs store.now)))
-        (seen_of meta.now seer.now.user held) → Answers result (answer_of meta.now query.now (seen_of meta.now seer.now.user held)) }
+        (seen_of meta.now seer.now.user held) → Answers cause_of (answer_of meta.now query.now (seen_of meta.now seer.now.user held)) result }
 {
     let source = Source { meta, store, seer };
     let mut rows = Vec::new(alloc);

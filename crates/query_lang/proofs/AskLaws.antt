@@ -26,14 +26,14 @@ use Rattle.query_forms.specs.declared.item.DxItem.{DxItem}
 use Rattle.query_forms.specs.declared.form.Form.{Form}
 use Rattle.query_forms.specs.Form.{form_of}
 use Rattle.query_forms.specs.Items.{dx_form}
-use Rattle.query_forms.specs.Given.{and_then, cause_of, or_refuse, refusal}
+use Rattle.query_forms.specs.Given.{cause_of, or_refuse, refusal}
 use Rattle.query_lang.specs.declared.part.Part.{Part}
 use Rattle.query_lang.specs.Walk.{AreIn}
 use Rattle.query_lang.specs.Choice.{chosen_units}
 use Rattle.query_lang.proofs.RangeLemmas.{chosen_in}
 use Rattle.query_lang.specs.declared.named.Found.{Found}
 use Rattle.query_lang.specs.Each.{each_of}
-use Rattle.query_lang.specs.Named.{readable, alone, object_named, combo_named, is_combo_of, operand_named, named, offered, is_over_enrollments, dx_from}
+use Rattle.query_lang.specs.Named.{readable, alone, object_named, combo_named, is_combo_of, operand_named, named, dx_from}
 use Rattle.query_lang.specs.Named.{dx_of}
 use Rattle.query_lang.specs.Units.{part_of, members_of, units_of}
 use Rattle.query_lang.specs.Query.{cells_of, within, assembled, named_in, query_from, query_of}
@@ -98,14 +98,10 @@ named_law r user (form.Operand element combo) = operand_law r user element combo
 named_law r user (form.Rate set figure) = alone_law r user (dx.Rate figure) (readable r user kind.DataSet set) (readable_law r user kind.DataSet set)
 
 offered_law : (r : Records) (user : ℕ) (text : List ℕ) (f : DxForm) (o : Option Found) → dx_form text ≡ Some f → named r user f ≡ o → IfSome o (IsSeen r user)
-    → IfOk (and_then (or_refuse code.F14 text o) (offered r text)) (IsAsked r user)
+    → IfOk (or_refuse code.F14 text (option_map (λ (found : Found). dx_from found text) o)) (IsAsked r user)
 offered_law r user text f None formed is seen = tt
 offered_law r user text f (Some n) formed is seen =
-    elim (is_over_enrollments r n.kind n.number) as (λ b.
-    IfOk (let d : Result Dx Refusal = cond b (Err (refusal code.F17 text)) (Ok (dx_from n text)) in d) (IsAsked r user)) [
-      | true ↦ tt
-      | false ↦ record { form = f; text = formed; named = is; seen = seen; utf8 = form_utf8 text f formed }
-    ]
+    record { form = f; text = formed; named = is; seen = seen; utf8 = form_utf8 text f formed }
 
 dx_law : (r : Records) (user : ℕ) (item : DxItem) → IsFormed item → IfOk (dx_of r user item) (IsAsked r user)
 unfolding dx_of

@@ -1,6 +1,6 @@
 -- What the items of the dimension `dx` name, for a user.
-use Rattle.std.specs.Prelude.{ℕ, ◌==◌, Bool, true, false, if◌then◌else◌, List, slice_get, Option, None, Some, option_map, option_and_then}
-use Rattle.std.specs.Prelude.{Result, Ok, Err}
+use Rattle.std.specs.Prelude.{ℕ, ◌==◌, Bool, false, if◌then◌else◌, List, slice_get, Option, None, Some, option_map, option_and_then}
+use Rattle.std.specs.Prelude.{Result}
 use Rattle.std.specs.Option.{option_map_or, option_or}
 use Rattle.dh_base.specs.declared.codes.Code.TheVariants as code
 use Rattle.dh_base.specs.declared.codes.Refusal.{Refusal}
@@ -8,11 +8,8 @@ use Rattle.dh_sharing.specs.declared.access.Right.TheVariants.{Read}
 use Rattle.meta_parts.specs.declared.held.Records.{Records}
 use Rattle.meta_parts.specs.declared.kind.Kind.{Kind}
 use Rattle.meta_parts.specs.declared.kind.Kind.TheVariants as kind
-use Rattle.meta_parts.specs.declared.names.AnalyticsType.{AnalyticsType}
-use Rattle.meta_parts.specs.declared.names.AnalyticsType.TheVariants as analytics
 use Rattle.meta_parts.specs.declared.records.Element.{Element}
 use Rattle.meta_parts.specs.declared.records.OptionCombo.{OptionCombo}
-use Rattle.meta_parts.specs.declared.records.ProgramIndicator.{ProgramIndicator}
 use Rattle.dh_metadata.specs.Objects.{find_of}
 use Rattle.dh_metadata.specs.Users.{may_of}
 use Rattle.query_forms.specs.declared.plain.DxKind.{DxKind}
@@ -21,7 +18,7 @@ use Rattle.query_forms.specs.declared.plain.Dx.{Dx}
 use Rattle.query_forms.specs.declared.item.DxForm.{DxForm}
 use Rattle.query_forms.specs.declared.item.DxForm.TheVariants as form
 use Rattle.query_forms.specs.declared.item.DxItem.{DxItem}
-use Rattle.query_forms.specs.Given.{and_then, refusal, or_refuse}
+use Rattle.query_forms.specs.Given.{or_refuse}
 use Rattle.query_lang.specs.declared.named.Found.{Found}
 
 -- the object of that identifier, if the user may read it
@@ -59,26 +56,9 @@ named r user (form.Object id) = object_named r user id
 named r user (form.Operand element combo) = operand_named r user element combo
 named r user (form.Rate set figure) = option_map (alone (dx.Rate figure)) (readable r user kind.DataSet set)
 
-abbrev pub is_enrollment_type : AnalyticsType → Bool
-is_enrollment_type analytics.Event = false
-is_enrollment_type analytics.Enrollment = true
-
-unfoldable pub is_enrollment : Records → ℕ → Bool
-is_enrollment r n = option_map_or (λ (i : ProgramIndicator). is_enrollment_type i.analytics_type) (slice_get r.program_indicators n) false
-
--- a program indicator over enrollments
-abbrev pub is_over_enrollments : Records → DxKind → ℕ → Bool
-is_over_enrollments r dx.Element n = false
-is_over_enrollments r dx.Indicator n = false
-is_over_enrollments r dx.ProgramIndicator n = is_enrollment r n
-is_over_enrollments r (dx.Rate figure) n = false
-
 abbrev pub dx_from : Found → List ℕ → Dx
 dx_from n text = record { kind = n.kind; number = n.number; part = n.part; text = text }
 
-abbrev pub offered : Records → List ℕ → Found → Result Dx Refusal
-offered r text n = if is_over_enrollments r n.kind n.number then Err (refusal code.F17 text) else Ok (dx_from n text)
-
 -- an item, or its refusal
 unfoldable pub dx_of : Records → ℕ → DxItem → Result Dx Refusal
-dx_of r user item = and_then (or_refuse code.F14 item.text (named r user item.form)) (offered r item.text)
+dx_of r user item = or_refuse code.F14 item.text (option_map (λ (found : Found). dx_from found item.text) (named r user item.form))

@@ -5,8 +5,7 @@ ghost use Rattle.dh_metadata.specs.Objects.{count_of, is_shared};
 ghost use Rattle.dh_base.specs.Memory.{Answers};
 ghost use Rattle.query_forms.specs.Given.{cause_of};
 ghost use Rattle.query_lang.specs.Each.{each_of};
-ghost use Rattle.query_lang.specs.Named.{readable, alone, object_named, is_combo_of, combo_named, operand_named, named, is_enrollment_type, is_enrollment};
-ghost use Rattle.query_lang.specs.Named.{is_over_enrollments, dx_of};
+ghost use Rattle.query_lang.specs.Named.{readable, alone, object_named, is_combo_of, combo_named, operand_named, named, dx_of};
 
 use dh_base::codes::Code;
 use dh_base::items::Items;
@@ -15,7 +14,6 @@ use dh_base::uid::Uid;
 use dh_metadata::metadata::Metadata;
 use dh_sharing::access::Right;
 use meta_parts::kind::Kind;
-use meta_parts::names::AnalyticsType;
 use query_forms::fault::refused;
 use query_forms::item::{DxForm, DxItem};
 use query_forms::{Dx, DxKind, QueryFault};
@@ -129,37 +127,6 @@ fn named(meta: &Metadata, user: u32, form: &DxForm) -> Option<Found>
     }
 }
 
-fn is_enrollment_type(analytics: AnalyticsType) -> bool
-    ensures { result ≡ is_enrollment_type analytics }
-{
-    match analytics {
-        AnalyticsType::Event => false,
-        AnalyticsType::Enrollment => true,
-    }
-}
-
-#[tactic(auto, unfolding(crate::specs::Named::is_enrollment))]
-fn is_enrollment(meta: &Metadata, number: u32) -> bool
-    ensures { result ≡ is_enrollment meta.now number }
-{
-    if number < meta.count(Kind::ProgramIndicator) {
-        is_enrollment_type(meta.program_indicator(number).analytics_type)
-    } else {
-        false
-    }
-}
-
-fn is_over_enrollments(meta: &Metadata, kind: DxKind, number: u32) -> bool
-    ensures { result ≡ is_over_enrollments meta.now kind number }
-{
-    match kind {
-        DxKind::Element => false,
-        DxKind::Indicator => false,
-        DxKind::ProgramIndicator => is_enrollment(meta, number),
-        DxKind::Rate(_) => false,
-    }
-}
-
 #[tactic(auto, unfolding(crate::specs::Named::dx_of))]
 fn dx_of(alloc: Global, meta: &Metadata, user: u32, item: &DxItem) -> Result<Dx, QueryFault>
     requires { user < length meta.now.users }
@@ -168,9 +135,6 @@ fn dx_of(alloc: Global, meta: &Metadata, user: u32, item: &DxItem) -> Result<Dx,
     let Some(named) = named(meta, user, &item.form) else {
         return Err(refused(alloc, Code::F14, item.text.as_slice()));
     };
-    if is_over_enrollments(meta, named.kind, named.number) {
-        return Err(refused(alloc, Code::F17, item.text.as_slice()));
-    }
     let text = Items::from(Vec::from_slice(alloc, item.text.as_slice())?);
     Ok(Dx {
         kind: named.kind,

@@ -1,7 +1,5 @@
 -- A query's reply depends on what its user sees of the published changes.
 use Rattle.std.proofs.Common.{◌≡◌, ◌∙◌, ◌≤◌, ℕ, ℤ, Bool, List, Option, None, Some, Result, Ok, Err, IfOk, IfSome, sym, ap, subst, refl, arith}
-use Rattle.serde_json.specs.Data.{Data}
-use Rattle.serde_json.specs.Written.{compact_text}
 use Rattle.dh_base.specs.Codes.{status_of}
 use Rattle.dh_base.specs.declared.codes.Code.TheVariants.{F18}
 use Rattle.dh_base.specs.declared.codes.Refusal.{Refusal}
@@ -60,10 +58,10 @@ answered machine new moment request user asked query keep text asks reply =
     let q = of-query machine new moment user asked query keep text (routed (published_meta machine) (day_of moment) request) asks.routed_is reply in
     shows machine user asked query keep text q.found asks.there q.looks q.tells
 
-differ : (one other : ℕ) (keep : Bool) (answer : Result Data (List ℕ))
+differ : (one other : ℕ) (keep : Bool) (answer : Result (List ℕ) (List ℕ))
     → DifferInNumber one other keep (answer_reply one keep answer) (answer_reply other keep answer)
 unfolding answer_reply refusal_reply
-differ one other keep (Ok body) = record { status = 200; body = compact_text body; first = refl; second = refl }
+differ one other keep (Ok body) = record { status = 200; body = body; first = refl; second = refl }
 differ one other keep (Err id) = record { status = status_of F18; body = error_text (refusal F18 id); first = refl; second = refl }
 
 -- every reply of a machine that looks alike has its status and body

@@ -1,7 +1,5 @@
 -- The texts of replies by what the machine answered. A call out of memory has none.
 use Rattle.std.specs.Prelude.{◌≡◌, ℕ, Bool, List, [], decimal, Option, None, Some, Result, Ok, Err, ⊤}
-use Rattle.serde_json.specs.Data.{Data}
-use Rattle.serde_json.specs.Written.{compact_text}
 use Rattle.dh_base.specs.Codes.{status_of}
 use Rattle.dh_base.specs.declared.codes.Code.TheVariants.{F18, F19, F22, F23, F30, F32}
 use Rattle.dh_base.specs.declared.codes.Refusal.{Refusal}
@@ -44,8 +42,8 @@ Refuses keep (Some refused) text = IsTold text (Some (refusal_reply None keep re
 -- ---- a query
 
 -- the answer over tables that stand for so many changes
-unfoldable pub answer_reply : ℕ → Bool → Result Data (List ℕ) → List ℕ
-answer_reply published keep (Ok body) = reply_text 200 (Some published) None keep (compact_text body)
+unfoldable pub answer_reply : ℕ → Bool → Result (List ℕ) (List ℕ) → List ℕ
+answer_reply published keep (Ok body) = reply_text 200 (Some published) None keep body
 answer_reply published keep (Err id) = refusal_reply (Some published) keep (refusal F18 id)
 
 -- only so many changes are published

@@ -64,7 +64,7 @@ pub fn over_rows<S: RowStore>(
 {
     let seer = Seer::of(alloc, meta, user)?;
     match answer(alloc, meta, store, &seer, query) {
-        Ok(body) => Ok(answered(published, keep, body)),
+        Ok(body) => Ok(answered(published, keep, body.items)),
         Err(AnswerFault::Wide { id }) => too_wide(alloc, published, keep, id),
         Err(AnswerFault::Memory) => Err(Memory),
     }

@@ -55,6 +55,14 @@ module _ {M : Type 0} (step : M → Request → Bool → List ℕ → M → Type
   prompt_none None = tt
   prompt_none (Some talk) = ([], sym (append-nil talk.heard), refl, tt)
 
+  -- what is written after the last read was asked for by none
+  pub prompt_said : (first last next : Option Talk) → Prompt step most first last old → Speaks last next → Prompt step most first next old
+  prompt_said None last next prompt said = tt
+  prompt_said (Some first) None next prompt said = absurd prompt
+  prompt_said (Some first) (Some last) None prompt said = absurd said.1
+  prompt_said (Some first) (Some last) (Some next) prompt said =
+      (prompt.0, said.1.1 ∙ prompt.1, prompt.2 ∙ ap (λ xs. given_by prompt.0 ++ xs) (sym said.1.2), prompt.3)
+
   by_pieces : (first last next : Talk) (taken more replies held : List ℕ) (requests : List Request) (now : M) (pieces : List (List ℕ))
       → Requests taken requests held → GoesOn most requests → Replies step most 0 old requests replies now
       → PromptSoFar step most (Some first) (Some last) old taken replies → joined pieces ≡ more → Hears (Some last) (Some next) pieces

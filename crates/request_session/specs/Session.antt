@@ -6,7 +6,7 @@ use Rattle.dh_base.specs.declared.codes.Code.{Code}
 use Rattle.dh_outside.specs.Pieces.{IsSpent}
 use Rattle.http_wire.specs.Next.{ended, cut, refused, whole, IsNext, IsOpen}
 use Rattle.wire_head.specs.declared.request.Request.{Request}
-use Rattle.request_session.specs.Replies.{RefusesBy}
+use Rattle.request_session.specs.Replies.{RefusesBy, memory_reply}
 use Rattle.request_session.specs.declared.ended.Ended.{Ended}
 use Rattle.request_session.specs.declared.ended.Ended.TheVariants as end
 
@@ -90,6 +90,22 @@ pub record Ran {M : Type 0} (step : M → Request → Bool → List ℕ → M
   pub text : List ℕ
   pub session : Session step most taken (IsSpent left' (length taken)) old new how text
   pub writes : WritesUpTo how written written' text
+
+-- Out of memory the reply for that stands last, and says that the connection is closed: whole, or a prefix of it at a fault of writing.
+-- No other end writes any more.
+abbrev pub ClosesBy : Ended → Ended → Option (List ℕ) → Option (List ℕ) → Type 0
+ClosesBy end.Memory end.Memory written written' = Appends written written' (memory_reply false)
+ClosesBy end.Memory end.WriteFault written written' = AppendsFront written written' (memory_reply false)
+ClosesBy end.Memory _ written written' = ⊥
+ClosesBy first how written written' = (how ≡ first) × (written' ≡ written)
+
+-- a connection: a session over one link, and its last word
+pub record Served {M : Type 0} (step : M → Request → Bool → List ℕ → M
+    → Type 0) (most : ℕ) (left left' written written' : Option (List ℕ)) (old new : M) (how : Ended) : Type 0 where
+  pub before : Option (List ℕ)
+  pub first : Ended
+  pub ran : Ran step most left left' written before old new first
+  pub closes : ClosesBy first how before written'
 
 -- the bytes that count of a source: it counts as ended after 2^63
 abbrev pub counting : List ℕ → List ℕ

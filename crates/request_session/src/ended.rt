@@ -16,7 +16,7 @@ pub enum Ended {
     ReadFault,
     /// A write failed, and the sink's count of faults rose. A prefix of the text is written.
     WriteFault,
-    /// No memory was found while a request was read.
+    /// No memory was found while a request was read. Over a link it has a reply, the last one.
     Memory,
 }
 

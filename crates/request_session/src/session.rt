@@ -1,8 +1,9 @@
 //! The loop over requests.
-ghost use Rattle.std.specs.Prelude.{◌≡◌, ◌≢◌, ◌≤◌, ◌<◌, List, ℕ, Some};
+ghost use Rattle.std.specs.Prelude.{◌≡◌, ◌≢◌, ◌≤◌, ◌<◌, ◌⊎◌, List, ℕ, Some};
 ghost use Rattle.dh_outside.specs.Faults.{Rose};
 ghost use Rattle.request_session.specs.Prompt.{Prompt};
-ghost use Rattle.request_session.specs.Session.{Ran, RanOver};
+ghost use Rattle.request_session.specs.Session.{Ran, RanOver, Served, ClosesBy};
+ghost use Rattle.request_session.specs.Turn.{Speaks};
 ghost use Rattle.request_session.specs.declared.ended.Ended.TheVariants.{ReadFault, WriteFault};
 
 use crate::ended::{Ended, Turn};
@@ -80,22 +81,61 @@ fn run_apart<M: Machine, S: Source, O: Sink>(
     run(alloc, machine, &mut peer, most)
 }
 
+// The last word of a connection: out of memory it is the reply for that, which takes none.
+fn last_word<P: Peer>(peer: &mut P, ended: Ended) -> Ended
+    ensures closes { ClosesBy ended result (P.written peer.old) (P.written peer.new) }
+    ensures speaks { Speaks (P.talk peer.old) (P.talk peer.new) }
+    ensures left { P.left peer.new ≡ P.left peer.old }
+    ensures lends { P.lends peer.new ≡ P.lends peer.old }
+    ensures read_fault { result ≡ ReadFault → ended ≡ ReadFault }
+    ensures write_fault { result ≡ WriteFault → (ended ≡ WriteFault) ⊎ Rose (P.write_faults peer.old) (P.write_faults peer.new) }
+    ensures reading { P.read_faults peer.old ≤ P.read_faults peer.new }
+    ensures writing { P.write_faults peer.old ≤ P.write_faults peer.new }
+{
+    if ended != Ended::Memory {
+        return ended;
+    }
+    match peer.send_memory(false) {
+        Ok(()) => Ended::Memory,
+        Err(_) => Ended::WriteFault,
+    }
+}
+
+// Answers the requests of a peer, and has the last word.
+fn run_to_the_end<M: Machine, P: Peer>(
+    alloc: Global,
+    machine: &mut M,
+    peer: &mut P,
+    most: u64,
+) -> Ended
+    ensures served { Served M.step most (P.left peer.old) (P.left peer.new) (P.written peer.old) (P.written peer.new) machine.old machine.new result }
+    ensures prompt { Prompt M.step most (P.talk peer.old) (P.talk peer.new) machine.old }
+    ensures lends { P.lends peer.new ≡ P.lends peer.old }
+    ensures read_fault { result ≡ ReadFault → Rose (P.read_faults peer.old) (P.read_faults peer.new) }
+    ensures write_fault { result ≡ WriteFault → Rose (P.write_faults peer.old) (P.write_faults peer.new) }
+    ensures reading { P.read_faults peer.old ≤ P.read_faults peer.new }
+{
+    let ended = run(alloc, machine, peer, most);
+    last_word(peer, ended)
+}
+
 /// Answers the requests of a link one after another, `most` of them at most, and writes the replies to it. Whenever
-/// it reads, the replies to all requests that were whole before are written, if the link tells the order.
+/// it reads, the replies to all requests that were whole before are written, if the link tells the order. If memory runs out while a
+/// request is read, the reply for that stands last, and says that the connection is closed.
 pub fn serve_link<M: Machine, N: Link>(
     alloc: Global,
     machine: &mut M,
     link: &mut N,
     most: u64,
 ) -> Ended
-    ensures ran { Ran M.step most (N.left link.old) (N.left link.new) (N.written link.old) (N.written link.new) machine.old machine.new result }
+    ensures served { Served M.step most (N.left link.old) (N.left link.new) (N.written link.old) (N.written link.new) machine.old machine.new result }
     ensures prompt { Prompt M.step most (N.source_talk link.old) (N.source_talk link.new) machine.old }
     ensures read_fault { result ≡ ReadFault → Rose (N.source_faults link.old) (N.source_faults link.new) }
     ensures write_fault { result ≡ WriteFault → Rose (N.sink_faults link.old) (N.sink_faults link.new) }
     ensures keeps { N.source_faults link.old ≤ N.source_faults link.new }
 {
     let mut peer = Joint { link };
-    run(alloc, machine, &mut peer, most)
+    run_to_the_end(alloc, machine, &mut peer, most)
 }
 
 /// Answers the requests of `input` one after another, `most` of them at most, and writes the replies to `output`.

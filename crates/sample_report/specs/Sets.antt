@@ -2,8 +2,8 @@
 use Rattle.std.specs.Prelude.{ℕ, zero, suc, ◌+◌, ◌-◌, ◌/◌, min, false, List, [], ◌∷◌, map, None, Some}
 use Rattle.std.specs.Fmt.{decimal}
 use Rattle.record_index.specs.declared.outcome.ImportStrategy.TheVariants.{CreateAndUpdate}
-use Rattle.value_forms.specs.declared.set.SetValue.{SetValue}
-use Rattle.value_forms.specs.declared.set.ValueSet.{ValueSet}
+use Rattle.import_forms.specs.declared.set.SetValue.{SetValue}
+use Rattle.import_forms.specs.declared.set.ValueSet.{ValueSet}
 use Rattle.sample_report.specs.declared.draws.Sample.{Sample}
 use Rattle.sample_report.specs.Draws.{start, samples, after_samples}
 use Rattle.sample_report.specs.Ids.{element_id, facility_id, month_text}

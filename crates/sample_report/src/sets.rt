@@ -8,9 +8,9 @@ use crate::draws::Sample;
 use crate::ids::{ELEMENT, facility_id, month_text};
 use dh_base::items::Items;
 use dh_base::memory::Memory;
+use import_forms::set::{SetParams, SetValue, ValueSet};
 use record_index::outcome::ImportStrategy;
 use std::alloc::Global;
-use value_forms::set::{SetParams, SetValue, ValueSet};
 
 #[tactic(auto, unfolding(crate::specs::Ids::element_id))]
 fn element_text(alloc: Global) -> Result<Items<u8>, Memory>

@@ -302,9 +302,11 @@ cut_begins made engine new list caller kind update faults s step =
     let number : update.number ≡ length engine.state.log = ap (λ (u : Staged). u.number) step.0.1.1 in
     let log : stand.machine.log ≡ engine.state.log = ap (λ (st : State). st.log) (sym s.state) in
     let low : update.number ≤ length stand.machine.log =
-    subst (λ (l : List Change). update.number ≤ length l) (sym log) (subst (λ (n : ℕ). n ≤ length engine.state.log) (sym number) (le_refl (length engine.state.log))) in
+    subst (λ (l : List Change). update.number ≤ length l) (sym log)
+    (subst (λ (n : ℕ). n ≤ length engine.state.log) (sym number) (le_refl (length engine.state.log))) in
     let high : length stand.machine.log ≤ update.number =
-    subst (λ (l : List Change). length l ≤ update.number) (sym log) (subst (λ (n : ℕ). length engine.state.log ≤ n) (sym number) (le_refl (length engine.state.log))) in
+    subst (λ (l : List Change). length l ≤ update.number) (sym log)
+    (subst (λ (n : ℕ). length engine.state.log ≤ n) (sym number) (le_refl (length engine.state.log))) in
     record {
       begun = subst (λ (st : Stand). staged_of st.machine kind ≡ Some update) (sym after) (cut_staged stand.machine.full stand.machine.latest kind update);
       given = subst (λ (st : Stand). update.ticket ≤ st.machine.ticket) (sym after) (le_refl update.ticket);
@@ -366,14 +368,16 @@ pub end_made : (made : Made) (engine new : Seen) (l0 l1 l2 l3 : LockView Entry) 
     → l2 ≡ record l1 { list = l1.list ++ entry_by l1.taken (end_act ticket reply) new.faults ∷ []; told = told_after l1.told reply }
     → l3 ≡ record l2 { taken = None } → IfSome l2.taken (λ caller. now ≡ record { table = l2.table; caller = caller; list = l2.list; told = l2.told })
     → IsRunning made new l3 × IsCall made token now (record { caller = token.caller; act = end_act ticket reply; faults = new.faults } ∷ [])
-end_made made engine new l0 l1 l2 l3 token now ticket (Ok published_now) running table taken follows kind number changes begun_is goes published rises noted back given =
+end_made made engine new l0 l1 l2 l3 token now ticket (Ok published_now) running table taken follows kind number changes begun_is goes published rises noted
+    back given =
     let from = subst (λ (l : LockView Entry). Follows caller_of token l) taken follows in
     let all = call_made made engine new l0 l1 l2 l3 token now (swapped ticket (Ok published_now)) published_now running table taken follows goes
     (still_begun made engine l0 token kind (record { ticket = ticket; number = number }) changes running from begun_is).owner
     (subst (λ (n : ℕ). n ≤ published_now) (sym running.told) rises) (sym published)
     noted back given in
     (all.0, all.1)
-end_made made engine new l0 l1 l2 l3 token now ticket (Err memory) running table taken follows kind number changes begun_is goes published rises noted back given =
+end_made made engine new l0 l1 l2 l3 token now ticket (Err memory) running table taken follows kind number changes begun_is goes published rises noted back
+    given =
     let from = subst (λ (l : LockView Entry). Follows caller_of token l) taken follows in
     let all = quiet_made made engine new l0 l1 l2 l3 token now (dropped ticket) running table taken follows goes
     (still_begun made engine l0 token kind (record { ticket = ticket; number = number }) changes running from begun_is).owner published noted back given in

@@ -98,7 +98,7 @@ or_left : (a b : Bool) → b ≡ false → (a || b) ≡ true → a ≡ true
 or_left true b off is = refl
 or_left false b off is = absurd (cc)
 
-from_left : (a b : Bool) → a ≡ true → (a || b) ≡ true
+pub from_left : (a b : Bool) → a ≡ true → (a || b) ≡ true
 from_left true b is = refl
 from_left false b is = absurd (cc)
 
@@ -127,7 +127,8 @@ grown_on log change = go (has_writes change) refl
     go true e = (change ∷ [], ap (λ b. cond b (log ++ change ∷ []) log) e)
     go false e = ([], ap (λ b. cond b (log ++ change ∷ []) log) e ∙ sym (append-nil log))
 
-grows : (meta : Records) (log : List Change) (asked : Asked) (found : Result Judged Refusal) → (more : List Change) × (log_by meta log asked found ≡ log ++ more)
+grows : (meta : Records) (log : List Change) (asked : Asked) (found : Result Judged Refusal)
+    → (more : List Change) × (log_by meta log asked found ≡ log ++ more)
 grows meta log asked (Ok found) = grown_on log (change_of meta asked found)
 grows meta log asked (Err refused) = ([], sym (append-nil log))
 
@@ -166,7 +167,8 @@ none_some : (update : Staged) (staged : Option Staged) → staged ≡ None → s
 none_some update staged none is = absurd (cc)
 
 -- a new update of a kind of which none was begun
-cut_apart : (full latest : Option Staged) (kind other : CutKind) (update new : Staged) → by_kind other full latest ≡ None → by_kind kind full latest ≡ Some update
+cut_apart : (full latest : Option Staged) (kind other : CutKind) (update new : Staged) → by_kind other full latest ≡ None
+    → by_kind kind full latest ≡ Some update
     → by_kind kind (by_kind other (Some new) full) (by_kind other latest (Some new)) ≡ Some update
 cut_apart full latest Full Full update new blank is = absurd (none_some update full blank is)
 cut_apart full latest Full Latest update new blank is = is

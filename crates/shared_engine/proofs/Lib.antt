@@ -1,3 +1,5 @@
 pub mod Growth
 pub mod Calls
+pub mod ShareLemmas
+pub mod BuildLemmas
 pub mod UnseenLemmas

@@ -2,6 +2,7 @@
 //! What a call did is said by its caller's pass: the history as the call left it, and the caller's own entries in it.
 #![tactic(auto)]
 
+mod builds;
 mod laws;
 mod locked;
 mod names;
@@ -9,6 +10,7 @@ mod notes;
 mod shared;
 mod steps;
 
+pub use builds::build_all;
 pub use laws::{
     looks_are_current, looks_show_the_last_swap, published_never_falls, unseen_changes_nothing,
     updates_stay_begun,

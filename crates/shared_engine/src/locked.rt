@@ -12,11 +12,12 @@ ghost use Rattle.engine.specs.Tables.{tables_of};
 ghost use Rattle.shared_engine.specs.Entries.{entries_of, caller_of};
 ghost use Rattle.shared_engine.specs.Histories.{stand_of, IsLegal, IsBegunBy};
 ghost use Rattle.shared_engine.specs.Ends.{staged_in, end_act};
+ghost use Rattle.shared_engine.specs.Builds.{CanBuild, ArePartsOf};
 ghost use Rattle.shared_engine.specs.Calls.{IsCall};
 
 use crate::names::{Item, Naming};
 use crate::notes::{note_change, note_cut, note_end, note_look};
-use crate::steps::end_update;
+use crate::steps::end_with;
 use change_requests::ChangeRequest;
 use dh_base::memory::Memory;
 use dh_base::plain::CutKind;
@@ -26,6 +27,7 @@ use history_word::{HistoryTable, LockSeat, Token};
 use record_index::outcome::Who;
 use std::alloc::Global;
 use std::marker::{Model, PhantomData};
+use year_tables::Partition;
 
 /// The engine with its history. Contracts see that it is there, and its type that it stands where a legal history leaves it.
 #[derive(Drop)]
@@ -120,6 +122,7 @@ impl<J: Naming, K: Keeper> Locked<J, K> {
         requires kind { kind ≡ Full }
         ensures call { (faults : ℕ) × IsCall J.made token result.0 (entries_of token.caller (begun kind (update_in result.1)) faults) }
         ensures begun { IfOk result.1 (λ cut. IsBegunBy J.made result.0.list token.caller kind (staged_in cut) (map arc_value cut.changes.items)) }
+        ensures builds { IfOk result.1 (λ cut. CanBuild (map arc_value cut.changes.items)) }
     {
         self.seat.take_in(words, token);
         let reply = self.engine.cut(alloc, kind);
@@ -128,21 +131,24 @@ impl<J: Naming, K: Keeper> Locked<J, K> {
         (token, reply)
     }
 
-    /// Ends an update that the caller of a token has begun: it is swapped in or, out of memory, dropped.
+    /// Hands in what was built of an update that the caller of a token has begun, and ends it: it is swapped in or, out of memory,
+    /// dropped.
     pub(crate) fn finish(
         &mut self,
         alloc: Global,
         words: &HistoryTable<Item>,
         token: Token<Item>,
         cut: &Cut,
+        parts: Vec<Option<Partition>>,
     ) -> (Token<Item>, Result<u64, Memory>)
         requires table { (words.now ≡ J.made.table) × (token.table ≡ J.made.table) }
         requires begun { IsBegunBy J.made token.list token.caller Full (staged_in cut.now) (map arc_value cut.now.changes.items) }
+        requires parts { ArePartsOf J.made.meta (map arc_value cut.now.changes.items) parts.items }
         ensures { (faults : ℕ) × IsCall J.made token result.0
             (record { caller = token.caller; act = end_act cut.now.ticket result.1; faults = faults } ∷ []) }
     {
         self.seat.take_in(words, token);
-        let reply = end_update(alloc, &mut self.engine, cut.ticket);
+        let reply = end_with(alloc, &mut self.engine, cut.ticket, parts);
         note_end(&mut self.seat, words, &self.engine, cut.ticket, &reply);
         let token = self.seat.give_back(words);
         (token, reply)

@@ -12,10 +12,13 @@ ghost use Rattle.engine.specs.Tables.{tables_of};
 ghost use Rattle.shared_engine.specs.Entries.{Entry, entries_of, caller_of};
 ghost use Rattle.shared_engine.specs.Histories.{stand_of, IsLegal, IsBegunBy};
 ghost use Rattle.shared_engine.specs.Ends.{staged_in, end_act, answer_of};
+ghost use Rattle.shared_engine.specs.Builds.{CanBuild, ArePartsOf};
 ghost use Rattle.shared_engine.specs.Calls.{IsCall, IsUpdate};
 
+use crate::builds::build_parts;
 use crate::locked::Locked;
 use crate::names::{Item, Naming};
+use build_workers::Gate;
 use change_requests::ChangeRequest;
 use dh_base::memory::Memory;
 use dh_base::plain::CutKind;
@@ -27,6 +30,8 @@ use record_index::outcome::Who;
 use std::alloc::Global;
 use std::marker::{Model, PhantomData};
 use std::sync::{Arc, Mutex, Wait};
+use std::thread::Threads;
+use year_tables::Partition;
 
 /// A caller's pass. Contracts see the caller, the history as its last call left it, and the greatest number that it was told.
 #[derive(Drop)]
@@ -213,14 +218,18 @@ impl<J: Naming, K: Keeper> Shared<J, K> {
         reply
     }
 
-    /// Makes new tables and answers how many changes they stand for. Other callers' calls may come between its beginning and its end;
-    /// out of memory it is dropped.
-    pub fn update<R: Wait>(
+    /// Makes new tables and answers how many changes they stand for. It is begun under the lock; then so many workers build the parts
+    /// of its years outside the lock, each of which calls the gate before it builds a year; under the lock again the parts are handed
+    /// in and it is ended. Other callers' calls may come between its beginning and its end. The parts for which there was no memory
+    /// are built under the lock; if there is none then, the update is dropped.
+    pub fn update<R: Threads + Wait + Sync, G: Gate + Sync>(
         &self,
         rt: &R,
         alloc: Global,
         pass: &mut Pass<J>,
         kind: CutKind,
+        workers: u32,
+        gate: &G,
     ) -> Result<u64, CutFault>
         requires { kind ≡ Full }
         ensures { (entries : List Entry) × IsCall J.made pass.old pass.new entries × IsUpdate pass.old.caller kind result entries }
@@ -228,18 +237,20 @@ impl<J: Naming, K: Keeper> Shared<J, K> {
         let Some(token) = pass.token.take() else {
             unreachable!()
         };
-        let (token, answer) = self.update_by(rt, alloc, token, kind);
+        let (token, answer) = self.update_by(rt, alloc, token, kind, workers, gate);
         pass.token = Some(token);
         answer
     }
 
     #[tactic(auto, using(crate::proofs::Calls::update_refused))]
-    fn update_by<R: Wait>(
+    fn update_by<R: Threads + Wait + Sync, G: Gate + Sync>(
         &self,
         rt: &R,
         alloc: Global,
         token: Token<Item>,
         kind: CutKind,
+        workers: u32,
+        gate: &G,
     ) -> (Token<Item>, Result<u64, CutFault>)
         requires table { token.table ≡ J.made.table }
         requires kind { kind ≡ Full }
@@ -248,7 +259,8 @@ impl<J: Naming, K: Keeper> Shared<J, K> {
         let (token, begun) = self.begin(rt, alloc, token, kind);
         match begun {
             Ok(cut) => {
-                let (token, ended) = self.end(rt, alloc, token, &cut);
+                let parts = self.build(rt, alloc, &cut, workers, gate);
+                let (token, ended) = self.end(rt, alloc, token, &cut, parts);
                 (token, answer_of(ended))
             }
             Err(fault) => (token, Err(fault)),
@@ -266,9 +278,25 @@ impl<J: Naming, K: Keeper> Shared<J, K> {
         requires kind { kind ≡ Full }
         ensures call { (faults : ℕ) × IsCall J.made token result.0 (entries_of token.caller (begun kind (update_in result.1)) faults) }
         ensures begun { IfOk result.1 (λ cut. IsBegunBy J.made result.0.list token.caller kind (staged_in cut) (map arc_value cut.changes.items)) }
+        ensures builds { IfOk result.1 (λ cut. CanBuild (map arc_value cut.changes.items)) }
     {
         let mut locked = self.lock.lock(rt);
         locked.cut(alloc, &self.words, token, kind)
+    }
+
+    // The parts of a cut's years, built while nobody has to wait for the lock.
+    fn build<R: Threads + Sync, G: Gate + Sync>(
+        &self,
+        rt: &R,
+        alloc: Global,
+        cut: &Cut,
+        workers: u32,
+        gate: &G,
+    ) -> Vec<Option<Partition>>
+        requires { CanBuild (map arc_value cut.now.changes.items) }
+        ensures { ArePartsOf J.made.meta (map arc_value cut.now.changes.items) result.items }
+    {
+        build_parts(rt, alloc, self.meta(), cut, workers, gate)
     }
 
     fn end<R: Wait>(
@@ -277,14 +305,16 @@ impl<J: Naming, K: Keeper> Shared<J, K> {
         alloc: Global,
         token: Token<Item>,
         cut: &Cut,
+        parts: Vec<Option<Partition>>,
     ) -> (Token<Item>, Result<u64, Memory>)
         requires table { token.table ≡ J.made.table }
         requires begun { IsBegunBy J.made token.list token.caller Full (staged_in cut.now) (map arc_value cut.now.changes.items) }
+        requires parts { ArePartsOf J.made.meta (map arc_value cut.now.changes.items) parts.items }
         ensures { (faults : ℕ) × IsCall J.made token result.0
             (record { caller = token.caller; act = end_act cut.now.ticket result.1; faults = faults } ∷ []) }
     {
         let mut locked = self.lock.lock(rt);
-        locked.finish(alloc, &self.words, token, cut)
+        locked.finish(alloc, &self.words, token, cut, parts)
     }
 }
 

@@ -5,7 +5,7 @@ use Rattle.history_word.specs.Views.{TokenView}
 use Rattle.wire_head.specs.declared.request.Request.{Request}
 use Rattle.request_session.specs.Along.{Carries}
 use Rattle.request_session.specs.Prompt.{Prompt, EachRead, AllAnswered}
-use Rattle.request_session.specs.Session.{Ran}
+use Rattle.request_session.specs.Session.{Ran, Served}
 use Rattle.request_session.specs.declared.ended.Ended.{Ended}
 use Rattle.request_session.proofs.AlongLemmas.{ran_along, replies_along}
 use Rattle.shared_engine.specs.Entries.{Entry}
@@ -56,18 +56,29 @@ module _ {M C : Type 0} (made : Made) (shows : C → ℤ → Type 0) (pass : M �
     (step.clock_is ∙ known.0, step.lent ∙ known.1),
   )
 
-  pub ran_for : (most : ℕ) (left left' written written' : Option (List ℕ)) (old new : M) (how : Ended)
+  ran_for : (most : ℕ) (left left' written written' : Option (List ℕ)) (old new : M) (how : Ended)
       → Ran lent_step most left left' written written' old new how
       → Ran (SharedReply made (shows (clock old))) most left left' written written' (pass old) (pass new) how
   ran_for most left left' written written' old new how ran =
       (ran_along pass (is_lent old) lent_step (SharedReply made (shows (clock old))) (carries old) most left left' written written' old new how (refl, refl)
       ran).0
 
+  -- a connection too
+  pub served_for : (most : ℕ) (left left' written written' : Option (List ℕ)) (old new : M) (how : Ended)
+      → Served lent_step most left left' written written' old new how
+      → Served (SharedReply made (shows (clock old))) most left left' written written' (pass old) (pass new) how
+  served_for most left left' written written' old new how served = record {
+    before = served.before;
+    first = served.first;
+    ran = ran_for most left left' written served.before old new served.first served.ran;
+    closes = served.closes;
+  }
+
   pub lent_still : (most : ℕ) (left left' written written' : Option (List ℕ)) (old new : M) (how : Ended)
-      → Ran lent_step most left left' written written' old new how → name new ≡ name old
-  lent_still most left left' written written' old new how ran =
-      ((ran_along pass (is_lent old) lent_step (SharedReply made (shows (clock old))) (carries old) most left left' written written' old new how (refl, refl)
-      ran).1).1
+      → Served lent_step most left left' written written' old new how → name new ≡ name old
+  lent_still most left left' written written' old new how served =
+      ((ran_along pass (is_lent old) lent_step (SharedReply made (shows (clock old))) (carries old) most left left' written served.before old new served.first
+      (refl, refl) served.ran).1).1
 
   pub prompt_for : (most : ℕ) (talk talk' : Option Talk) (old : M) → Prompt lent_step most talk talk' old
       → Prompt (SharedReply made (shows (clock old))) most talk talk' (pass old)

@@ -62,7 +62,8 @@ check_meant text meta after log user published place keep contents is tables tel
 abbrev pub Looks : Made → TokenView Entry → TokenView Entry → ℕ → Result ℕ LookFault → Type 0
 Looks made before now asked found = (faults : ℕ) × IsCall made before now (entries_of before.caller (looked asked found) faults)
 
-pub query_replied : (made : Made) (before now : TokenView Entry) (asked user : ℕ) (query : Query) (keep : Bool) (after : Records) (found : Result View LookFault)
+pub query_replied : (made : Made) (before now : TokenView Entry) (asked user : ℕ) (query : Query) (keep : Bool) (after : Records)
+    (found : Result View LookFault)
     (text : Option (List ℕ))
     → Looks made before now asked (published_in found)
     → IfOk found (λ view. contents_in (arc_value view.tables) ≡ tables_of made.meta (take view.published (log_known made now)))
@@ -82,7 +83,8 @@ query_replied made before now asked user query keep after (Err (look.NotYet publ
 query_replied made before now asked user query keep after (Err look.Memory) text call tables number is tells =
     record { found = Err look.Memory; faults = call.0; call = call.1; number = tt; tells = tells }
 
-pub check_replied : (made : Made) (before now : TokenView Entry) (asked user : ℕ) (place : Place) (keep : Bool) (after : Records) (found : Result View LookFault)
+pub check_replied : (made : Made) (before now : TokenView Entry) (asked user : ℕ) (place : Place) (keep : Bool) (after : Records)
+    (found : Result View LookFault)
     (text : Option (List ℕ))
     → Looks made before now asked (published_in found)
     → IfOk found (λ view. contents_in (arc_value view.tables) ≡ tables_of made.meta (take view.published (log_known made now)))

@@ -52,6 +52,10 @@ abbrev pub update_told : Bool → CutKind → Result ℕ CutFault → Option (Li
 update_told keep kind (Ok published) = Some (update_reply published keep kind)
 update_told keep kind (Err fault) = cut_text keep fault
 
+-- an update as one call: its cut, and its swap or drop, unless the cut is refused
+abbrev pub UpdateCall : Made → TokenView Entry → CutKind → Result ℕ CutFault → TokenView Entry → Type 0
+UpdateCall made before kind found now = (entries : List Entry) × IsCall made before now entries × IsUpdate before.caller kind found entries
+
 -- An update adds its cut, and its swap or drop, unless the cut is refused. One that was made has its reply.
 pub record UpdateReply (made : Made) (kind : CutKind) (keep : Bool) (before : TokenView Entry) (text : Option (List ℕ)) (now : TokenView Entry) : Type 0
   where

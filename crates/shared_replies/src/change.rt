@@ -15,8 +15,8 @@ use shared_engine::{Naming, Pass};
 use std::sync::Wait;
 
 /// The reply to a change that a user asks for. A change that was made needs no memory to be told.
-pub(crate) fn reply_to_change<J: Naming, K: Keeper, R: Wait>(
-    system: &System<'_, J, K, R>,
+pub(crate) fn reply_to_change<J: Naming, K: Keeper, R: Wait, G>(
+    system: &System<'_, J, K, R, G>,
     pass: &mut Pass<J>,
     user: u32,
     moment: i64,

@@ -8,7 +8,7 @@ mod replier;
 mod serving;
 mod system;
 mod update;
+mod updating;
 
-pub use replier::SharedReplier;
 pub use serving::serve_connection;
 pub use system::System;

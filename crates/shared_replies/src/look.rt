@@ -57,8 +57,8 @@ fn tell_answer(
 }
 
 /// The reply to a query over the tables that are published.
-pub(crate) fn reply_to_query<J: Naming, K: Keeper, R: Wait>(
-    system: &System<'_, J, K, R>,
+pub(crate) fn reply_to_query<J: Naming, K: Keeper, R: Wait, G>(
+    system: &System<'_, J, K, R, G>,
     pass: &mut Pass<J>,
     meta: &Metadata,
     user: u32,
@@ -106,8 +106,8 @@ fn tell_check(
 }
 
 /// The reply to a check over the tables that are published.
-pub(crate) fn reply_to_check<J: Naming, K: Keeper, R: Wait>(
-    system: &System<'_, J, K, R>,
+pub(crate) fn reply_to_check<J: Naming, K: Keeper, R: Wait, G>(
+    system: &System<'_, J, K, R, G>,
     pass: &mut Pass<J>,
     meta: &Metadata,
     user: u32,

@@ -11,6 +11,7 @@ use crate::change::reply_to_change;
 use crate::look::{reply_to_check, reply_to_query};
 use crate::system::{System, meta_of};
 use crate::update::reply_to_update;
+use crate::updating::{Updates, Updating};
 use change_requests::ChangeRequest;
 use dh_base::memory::Memory;
 use dh_metadata::metadata::Metadata;
@@ -27,8 +28,9 @@ use wire_head::Request;
 
 // The reply to a call at a moment.
 #[tactic(auto, using(crate::proofs::ReplyLemmas::user_made))]
-fn reply_to_call<J: Naming, K: Keeper, R: Wait>(
-    system: &System<'_, J, K, R>,
+fn reply_to_call<J: Naming, K: Keeper, R: Wait, G, U: Updates<Pass<J>> + Drop>(
+    system: &System<'_, J, K, R, G>,
+    updating: &Updating<J, U>,
     pass: &mut Pass<J>,
     meta: &Metadata,
     moment: i64,
@@ -48,7 +50,7 @@ fn reply_to_call<J: Naming, K: Keeper, R: Wait>(
             asked,
             checked,
         } => reply_to_check(system, pass, meta, user, asked, &checked, keep),
-        Call::Update { kind } => reply_to_update(system, pass, kind, keep),
+        Call::Update { kind } => reply_to_update(system.alloc, updating, pass, kind, keep),
         Call::Values { user, set } => reply_to_change(
             system,
             pass,
@@ -86,8 +88,9 @@ fn reply_to_call<J: Naming, K: Keeper, R: Wait>(
 
 // The reply to a request at a moment, read over metadata.
 #[tactic(auto, using(crate::proofs::ReplyLemmas::of_call))]
-fn reply_over<J: Naming, K: Keeper, R: Wait>(
-    system: &System<'_, J, K, R>,
+fn reply_over<J: Naming, K: Keeper, R: Wait, G, U: Updates<Pass<J>> + Drop>(
+    system: &System<'_, J, K, R, G>,
+    updating: &Updating<J, U>,
     pass: &mut Pass<J>,
     meta: &Metadata,
     moment: i64,
@@ -98,14 +101,15 @@ fn reply_over<J: Naming, K: Keeper, R: Wait>(
     ensures { MeantReply J.made moment (routed meta.now (day_of moment) request.now) keep pass.old (told result) pass.new }
 {
     match route(system.alloc, request, meta, day_of(moment)) {
-        Ok(call) => reply_to_call(system, pass, meta, moment, call, keep),
+        Ok(call) => reply_to_call(system, updating, pass, meta, moment, call, keep),
         Err(fault) => refuse(system.alloc, keep, &fault),
     }
 }
 
 /// The reply to a request at a moment.
-pub(crate) fn reply_at<J: Naming, K: Keeper, R: Wait>(
-    system: &System<'_, J, K, R>,
+pub(crate) fn reply_at<J: Naming, K: Keeper, R: Wait, G, U: Updates<Pass<J>> + Drop>(
+    system: &System<'_, J, K, R, G>,
+    updating: &Updating<J, U>,
     pass: &mut Pass<J>,
     moment: i64,
     request: &Request,
@@ -113,19 +117,38 @@ pub(crate) fn reply_at<J: Naming, K: Keeper, R: Wait>(
 ) -> Result<Reply, Memory>
     ensures { ReplyAt J.made moment request.now keep pass.old (told result) pass.new }
 {
-    reply_over(system, pass, meta_of(system.shared), moment, request, keep)
+    reply_over(
+        system,
+        updating,
+        pass,
+        meta_of(system.shared),
+        moment,
+        request,
+        keep,
+    )
 }
 
 /// What answers the requests of one caller, whose pass is lent to it, by a clock that is lent to it.
 #[derive(Drop)]
-pub struct SharedReplier<'a, 'b, J: Naming, K: Keeper, C: Clock, R: Wait> {
-    pub system: System<'a, J, K, R>,
-    pub pass: &'b mut Pass<J>,
-    pub clock: &'a C,
+pub(crate) struct SharedReplier<
+    'a,
+    'b,
+    'c,
+    J: Naming,
+    K: Keeper,
+    C: Clock,
+    R: Wait,
+    G,
+    U: Updates<Pass<J>> + Drop,
+> {
+    pub(crate) system: System<'a, J, K, R, G>,
+    pub(crate) updating: &'c Updating<J, U>,
+    pub(crate) pass: &'b mut Pass<J>,
+    pub(crate) clock: &'a C,
 }
 
-impl<'a, 'b, J: Naming, K: Keeper, C: Clock, R: Wait> Machine
-    for SharedReplier<'a, 'b, J, K, C, R> {
+impl<'a, 'b, 'c, J: Naming, K: Keeper, C: Clock, R: Wait, G, U: Updates<Pass<J>> + Drop> Machine
+    for SharedReplier<'a, 'b, 'c, J, K, C, R, G, U> {
     ghost use Rattle.std.specs.Prelude.{IfOk, OnErr};
     ghost use Rattle.request_session.specs.Replies.{text_in, memory_reply};
     ghost use Rattle.shared_replies.specs.Serving.{LentStep};
@@ -141,6 +164,13 @@ impl<'a, 'b, J: Naming, K: Keeper, C: Clock, R: Wait> Machine
     {
         let _alloc = alloc;
         let moment = self.clock.now();
-        reply_at(&self.system, self.pass, moment, request, keep)
+        reply_at(
+            &self.system,
+            self.updating,
+            self.pass,
+            moment,
+            request,
+            keep,
+        )
     }
 }

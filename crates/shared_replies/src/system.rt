@@ -10,12 +10,15 @@ use shared_engine::{Naming, Shared};
 use std::alloc::Global;
 use std::sync::Wait;
 
-/// The engine that is shared, the leave to wait for its lock, and memory.
+/// The engine that is shared, the leave to wait for its lock, and memory; by how many workers the parts of an update are built, and
+/// the gate at which each stops before it builds a year.
 #[derive(Drop)]
-pub struct System<'a, J: Naming, K: Keeper, R: Wait> {
+pub struct System<'a, J: Naming, K: Keeper, R: Wait, G> {
     pub shared: &'a Shared<J, K>,
     pub rt: &'a R,
     pub alloc: Global,
+    pub workers: u32,
+    pub gate: &'a G,
 }
 
 fn after(meta: &Metadata) -> &Metadata

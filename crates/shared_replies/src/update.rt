@@ -5,16 +5,14 @@ ghost use Rattle.request_session.specs.Replies.{text_in};
 ghost use Rattle.request_replies.specs.Texts.{told, IsTold, update_reply};
 ghost use Rattle.shared_replies.specs.Replies.{UpdateReply, Attempt, update_told};
 
-use crate::system::System;
+use crate::updating::{Updates, Updating};
 use dh_base::memory::Memory;
 use dh_base::plain::CutKind;
-use dh_outside::Keeper;
 use engine::CutFault;
 use request_replies::update::not_begun;
 use request_session::{Reply, whole_reply};
 use shared_engine::{Naming, Pass};
 use std::alloc::Global;
-use std::sync::Wait;
 use wire_replies::update_body;
 
 // As many bytes as the body of a reply to an update may have.
@@ -78,8 +76,9 @@ fn tell(
 }
 
 // The reply to an update, with room for it.
-fn reply_in<J: Naming, K: Keeper, R: Wait>(
-    system: &System<'_, J, K, R>,
+fn reply_in<J: Naming, U: Updates<Pass<J>> + Drop>(
+    alloc: Global,
+    updating: &Updating<J, U>,
     pass: &mut Pass<J>,
     kind: CutKind,
     keep: bool,
@@ -89,13 +88,14 @@ fn reply_in<J: Naming, K: Keeper, R: Wait>(
     requires room { length room.items ≡ 128 }
     ensures { UpdateReply J.made kind keep pass.old (told result) pass.new }
 {
-    let found = system.shared.update(system.rt, system.alloc, pass, kind);
-    tell(system.alloc, room, found, kind, keep)
+    let found = updating.update(pass, kind);
+    tell(alloc, room, found, kind, keep)
 }
 
 /// The reply to an update.
-pub(crate) fn reply_to_update<J: Naming, K: Keeper, R: Wait>(
-    system: &System<'_, J, K, R>,
+pub(crate) fn reply_to_update<J: Naming, U: Updates<Pass<J>> + Drop>(
+    alloc: Global,
+    updating: &Updating<J, U>,
     pass: &mut Pass<J>,
     kind: CutKind,
     keep: bool,
@@ -103,8 +103,8 @@ pub(crate) fn reply_to_update<J: Naming, K: Keeper, R: Wait>(
     requires { kind ≡ Full }
     ensures { Attempt (UpdateReply J.made kind keep) pass.old (told result) pass.new }
 {
-    match room(system.alloc) {
-        Ok(room) => reply_in(system, pass, kind, keep, room),
+    match room(alloc) {
+        Ok(room) => reply_in(alloc, updating, pass, kind, keep, room),
         Err(_) => Err(Memory),
     }
 }

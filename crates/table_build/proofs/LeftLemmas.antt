@@ -1,5 +1,6 @@
 -- The years of what writes name are those of the rows that they leave.
-use Rattle.std.proofs.Common.{◌≡◌, ◌∙◌, ◌⊎◌, inl, inr, ℕ, ◌+◌, ◌<◌, ℤ, List, [], ◌∷◌, ◌++◌, Option, Some, None, length, map, drop, get_or, refl, sym, ap, subst, add-one, drop-cons}
+use Rattle.std.proofs.Common.{◌≡◌, ◌∙◌, ◌⊎◌, inl, inr, ℕ, ◌+◌, ◌<◌, ℤ, List, [], ◌∷◌, ◌++◌, Option, Some, None, length, map, drop, get_or, refl, sym, ap}
+use Rattle.std.proofs.Common.{subst, add-one, drop-cons}
 use Rattle.std.proofs.Common.{Ordering, Less, Equal, Greater}
 use Rattle.std.specs.Prelude.{option_map, option_and_then}
 use Rattle.std.specs.Option.{unwrap_or}
@@ -42,7 +43,7 @@ use Rattle.table_build.proofs.KeyLemmas.{given-in}
 use Rattle.table_build.proofs.MemberLemmas.{IsIn, in_order-is, in_order-has, in_order-from}
 use Rattle.table_build.proofs.OrderLemmas.{same-key, reg_total, same-reg, event_total, same-event}
 use Rattle.table_build.proofs.OrderedLemmas.{put_all_append, put_all-keyed, keys-keyed, in_order-sorted}
-use Rattle.table_build.proofs.YearLemmas.{in-map, in-option, in-left, in-right}
+use Rattle.table_build.proofs.YearLemmas.{in-map, in-left, in-right}
 
 -- ---- change by change
 
@@ -217,7 +218,8 @@ module _ (r : Records) (facts : Facts) where
       ∙ ap (option_map (λ objects. period_year key.period)) o.1
       ∙ ap (λ (x : Row). Some (period_year x.period)) o.2
 
-  reg-of : (key : RegKey) (year : ℤ) → reg_year r facts key ≡ Some year → (reg : RegRow) × (registrations.reg_of r facts key ≡ Some reg) × (years.reg_year reg ≡ year)
+  reg-of : (key : RegKey) (year : ℤ) → reg_year r facts key ≡ Some year
+      → (reg : RegRow) × (registrations.reg_of r facts key ≡ Some reg) × (years.reg_year reg ≡ year)
   unfolding reg_year registrations.reg_of registrations.reg_with years.reg_year
   reg-of key year e =
       let day = and_then-some (λ day. option_map (λ objects. period_year key.period) (registrations.objects_of r key)) (facts.registration key) year e in

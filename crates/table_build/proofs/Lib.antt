@@ -10,3 +10,5 @@ pub mod KeyLemmas
 pub mod YearLemmas
 pub mod LeftLemmas
 pub mod SlotLemmas
+pub mod FilterLemmas
+pub mod InYearLemmas

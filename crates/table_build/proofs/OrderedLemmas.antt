@@ -25,12 +25,12 @@ module _ {K X : Type 0} (cmp : K → K → Ordering) (k : K) (v : X) where
         | Greater ↦ (above.0, insert-above x es above.1 h)
       ]
 
-below_all : {K : Type 0} (cmp : K → K → Ordering) → IsTotalOrder cmp → (x y : K) (ys : List K) → cmp x y ≡ Less → AllByRecursion (λ z. cmp y z ≡ Less) ys
+pub below_all : {K : Type 0} (cmp : K → K → Ordering) → IsTotalOrder cmp → (x y : K) (ys : List K) → cmp x y ≡ Less → AllByRecursion (λ z. cmp y z ≡ Less) ys
     → AllByRecursion (λ z. cmp x z ≡ Less) ys
 below_all cmp total x y [] h all = tt
 below_all cmp total x y (z ∷ zs) h all = (total.trans x y z h all.0, below_all cmp total x y zs h all.1)
 
-insert-sorted : {K X : Type 0} (cmp : K → K → Ordering) → IsTotalOrder cmp → (k : K) (v : X) (es : List (K × X)) → IsStrictlySortedBy cmp (keys_of es)
+pub insert-sorted : {K X : Type 0} (cmp : K → K → Ordering) → IsTotalOrder cmp → (k : K) (v : X) (es : List (K × X)) → IsStrictlySortedBy cmp (keys_of es)
     → IsStrictlySortedBy cmp (keys_of (insert_entry cmp es k v))
 unfolding IsStrictlySortedBy
 insert-sorted cmp total k v [] s = (tt, tt)

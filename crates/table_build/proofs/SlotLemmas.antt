@@ -1,5 +1,5 @@
 -- The slots of an update: a part is put into one, and all parts together are the tables.
-use Rattle.std.proofs.Common.{◌≡◌, ◌∙◌, ◌≤◌, ◌<◌, ℕ, zero, suc, true, List, [], ◌∷◌, ◌++◌, Some, length, map, get_or, set, refl, sym, ap, subst, arith, ℤ}
+use Rattle.std.proofs.Common.{◌≡◌, ◌∙◌, ◌≤◌, ◌<◌, ℕ, zero, suc, true, List, [], ◌∷◌, Some, length, map, get_or, set, refl, sym, ap, subst, arith, ℤ}
 use Rattle.std.specs.List.{AllByRecursion, list_all}
 use Rattle.dh_changes.specs.declared.change.Write.{Write}
 use Rattle.meta_parts.specs.declared.held.Records.{Records}

@@ -61,10 +61,10 @@ unfolding registrations.regs_of
 regs-rise r facts keys =
     rises-sorted reg_cmp _ (in_order-sorted registrations.place_cmp registrations.place_of reg_total same-reg (filter_map (registrations.reg_of r facts) keys))
 
-abbrev row_place : EventRow → EventPlace
+abbrev pub row_place : EventRow → EventPlace
 row_place row = tracker.event_place row.id row.day
 
-own-place : (r : Records) (facts : Facts) (place : EventPlace) (row : EventRow) → tracker.event_at r facts place ≡ Some row → row_place row ≡ place
+pub own-place : (r : Records) (facts : Facts) (place : EventPlace) (row : EventRow) → tracker.event_at r facts place ≡ Some row → row_place row ≡ place
 unfolding tracker.event_at tracker.event_with
 own-place r facts place row e =
     let found =

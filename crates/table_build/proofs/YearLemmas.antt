@@ -1,5 +1,5 @@
 -- Each row, registration and event is of one of the years.
-use Rattle.std.proofs.Common.{◌≡◌, ◌∙◌, ◌+◌, ◌-◌, ◌*◌, ◌/◌, ◌%◌, ◌<◌, ◌≤◌, ℕ, true, List, [], ◌∷◌, ◌++◌, ◌||◌}
+use Rattle.std.proofs.Common.{◌≡◌, ◌∙◌, ◌+◌, ◌-◌, ◌/◌, ◌%◌, ◌<◌, ℕ, true, List, [], ◌∷◌, ◌++◌, ◌||◌}
 use Rattle.std.proofs.Common.{map, Option, Some, None, Bool, false, subst, inl, inr, refl, sym, ap, arith, ℤ, pos, neg_ℤ, ◌-ℤ◌}
 use Rattle.std.proofs.Common.{◌+ℤ◌, ◌≤ℤ◌}
 use Rattle.std.specs.Prelude.{option_map, unsigned_abs, int_le}
@@ -12,10 +12,10 @@ use Rattle.std.proofs.lemmas.Cmp.{int_cmp_total}
 use Rattle.std.proofs.lemmas.Int.{ints}
 use Rattle.dh_periods.specs.declared.kind.PeriodType.TheVariants.{Daily}
 use Rattle.dh_periods.specs.declared.name.PeriodName.{PeriodName}
-use Rattle.dh_periods.specs.Calendar.{month_length, days_before_month, month_place, day_place, month_with, year_with, unix_day}
+use Rattle.dh_periods.specs.Calendar.{month_length, days_before_month, month_place, month_with, year_with, unix_day}
 use Rattle.dh_periods.specs.Days.{is_listed, first_place, end_place, first_day, last_day}
-use Rattle.dh_periods.specs.Places.{containing_of, nth_period}
-use Rattle.dh_periods.proofs.CalendarLemmas.{days_before_month-next, days_before_month-later, month_with-bounds, month_with-before}
+use Rattle.dh_periods.specs.Places.{containing_of}
+use Rattle.dh_periods.proofs.CalendarLemmas.{days_before_month-next, month_with-bounds, month_with-before}
 use Rattle.dh_periods.proofs.ContainingLemmas.{containing_of-has, unix_day-place}
 use Rattle.dh_periods.proofs.HeldLemmas.{int_le-yes}
 use Rattle.dh_periods.proofs.ListedLemmas.{listed-from}
@@ -23,15 +23,15 @@ use Rattle.table_rows.specs.declared.row.Row.{Row}
 use Rattle.table_rows.specs.declared.event.EventRow.{EventRow}
 use Rattle.table_rows.specs.declared.event.RegRow.{RegRow}
 use Rattle.table_rows.specs.Events.{has_days}
-use Rattle.table_rows.specs.Store.{Contents, is_store}
-use Rattle.table_rows.proofs.StoreLemmas.{Holds, store-holds}
+use Rattle.table_rows.specs.Store.{is_store}
+use Rattle.table_rows.proofs.StoreLemmas.{store-holds}
 use Rattle.dh_base.specs.Limits.{is_day}
 use Rattle.year_tables.specs.Years.{period_year, day_year, is_row_in, is_event_in, is_reg_in, is_year_if_any, have_years}
 use Rattle.year_tables.specs.Parts.{AreOfYears, listed_as}
 use Rattle.table_build.specs.Years.{row_year, reg_year, event_year, years_of}
 use Rattle.table_build.proofs.DayLemmas.{last-month}
 use Rattle.table_build.proofs.EachLemmas.{every, list_all-each}
-use Rattle.table_build.proofs.MemberLemmas.{IsIn, each-member, at-member, in_order-has}
+use Rattle.table_build.proofs.MemberLemmas.{IsIn, each-member, in_order-has}
 
 -- ---- each day has a year
 

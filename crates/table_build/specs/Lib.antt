@@ -6,5 +6,7 @@ pub mod Items
 pub mod Events
 pub mod Years
 pub mod Left
+pub mod InYear
+pub mod Reading
 pub mod Listed
 pub mod Slots

@@ -1,15 +1,16 @@
 //! The tables by year of the rows, registrations and events that a list of changes leaves.
-ghost use Rattle.std.specs.Prelude.{◌≡◌, ◌≤◌, [], true, length, map, IsTrue, IfOk};
+ghost use Rattle.std.specs.Prelude.{◌≡◌, ◌≤◌, length, map, IsTrue, IfOk};
 ghost use Rattle.std.specs.List.{list_all};
 ghost use Rattle.std.specs.Arc.{arc_value};
 ghost use Rattle.table_build.specs.Log.{writes_of, is_of_days};
 ghost use Rattle.table_build.specs.Listed.{listed_in};
-ghost use Rattle.table_rows.specs.Store.{contents_in, is_store};
-ghost use Rattle.year_tables.specs.Parts.{AreOfYears, listed_as, part_of, together, years_in};
+ghost use Rattle.table_rows.specs.Store.{contents_in};
+ghost use Rattle.year_tables.specs.Parts.{part_of, together, years_in};
 ghost use Rattle.dh_base.specs.declared.limits.TheConstants.{MOST_RECORDS};
 
 use crate::events::events_of;
 use crate::named::{events_named, regs_named, values_named};
+use crate::reading::Reading;
 use crate::regs::regs_of;
 use crate::values::rows_of;
 use crate::world::world_of;
@@ -19,51 +20,10 @@ use dh_changes::change::Change;
 use dh_metadata::metadata::Metadata;
 use std::alloc::Global;
 use std::sync::Arc;
-use table_rows::{EventRow, RegRow, Row};
-use year_tables::{Lists, Partition, Tables, part_in, tables_of};
+use year_tables::{Partition, Tables, tables_of};
 
-// The tables of these lists, which are dropped.
-fn cut(
-    alloc: Global,
-    rows: Vec<Row>,
-    events: Vec<EventRow>,
-    regs: Vec<RegRow>,
-    years: Vec<i32>,
-    base_cut: u64,
-) -> Result<Tables, Memory>
-    requires { AreOfYears (listed_as rows.items events.items regs.items) years.items }
-    ensures contents { IfOk result (λ tables. together tables.parts ≡ listed_as rows.items events.items regs.items) }
-    ensures years { IfOk result (λ tables. years_in tables.parts ≡ years.items) }
-    ensures base_cut { IfOk result (λ tables. tables.base_cut ≡ base_cut) }
-{
-    let lists = Lists {
-        rows: &rows,
-        events: &events,
-        regs: &regs,
-    };
-    tables_of(alloc, &lists, &years, base_cut)
-}
-
-// The part of one year of these lists, which are dropped.
-fn one_year(
-    alloc: Global,
-    rows: Vec<Row>,
-    events: Vec<EventRow>,
-    regs: Vec<RegRow>,
-    year: i32,
-) -> Result<Partition, Memory>
-    requires { is_store rows.items events.items regs.items [] ≡ true }
-    ensures { IfOk result (λ part. part ≡ part_of (listed_as rows.items events.items regs.items) year) }
-{
-    let lists = Lists {
-        rows: &rows,
-        events: &events,
-        regs: &regs,
-    };
-    part_in(alloc, &lists, year)
-}
-
-/// The part of one year: its rows, registrations and events, of those that the changes leave.
+/// The part of one year: its rows, registrations and events, of those that the changes leave. Where parts of several years are
+/// made of the same changes, one `Reading` serves all.
 pub fn build_part(
     alloc: Global,
     meta: &Metadata,
@@ -74,11 +34,8 @@ pub fn build_part(
     requires days { IsTrue (list_all is_of_days (writes_of (map arc_value changes.now))) }
     ensures { IfOk result (λ part. part ≡ part_of (contents_in (listed_in meta.now (writes_of (map arc_value changes.now)))) year) }
 {
-    let world = world_of(alloc, changes)?;
-    let rows = rows_of(alloc, meta, &world, &values_named(alloc, changes)?)?;
-    let events = events_of(alloc, meta, &world, &events_named(alloc, changes)?)?;
-    let regs = regs_of(alloc, meta, &world, &regs_named(alloc, changes)?)?;
-    let part = one_year(alloc, rows, events, regs, year)?;
+    let reading = Reading::of(alloc, changes)?;
+    let part = reading.part_of_year(alloc, meta, &year)?;
     Ok(part)
 }
 
@@ -96,6 +53,6 @@ pub fn build(alloc: Global, meta: &Metadata, changes: &[Arc<Change>]) -> Result<
     let events = events_of(alloc, meta, &world, &events_named(alloc, changes)?)?;
     let regs = regs_of(alloc, meta, &world, &regs_named(alloc, changes)?)?;
     let years = years_of(alloc, &rows, &regs, &events)?;
-    let tables = cut(alloc, rows, events, regs, years, changes.len() as u64)?;
+    let tables = tables_of(alloc, rows, events, regs, &years, changes.len() as u64)?;
     Ok(tables)
 }

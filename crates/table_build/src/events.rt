@@ -69,8 +69,13 @@ fn place_map(
     Ok(map)
 }
 
+/// The places of these events, by day and identifier: of those that are live and have a day of occurrence.
 #[tactic(auto, unfolding(crate::specs::Events::places_of))]
-fn places_of(alloc: Global, world: &World, ids: &[Uid]) -> Result<Vec<EventPlace>, Memory>
+pub(crate) fn places_of(
+    alloc: Global,
+    world: &World,
+    ids: &[Uid],
+) -> Result<Vec<EventPlace>, Memory>
     ensures { IfOk result (λ places. places.items ≡ known.places_of (facts world.now) ids.now) }
 {
     let map = place_map(alloc, world, ids)?;
@@ -185,7 +190,8 @@ fn event_at(
     Ok(Some(event_with(alloc, meta, world, place, event, objects)?))
 }
 
-fn rows_at(
+/// The rows of events at these places, in their order: of those that name objects that stand in the metadata.
+pub(crate) fn rows_at(
     alloc: Global,
     meta: &Metadata,
     world: &World,

@@ -79,7 +79,8 @@ fn put_writes(
     world: &World,
     writes: &[Write],
 ) -> Result<(), Memory>
-    ensures { OnOk result (years.new.entries ≡ put_all int_cmp (λ year. year) years.old.entries (filter_map (known.write_year meta.now (facts world.now)) writes.now)) }
+    ensures { OnOk result (years.new.entries
+        ≡ put_all int_cmp (λ year. year) years.old.entries (filter_map (known.write_year meta.now (facts world.now)) writes.now)) }
 {
     for write in writes {
         if let Some(year) = write_year(meta, world, write) {
@@ -95,7 +96,8 @@ fn put_change(
     world: &World,
     change: &Change,
 ) -> Result<(), Memory>
-    ensures { OnOk result (years.new.entries ≡ put_all int_cmp (λ year. year) years.old.entries (filter_map (known.write_year meta.now (facts world.now)) change.now.writes)) }
+    ensures { OnOk result (years.new.entries
+        ≡ put_all int_cmp (λ year. year) years.old.entries (filter_map (known.write_year meta.now (facts world.now)) change.now.writes)) }
 {
     put_writes(years, meta, world, change.writes.as_slice())
 }
@@ -106,7 +108,8 @@ fn year_map(
     world: &World,
     changes: &[Arc<Change>],
 ) -> Result<BTreeMap<i32, i32>, Memory>
-    ensures { IfOk result (λ years. years.entries ≡ put_all int_cmp (λ year. year) [] (filter_map (known.write_year meta.now (facts world.now)) (writes_of (map arc_value changes.now)))) }
+    ensures { IfOk result (λ years. years.entries
+        ≡ put_all int_cmp (λ year. year) [] (filter_map (known.write_year meta.now (facts world.now)) (writes_of (map arc_value changes.now)))) }
 {
     let mut years = BTreeMap::new(alloc);
     for change in changes {

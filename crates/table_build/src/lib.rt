@@ -3,9 +3,11 @@
 
 pub mod by_year;
 pub mod events;
+mod in_year;
 mod items;
 mod left;
 mod named;
+pub mod reading;
 pub mod regs;
 pub mod slots;
 pub mod values;

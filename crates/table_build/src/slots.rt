@@ -10,11 +10,12 @@ ghost use Rattle.year_tables.specs.Parts.{part_of, together, years_in};
 ghost use Rattle.table_build.specs.declared.slots.Slot.{Slot as YearSlot};
 ghost use Rattle.table_build.specs.Log.{writes_of, is_of_days};
 ghost use Rattle.table_build.specs.Listed.{listed_in};
-ghost use Rattle.table_build.specs.Slots.{no_part, slot_years, IsSlotOf, AreSlots};
+ghost use Rattle.table_build.specs.Slots.{no_part, slot_years, have_part, lack_part, IsSlotOf, AreSlots};
 ghost use Rattle.dh_base.specs.declared.limits.TheConstants.{MOST_RECORDS};
 
-use crate::by_year::build_part;
+use crate::by_year::{build, build_part};
 use crate::left::years_named;
+use crate::reading::Reading;
 use dh_base::items::Items;
 use dh_base::memory::Memory;
 use dh_changes::change::Change;
@@ -125,22 +126,71 @@ pub fn put_part(slots: &mut Vec<Slot>, part: Partition)
     }
 }
 
+// Whether a slot has no part.
+fn lack_part(slots: &[Slot]) -> bool
+    ensures { result ≡ lack_part slots.now }
+{
+    for slot in slots {
+        if slot.part.is_none() {
+            return true;
+        }
+    }
+    false
+}
+
+// One reading of the changes for all slots that have no part; where each has one, there is none.
+fn reading_for<'a>(
+    alloc: Global,
+    changes: &'a [Arc<Change>],
+    slots: &[Slot],
+) -> Result<Option<Reading<'a>>, Memory>
+    ensures { IfOk result (λ reading. IfSome reading (λ read. read ≡ map arc_value changes.now)) }
+{
+    if lack_part(slots) {
+        let reading = Reading::of(alloc, changes)?;
+        Ok(Some(reading))
+    } else {
+        Ok(None)
+    }
+}
+
+// The part of a year that is made of the changes, by their reading if there is one.
+fn part_made(
+    alloc: Global,
+    meta: &Metadata,
+    changes: &[Arc<Change>],
+    reading: &Option<Reading>,
+    year: i32,
+) -> Result<Partition, Memory>
+    requires few { length (writes_of (map arc_value changes.now)) ≤ MOST_RECORDS }
+    requires days { IsTrue (list_all is_of_days (writes_of (map arc_value changes.now))) }
+    requires read { IfSome reading.now (λ read. read ≡ map arc_value changes.now) }
+    ensures { IfOk result (λ part. part ≡ part_of (contents_in (listed_in meta.now (writes_of (map arc_value changes.now)))) year) }
+{
+    match reading {
+        Some(reading) => reading.part_of_year(alloc, meta, &year),
+        None => build_part(alloc, meta, year, changes),
+    }
+}
+
 // The part in a slot, or the part that is made of the changes.
 fn part_for(
     alloc: Global,
     meta: &Metadata,
     changes: &[Arc<Change>],
+    reading: &Option<Reading>,
     slot: Slot,
 ) -> Result<Partition, Memory>
     requires few { length (writes_of (map arc_value changes.now)) ≤ MOST_RECORDS }
     requires days { IsTrue (list_all is_of_days (writes_of (map arc_value changes.now))) }
+    requires read { IfSome reading.now (λ read. read ≡ map arc_value changes.now) }
     requires slot { IsSlotOf (contents_in (listed_in meta.now (writes_of (map arc_value changes.now)))) slot }
     ensures { IfOk result (λ part. part ≡ part_of (contents_in (listed_in meta.now (writes_of (map arc_value changes.now)))) slot.year) }
 {
     let Slot { year, part } = slot;
     match part {
         Some(part) => Ok(part),
-        None => build_part(alloc, meta, year, changes),
+        None => part_made(alloc, meta, changes, reading, year),
     }
 }
 
@@ -149,21 +199,58 @@ fn parts_for(
     alloc: Global,
     meta: &Metadata,
     changes: &[Arc<Change>],
+    reading: &Option<Reading>,
     slots: Vec<Slot>,
 ) -> Result<Vec<Partition>, Memory>
     requires few { length (writes_of (map arc_value changes.now)) ≤ MOST_RECORDS }
     requires days { IsTrue (list_all is_of_days (writes_of (map arc_value changes.now))) }
+    requires read { IfSome reading.now (λ read. read ≡ map arc_value changes.now) }
     requires slots { AllByRecursion (IsSlotOf (contents_in (listed_in meta.now (writes_of (map arc_value changes.now))))) slots.items }
-    ensures { IfOk result (λ parts. parts.items ≡ map (part_of (contents_in (listed_in meta.now (writes_of (map arc_value changes.now))))) (slot_years slots.items)) }
+    ensures { IfOk result (λ parts. parts.items
+        ≡ map (part_of (contents_in (listed_in meta.now (writes_of (map arc_value changes.now))))) (slot_years slots.items)) }
 {
     let mut parts = Vec::new(alloc);
     for slot in slots {
-        parts.push(part_for(alloc, meta, changes, slot)?)?;
+        parts.push(part_for(alloc, meta, changes, reading, slot)?)?;
     }
     Ok(parts)
 }
 
-/// The tables that the changes leave, of the parts in these slots and of parts that are made for the others.
+// The tables of the parts in the slots, and of parts that are made for the others, one after the other. For these the log is
+// read once.
+fn build_of_parts(
+    alloc: Global,
+    meta: &Metadata,
+    changes: &[Arc<Change>],
+    slots: Vec<Slot>,
+) -> Result<Tables, Memory>
+    requires few { length (writes_of (map arc_value changes.now)) ≤ MOST_RECORDS }
+    requires days { IsTrue (list_all is_of_days (writes_of (map arc_value changes.now))) }
+    requires slots { AreSlots (listed_in meta.now (writes_of (map arc_value changes.now))) slots.items }
+    ensures contents { IfOk result (λ tables. together tables.parts ≡ contents_in (listed_in meta.now (writes_of (map arc_value changes.now)))) }
+    ensures years { IfOk result (λ tables. years_in tables.parts ≡ (listed_in meta.now (writes_of (map arc_value changes.now))).years) }
+    ensures base_cut { IfOk result (λ tables. tables.base_cut ≡ length changes.now) }
+{
+    let reading = reading_for(alloc, changes, &slots)?;
+    let parts = parts_for(alloc, meta, changes, &reading, slots)?;
+    let tables = Tables::of(alloc, parts, changes.len() as u64)?;
+    Ok(tables)
+}
+
+// Whether a slot has a part.
+fn have_part(slots: &[Slot]) -> bool
+    ensures { result ≡ have_part slots.now }
+{
+    for slot in slots {
+        if slot.part.is_some() {
+            return true;
+        }
+    }
+    false
+}
+
+/// The tables that the changes leave, of the parts in these slots and of parts that are made for the others. Where no slot
+/// has a part, the log is read once for all years.
 pub fn build_with(
     alloc: Global,
     meta: &Metadata,
@@ -177,7 +264,10 @@ pub fn build_with(
     ensures years { IfOk result (λ tables. years_in tables.parts ≡ (listed_in meta.now (writes_of (map arc_value changes.now))).years) }
     ensures base_cut { IfOk result (λ tables. tables.base_cut ≡ length changes.now) }
 {
-    let parts = parts_for(alloc, meta, changes, slots)?;
-    let tables = Tables::of(alloc, parts, changes.len() as u64)?;
-    Ok(tables)
+    if have_part(&slots) {
+        build_of_parts(alloc, meta, changes, slots)
+    } else {
+        drop(slots);
+        build(alloc, meta, changes)
+    }
 }

@@ -16,10 +16,10 @@ use Rattle.record_index.specs.Facts.{Facts}
 use Rattle.record_index.specs.declared.outcome.ImportStrategy.{ImportStrategy}
 use Rattle.record_index.specs.declared.outcome.Verdict.{Verdict}
 use Rattle.record_index.specs.declared.outcome.Who.{Who}
-use Rattle.tracker_forms.specs.declared.bundle.Bundle.{Bundle}
-use Rattle.tracker_forms.specs.declared.entity.BundleEntity.{BundleEntity}
-use Rattle.tracker_forms.specs.declared.enrollment.BundleEnrollment.{BundleEnrollment}
-use Rattle.tracker_forms.specs.declared.event.BundleEvent.{BundleEvent}
+use Rattle.import_forms.specs.declared.bundle.Bundle.{Bundle}
+use Rattle.import_forms.specs.declared.entity.BundleEntity.{BundleEntity}
+use Rattle.import_forms.specs.declared.enrollment.BundleEnrollment.{BundleEnrollment}
+use Rattle.import_forms.specs.declared.event.BundleEvent.{BundleEvent}
 use Rattle.value_import.specs.Values.{is_delete_all}
 use Rattle.tracker_rules.specs.declared.judged.Judged.{Judged}
 use Rattle.tracker_rules.specs.declared.judged.Judged.TheVariants as outcome
@@ -93,7 +93,8 @@ module _ (facts : Facts) (r : Records) (who : Who) (chosen : ImportStrategy) whe
       (delete-fits (delete_conflict facts r who chosen (is_repeated sofar.judged (id_in asked.id)) kind.TrackedEntityType (id_in asked.id)
       (option_map live_entity (option_and_then (entity_now facts sofar.verdict.writes) (id_in asked.id))))
       (entity_gone facts sofar.verdict.writes) (id_in asked.id) (entity_gone-fits facts sofar.verdict.writes))
-      (entity-fits facts r who chosen (option_and_then (entity_now facts sofar.verdict.writes) (id_in asked.id)) (is_repeated sofar.judged (id_in asked.id)) asked)
+      (entity-fits facts r who chosen (option_and_then (entity_now facts sofar.verdict.writes) (id_in asked.id))
+      (is_repeated sofar.judged (id_in asked.id)) asked)
 
   enrollment_outcome-fits : (sofar : Sofar) (asked : BundleEnrollment) → Fits (enrollment_outcome facts r who chosen sofar asked)
   unfolding enrollment_outcome enrollment_delete enrollment_write
@@ -160,7 +161,8 @@ with_all-fits facts r who bundle =
 finished-fits : (atomic : Bool) (sofar : Sofar) → AreFit sofar → AllByRecursion WriteFits (finished atomic sofar).writes
 unfolding finished
 finished-fits atomic sofar all =
-    elim (atomic && not (is_whole sofar.verdict)) as (λ b. AllByRecursion WriteFits (cond b (unwritten (length sofar.judged) sofar.verdict) sofar.verdict).writes)
+    elim (atomic && not (is_whole sofar.verdict))
+    as (λ b. AllByRecursion WriteFits (cond b (unwritten (length sofar.judged) sofar.verdict) sofar.verdict).writes)
     [ true ↦ tt | false ↦ all ]
 
 verdict_of-fits : (facts : Facts) (r : Records) (who : Who) (bundle : Bundle) → AllByRecursion WriteFits (verdict_of facts r who bundle).writes

@@ -77,7 +77,7 @@ events_left facts accepted enrollment = filter (λ id. is_some (event_now facts 
 unfoldable pub enrollments_left : Facts → List Write → List ℕ → List (List ℕ)
 enrollments_left facts accepted entity = filter (λ id. is_some (enrollment_now facts accepted id)) (facts.enrollments_of entity)
 
--- an enrollment goes behind its events
+-- an enrollment goes after its events
 unfoldable pub enrollment_gone : Facts → List Write → List ℕ → List Write
 enrollment_gone facts accepted id = map write.EventDeleted (events_left facts accepted id) ++ write.EnrollmentDeleted id ∷ []
 
@@ -90,7 +90,7 @@ put_ids entries (id ∷ more) = put_ids (insert_entry (slice_cmp nat_cmp) entrie
 unfoldable pub ordered : List (List ℕ) → List (List ℕ)
 ordered ids = map (λ entry. entry.1) (put_ids [] ids)
 
--- an entity goes behind its enrollments, and these behind all their events, each in the order of their identifiers' bytes
+-- an entity goes after its enrollments, and these after all their events, each in the order of their identifiers' bytes
 unfoldable pub entity_gone : Facts → List Write → List ℕ → List Write
 entity_gone facts accepted id =
     map write.EventDeleted (ordered (flat_map (events_left facts accepted) (enrollments_left facts accepted id)))

@@ -8,10 +8,10 @@ use Rattle.record_index.specs.Facts.{Facts}
 use Rattle.record_index.specs.declared.outcome.Verdict.{Verdict}
 use Rattle.record_index.specs.declared.outcome.Who.{Who}
 use Rattle.record_index.specs.declared.outcome.ImportStrategy.{ImportStrategy}
-use Rattle.tracker_forms.specs.declared.bundle.Bundle.{Bundle}
-use Rattle.tracker_forms.specs.declared.entity.BundleEntity.{BundleEntity}
-use Rattle.tracker_forms.specs.declared.enrollment.BundleEnrollment.{BundleEnrollment}
-use Rattle.tracker_forms.specs.declared.event.BundleEvent.{BundleEvent}
+use Rattle.import_forms.specs.declared.bundle.Bundle.{Bundle}
+use Rattle.import_forms.specs.declared.entity.BundleEntity.{BundleEntity}
+use Rattle.import_forms.specs.declared.enrollment.BundleEnrollment.{BundleEnrollment}
+use Rattle.import_forms.specs.declared.event.BundleEvent.{BundleEvent}
 use Rattle.value_import.specs.Values.{is_delete_all}
 use Rattle.tracker_rules.specs.declared.judged.Judged.{Judged}
 use Rattle.tracker_import.specs.Known.{entity_now, enrollment_now, event_now}

@@ -14,10 +14,10 @@ use Rattle.meta_parts.specs.declared.kind.Kind.TheVariants as kind
 use Rattle.record_index.specs.Facts.{Facts}
 use Rattle.record_index.specs.declared.outcome.Who.{Who}
 use Rattle.record_index.specs.declared.outcome.ImportStrategy.{ImportStrategy}
-use Rattle.tracker_forms.specs.declared.pair.Pair.{Pair}
-use Rattle.tracker_forms.specs.declared.entity.BundleEntity.{BundleEntity}
-use Rattle.tracker_forms.specs.declared.enrollment.BundleEnrollment.{BundleEnrollment}
-use Rattle.tracker_forms.specs.declared.event.BundleEvent.{BundleEvent}
+use Rattle.import_forms.specs.declared.pair.Pair.{Pair}
+use Rattle.import_forms.specs.declared.entity.BundleEntity.{BundleEntity}
+use Rattle.import_forms.specs.declared.enrollment.BundleEnrollment.{BundleEnrollment}
+use Rattle.import_forms.specs.declared.event.BundleEvent.{BundleEvent}
 use Rattle.value_import.specs.Dates.{dated, day_told}
 use Rattle.value_import.specs.Rules.{Condition, first_of}
 use Rattle.value_import.proofs.DayLemmas.{told-day}
@@ -30,7 +30,8 @@ use Rattle.tracker_rules.specs.declared.judged.Judged.{Judged}
 use Rattle.tracker_rules.specs.declared.judged.Judged.TheVariants as judged
 use Rattle.tracker_rules.specs.Pairs.{has_unknown, has_unfit, merged}
 use Rattle.tracker_rules.specs.Rules.{first_in, right_conditions, standing_conditions, day_in, event_status_of, enrollment_status_of, status_in, judged_by, put}
-use Rattle.tracker_rules.specs.Entities.{entity_names, entity_name_conditions, entity_value_conditions, entity_conflict, attributes_of, entity_after, judged_entity}
+use Rattle.tracker_rules.specs.Entities.{entity_names, entity_name_conditions, entity_value_conditions, entity_conflict}
+use Rattle.tracker_rules.specs.Entities.{attributes_of, entity_after, judged_entity}
 use Rattle.tracker_rules.specs.Enrollments.{enrollment_names, enrollment_name_conditions, entity_conditions, enrollment_form_conditions, attribute_conditions}
 use Rattle.tracker_rules.specs.Enrollments.{enrollment_conflict, enrollment_after, entity_writes, judged_enrollment}
 use Rattle.tracker_rules.specs.Events.{event_names, event_name_conditions, enrollment_conditions, event_form_conditions, element_conditions}
@@ -114,7 +115,8 @@ enrollment_status-below (Some text) =
 
 entity_after-fits : (r : Records) (before : Option Entity) (live : Bool) (id : Option (List ℕ)) (type unit : Option ℕ) (pairs : List Pair)
     → PairsFit (merged r (attributes_of before) pairs)
-    → Fits (option_map_or (λ after. put live (write.EntityWritten after ∷ [])) (entity_after r before (record { id = id; kind = type; unit = unit }) pairs) judged.Nothing)
+    → Fits (option_map_or (λ after. put live (write.EntityWritten after ∷ []))
+    (entity_after r before (record { id = id; kind = type; unit = unit }) pairs) judged.Nothing)
 unfolding entity_after
 entity_after-fits r before live None type unit pairs fit = tt
 entity_after-fits r before live (Some id) None unit pairs fit = tt
@@ -122,7 +124,8 @@ entity_after-fits r before live (Some id) (Some type) None pairs fit = tt
 entity_after-fits r before live (Some id) (Some type) (Some unit) pairs fit = put-fits live _ (fit, tt)
 
 entity-checked : (facts : Facts) (r : Records) (who : Who) (chosen : ImportStrategy) (live repeated : Bool) (names : EntityNames) (pairs : List Pair)
-    → entity_conflict facts r who chosen live repeated names pairs ≡ None → (has_unknown r item.Attribute pairs ≡ false) × (has_unfit r item.Attribute pairs ≡ false)
+    → entity_conflict facts r who chosen live repeated names pairs ≡ None
+    → (has_unknown r item.Attribute pairs ≡ false) × (has_unfit r item.Attribute pairs ≡ false)
 unfolding entity_conflict entity_name_conditions entity_value_conditions
 entity-checked facts r who chosen live repeated names pairs none =
     let standing = standing_conditions chosen live repeated ∷ [] in
@@ -154,7 +157,8 @@ unfolding entity_writes
 entity_writes-fit r None pairs named fit =
     elim (length pairs == 0) as (λ b. AllByRecursion WriteFits (cond b [] [])) [ true ↦ tt | false ↦ tt ]
 entity_writes-fit r (Some entity) pairs named fit =
-    elim (length pairs == 0) as (λ b. AllByRecursion WriteFits (cond b [] (write.EntityWritten (record entity { attributes = merged r entity.attributes pairs }) ∷ []))) [
+    elim (length pairs == 0) as (λ b. AllByRecursion WriteFits
+    (cond b [] (write.EntityWritten (record entity { attributes = merged r entity.attributes pairs }) ∷ []))) [
       | true ↦ tt
       | false ↦ (attributes-fit r entity.attributes pairs named fit, tt)
     ]
@@ -191,7 +195,8 @@ enrollment-checked facts r who chosen live repeated parent names asked none =
     let typed = of-head _ (has_unfit r item.Attribute asked.attributes) _ fifth.0 in
     (latter (is_none names.program) (has_unknown r item.Attribute asked.attributes) named.0, typed.0)
 
-pub enrollment-fits : (facts : Facts) (r : Records) (who : Who) (chosen : ImportStrategy) (live repeated : Bool) (parent : Option Entity) (asked : BundleEnrollment)
+pub enrollment-fits : (facts : Facts) (r : Records) (who : Who) (chosen : ImportStrategy) (live repeated : Bool) (parent : Option Entity)
+    (asked : BundleEnrollment)
     → Fits (judged_enrollment facts r who chosen live repeated parent asked)
 unfolding judged_enrollment
 enrollment-fits facts r who chosen live repeated parent asked =
@@ -235,7 +240,8 @@ event-checked facts r who chosen live repeated parent names asked none =
     let typed = of-head _ (has_unfit r item.Element asked.values) _ fifth.0 in
     (latter (is_none names.program || is_none names.stage) (has_unknown r item.Element asked.values) named.0, typed.0)
 
-pub event-fits : (facts : Facts) (r : Records) (who : Who) (chosen : ImportStrategy) (live repeated : Bool) (parent : Option EnrollmentPlace) (asked : BundleEvent)
+pub event-fits : (facts : Facts) (r : Records) (who : Who) (chosen : ImportStrategy) (live repeated : Bool) (parent : Option EnrollmentPlace)
+    (asked : BundleEvent)
     → Fits (judged_event facts r who chosen live repeated parent asked)
 unfolding judged_event
 event-fits facts r who chosen live repeated parent asked =

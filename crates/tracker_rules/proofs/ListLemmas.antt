@@ -1,5 +1,6 @@
 -- The pairs of an object that is written, and the attributes that stood and stay, fit the bytes of a change.
-use Rattle.std.proofs.Common.{◌≡◌, ℕ, ◌+◌, ◌<◌, ◌≤◌, ◌^◌, Bool, true, false, cond, List, [], ◌∷◌, ◌++◌, length, take, filter, Option, Some, None, refl, sym, arith}
+use Rattle.std.proofs.Common.{◌≡◌, ℕ, ◌+◌, ◌<◌, ◌≤◌, ◌^◌, Bool, true, false, cond, List, [], ◌∷◌, ◌++◌, length, take, filter}
+use Rattle.std.proofs.Common.{Option, Some, None, refl, sym, arith}
 use Rattle.std.specs.Prelude.{not, ◌&&◌, ◌||◌, nat_lt, nat_le, option_map, option_and_then}
 use Rattle.std.specs.Option.{is_some, is_none}
 use Rattle.std.specs.List.{AllByRecursion, list_any, cons_option}
@@ -12,7 +13,7 @@ use Rattle.meta_parts.specs.Places.{place_of}
 use Rattle.meta_parts.specs.declared.held.Records.{Records}
 use Rattle.meta_parts.specs.declared.names.ValueType.{ValueType}
 use Rattle.record_index.specs.Said.{same_id}
-use Rattle.tracker_forms.specs.declared.pair.Pair.{Pair}
+use Rattle.import_forms.specs.declared.pair.Pair.{Pair}
 use Rattle.value_import.specs.Names.{if_so}
 use Rattle.value_import.proofs.TextSizes.{fits-small}
 use Rattle.tracker_rules.specs.declared.pairs.TheConstants.{MOST_ITEMS, MOST_BYTES}
@@ -98,7 +99,8 @@ kept r t is =
 kept-fit : (r : Records) (old : List Told) → AllByRecursion (IsFit (ids_in r item.Attribute)) (filter (is_kept r) old)
 kept-fit r [] = tt
 kept-fit r (t ∷ old) =
-    elim (is_kept r t) as (λ b. is_kept r t ≡ b → AllByRecursion (IsFit (ids_in r item.Attribute)) (cond b (t ∷ filter (is_kept r) old) (filter (is_kept r) old))) [
+    elim (is_kept r t) as (λ b. is_kept r t ≡ b
+    → AllByRecursion (IsFit (ids_in r item.Attribute)) (cond b (t ∷ filter (is_kept r) old) (filter (is_kept r) old))) [
       | true ↦ λ is. (kept r t is, kept-fit r old)
       | false ↦ λ is. kept-fit r old
     ] refl

@@ -43,7 +43,8 @@ below_all : (x y : List ℕ) (ys : List (List ℕ)) → by_bytes x y ≡ Less �
 below_all x y [] h all = tt
 below_all x y (z ∷ zs) h all = (nat_list_cmp_total.trans x y z h all.0, below_all x y zs h all.1)
 
-insert-sorted : (k v : List ℕ) (es : List Told) → IsStrictlySortedBy by_bytes (keys_of es) → IsStrictlySortedBy by_bytes (keys_of (insert_entry by_bytes es k v))
+insert-sorted : (k v : List ℕ) (es : List Told) → IsStrictlySortedBy by_bytes (keys_of es)
+    → IsStrictlySortedBy by_bytes (keys_of (insert_entry by_bytes es k v))
 unfolding IsStrictlySortedBy
 insert-sorted k v [] s = (tt, tt)
 insert-sorted k v (e ∷ es) s =

@@ -11,8 +11,8 @@ use Rattle.meta_parts.specs.declared.records.EntityType.{EntityType}
 use Rattle.record_index.specs.Facts.{Facts}
 use Rattle.record_index.specs.declared.outcome.Who.{Who}
 use Rattle.record_index.specs.declared.outcome.ImportStrategy.{ImportStrategy}
-use Rattle.tracker_forms.specs.declared.pair.Pair.{Pair}
-use Rattle.tracker_forms.specs.declared.entity.BundleEntity.{BundleEntity}
+use Rattle.import_forms.specs.declared.pair.Pair.{Pair}
+use Rattle.import_forms.specs.declared.entity.BundleEntity.{BundleEntity}
 use Rattle.value_import.specs.Names.{object_named}
 use Rattle.value_import.specs.Rules.{Condition}
 use Rattle.value_import.specs.Values.{unit_id}

@@ -13,7 +13,7 @@ use Rattle.meta_parts.specs.declared.kind.Kind.TheVariants.{DataElement, Tracked
 use Rattle.meta_parts.specs.declared.names.ValueType.{ValueType}
 use Rattle.meta_parts.specs.declared.records.Element as elements
 use Rattle.meta_parts.specs.declared.records.Attribute as attributes
-use Rattle.tracker_forms.specs.declared.pair.Pair.{Pair}
+use Rattle.import_forms.specs.declared.pair.Pair.{Pair}
 use Rattle.dh_metadata.specs.Objects.{find_of}
 use Rattle.value_import.specs.Names.{if_so}
 use Rattle.tracker_rules.specs.declared.pairs.TheConstants.{MOST_ITEMS, MOST_BYTES}

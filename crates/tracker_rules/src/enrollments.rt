@@ -28,10 +28,10 @@ use dh_base::uid::Uid;
 use dh_changes::change::Write;
 use dh_changes::tracker::{Enrollment, Entity};
 use dh_metadata::metadata::Metadata;
+use import_forms::enrollment::BundleEnrollment;
+use import_forms::pair::Pair;
 use meta_parts::kind::Kind;
 use std::alloc::Global;
-use tracker_forms::enrollment::BundleEnrollment;
-use tracker_forms::pair::Pair;
 
 #[tactic(auto, unfolding(crate::specs::Enrollments::enrollment_names))]
 fn enrollment_names(meta: &Metadata, asked: &BundleEnrollment) -> EnrollmentNames
@@ -243,7 +243,7 @@ fn with_attributes(
     })
 }
 
-// Puts the write of the entity behind that of the enrollment, where it names attributes.
+// Puts the write of the entity after that of the enrollment, if it names attributes.
 #[tactic(auto, unfolding(crate::specs::Enrollments::entity_writes))]
 fn put_entity(
     alloc: Global,

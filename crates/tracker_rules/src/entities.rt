@@ -24,10 +24,10 @@ use dh_base::uid::Uid;
 use dh_changes::change::Write;
 use dh_changes::tracker::Entity;
 use dh_metadata::metadata::Metadata;
+use import_forms::entity::BundleEntity;
+use import_forms::pair::Pair;
 use meta_parts::kind::Kind;
 use std::alloc::Global;
-use tracker_forms::entity::BundleEntity;
-use tracker_forms::pair::Pair;
 
 #[tactic(auto, unfolding(crate::specs::Entities::entity_names))]
 fn entity_names(meta: &Metadata, asked: &BundleEntity) -> EntityNames

@@ -26,11 +26,11 @@ use dh_base::uid::Uid;
 use dh_changes::change::Write;
 use dh_changes::tracker::Event;
 use dh_metadata::metadata::Metadata;
+use import_forms::event::BundleEvent;
+use import_forms::pair::Pair;
 use meta_parts::kind::Kind;
 use meta_parts::names::ProgramType;
 use std::alloc::Global;
-use tracker_forms::event::BundleEvent;
-use tracker_forms::pair::Pair;
 
 #[tactic(auto, unfolding(crate::specs::Events::event_names))]
 fn event_names(meta: &Metadata, asked: &BundleEvent) -> EventNames

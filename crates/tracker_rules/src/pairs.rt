@@ -12,11 +12,11 @@ use dh_base::memory::Memory;
 use dh_base::uid::Uid;
 use dh_metadata::metadata::Metadata;
 use dh_records::value::fits;
+use import_forms::pair::Pair;
 use meta_parts::kind::Kind;
 use meta_parts::names::ValueType;
 use std::alloc::Global;
 use std::collections::BTreeMap;
-use tracker_forms::pair::Pair;
 
 /// How many attributes, and how many elements, can be written: so many members has a list in the bytes of a change.
 /// A metadata file has fewer of each.

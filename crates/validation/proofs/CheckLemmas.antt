@@ -80,7 +80,8 @@ SoFar-stops id o all i n done outcome.Wide within at is on before = SoFar-wide i
 SoFar-stops id o all i n done outcome.Kept within at is on before = absurd (false≢true on)
 SoFar-stops id o all i n done (outcome.Violated v) within at is on before = absurd (false≢true on)
 
-pub rules-more : (r : Records) (n : ℕ) (found : Outcome) (done after : List Violation) → after ≡ with_violation (violation_in found) done → IsOutcomeOf r n found
+pub rules-more : (r : Records) (n : ℕ) (found : Outcome) (done after : List Violation) → after ≡ with_violation (violation_in found) done
+    → IsOutcomeOf r n found
     → All (IsRuleOf r) done → All (IsRuleOf r) after
 rules-more r n outcome.Wide done after new of before = subst (All (IsRuleOf r)) (sym new) before
 rules-more r n outcome.Kept done after new of before = subst (All (IsRuleOf r)) (sym new) before

@@ -1,4 +1,5 @@
 pub mod CheckLemmas
+pub mod KnownLemmas
 pub mod OrderLemmas
 pub mod SideLemmas
 pub mod BodyLemmas

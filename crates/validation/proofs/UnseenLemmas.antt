@@ -37,7 +37,8 @@ rule_same : (r : Records) (one other : SeenRecords) (place : Place) (n : ℕ) (r
 rule_same r one other place n rule same =
     ap (λ (left : Value). cond (fits r place.set place.period.kind rule) (judged rule.operator n left (side_value r one place rule.right_side)) outcome.Kept)
     (side_same r one other place rule.left_side same)
-    ∙ ap (λ (right : Value). cond (fits r place.set place.period.kind rule) (judged rule.operator n (side_value r other place rule.left_side) right) outcome.Kept)
+    ∙ ap (λ (right : Value). cond (fits r place.set place.period.kind rule) (judged rule.operator n (side_value r other place rule.left_side) right)
+    outcome.Kept)
     (side_same r one other place rule.right_side same)
 
 some_rule : (r : Records) (one other : SeenRecords) (place : Place) (n : ℕ) (found : Option Rule) → SameSeen one other
@@ -50,7 +51,8 @@ outcome_same : (r : Records) (user : ℕ) (one other : SeenRecords) (place : Pla
     → outcome_of r user one place n ≡ outcome_of r user other place n
 unfolding outcome_of
 outcome_same r user one other place n same =
-    ap (λ (met : Outcome). cond (may_of r user Read kind.ValidationRule n) met outcome.Kept) (some_rule r one other place n (slice_get r.validation_rules n) same)
+    ap (λ (met : Outcome). cond (may_of r user Read kind.ValidationRule n) met outcome.Kept)
+    (some_rule r one other place n (slice_get r.validation_rules n) same)
 
 -- where a user sees the same, in whatever order it stands, the violations are the same
 pub check_of-same : (r : Records) (user : ℕ) (one other : SeenRecords) (place : Place) → SameSeen one other

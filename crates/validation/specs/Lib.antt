@@ -1,3 +1,4 @@
 pub mod Check
+pub mod Known
 pub mod Run
 pub mod Body

@@ -4,14 +4,16 @@ ghost use Rattle.std.specs.List.{All};
 ghost use Rattle.dh_base.specs.Memory.{Answers};
 ghost use Rattle.cell_values.specs.Seen.{seen_of, contents_of};
 ghost use Rattle.validation.specs.Check.{id_of, rule_outcome, outcome_of, check_all, check_of};
-ghost use Rattle.validation.specs.Run.{cause_of, IsChecking, IsRuleOf, IsOutcomeOf, is_wide_outcome, violation_in, with_violation};
+ghost use Rattle.validation.specs.Run.{cause_of, IsChecking, IsSpot, AreKnownAt, IsRuleOf, IsOutcomeOf, is_wide_outcome, violation_in, with_violation};
 
 use crate::asked::fits;
 use crate::judge::judged;
+use crate::known::ItemKey;
 use crate::order::rules_by_id;
 use crate::outcome::{Outcome, Violation};
 use crate::place::Place;
 use crate::sides::side_value;
+use crate::spot::{Spot, spot_of};
 use cell_values::Source;
 use dh_base::frac::Frac;
 use dh_base::items::Items;
@@ -21,6 +23,7 @@ use dh_metadata::metadata::Metadata;
 use meta_parts::kind::Kind;
 use meta_parts::records::Rule;
 use std::alloc::{AllocFailed, Global};
+use std::collections::BTreeMap;
 use table_rows::RowStore;
 
 /// Why a check gives no violations.
@@ -57,23 +60,30 @@ impl<T: Drop> From<AllocFailed<T>> for CheckFault {
 fn rule_outcome<S: RowStore>(
     alloc: Global,
     source: &Source<'_, S>,
-    place: &Place,
+    spot: &Spot,
+    known: &mut BTreeMap<ItemKey, Option<Frac>>,
     number: u32,
     rule: &Rule,
 ) -> Result<Outcome, Memory>
-    requires place { IsChecking source.now.meta.now source.now.seer.now place.now }
+    requires spot { IsSpot source.now.meta.now source.now.seer.now spot.now }
     requires rule { number < length source.now.meta.now.validation_rules }
+    requires known { AreKnownAt source.now.meta.now source.now.seer.now
+        (contents_of (S.rows source.now.store.now) (S.events source.now.store.now) (S.regs source.now.store.now))
+        spot.now.place known.old.entries }
+    ensures known { OnOk result (AreKnownAt source.now.meta.now source.now.seer.now
+        (contents_of (S.rows source.now.store.now) (S.events source.now.store.now) (S.regs source.now.store.now))
+        spot.now.place known.new.entries) }
     ensures rule { IfOk result (λ outcome. IsOutcomeOf source.now.meta.now number outcome) }
     ensures value { IfOk result (λ outcome. outcome ≡ rule_outcome source.now.meta.now
         (seen_of source.now.meta.now source.now.seer.now.user
         (contents_of (S.rows source.now.store.now) (S.events source.now.store.now) (S.regs source.now.store.now)))
-        place.now number rule.now) }
+        spot.now.place number rule.now) }
 {
-    if !fits(source.meta, place.set, place.period.kind(), rule) {
+    if !fits(source.meta, spot.place.set, spot.place.period.kind(), rule) {
         return Ok(Outcome::Kept);
     }
-    let left = side_value(alloc, source, place, &rule.left_side)?;
-    let right = side_value(alloc, source, place, &rule.right_side)?;
+    let left = side_value(alloc, source, spot, known, &rule.left_side)?;
+    let right = side_value(alloc, source, spot, known, &rule.right_side)?;
     Ok(judged(rule.operator, number, &left, &right))
 }
 
@@ -82,15 +92,22 @@ fn rule_outcome<S: RowStore>(
 fn outcome_of<S: RowStore>(
     alloc: Global,
     source: &Source<'_, S>,
-    place: &Place,
+    spot: &Spot,
+    known: &mut BTreeMap<ItemKey, Option<Frac>>,
     number: u32,
 ) -> Result<Outcome, Memory>
-    requires { IsChecking source.now.meta.now source.now.seer.now place.now }
+    requires spot { IsSpot source.now.meta.now source.now.seer.now spot.now }
+    requires known { AreKnownAt source.now.meta.now source.now.seer.now
+        (contents_of (S.rows source.now.store.now) (S.events source.now.store.now) (S.regs source.now.store.now))
+        spot.now.place known.old.entries }
+    ensures known { OnOk result (AreKnownAt source.now.meta.now source.now.seer.now
+        (contents_of (S.rows source.now.store.now) (S.events source.now.store.now) (S.regs source.now.store.now))
+        spot.now.place known.new.entries) }
     ensures rule { IfOk result (λ outcome. IsOutcomeOf source.now.meta.now number outcome) }
     ensures value { IfOk result (λ outcome. outcome ≡ outcome_of source.now.meta.now source.now.seer.now.user
         (seen_of source.now.meta.now source.now.seer.now.user
         (contents_of (S.rows source.now.store.now) (S.events source.now.store.now) (S.regs source.now.store.now)))
-        place.now number) }
+        spot.now.place number) }
 {
     let meta = source.meta;
     if !source.seer.may_read(meta, Kind::ValidationRule, number) {
@@ -99,7 +116,7 @@ fn outcome_of<S: RowStore>(
     if meta.count(Kind::ValidationRule) <= number {
         return Ok(Outcome::Kept);
     }
-    rule_outcome(alloc, source, place, number, meta.rule(number))
+    rule_outcome(alloc, source, spot, known, number, meta.rule(number))
 }
 
 /// The rule's identifier.
@@ -157,19 +174,20 @@ fn add(violations: &mut Items<Violation>, found: &Option<Violation>) -> Result<(
 fn check_all<S: RowStore>(
     alloc: Global,
     source: &Source<'_, S>,
-    place: &Place,
+    spot: &Spot,
     order: &[u32],
 ) -> Result<Items<Violation>, CheckFault>
-    requires { IsChecking source.now.meta.now source.now.seer.now place.now }
+    requires { IsSpot source.now.meta.now source.now.seer.now spot.now }
     ensures rules { IfOk result (λ violations. All (IsRuleOf source.now.meta.now) violations) }
     ensures value { Answers cause_of (check_all (id_of source.now.meta.now) (outcome_of source.now.meta.now source.now.seer.now.user
         (seen_of source.now.meta.now source.now.seer.now.user
         (contents_of (S.rows source.now.store.now) (S.events source.now.store.now) (S.regs source.now.store.now)))
-        place.now) order.now) result }
+        spot.now.place) order.now) result }
 {
+    let mut known: BTreeMap<ItemKey, Option<Frac>> = BTreeMap::new(alloc);
     let mut violations = Items::new(alloc);
     for number in order {
-        let outcome = outcome_of(alloc, source, place, *number)?;
+        let outcome = outcome_of(alloc, source, spot, &mut known, *number)?;
         if is_wide_outcome(&outcome) {
             return Err(wide_rule(source.meta, *number));
         }
@@ -194,5 +212,6 @@ pub fn run<S: RowStore>(
         place.now) result }
 {
     let order = rules_by_id(alloc, source.meta)?;
-    check_all(alloc, source, place, &order)
+    let spot = spot_of(alloc, source, place)?;
+    check_all(alloc, source, &spot, &order)
 }

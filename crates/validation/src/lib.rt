@@ -6,10 +6,12 @@ mod asked;
 mod body_text;
 mod checks;
 mod judge;
+mod known;
 mod order;
 mod outcome;
 mod place;
 mod sides;
+mod spot;
 
 pub use body_text::body;
 pub use checks::{CheckFault, run};

@@ -1,69 +1,157 @@
 //! The values of a rule's sides.
-ghost use Rattle.std.specs.Prelude.{◌≡◌, [], ◌∷◌, map, true, IfOk};
-ghost use Rattle.cell_values.specs.Held.{AreCellUnits};
+ghost use Rattle.std.specs.Prelude.{◌≡◌, map, get_or, None, IfOk, OnOk};
 ghost use Rattle.cell_values.specs.Seen.{seen_of, contents_of};
 ghost use Rattle.validation.specs.Check.{given_at, side_value};
-ghost use Rattle.validation.specs.Run.{IsChecking};
+ghost use Rattle.validation.specs.Known.{item_of};
+ghost use Rattle.validation.specs.Run.{IsSpot, AreKnownAt};
 
-use crate::place::Place;
-use cell_values::{CellPeriods, CellUnits, Source, item_groups, item_plans, item_values};
+use crate::known::{ItemKey, key_of, look_up, note};
+use crate::spot::Spot;
+use cell_values::{Source, item_groups, item_plans, item_values};
 use dh_base::frac::Frac;
 use dh_base::memory::Memory;
 use dh_base::plain::Strategy;
-use dh_periods::Period;
 use expr_eval::{Value, compile, eval};
 use expr_lang::{Expr, Item};
 use std::alloc::Global;
+use std::collections::BTreeMap;
 use table_rows::RowStore;
 
-/// The one period, as those of a cell.
-fn cell_periods(alloc: Global, period: &Period) -> Result<CellPeriods, Memory>
-    ensures { IfOk result (λ periods. periods ≡ period.now ∷ []) }
-{
-    let periods = [*period];
-    CellPeriods::of(alloc, &periods)
-}
-
-/// The unit alone, as those of a cell.
-fn cell_units<S: RowStore>(
-    alloc: Global,
-    source: &Source<'_, S>,
-    place: &Place,
-) -> Result<CellUnits, Memory>
-    requires { IsChecking source.now.meta.now source.now.seer.now place.now }
-    ensures cell { IfOk result (λ units. AreCellUnits source.now.meta.now source.now.seer.now.user units) }
-    ensures units { IfOk result (λ units. units.units ≡ place.now.unit ∷ []) }
-    ensures alone { IfOk result (λ units. units.alone ≡ true) }
-{
-    let units = [place.unit];
-    CellUnits::of(alloc, source.meta, source.seer, &units, true)
-}
-
 /// The values of items, in their order, at the unit alone and inside the period.
-fn given_at<S: RowStore>(
+fn values_of<S: RowStore>(
     alloc: Global,
     source: &Source<'_, S>,
-    place: &Place,
+    spot: &Spot,
     items: &[Item],
 ) -> Result<Vec<Option<Frac>>, Memory>
-    requires { IsChecking source.now.meta.now source.now.seer.now place.now }
+    requires { IsSpot source.now.meta.now source.now.seer.now spot.now }
     ensures { IfOk result (λ values. values.items ≡ map (given_at source.now.meta.now
         (seen_of source.now.meta.now source.now.seer.now.user
         (contents_of (S.rows source.now.store.now) (S.events source.now.store.now) (S.regs source.now.store.now)))
-        place.now) items.now) }
+        spot.now.place) items.now) }
 {
     let plans = item_plans(alloc, source, items)?;
-    let periods = cell_periods(alloc, &place.period)?;
-    let units = cell_units(alloc, source, place)?;
-    let groups = item_groups(alloc, plans.as_slice(), &periods)?;
+    let groups = item_groups(alloc, plans.as_slice(), &spot.periods)?;
     let values = item_values(
         alloc,
         source,
         plans.as_slice(),
         groups.as_slice(),
-        &periods,
-        &units,
+        &spot.periods,
+        &spot.units,
     )?;
+    Ok(values)
+}
+
+fn first_of(values: &[Option<Frac>]) -> Option<Frac>
+    ensures { result ≡ get_or values.now 0 None }
+{
+    if values.is_empty() {
+        return None;
+    }
+    values[0]
+}
+
+/// The value of an item, from the records.
+fn value_of<S: RowStore>(
+    alloc: Global,
+    source: &Source<'_, S>,
+    spot: &Spot,
+    item: &Item,
+) -> Result<Option<Frac>, Memory>
+    requires { IsSpot source.now.meta.now source.now.seer.now spot.now }
+    ensures { IfOk result (λ value. value ≡ given_at source.now.meta.now
+        (seen_of source.now.meta.now source.now.seer.now.user
+        (contents_of (S.rows source.now.store.now) (S.events source.now.store.now) (S.regs source.now.store.now)))
+        spot.now.place item.now) }
+{
+    let items = [*item];
+    let values = values_of(alloc, source, spot, &items)?;
+    Ok(first_of(&values))
+}
+
+/// The value of an item under its key: the one that is known, or that from the records, which is
+/// known afterwards.
+fn value_under<S: RowStore>(
+    alloc: Global,
+    source: &Source<'_, S>,
+    spot: &Spot,
+    known: &mut BTreeMap<ItemKey, Option<Frac>>,
+    key: &ItemKey,
+    item: &Item,
+) -> Result<Option<Frac>, Memory>
+    requires spot { IsSpot source.now.meta.now source.now.seer.now spot.now }
+    requires key { item_of key.now ≡ item.now }
+    requires known { AreKnownAt source.now.meta.now source.now.seer.now
+        (contents_of (S.rows source.now.store.now) (S.events source.now.store.now) (S.regs source.now.store.now))
+        spot.now.place known.old.entries }
+    ensures known { OnOk result (AreKnownAt source.now.meta.now source.now.seer.now
+        (contents_of (S.rows source.now.store.now) (S.events source.now.store.now) (S.regs source.now.store.now))
+        spot.now.place known.new.entries) }
+    ensures value { IfOk result (λ value. value ≡ given_at source.now.meta.now
+        (seen_of source.now.meta.now source.now.seer.now.user
+        (contents_of (S.rows source.now.store.now) (S.events source.now.store.now) (S.regs source.now.store.now)))
+        spot.now.place item.now) }
+{
+    if let Some(value) = look_up(known, key) {
+        return Ok(value);
+    }
+    let value = value_of(alloc, source, spot, item)?;
+    note(known, key, &value)?;
+    Ok(value)
+}
+
+/// The value of an item. One that has a key is valued once a check.
+fn item_value<S: RowStore>(
+    alloc: Global,
+    source: &Source<'_, S>,
+    spot: &Spot,
+    known: &mut BTreeMap<ItemKey, Option<Frac>>,
+    item: &Item,
+) -> Result<Option<Frac>, Memory>
+    requires spot { IsSpot source.now.meta.now source.now.seer.now spot.now }
+    requires known { AreKnownAt source.now.meta.now source.now.seer.now
+        (contents_of (S.rows source.now.store.now) (S.events source.now.store.now) (S.regs source.now.store.now))
+        spot.now.place known.old.entries }
+    ensures known { OnOk result (AreKnownAt source.now.meta.now source.now.seer.now
+        (contents_of (S.rows source.now.store.now) (S.events source.now.store.now) (S.regs source.now.store.now))
+        spot.now.place known.new.entries) }
+    ensures value { IfOk result (λ value. value ≡ given_at source.now.meta.now
+        (seen_of source.now.meta.now source.now.seer.now.user
+        (contents_of (S.rows source.now.store.now) (S.events source.now.store.now) (S.regs source.now.store.now)))
+        spot.now.place item.now) }
+{
+    match key_of(item) {
+        Some(key) => value_under(alloc, source, spot, known, &key, item),
+        None => value_of(alloc, source, spot, item),
+    }
+}
+
+/// The values of items, in their order.
+fn item_values_of<S: RowStore>(
+    alloc: Global,
+    source: &Source<'_, S>,
+    spot: &Spot,
+    known: &mut BTreeMap<ItemKey, Option<Frac>>,
+    items: &[Item],
+) -> Result<Vec<Option<Frac>>, Memory>
+    requires spot { IsSpot source.now.meta.now source.now.seer.now spot.now }
+    requires known { AreKnownAt source.now.meta.now source.now.seer.now
+        (contents_of (S.rows source.now.store.now) (S.events source.now.store.now) (S.regs source.now.store.now))
+        spot.now.place known.old.entries }
+    ensures known { OnOk result (AreKnownAt source.now.meta.now source.now.seer.now
+        (contents_of (S.rows source.now.store.now) (S.events source.now.store.now) (S.regs source.now.store.now))
+        spot.now.place known.new.entries) }
+    ensures values { IfOk result (λ values. values.items ≡ map (given_at source.now.meta.now
+        (seen_of source.now.meta.now source.now.seer.now.user
+        (contents_of (S.rows source.now.store.now) (S.events source.now.store.now) (S.regs source.now.store.now)))
+        spot.now.place) items.now) }
+{
+    let mut values = Vec::new(alloc);
+    for item in items {
+        let value = item_value(alloc, source, spot, known, item)?;
+        values.push(value)?;
+    }
     Ok(values)
 }
 
@@ -72,16 +160,23 @@ fn given_at<S: RowStore>(
 pub(crate) fn side_value<S: RowStore>(
     alloc: Global,
     source: &Source<'_, S>,
-    place: &Place,
+    spot: &Spot,
+    known: &mut BTreeMap<ItemKey, Option<Frac>>,
     side: &(Expr, Strategy),
 ) -> Result<Value, Memory>
-    requires { IsChecking source.now.meta.now source.now.seer.now place.now }
-    ensures { IfOk result (λ value. value ≡ side_value source.now.meta.now
+    requires spot { IsSpot source.now.meta.now source.now.seer.now spot.now }
+    requires known { AreKnownAt source.now.meta.now source.now.seer.now
+        (contents_of (S.rows source.now.store.now) (S.events source.now.store.now) (S.regs source.now.store.now))
+        spot.now.place known.old.entries }
+    ensures known { OnOk result (AreKnownAt source.now.meta.now source.now.seer.now
+        (contents_of (S.rows source.now.store.now) (S.events source.now.store.now) (S.regs source.now.store.now))
+        spot.now.place known.new.entries) }
+    ensures value { IfOk result (λ value. value ≡ side_value source.now.meta.now
         (seen_of source.now.meta.now source.now.seer.now.user
         (contents_of (S.rows source.now.store.now) (S.events source.now.store.now) (S.regs source.now.store.now)))
-        place.now side.now) }
+        spot.now.place side.now) }
 {
     let form = compile(alloc, &side.0)?;
-    let values = given_at(alloc, source, place, side.0.items())?;
+    let values = item_values_of(alloc, source, spot, known, side.0.items())?;
     eval(alloc, &form, values.as_slice(), side.1)
 }

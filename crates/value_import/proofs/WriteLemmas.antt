@@ -19,9 +19,9 @@ use Rattle.record_index.specs.declared.outcome.ImportStrategy.{ImportStrategy}
 use Rattle.record_index.specs.declared.outcome.Verdict.{Verdict}
 use Rattle.record_index.specs.declared.outcome.Who.{Who}
 use Rattle.dh_periods.specs.Moment.{day_of}
-use Rattle.value_forms.specs.declared.completion.Completion.{Completion}
-use Rattle.value_forms.specs.declared.set.SetValue.{SetValue}
-use Rattle.value_forms.specs.declared.set.ValueSet.{ValueSet}
+use Rattle.import_forms.specs.declared.completion.Completion.{Completion}
+use Rattle.import_forms.specs.declared.set.SetValue.{SetValue}
+use Rattle.import_forms.specs.declared.set.ValueSet.{ValueSet}
 use Rattle.value_import.specs.declared.place.Place.{Place}
 use Rattle.value_import.specs.declared.place.ValuePlace.{ValuePlace}
 use Rattle.value_import.specs.declared.judged.Judged.{Judged}

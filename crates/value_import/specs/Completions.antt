@@ -10,8 +10,8 @@ use Rattle.meta_parts.specs.declared.kind.Kind.TheVariants.{OrganisationUnit, Da
 use Rattle.meta_parts.specs.declared.records.DataSet as sets
 use Rattle.record_index.specs.Facts.{Facts}
 use Rattle.record_index.specs.declared.outcome.Who.{Who}
-use Rattle.value_forms.specs.declared.completion.Completion.{Completion}
-use Rattle.value_forms.specs.declared.set.ValueSet.{ValueSet}
+use Rattle.import_forms.specs.declared.completion.Completion.{Completion}
+use Rattle.import_forms.specs.declared.set.ValueSet.{ValueSet}
 use Rattle.value_import.specs.declared.place.Place.{Place}
 use Rattle.value_import.specs.declared.place.RegNames.{RegNames}
 use Rattle.value_import.specs.declared.judged.Judged.{Judged}

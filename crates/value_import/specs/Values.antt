@@ -22,8 +22,8 @@ use Rattle.record_index.specs.declared.outcome.ImportStrategy.{ImportStrategy}
 use Rattle.record_index.specs.declared.outcome.ImportStrategy.TheVariants as strategy
 use Rattle.dh_records.specs.Approved.{approved_of}
 use Rattle.dh_records.specs.Values.{fits, is_numeric, number_of}
-use Rattle.value_forms.specs.declared.set.SetValue.{SetValue}
-use Rattle.value_forms.specs.declared.set.ValueSet.{ValueSet}
+use Rattle.import_forms.specs.declared.set.SetValue.{SetValue}
+use Rattle.import_forms.specs.declared.set.ValueSet.{ValueSet}
 use Rattle.value_import.specs.declared.place.ValuePlace.{ValuePlace}
 use Rattle.value_import.specs.declared.place.ValueNames.{ValueNames}
 use Rattle.value_import.specs.declared.judged.Judged.{Judged}

@@ -6,9 +6,9 @@ use Rattle.record_index.specs.Facts.{Facts}
 use Rattle.record_index.specs.declared.outcome.Verdict.{Verdict}
 use Rattle.record_index.specs.declared.outcome.Who.{Who}
 use Rattle.dh_periods.specs.Moment.{day_of}
-use Rattle.value_forms.specs.declared.completion.Completion.{Completion}
-use Rattle.value_forms.specs.declared.set.SetValue.{SetValue}
-use Rattle.value_forms.specs.declared.set.ValueSet.{ValueSet}
+use Rattle.import_forms.specs.declared.completion.Completion.{Completion}
+use Rattle.import_forms.specs.declared.set.SetValue.{SetValue}
+use Rattle.import_forms.specs.declared.set.ValueSet.{ValueSet}
 use Rattle.value_import.specs.Values.{judged_value}
 use Rattle.value_import.specs.Completions.{judged_completion, completion_in, uncounted}
 use Rattle.value_import.specs.Outcomes.{nothing, taken, finished}

@@ -28,12 +28,12 @@ use dh_changes::change::Write;
 use dh_changes::keys::RegKey;
 use dh_metadata::metadata::Metadata;
 use dh_periods::Period;
+use import_forms::completion::Completion;
+use import_forms::set::ValueSet;
 use meta_parts::kind::Kind;
 use record_index::outcome::Who;
 use record_index::world::World;
 use std::alloc::Global;
-use value_forms::completion::Completion;
-use value_forms::set::ValueSet;
 
 #[tactic(auto, unfolding(crate::specs::Completions::typed_set))]
 fn typed_set(meta: &Metadata, set: Option<u32>, period: &Option<Period>) -> Option<u32>

@@ -22,11 +22,11 @@ use dh_metadata::metadata::Metadata;
 use dh_records::approved::approved_position_of;
 use dh_records::number::{is_numeric, number_of};
 use dh_records::value::fits;
+use import_forms::set::SetValue;
 use meta_parts::records::Element;
 use record_index::outcome::{ImportStrategy, Who};
 use record_index::world::World;
 use std::alloc::Global;
-use value_forms::set::SetValue;
 
 /// The key of a value, and whether it holds one.
 #[derive(Clone, Copy)]

@@ -17,9 +17,9 @@ use crate::rules::place_condition;
 use crate::value::{key_of, placed};
 use dh_base::codes::Code;
 use dh_base::memory::Memory;
+use import_forms::set::{SetValue, ValueSet};
 use record_index::outcome::ImportStrategy;
 use std::alloc::Global;
-use value_forms::set::{SetValue, ValueSet};
 
 fn condition(
     asking: &Asking<'_>,

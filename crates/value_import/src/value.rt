@@ -15,8 +15,8 @@ use dh_base::items::Items;
 use dh_changes::keys::ValueKey;
 use dh_metadata::metadata::Metadata;
 use dh_periods::Period;
+use import_forms::set::{SetValue, ValueSet};
 use meta_parts::kind::Kind;
-use value_forms::set::{SetValue, ValueSet};
 
 #[tactic(auto, unfolding(crate::specs::Values::set_of))]
 fn set_of(

@@ -18,11 +18,11 @@ use dh_base::items::Items;
 use dh_base::memory::Memory;
 use dh_metadata::metadata::Metadata;
 use dh_periods::day_of;
+use import_forms::completion::Completion;
+use import_forms::set::{SetValue, ValueSet};
 use record_index::outcome::{Verdict, Who};
 use record_index::world::World;
 use std::alloc::Global;
-use value_forms::completion::Completion;
-use value_forms::set::{SetValue, ValueSet};
 
 #[tactic(auto, unfolding(crate::specs::Verdicts::with_value))]
 fn with_value(

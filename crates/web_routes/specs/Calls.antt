@@ -14,10 +14,10 @@ use Rattle.query_forms.specs.Given.{and_then, refusal, or_refuse}
 use Rattle.query_lang.specs.Askable.{IsAskable}
 use Rattle.query_lang.specs.Query.{query_of}
 use Rattle.query_lang.specs.declared.query.TheConstants.{MOST_CELLS}
-use Rattle.value_forms.specs.Bodies.{body_of}
-use Rattle.value_forms.specs.Sets.{set_of}
-use Rattle.value_forms.specs.Completions.{completions_of}
-use Rattle.tracker_forms.specs.Bundles.{bundle_of}
+use Rattle.import_forms.specs.Bodies.{body_of}
+use Rattle.import_forms.specs.Sets.{set_of}
+use Rattle.import_forms.specs.Completions.{completions_of}
+use Rattle.import_forms.specs.Bundles.{bundle_of}
 use Rattle.web_routes.specs.Parameters.{asked_of, kind_of, params_of, bundle_params_of}
 use Rattle.web_routes.specs.Routes.{authority_of, route_of}
 use Rattle.web_routes.specs.declared.table.Route.{Route}

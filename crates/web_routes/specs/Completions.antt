@@ -9,7 +9,7 @@ use Rattle.meta_parts.specs.declared.held.Records.{Records}
 use Rattle.meta_parts.specs.declared.kind.Kind.{Kind}
 use Rattle.meta_parts.specs.declared.kind.Kind.TheVariants as kind
 use Rattle.dh_metadata.specs.Objects.{find_of}
-use Rattle.value_forms.specs.declared.completion.Completion.{Completion}
+use Rattle.import_forms.specs.declared.completion.Completion.{Completion}
 use Rattle.query_forms.specs.Given.{and_then, refusal}
 use Rattle.web_routes.specs.Parameters.{value_of}
 

@@ -11,8 +11,8 @@ use Rattle.dh_base.specs.declared.plain.CutKind.{CutKind}
 use Rattle.dh_base.specs.declared.plain.CutKind.TheVariants as cut
 use Rattle.record_index.specs.declared.outcome.ImportStrategy.{ImportStrategy}
 use Rattle.record_index.specs.declared.outcome.ImportStrategy.TheVariants as strategy
-use Rattle.tracker_forms.specs.declared.bundle.BundleParams.{BundleParams}
-use Rattle.value_forms.specs.declared.set.SetParams.{SetParams}
+use Rattle.import_forms.specs.declared.bundle.BundleParams.{BundleParams}
+use Rattle.import_forms.specs.declared.set.SetParams.{SetParams}
 use Rattle.query_forms.specs.Given.{and_then, refusal, or_refuse}
 
 -- the value under a name in the pairs that are left, where this one was found before

@@ -1,10 +1,10 @@
 //! Bodies and queries, with their faults as refusals of requests.
 ghost use Rattle.std.specs.Prelude.{◌≡◌, ◌≤ℤ◌, ◌<◌, length, IfOk};
 ghost use Rattle.dh_base.specs.declared.limits.TheConstants.{FIRST_QUERY_DAY, LAST_QUERY_DAY};
-ghost use Rattle.value_forms.specs.Bodies.{body_of};
-ghost use Rattle.value_forms.specs.Sets.{set_of};
-ghost use Rattle.value_forms.specs.Completions.{completions_of};
-ghost use Rattle.tracker_forms.specs.Bundles.{bundle_of};
+ghost use Rattle.import_forms.specs.Bodies.{body_of};
+ghost use Rattle.import_forms.specs.Sets.{set_of};
+ghost use Rattle.import_forms.specs.Completions.{completions_of};
+ghost use Rattle.import_forms.specs.Bundles.{bundle_of};
 ghost use Rattle.query_lang.specs.Askable.{IsAskable};
 ghost use Rattle.query_lang.specs.Query.{query_of};
 ghost use Rattle.dh_base.specs.Memory.{Answers};
@@ -16,13 +16,13 @@ use crate::fault::RouteFault;
 use dh_base::codes::{Code, Refusal};
 use dh_base::items::Items;
 use dh_metadata::metadata::Metadata;
+use import_forms::bundle::{Bundle, BundleParams, read_bundle};
+use import_forms::completion::{Completion, read_completions};
+use import_forms::set::{SetParams, ValueSet, read_set};
 use query_forms::{Query, QueryFault};
 use query_lang::{MOST_CELLS, read_query};
 use record_index::outcome::BodyFault;
 use std::alloc::Global;
-use tracker_forms::bundle::{Bundle, BundleParams, read_bundle};
-use value_forms::completion::{Completion, read_completions};
-use value_forms::set::{SetParams, ValueSet, read_set};
 
 fn of_body(fault: BodyFault) -> RouteFault
     ensures { result ≡ of_body fault }

@@ -4,10 +4,10 @@ use crate::checked::Checked;
 use dh_approvals::ApprovalAct;
 use dh_base::items::Items;
 use dh_base::plain::CutKind;
+use import_forms::bundle::Bundle;
+use import_forms::completion::Completion;
+use import_forms::set::ValueSet;
 use query_forms::Query;
-use tracker_forms::bundle::Bundle;
-use value_forms::completion::Completion;
-use value_forms::set::ValueSet;
 
 /// What a request asks for. Users are told by number.
 #[derive(Drop)]

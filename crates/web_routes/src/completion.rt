@@ -13,9 +13,9 @@ use dh_base::memory::Memory;
 use dh_base::uid::Uid;
 use dh_metadata::metadata::Metadata;
 use dh_periods::Period;
+use import_forms::completion::Completion;
 use meta_parts::kind::Kind;
 use std::alloc::Global;
-use value_forms::completion::Completion;
 
 #[tactic(auto, unfolding(crate::specs::Completions::is_name))]
 fn is_name(meta: &Metadata, kind: Kind, text: &[u8]) -> bool

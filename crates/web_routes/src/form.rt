@@ -16,10 +16,10 @@ use crate::path::all_digits;
 use dh_base::codes::Code;
 use dh_base::items::Items;
 use dh_base::plain::CutKind;
+use import_forms::bundle::BundleParams;
+use import_forms::set::SetParams;
 use record_index::outcome::ImportStrategy;
 use std::alloc::Global;
-use tracker_forms::bundle::BundleParams;
-use value_forms::set::SetParams;
 
 #[tactic(auto, unfolding(crate::specs::Parameters::truth_of))]
 fn truth_of(text: &[u8]) -> Option<bool>

@@ -162,6 +162,9 @@ plain-holds rows events regs years h =
     and_from _ _ h.few_rows (and_from _ _ h.few_events (and_from _ _ h.few_regs (and_from _ _ h.rows_rise (and_from _ _ h.events_rise
     (and_from _ _ h.regs_rise (and_from _ _ refl (and_from _ _ h.event_days (and_from _ _ h.reg_days h.own_places))))))))
 
+pub years-of-rise : (all : Contents) (years : List ℤ) → AreOfYears all years → rises int_cmp years ≡ true
+years-of-rise all years are = (store-holds all.rows all.events all.regs years are.store).years_rise
+
 -- without its years a store is one
 pub no-years : (rows : List Row) (events : List EventRow) (regs : List RegRow) (years : List ℤ) → is_store rows events regs years ≡ true
     → is_store rows events regs [] ≡ true

@@ -1,12 +1,14 @@
 -- Events stand in the order of their years.
-use Rattle.std.proofs.Common.{◌≡◌, ◌∙◌, ◌+◌, ◌/◌, ◌<◌, ◌≤◌, ℕ, true, false, List, ◌++◌, length, take, get_or, ℤ, pos, ◌-ℤ◌, ◌≤ℤ◌, ◌<ℤ◌, Option, Some, None}
-use Rattle.std.proofs.Common.{refl, sym, ap, arith, Ordering, Less, Equal, Greater}
+use Rattle.std.proofs.Common.{◌≡◌, ◌∙◌, ◌+◌, ◌/◌, ◌<◌, ◌≤◌, ℕ, zero, suc, Bool, true, false, cond, ◌&&◌, nat_eq, List, [], ◌∷◌, ◌++◌, length, take}
+use Rattle.std.proofs.Common.{drop, get_or}
+use Rattle.std.proofs.Common.{ℤ, pos, ◌-ℤ◌, ◌≤ℤ◌, ◌<ℤ◌, Option, Some, None, refl, sym, ap, append_assoc, arith, Ordering, Less, Equal, Greater}
 use Rattle.std.specs.Cmp.Lexicographic.{slice_cmp}
-use Rattle.std.specs.List.{filter}
-use Rattle.std.specs.Ordering.{int_cmp, nat_cmp, is_gt, ordering_then}
-use Rattle.std.proofs.lemmas.List.{take_all}
+use Rattle.std.specs.Prelude.{int_le}
+use Rattle.std.specs.List.{AllByRecursion, filter, list_all}
+use Rattle.std.specs.Ordering.{int_cmp, nat_cmp, is_lt, is_gt, ordering_then}
+use Rattle.std.proofs.lemmas.List.{append-nil}
 use Rattle.std.proofs.Math.Nat.{div-mul-le_self}
-use Rattle.std.proofs.lemmas.Bool.{false≢true}
+use Rattle.std.proofs.lemmas.Bool.{and_parts, false≢true}
 use Rattle.std.proofs.lemmas.Int.{ints}
 use Rattle.std.proofs.lemmas.Cmp.{int_ranked}
 use Rattle.std.proofs.lemmas.Nat.{le-div}
@@ -19,6 +21,7 @@ use Rattle.dh_periods.specs.Places.{containing_of, year_of}
 use Rattle.dh_periods.specs.Types.{shape_of}
 use Rattle.dh_periods.proofs.CalendarLemmas.{month_with-bounds, month_with-from}
 use Rattle.dh_periods.proofs.ContainingLemmas.{containing_of-is}
+use Rattle.dh_periods.proofs.HeldLemmas.{int_le-yes}
 use Rattle.dh_periods.proofs.SpanLemmas.{unix_day-back}
 use Rattle.dh_periods.proofs.TextLemmas.{map-some}
 use Rattle.table_rows.specs.declared.event.EventRow.{EventRow}
@@ -28,12 +31,13 @@ use Rattle.table_rows.specs.Store.{Contents}
 use Rattle.table_rows.proofs.GatherLemmas.{gathered-same}
 use Rattle.table_rows.proofs.RiseLemmas.{sorted_from_rises}
 use Rattle.table_rows.proofs.RunLemmas.{every-filter}
-use Rattle.year_tables.specs.Years.{period_year, day_year, is_year_if_any, is_event_in}
+use Rattle.year_tables.specs.Years.{period_year, day_year, is_year_if_any, is_event_in, comes_before, comes_after}
 use Rattle.year_tables.specs.Parts.{YearPart, ArePartitions, years_in, together, events_together, in_year}
 use Rattle.year_tables.proofs.AscendingLemmas.{every-to}
 use Rattle.year_tables.proofs.YearLemmas.{HasOneYear, FollowsYears, is_in_any, same-year, filter-swap}
 use Rattle.year_tables.proofs.YearLemmas.{filter-whole, each-true, gathered-map, gathered-more, years-along}
 use Rattle.year_tables.proofs.PartLemmas.{event_total, whole, years-sorted}
+use Rattle.year_tables.proofs.SearchLemmas.{turned}
 
 -- ---- the year of a day
 
@@ -134,7 +138,7 @@ events-all program from to parts are =
     (every-filter (λ event. is_in_any is_event_in (years_in parts) event ≡ true) (is_event_of program from to) (events_together parts)
     (each-true (λ event. is_in_any is_event_in (years_in parts) event) (events_together parts) are.whole.events))
 
--- a loop's step, and its end
+-- a loop's step
 
 pub events-more : (parts : List YearPart) (part : YearPart) (i program : ℕ) (from to : ℤ) (old new : List EventRow) → i < length parts
     → part ≡ get_or parts i part
@@ -145,8 +149,114 @@ events-more parts part i program from to old new within at known is =
     is ∙ ap (λ v. v ++ events_of program from to part.contents.events) known
     ∙ sym (gathered-more (λ (p : YearPart). events_of program from to p.contents.events) parts i part within at)
 
-pub events-done : (parts : List YearPart) (i program : ℕ) (from to : ℤ) (list : List EventRow) → ArePartitions parts → length parts ≤ i
+-- ---- the years that can't hold an event of these days
+
+filter-apart : {X : Type 0} (p q : X → Bool) (xs : List X) → ((x : X) → q x ≡ true → p x ≡ true → ⊥) → filter p (filter q xs) ≡ []
+filter-apart p q [] apart = refl
+filter-apart p q (x ∷ xs) apart = by_tests (p x) (q x) refl refl (filter-apart p q xs apart)
+  where
+    by_tests : (a b : Bool) → p x ≡ a → q x ≡ b → filter p (filter q xs) ≡ [] → filter p (cond b (x ∷ filter q xs) (filter q xs)) ≡ []
+    by_tests true true is also rest = absurd (apart x also is)
+    by_tests false true is also rest = ap (λ c. cond c (x ∷ filter p (filter q xs)) (filter p (filter q xs))) is ∙ rest
+    by_tests a false is also rest = rest
+
+is-less : (o : Ordering) → is_lt o ≡ true → o ≡ Less
+is-less Less e = refl
+is-less Equal e = absurd (false≢true e)
+is-less Greater e = absurd (false≢true e)
+
+is-greater : (o : Ordering) → is_gt o ≡ true → o ≡ Greater
+is-greater Less e = absurd (false≢true e)
+is-greater Equal e = absurd (false≢true e)
+is-greater Greater e = refl
+
+before-year : (o : Option ℤ) (year : ℤ) → comes_before o year ≡ true → (w : ℤ) × (o ≡ Some w) × (int_cmp year w ≡ Less)
+before-year None year e = absurd (false≢true e)
+before-year (Some w) year e = (w, refl, is-less (int_cmp year w) e)
+
+after-year : (o : Option ℤ) (year : ℤ) → comes_after o year ≡ true → (w : ℤ) × (o ≡ Some w) × (int_cmp w year ≡ Less)
+after-year None year e = absurd (false≢true e)
+after-year (Some w) year e = (w, refl, turned year w Greater (is-greater (int_cmp year w) e))
+
+days-asked : (program : ℕ) (from to : ℤ) (event : EventRow) → is_event_of program from to event ≡ true → (from ≤ℤ event.day) × (event.day ≤ℤ to)
+days-asked program from to event is =
+    let days = (and_parts (nat_eq event.program program) (int_le from event.day && int_le event.day to) is).1 in
+    let parts = and_parts (int_le from event.day) (int_le event.day to) days in
+    (int_le-yes from event.day parts.0, int_le-yes event.day to parts.1)
+
+none-of-part : (program : ℕ) (from to : ℤ) (all : Contents) (part : YearPart) → part.contents ≡ in_year part.year all
+    → ((event : EventRow) → is_event_of program from to event ≡ true → is_event_in part.year event ≡ true → ⊥)
+    → events_of program from to part.contents.events ≡ []
+none-of-part program from to all part is apart =
+    part-events program from to all part is ∙ filter-apart (is_event_in part.year) (is_event_of program from to) all.events apart
+
+none-earlier : (program : ℕ) (from to : ℤ) (all : Contents) (part : YearPart) → part.contents ≡ in_year part.year all
+    → comes_before (day_year from) part.year ≡ true → events_of program from to part.contents.events ≡ []
+none-earlier program from to all part is before =
+    let known = before-year (day_year from) part.year before in
+    none-of-part program from to all part is (λ event asked here.
+    day-follows from event.day part.year known.0 (days-asked program from to event asked).0 known.1
+    (year-found (day_year event.day) part.year here) known.2)
+
+none-later : (program : ℕ) (from to : ℤ) (all : Contents) (part : YearPart) → part.contents ≡ in_year part.year all
+    → comes_after (day_year to) part.year ≡ true → events_of program from to part.contents.events ≡ []
+none-later program from to all part is after =
+    let known = after-year (day_year to) part.year after in
+    none-of-part program from to all part is (λ event asked here.
+    day-follows event.day to known.0 part.year (days-asked program from to event asked).1
+    (year-found (day_year event.day) part.year here) known.1 known.2)
+
+front-none : (program : ℕ) (from to : ℤ) (all : Contents) (n : ℕ) (parts : List YearPart)
+    → AllByRecursion (λ (part : YearPart). part.contents ≡ in_year part.year all) parts
+    → list_all (comes_before (day_year from)) (take n (years_in parts)) ≡ true
+    → gathered (λ (p : YearPart). events_of program from to p.contents.events) (take n parts) ≡ []
+front-none program from to all zero parts each before = refl
+front-none program from to all (suc n) [] each before = refl
+front-none program from to all (suc n) (part ∷ parts) each before =
+    let rest = and_parts (comes_before (day_year from) part.year) (list_all (comes_before (day_year from)) (take n (years_in parts))) before in
+    ap (λ v. v ++ gathered (λ (p : YearPart). events_of program from to p.contents.events) (take n parts)) (none-earlier program from to all part each.0 rest.0)
+    ∙ front-none program from to all n parts each.1 rest.1
+
+back-none : (program : ℕ) (from to : ℤ) (all : Contents) (n : ℕ) (parts : List YearPart)
+    → AllByRecursion (λ (part : YearPart). part.contents ≡ in_year part.year all) parts
+    → list_all (comes_after (day_year to)) (drop n (years_in parts)) ≡ true
+    → gathered (λ (p : YearPart). events_of program from to p.contents.events) (drop n parts) ≡ []
+back-none program from to all zero [] each after = refl
+back-none program from to all zero (part ∷ parts) each after =
+    let rest = and_parts (comes_after (day_year to) part.year) (list_all (comes_after (day_year to)) (years_in parts)) after in
+    ap (λ v. v ++ gathered (λ (p : YearPart). events_of program from to p.contents.events) parts) (none-later program from to all part each.0 rest.0)
+    ∙ back-none program from to all zero parts each.1 rest.1
+back-none program from to all (suc n) [] each after = refl
+back-none program from to all (suc n) (part ∷ parts) each after = back-none program from to all n parts each.1 after
+
+all-later : {X : Type 0} (t : X → Bool) (m n : ℕ) (xs : List X) → m ≤ n → list_all t (drop m xs) ≡ true → list_all t (drop n xs) ≡ true
+all-later t zero zero xs upto all = all
+all-later t zero (suc n) [] upto all = refl
+all-later t (suc m) zero [] upto all = refl
+all-later t (suc m) (suc n) [] upto all = refl
+all-later t zero (suc n) (x ∷ xs) upto all = all-later t zero n xs (omega arith) (and_parts (t x) (list_all t xs) all).1
+all-later t (suc m) zero (x ∷ xs) upto all = absurd (omega (arith, upto))
+all-later t (suc m) (suc n) (x ∷ xs) upto all = all-later t m n xs (omega (arith, upto)) all
+
+gathered-split : {A B : Type 0} (f : A → List B) (n : ℕ) (xs : List A) → gathered f xs ≡ gathered f (take n xs) ++ gathered f (drop n xs)
+gathered-split f zero xs = refl
+gathered-split f (suc n) [] = refl
+gathered-split f (suc n) (x ∷ xs) = ap (λ v. f x ++ v) (gathered-split f n xs) ∙ sym (append_assoc (f x) (gathered f (take n xs)) (gathered f (drop n xs)))
+
+pub events-start : (parts : List YearPart) (years : List ℤ) (first program : ℕ) (from to : ℤ) → ArePartitions parts → years ≡ years_in parts
+    → list_all (comes_before (day_year from)) (take first years) ≡ true
+    → ◌≡◌ {A = List EventRow} [] (gathered (λ (p : YearPart). events_of program from to p.contents.events) (take first parts))
+events-start parts years first program from to are known before =
+    sym (front-none program from to (together parts) first parts are.each
+    (ap (λ ys. list_all (comes_before (day_year from)) (take first ys)) (sym known) ∙ before))
+
+pub events-done : (parts : List YearPart) (years : List ℤ) (i end program : ℕ) (from to : ℤ) (list : List EventRow) → ArePartitions parts
+    → years ≡ years_in parts → end ≤ i → list_all (comes_after (day_year to)) (drop end years) ≡ true
     → list ≡ gathered (λ (p : YearPart). events_of program from to p.contents.events) (take i parts)
     → list ≡ events_of program from to (events_together parts)
-events-done parts i program from to list are past is =
-    is ∙ ap (gathered (λ (p : YearPart). events_of program from to p.contents.events)) (take_all i parts past) ∙ events-all program from to parts are
+events-done parts years i end program from to list are known past after is =
+    let f : YearPart → List EventRow = λ (p : YearPart). events_of program from to p.contents.events in
+    let none = back-none program from to (together parts) i parts are.each
+    (all-later (comes_after (day_year to)) end i (years_in parts) past (ap (λ ys. list_all (comes_after (day_year to)) (drop end ys)) (sym known) ∙ after)) in
+    is ∙ sym (append-nil (gathered f (take i parts))) ∙ ap (λ v. gathered f (take i parts) ++ v) (sym none)
+    ∙ sym (gathered-split f i parts) ∙ events-all program from to parts are

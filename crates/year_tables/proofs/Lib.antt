@@ -5,3 +5,4 @@ pub mod YearLemmas
 pub mod PartLemmas
 pub mod EventLemmas
 pub mod CutLemmas
+pub mod ByYearLemmas

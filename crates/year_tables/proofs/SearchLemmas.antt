@@ -1,16 +1,18 @@
 -- The place of a year among ascending years.
-use Rattle.std.proofs.Common.{◌≡◌, ◌∙◌, ℕ, ◌≤◌, true, false, List, get_or, ℤ, inl, inr, refl, sym, ap, arith, Ordering, Less, Equal, Greater}
+use Rattle.std.proofs.Common.{◌≡◌, ◌∙◌, ℕ, zero, suc, ◌+◌, ◌<◌, ◌≤◌, Bool, true, false, List, [], ◌∷◌, length, take, drop, get_or}
+use Rattle.std.proofs.Common.{ℤ, Some, inl, inr, refl, sym, ap, arith, Ordering, Less, Equal, Greater}
 use Rattle.std.specs.FinMap.{int_cmp-IsAntisymmetric}
-use Rattle.std.specs.List.{list_any, HoldsAt}
+use Rattle.std.specs.List.{list_all, list_any, HoldsAt}
 use Rattle.std.specs.List.Sorted.{IsNonDecreasingBy, IsPartitionPoint}
-use Rattle.std.specs.Ordering.{int_cmp, int_eq, is_eq, ordering_index, ordering_reverse}
+use Rattle.std.specs.Ordering.{int_cmp, int_eq, is_eq, is_lt, is_gt, ordering_index, ordering_reverse}
 use Rattle.std.proofs.lemmas.Cmp.{int_cmp_total}
 use Rattle.std.proofs.lemmas.List.Folds.{list_any_none}
-use Rattle.std.proofs.lemmas.Bool.{cases_lt}
+use Rattle.std.proofs.lemmas.Bool.{and_from, cases_lt}
 use Rattle.table_rows.specs.Store.{rises}
 use Rattle.table_rows.proofs.RiseLemmas.{sorted_from_rises, sorted-far}
+use Rattle.year_tables.specs.Years.{comes_before, comes_after}
 
-turned : (a b : ℤ) (o : Ordering) → int_cmp a b ≡ o → int_cmp b a ≡ ordering_reverse o
+pub turned : (a b : ℤ) (o : Ordering) → int_cmp a b ≡ o → int_cmp b a ≡ ordering_reverse o
 turned a b o is = int_cmp_total.antisymm b a ∙ ap ordering_reverse is
 
 -- a later year doesn't answer less
@@ -50,3 +52,55 @@ year-missing years year at rise parts =
       | inl before ↦ ap is_eq (turned (get_or years k d) year Less (parted.0 k d (omega arith) before))
       | inr after ↦ ap is_eq (turned (get_or years k d) year Greater (parted.1 k d (omega arith) within))
     ])
+
+-- ---- how many come before a year, and after how many all come after it
+
+front-all : {X : Type 0} (t : X → Bool) (n : ℕ) (xs : List X) → ((k : ℕ) (d : X) → k < n → k < length xs → t (get_or xs k d) ≡ true)
+    → list_all t (take n xs) ≡ true
+front-all t zero xs all = refl
+front-all t (suc n) [] all = refl
+front-all t (suc n) (x ∷ xs) all =
+    and_from (t x) (list_all t (take n xs)) (all 0 x (omega arith) (omega arith))
+    (front-all t n xs (λ k d low within. all (suc k) d (omega (arith, low)) (omega (arith, within))))
+
+back-all : {X : Type 0} (t : X → Bool) (n : ℕ) (xs : List X) → ((k : ℕ) (d : X) → n ≤ k → k < length xs → t (get_or xs k d) ≡ true)
+    → list_all t (drop n xs) ≡ true
+back-all t zero [] all = refl
+back-all t zero (x ∷ xs) all =
+    and_from (t x) (list_all t xs) (all 0 x (omega arith) (omega arith))
+    (back-all t zero xs (λ k d low within. all (suc k) d (omega arith) (omega (arith, within))))
+back-all t (suc n) [] all = refl
+back-all t (suc n) (x ∷ xs) all = back-all t n xs (λ k d low within. all (suc k) d (omega (arith, low)) (omega (arith, within)))
+
+pub before-found : (years : List ℤ) (year : ℤ) (at : ℕ) → rises int_cmp years ≡ true → at < length years → HoldsAt (λ y. int_cmp y year ≡ Equal) years at
+    → list_all (comes_before (Some year)) (take at years) ≡ true
+before-found years year at rise there holds =
+    let sorted = sorted_from_rises int_cmp int_cmp_total years rise in
+    front-all (comes_before (Some year)) at years (λ k d low within.
+    ap (λ z. is_lt (int_cmp (get_or years k d) z)) (sym (year-found years year at holds d))
+    ∙ ap is_lt (sorted-far int_cmp years k at d d sorted low there))
+
+pub after-found : (years : List ℤ) (year : ℤ) (at : ℕ) → rises int_cmp years ≡ true → at < length years → HoldsAt (λ y. int_cmp y year ≡ Equal) years at
+    → list_all (comes_after (Some year)) (drop (at + 1) years) ≡ true
+after-found years year at rise there holds =
+    let sorted = sorted_from_rises int_cmp int_cmp_total years rise in
+    back-all (comes_after (Some year)) (at + 1) years (λ k d low within.
+    ap (λ z. is_gt (int_cmp (get_or years k d) z)) (sym (year-found years year at holds d))
+    ∙ ap is_gt (turned (get_or years at d) (get_or years k d) Less (sorted-far int_cmp years at k d d sorted (omega (arith, low)) within)))
+
+parted-at : (years : List ℤ) (year : ℤ) (at : ℕ) → rises int_cmp years ≡ true
+    → (IsNonDecreasingBy (λ y. ordering_index (int_cmp y year)) years → IsPartitionPoint (λ y. int_cmp y year ≡ Less) (λ y. int_cmp y year ≡ Greater) years at)
+    → IsPartitionPoint (λ y. int_cmp y year ≡ Less) (λ y. int_cmp y year ≡ Greater) years at
+parted-at years year at rise parts = parts (answers-rise years year rise)
+
+pub before-missing : (years : List ℤ) (year : ℤ) (at : ℕ) → rises int_cmp years ≡ true
+    → (IsNonDecreasingBy (λ y. ordering_index (int_cmp y year)) years → IsPartitionPoint (λ y. int_cmp y year ≡ Less) (λ y. int_cmp y year ≡ Greater) years at)
+    → list_all (comes_before (Some year)) (take at years) ≡ true
+before-missing years year at rise parts =
+    front-all (comes_before (Some year)) at years (λ k d low within. ap is_lt ((parted-at years year at rise parts).0 k d (omega arith) low))
+
+pub after-missing : (years : List ℤ) (year : ℤ) (at : ℕ) → rises int_cmp years ≡ true
+    → (IsNonDecreasingBy (λ y. ordering_index (int_cmp y year)) years → IsPartitionPoint (λ y. int_cmp y year ≡ Less) (λ y. int_cmp y year ≡ Greater) years at)
+    → list_all (comes_after (Some year)) (drop at years) ≡ true
+after-missing years year at rise parts =
+    back-all (comes_after (Some year)) at years (λ k d low within. ap is_gt ((parted-at years year at rise parts).1 k d low within))

@@ -1,5 +1,5 @@
 -- Tables cut by year.
-use Rattle.std.specs.Prelude.{◌≡◌, ℕ, true, ℤ, List, map}
+use Rattle.std.specs.Prelude.{◌≡◌, ℕ, Bool, true, ℤ, List, map}
 use Rattle.std.specs.List.{AllByRecursion, filter}
 use Rattle.table_rows.specs.declared.row.Row.{Row}
 use Rattle.table_rows.specs.declared.event.EventRow.{EventRow}
@@ -44,9 +44,16 @@ listed_as rows events regs = record { rows = rows; events = events; regs = regs 
 abbrev pub in_year : ℤ → Contents → Contents
 in_year year all = record { rows = filter (is_row_in year) all.rows; events = filter (is_event_in year) all.events; regs = filter (is_reg_in year) all.regs }
 
+abbrev pub part_with : ℤ → Contents → YearPart
+part_with year contents = record { year = year; contents = contents }
+
 -- the part of a year
 abbrev pub part_of : Contents → ℤ → YearPart
-part_of all year = record { year = year; contents = in_year year all }
+part_of all year = part_with year (in_year year all)
+
+-- a list cut by year: of each year its own members
+abbrev pub cut_by : {X : Type 0} → (ℤ → X → Bool) → List ℤ → List X → List (List X)
+cut_by is_in years xs = map (λ year. filter (is_in year) xs) years
 
 -- contents are those of a store with these years, and each row, event and registration is of one of them
 pub record AreOfYears (all : Contents) (years : List ℤ) : Type 0 where

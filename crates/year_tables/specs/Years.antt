@@ -1,7 +1,7 @@
 -- The years of rows, registrations and events.
 use Rattle.std.specs.Prelude.{Bool, false, ℤ, pos, List, Option, Some, None, option_map}
 use Rattle.std.specs.List.{list_all, list_any}
-use Rattle.std.specs.Ordering.{int_eq}
+use Rattle.std.specs.Ordering.{int_cmp, int_eq, is_lt, is_gt}
 use Rattle.dh_periods.specs.declared.name.PeriodName.{PeriodName}
 use Rattle.dh_periods.specs.declared.kind.PeriodType.TheVariants.{Daily}
 use Rattle.dh_periods.specs.Places.{year_of, containing_of}
@@ -39,3 +39,13 @@ is_event_in year event = is_year_if_any (day_year event.day) year
 -- each member of a list is of one of the years
 abbrev pub have_years : {X : Type 0} → (ℤ → X → Bool) → List ℤ → List X → Bool
 have_years is_in years xs = list_all (λ x. list_any (λ year. is_in year x) years) xs
+
+-- the year comes before another one, or after it, if that one is there
+
+abbrev pub comes_before : Option ℤ → ℤ → Bool
+comes_before None year = false
+comes_before (Some other) year = is_lt (int_cmp year other)
+
+abbrev pub comes_after : Option ℤ → ℤ → Bool
+comes_after None year = false
+comes_after (Some other) year = is_gt (int_cmp year other)

@@ -1,93 +1,16 @@
-//! Lists of rows, events and registrations, cut by year.
+//! Tables of lists that are cut by year.
 ghost use Rattle.std.specs.Prelude.{◌≡◌, ◌++◌, ◌∷◌, [], true, map, OnOk, IfOk};
-ghost use Rattle.std.specs.List.{filter};
 ghost use Rattle.table_rows.specs.Store.{is_store};
-ghost use Rattle.year_tables.specs.Years.{is_row_in, is_event_in, is_reg_in, is_year_if_any, day_year};
-ghost use Rattle.year_tables.specs.Parts.{AreOfYears, ArePartitions, listed_as, part_of, in_year, together, years_in};
+ghost use Rattle.year_tables.specs.Parts.{AreOfYears, ArePartitions, listed_as, part_of, part_with, together, years_in};
 
+use crate::by_year::{lists_by_year, take_at};
 use crate::part::Partition;
 use crate::tables::Tables;
+use dh_base::items::Items;
 use dh_base::memory::Memory;
-use dh_periods::{PeriodType, containing};
 use std::alloc::Global;
 use table_rows::{EventRow, RegRow, Row};
 use table_sums::{SummedRows, with_sums};
-
-/// Lists of rows, events and registrations, each in its order.
-#[derive(Clone, Copy)]
-pub struct Lists<'a> {
-    pub rows: &'a [Row],
-    pub events: &'a [EventRow],
-    pub regs: &'a [RegRow],
-}
-
-/// The year of a day.
-#[tactic(auto, unfolding(crate::specs::Years::day_year))]
-pub fn day_year(day: i32) -> Option<i32>
-    ensures { result ≡ day_year day }
-{
-    match containing(PeriodType::Daily, day, day) {
-        Some(period) => Some(period.year()),
-        None => None,
-    }
-}
-
-fn is_row_in(row: &Row, year: i32) -> bool
-    ensures { result ≡ is_row_in year row.now }
-{
-    row.period.year() == year
-}
-
-fn is_reg_in(reg: &RegRow, year: i32) -> bool
-    ensures { result ≡ is_reg_in year reg.now }
-{
-    reg.period.year() == year
-}
-
-fn is_event_in(event: &EventRow, year: i32) -> bool
-    ensures { result ≡ is_event_in year event.now }
-{
-    match day_year(event.day) {
-        Some(found) => found == year,
-        None => false,
-    }
-}
-
-fn rows_in(alloc: Global, rows: &[Row], year: i32) -> Result<Vec<Row>, Memory>
-    ensures { IfOk result (λ found. found.items ≡ filter (is_row_in year) rows.now) }
-{
-    let mut found: Vec<Row> = Vec::new(alloc);
-    for row in rows {
-        if is_row_in(row, year) {
-            found.push(*row)?;
-        }
-    }
-    Ok(found)
-}
-
-fn events_in(alloc: Global, events: &[EventRow], year: i32) -> Result<Vec<EventRow>, Memory>
-    ensures { IfOk result (λ found. found.items ≡ filter (is_event_in year) events.now) }
-{
-    let mut found: Vec<EventRow> = Vec::new(alloc);
-    for event in events {
-        if is_event_in(event, year) {
-            found.push(event.copy(alloc)?)?;
-        }
-    }
-    Ok(found)
-}
-
-fn regs_in(alloc: Global, regs: &[RegRow], year: i32) -> Result<Vec<RegRow>, Memory>
-    ensures { IfOk result (λ found. found.items ≡ filter (is_reg_in year) regs.now) }
-{
-    let mut found: Vec<RegRow> = Vec::new(alloc);
-    for reg in regs {
-        if is_reg_in(reg, year) {
-            found.push(*reg)?;
-        }
-    }
-    Ok(found)
-}
 
 // The store of the lists of one year; the list of rows is dropped.
 fn store_of(
@@ -104,14 +27,17 @@ fn store_of(
     with_sums(alloc, &rows, events, regs, Vec::new(alloc))
 }
 
-/// The part of a year.
-pub fn part_in(alloc: Global, lists: &Lists<'_>, year: i32) -> Result<Partition, Memory>
-    requires { is_store lists.now.rows.now lists.now.events.now lists.now.regs.now [] ≡ true }
-    ensures { IfOk result (λ part. part ≡ part_of (listed_as lists.now.rows.now lists.now.events.now lists.now.regs.now) year) }
+/// The part of a year that holds these lists.
+pub fn part_from(
+    alloc: Global,
+    year: i32,
+    rows: Vec<Row>,
+    events: Vec<EventRow>,
+    regs: Vec<RegRow>,
+) -> Result<Partition, Memory>
+    requires { is_store rows.items events.items regs.items [] ≡ true }
+    ensures { IfOk result (λ part. part ≡ part_with year (listed_as rows.items events.items regs.items)) }
 {
-    let rows = rows_in(alloc, lists.rows, year)?;
-    let events = events_in(alloc, lists.events, year)?;
-    let regs = regs_in(alloc, lists.regs, year)?;
     let store = store_of(alloc, rows, events, regs)?;
     Ok(Partition::of(year, store))
 }
@@ -119,23 +45,42 @@ pub fn part_in(alloc: Global, lists: &Lists<'_>, year: i32) -> Result<Partition,
 fn add_part(
     alloc: Global,
     parts: &mut Vec<Partition>,
-    lists: &Lists<'_>,
     year: &i32,
+    rows: Items<Row>,
+    events: Items<EventRow>,
+    regs: Items<RegRow>,
 ) -> Result<(), Memory>
-    requires { is_store lists.now.rows.now lists.now.events.now lists.now.regs.now [] ≡ true }
-    ensures { OnOk result (parts.new.items ≡ parts.old.items ++ part_of (listed_as lists.now.rows.now lists.now.events.now lists.now.regs.now) year.now ∷ []) }
+    requires { is_store rows events regs [] ≡ true }
+    ensures { OnOk result (parts.new.items ≡ parts.old.items ++ part_with year.now (listed_as rows events regs) ∷ []) }
 {
-    parts.push(part_in(alloc, lists, *year)?)?;
+    let Items { items: rows } = rows;
+    let Items { items: events } = events;
+    let Items { items: regs } = regs;
+    parts.push(part_from(alloc, *year, rows, events, regs)?)?;
     Ok(())
 }
 
-fn parts_in(alloc: Global, lists: &Lists<'_>, years: &[i32]) -> Result<Vec<Partition>, Memory>
-    requires { is_store lists.now.rows.now lists.now.events.now lists.now.regs.now [] ≡ true }
-    ensures { IfOk result (λ parts. parts.items ≡ map (part_of (listed_as lists.now.rows.now lists.now.events.now lists.now.regs.now)) years.now) }
+// The parts of these lists, one for each of the years.
+fn parts_of(
+    alloc: Global,
+    rows: Vec<Row>,
+    events: Vec<EventRow>,
+    regs: Vec<RegRow>,
+    years: &[i32],
+) -> Result<Vec<Partition>, Memory>
+    requires { AreOfYears (listed_as rows.items events.items regs.items) years.now }
+    ensures { IfOk result (λ parts. parts.items ≡ map (part_of (listed_as rows.items events.items regs.items)) years.now) }
 {
+    let mut own_rows = lists_by_year(alloc, rows, years)?;
+    let mut own_events = lists_by_year(alloc, events, years)?;
+    let mut own_regs = lists_by_year(alloc, regs, years)?;
     let mut parts: Vec<Partition> = Vec::new(alloc);
-    for year in years {
-        add_part(alloc, &mut parts, lists, year)?;
+    for at in 0..years.len() {
+        let year = &years[at];
+        let rows = take_at(alloc, &mut own_rows, at);
+        let events = take_at(alloc, &mut own_events, at);
+        let regs = take_at(alloc, &mut own_regs, at);
+        add_part(alloc, &mut parts, year, rows, events, regs)?;
     }
     Ok(parts)
 }
@@ -143,16 +88,18 @@ fn parts_in(alloc: Global, lists: &Lists<'_>, years: &[i32]) -> Result<Vec<Parti
 /// The tables of these lists, with a part of each of the years. They stand for so many changes of the log.
 pub fn tables_of(
     alloc: Global,
-    lists: &Lists<'_>,
+    rows: Vec<Row>,
+    events: Vec<EventRow>,
+    regs: Vec<RegRow>,
     years: &[i32],
     base_cut: u64,
 ) -> Result<Tables, Memory>
-    requires { AreOfYears (listed_as lists.now.rows.now lists.now.events.now lists.now.regs.now) years.now }
-    ensures contents { IfOk result (λ tables. together tables.parts ≡ listed_as lists.now.rows.now lists.now.events.now lists.now.regs.now) }
+    requires { AreOfYears (listed_as rows.items events.items regs.items) years.now }
+    ensures contents { IfOk result (λ tables. together tables.parts ≡ listed_as rows.items events.items regs.items) }
     ensures years { IfOk result (λ tables. years_in tables.parts ≡ years.now) }
     ensures base_cut { IfOk result (λ tables. tables.base_cut ≡ base_cut) }
 {
-    let parts = parts_in(alloc, lists, years)?;
+    let parts = parts_of(alloc, rows, events, regs, years)?;
     let tables = Tables::of(alloc, parts, base_cut)?;
     Ok(tables)
 }

@@ -1,12 +1,14 @@
 //! Answers from the one part of a group's year.
-ghost use Rattle.std.specs.Prelude.{◌≡◌, ◌<◌, true, false, ℤ, length, get_or, IfOk, IfSome, IfNone};
-ghost use Rattle.std.specs.List.{list_any};
+ghost use Rattle.std.specs.Prelude.{◌≡◌, ◌<◌, ◌≤◌, Some, true, false, ℤ, length, get_or, take, drop, IfOk, IfSome, IfNone};
+ghost use Rattle.std.specs.List.{list_all, list_any};
 ghost use Rattle.std.specs.Ordering.{int_cmp, int_eq};
 ghost use Rattle.table_rows.specs.Rows.{wanted_rows};
 ghost use Rattle.table_rows.specs.Store.{rises};
 ghost use Rattle.table_rows.specs.Sums.{sum_of_rows, IsSized};
 ghost use Rattle.year_tables.specs.Parts.{ArePartitions, rows_together, years_in};
+ghost use Rattle.year_tables.specs.Years.{day_year, comes_before, comes_after};
 
+use crate::days::day_year;
 use crate::part::Partition;
 use dh_base::items::Items;
 use dh_base::memory::Memory;
@@ -14,8 +16,8 @@ use dh_base::plain::Need;
 use std::alloc::Global;
 use table_rows::{Group, Row, Sum};
 
-// Where a year stands among ascending years.
-fn place_of(years: &[i32], year: i32) -> Option<usize>
+/// Where a year stands among ascending years.
+pub(crate) fn place_of(years: &[i32], year: i32) -> Option<usize>
     requires { rises int_cmp years.now ≡ true }
     ensures found { IfSome result (λ at. at < length years.now) }
     ensures year { IfSome result (λ at. (d : ℤ) → get_or years.now at d ≡ year) }
@@ -24,6 +26,52 @@ fn place_of(years: &[i32], year: i32) -> Option<usize>
     match years.binary_search(&year) {
         Ok(at) => Some(at),
         Err(_) => None,
+    }
+}
+
+// How many of ascending years come before one.
+fn count_before(years: &[i32], year: &i32) -> usize
+    requires { rises int_cmp years.now ≡ true }
+    ensures { list_all (comes_before (Some year.now)) (take result years.now) ≡ true }
+{
+    match years.binary_search(year) {
+        Ok(at) => at,
+        Err(at) => at,
+    }
+}
+
+// How many of ascending years come before one, or are it.
+fn count_upto(years: &[i32], year: &i32) -> usize
+    requires { rises int_cmp years.now ≡ true }
+    ensures most { result ≤ length years.now }
+    ensures later { list_all (comes_after (Some year.now)) (drop result years.now) ≡ true }
+{
+    match years.binary_search(year) {
+        Ok(at) => at + 1,
+        Err(at) => at,
+    }
+}
+
+/// How many of ascending years come before that of a day.
+pub(crate) fn first_place(years: &[i32], day: &i32) -> usize
+    requires { rises int_cmp years.now ≡ true }
+    ensures { list_all (comes_before (day_year day.now)) (take result years.now) ≡ true }
+{
+    match day_year(*day) {
+        Some(year) => count_before(years, &year),
+        None => 0,
+    }
+}
+
+/// After how many of ascending years all come after that of a day.
+pub(crate) fn end_place(years: &[i32], day: &i32) -> usize
+    requires { rises int_cmp years.now ≡ true }
+    ensures most { result ≤ length years.now }
+    ensures later { list_all (comes_after (day_year day.now)) (drop result years.now) ≡ true }
+{
+    match day_year(*day) {
+        Some(year) => count_upto(years, &year),
+        None => years.len(),
     }
 }
 

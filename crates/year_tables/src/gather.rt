@@ -5,8 +5,9 @@ ghost use Rattle.table_rows.specs.Events.{events_of, regs_of, reg_cmp};
 ghost use Rattle.table_rows.specs.Groups.{groups_of};
 ghost use Rattle.table_rows.specs.Order.{group_cmp};
 ghost use Rattle.year_tables.specs.Ascending.{ascending};
-ghost use Rattle.year_tables.specs.Parts.{ArePartitions, rows_together, events_together, regs_together};
+ghost use Rattle.year_tables.specs.Parts.{ArePartitions, rows_together, events_together, regs_together, years_in};
 
+use crate::find::{end_place, first_place};
 use crate::part::Partition;
 use crate::ranked::merged;
 use dh_base::items::Items;
@@ -96,18 +97,23 @@ fn add_events(
     Ok(())
 }
 
-/// The events of a program from the one day to the other, by day and identifier.
+/// The events of a program from the one day to the other, by day and identifier. Only the years from
+/// that of the first day to that of the last one are asked.
 pub(crate) fn events_in(
     alloc: Global,
     parts: &[Partition],
+    years: &[i32],
     asked: &Asked,
 ) -> Result<Items<EventRow>, Memory>
-    requires { ArePartitions parts.now }
+    requires parts { ArePartitions parts.now }
+    requires years { years.now ≡ years_in parts.now }
     ensures { IfOk result (λ found. found ≡ events_of asked.now.program asked.now.from_day asked.now.to_day (events_together parts.now)) }
 {
+    let first = first_place(years, &asked.from_day);
+    let end = end_place(years, &asked.to_day);
     let mut events: Vec<EventRow> = Vec::new(alloc);
-    for part in parts {
-        add_events(alloc, &mut events, part, asked)?;
+    for place in first..end {
+        add_events(alloc, &mut events, &parts[place], asked)?;
     }
     Ok(Items::from(events))
 }

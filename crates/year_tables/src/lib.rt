@@ -2,13 +2,16 @@
 //! one store of rows. Which rows a log leaves is said where tables are built.
 #![tactic(auto)]
 
+mod by_year;
 mod cut;
+mod days;
 mod find;
 mod gather;
 mod part;
 mod ranked;
 mod tables;
 
-pub use cut::{Lists, day_year, part_in, tables_of};
+pub use cut::{part_from, tables_of};
+pub use days::day_year;
 pub use part::Partition;
 pub use tables::Tables;

@@ -104,7 +104,7 @@ impl RowStore for Tables {
             from_day,
             to_day,
         };
-        events_in(alloc, &self.parts, &asked)
+        events_in(alloc, &self.parts, &self.years, &asked)
     }
 
     fn regs_of(&self, alloc: Global, set: u32) -> Result<Items<RegRow>, Memory> {

@@ -2,7 +2,7 @@ use Rattle.std.proofs.Common.{◌≡◌, List, IfOk, subst, FitsSigned, to_z-of_
 use Rattle.json_read.specs.Forms.{Formed}
 use Rattle.json_read.specs.Given.{Gives}
 use Rattle.engine.specs.Seen.{Seen}
-use Rattle.value_forms.specs.declared.set.SetValue.{SetValue}
+use Rattle.import_forms.specs.declared.set.SetValue.{SetValue}
 use Rattle.bundle_reply.specs.Answer.{reply_with_values}
 use Rattle.bundle_reply.proofs.over.over_metadata.Goals as goal
 

@@ -3,8 +3,8 @@ use Rattle.std.specs.Prelude.{ℕ}
 use Rattle.dh_base.proofs.DecimalLemmas.{IsDigit, digit_at, power_within, power_more, value_step}
 use Rattle.dhis_main.proofs.words.digits_value.Goals as goal
 
-small : (v i n : ℕ) → v < 10 ^ i → i < n → n ≤ 6 → v < 10 ^ 5
-small v i n bound within short = omega (arith, power_within i 5 (omega arith))
+small : (v i n : ℕ) → v < 10 ^ i → i < n → n ≤ 7 → v < 10 ^ 6
+small v i n bound within short = omega (arith, power_within i 6 (omega arith))
 
 pub overflow_mul-value : goal.overflow_mul-value
 overflow_mul-value c =

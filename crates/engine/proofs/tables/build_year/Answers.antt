@@ -1,6 +1,5 @@
-use Rattle.std.proofs.Common.{◌≡◌, ◌∙◌, ◌≤◌, subst, sym, ap, map, length, true, w32, FitsSigned, to_z-of_z}
+use Rattle.std.proofs.Common.{◌≡◌, ◌∙◌, ◌≤◌, subst, sym, ap, length, true, w32, FitsSigned, to_z-of_z}
 use Rattle.std.specs.List.{list_all}
-use Rattle.std.specs.Arc.{arc_value}
 use Rattle.year_tables.specs.Parts.{YearPart, part_of}
 use Rattle.table_build.specs.Log.{is_of_days}
 use Rattle.table_build.specs.Log as rows
@@ -10,9 +9,9 @@ use Rattle.engine.specs.Tables.{tables_of}
 use Rattle.engine.proofs.Days.{all-of-days, writes-are}
 use Rattle.engine.proofs.tables.build_year.Goals as goal
 
-pub build_part-requires : goal.build_part-requires
-build_part-requires c =
-    let e = sym (writes-are (map arc_value c.args.changes.now)) in
+pub part_of_year-requires : goal.part_of_year-requires
+part_of_year-requires c =
+    let e = sym (writes-are c.args.reading.now) in
     record {
       few = subst (λ x. length x ≤ 4194304) e c.requires.few;
       days = subst (λ x. list_all is_of_days x ≡ true) e (all-of-days _ c.requires.fits);
@@ -23,8 +22,8 @@ unfolding tables_of
 returns-clause-value c =
     let fits : FitsSigned w32 c.args.year = c.ranges.year in
     c.in_ok-part.ensures
-    ∙ ap (λ y. part_of (contents_in (listed_in c.args.meta.now (rows.writes_of (map arc_value c.args.changes.now)))) y) (to_z-of_z fits)
-    ∙ ap (λ ws. part_of (contents_in (listed_in c.args.meta.now ws)) c.args.year) (writes-are (map arc_value c.args.changes.now))
+    ∙ ap (λ y. part_of (contents_in (listed_in c.args.meta.now (rows.writes_of c.args.reading.now))) y) (to_z-of_z fits)
+    ∙ ap (λ ws. part_of (contents_in (listed_in c.args.meta.now ws)) c.args.year) (writes-are c.args.reading.now)
 
 pub returns-clause-own : goal.returns-clause-own
 unfolding tables_of
@@ -32,6 +31,6 @@ returns-clause-own c =
     let fits : FitsSigned w32 c.args.year = c.ranges.year in
     let is =
     c.in_ok-part.ensures
-    ∙ ap (λ y. part_of (contents_in (listed_in c.args.meta.now (rows.writes_of (map arc_value c.args.changes.now)))) y) (to_z-of_z fits)
-    ∙ ap (λ ws. part_of (contents_in (listed_in c.args.meta.now ws)) c.args.year) (writes-are (map arc_value c.args.changes.now)) in
-    is ∙ ap (part_of (tables_of c.args.meta.now (map arc_value c.args.changes.now))) (sym (ap (λ (part : YearPart). part.year) is))
+    ∙ ap (λ y. part_of (contents_in (listed_in c.args.meta.now (rows.writes_of c.args.reading.now))) y) (to_z-of_z fits)
+    ∙ ap (λ ws. part_of (contents_in (listed_in c.args.meta.now ws)) c.args.year) (writes-are c.args.reading.now) in
+    is ∙ ap (part_of (tables_of c.args.meta.now c.args.reading.now)) (sym (ap (λ (part : YearPart). part.year) is))

@@ -9,4 +9,4 @@ pub returns : goal.returns
 returns c =
     let is : view c.in_ok-body.body ≡ body_of c.args.meta.now c.args.query.now c.args.rows.now = c.in_ok-body.ensures in
     let whole : has_float (view c.in_ok-body.body) ≡ false = ap has_float is ∙ body_plain c.args.meta.now c.args.query.now c.args.rows.now in
-    c.in_ok-to_vec.ensures.text whole ∙ ap compact_text is
+    c.from.ensures ∙ c.in_ok-to_vec.ensures.text whole ∙ ap compact_text is

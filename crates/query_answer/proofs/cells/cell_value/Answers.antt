@@ -1,11 +1,10 @@
-use Rattle.std.proofs.Common.{◌≡◌, subst, sym, IfOk}
+use Rattle.std.proofs.Common.{◌≡◌, subst, IfOk}
 use Rattle.table_rows.specs.Store.{Contents}
 use Rattle.table_rows.specs.Events.{regs_of}
 use Rattle.rate_items.proofs.RateLemmas.{prepared}
 use Rattle.cell_values.specs.Seen.{seen_regs, seen_of, contents_of}
 use Rattle.query_answer.specs.Plans.{IsPlan, ArePlanGroups}
 use Rattle.query_answer.proofs.AskedLemmas.{indicator_there}
-use Rattle.event_cells.specs.Cells.{AreDuring}
 use Rattle.query_answer.proofs.PlanLemmas.{element-cell, indicator-cell, rate-cell, program-cell}
 use Rattle.query_answer.proofs.cells.cell_value.Goals as goal
 
@@ -93,10 +92,8 @@ returns-in-Program g c =
     let user = c.args.source.now.seer.now.user in
     let held : Contents = contents_of (g.S.RowStore.rows s) (g.S.RowStore.events s) (g.S.RowStore.regs s) in
     let dx = c.args.dx.now in
-    let code = c.in-Program.code in
+    let plan = c.in-Program.plan in
     let is = subst (IsPlan r user held dx) c.in-Program.is c.requires.plan in
-    let kept = subst (λ p. ArePlanGroups r user held c.args.periods.now p c.args.groups.now) c.in-Program.is c.requires.groups in
-    let events = subst (AreDuring r user code.program c.args.periods.now held.events) (sym c.as_slice-events.ensures) kept in
-    subst (λ v. IfOk c.program_cell.result (λ cell. cell ≡ v))
-    (program-cell r user held dx code.program c.args.periods.now c.args.unit.now.units.units is.0 is.1.1)
-    (c.program_cell.ensures r user dx.number c.args.periods.now held.events is.1.0 c.requires.unit events)
+    let subjects = subst (λ p. ArePlanGroups r user held c.args.periods.now p c.args.groups.now) c.in-Program.is c.requires.groups in
+    subst (λ v. IfOk c.program_cell.result (λ cell. cell ≡ v)) (program-cell r user held dx c.args.periods.now c.args.unit.now.units.units is.0)
+    (c.program_cell.ensures r user dx.number c.args.periods.now held.events is.1 subjects c.requires.unit)

@@ -1,4 +1,4 @@
-use Rattle.std.proofs.Common.{◌≡◌, ◌∙◌, List, ap, subst, map, false, IfOk, Option, refl}
+use Rattle.std.proofs.Common.{◌≡◌, ◌∙◌, ap, subst, map, false, IfOk, Option}
 use Rattle.dh_base.specs.Fractions.{Fraction}
 use Rattle.expr_lang.specs.declared.tree.Item.{Item}
 use Rattle.expr_lang.specs.Expr.{items_in}

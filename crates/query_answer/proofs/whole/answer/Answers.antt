@@ -1,11 +1,9 @@
-use Rattle.std.proofs.Common.{◌≡◌, ◌∙◌, sym, ap, subst, Ok, Err}
+use Rattle.std.proofs.Common.{◌≡◌, ◌∙◌, sym, ap, subst}
 use Rattle.serde_json.specs.Written.{compact_text}
 use Rattle.query_answer.specs.Body.{body_of, IsAnswer}
 use Rattle.table_rows.specs.Store.{Contents}
 use Rattle.cell_values.specs.Seen.{SeenRecords, seen_of, contents_of}
-use Rattle.query_answer.specs.declared.whole.AnswerFault.TheVariants.{Wide}
 use Rattle.query_answer.specs.Rows.{rows_from}
-use Rattle.query_answer.specs.Answer.{Answers}
 use Rattle.query_answer.proofs.AnswerLemmas.{is_answer, wide_answer, body_answer}
 use Rattle.query_answer.proofs.UnseenLemmas.{answer_of-same}
 use Rattle.query_answer.proofs.whole.answer.Goals as goal
@@ -21,8 +19,7 @@ returns-in-Some-clause-unseen g c other same =
     let held : Contents = contents_of (g.S.RowStore.rows c.args.store.now) (g.S.RowStore.events c.args.store.now) (g.S.RowStore.regs c.args.store.now) in
     let shown : SeenRecords = seen_of c.args.meta.now c.args.seer.now.user held in
     let others : SeenRecords = seen_of c.args.meta.now c.args.seer.now.user other in
-    subst (λ answer. Answers (Err (Wide c.in-Some.id)) answer) (answer_of-same c.args.meta.now c.args.query.now shown others same)
-    (returns-in-Some-clause-answer g c)
+    sym (answer_of-same c.args.meta.now c.args.query.now shown others same) ∙ returns-in-Some-clause-answer g c
 
 pub body-requires : goal.body-requires
 body-requires g c =
@@ -46,5 +43,4 @@ returns-clause-unseen g c other same =
     let held : Contents = contents_of (g.S.RowStore.rows c.args.store.now) (g.S.RowStore.events c.args.store.now) (g.S.RowStore.regs c.args.store.now) in
     let shown : SeenRecords = seen_of c.args.meta.now c.args.seer.now.user held in
     let others : SeenRecords = seen_of c.args.meta.now c.args.seer.now.user other in
-    subst (λ answer. Answers (Ok c.in_ok-body-in-None.field-0) answer) (answer_of-same c.args.meta.now c.args.query.now shown others same)
-    (returns-clause-answer g c)
+    sym (answer_of-same c.args.meta.now c.args.query.now shown others same) ∙ returns-clause-answer g c

@@ -10,5 +10,6 @@ pub returns : goal.returns
 returns g c =
     check_replied g.J.Naming.made c.args.pass.now c.look-found.new.pass c.args.asked c.args.user (place_of c.args.checked.now) c.args.keep c.args.meta.now
     c.look-found.result (told c.tell_check.result) c.look-found.ensures.call c.look-found.ensures.tables c.look-found.ensures.told c.requires.meta
-    (subst (λ (p : Place). IsTold (told c.tell_check.result) (viewed_check c.args.meta.now c.args.user p c.args.keep c.look-found.result)) c.place_of-place.ensures
+    (subst (λ (p : Place). IsTold (told c.tell_check.result) (viewed_check c.args.meta.now c.args.user p c.args.keep c.look-found.result))
+    c.place_of-place.ensures
     c.tell_check.ensures)

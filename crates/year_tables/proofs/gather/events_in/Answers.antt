@@ -1,15 +1,23 @@
 use Rattle.std.proofs.Common.{◌∙◌}
-use Rattle.year_tables.proofs.EventLemmas.{events-done, events-more}
+use Rattle.year_tables.proofs.EventLemmas.{events-start, events-done}
+use Rattle.year_tables.proofs.PartLemmas.{years-rise-in}
 use Rattle.year_tables.proofs.gather.events_in.Goals as goal
 
-pub loop-part-preserved : goal.loop-part-preserved
-loop-part-preserved c =
-    events-more c.args.parts.now c.part-item.result c.loop-part.part-index c.args.asked.now.program c.args.asked.now.from_day c.args.asked.now.to_day
-    c.loop-part.events.items
-    c.add_events.new.events.items c.loop-part-test.true c.part-item.is c.loop-part.invariant c.in_ok-add_events.ensures
+pub first_place-first-requires : goal.first_place-first-requires
+first_place-first-requires c = years-rise-in c.args.parts.now c.args.years.now c.requires.parts c.requires.years
+
+pub end_place-end-requires : goal.end_place-end-requires
+end_place-end-requires c = years-rise-in c.args.parts.now c.args.years.now c.requires.parts c.requires.years
+
+pub loop-place-init : goal.loop-place-init
+loop-place-init c =
+    c.new-events.ensures.items
+    ∙ events-start c.args.parts.now c.args.years.now c.first_place-first.result c.args.asked.now.program c.args.asked.now.from_day c.args.asked.now.to_day
+    c.requires.parts c.requires.years c.first_place-first.ensures
 
 pub returns : goal.returns
 returns c =
-    c.from.ensures ∙ events-done c.args.parts.now c.loop-part.part-index c.args.asked.now.program c.args.asked.now.from_day c.args.asked.now.to_day
-    c.loop-part.events.items c.requires
-    c.loop-part-test.false c.loop-part.invariant
+    c.from.ensures
+    ∙ events-done c.args.parts.now c.args.years.now c.loop-place.place c.end_place-end.result c.args.asked.now.program c.args.asked.now.from_day
+    c.args.asked.now.to_day c.loop-place.events.items c.requires.parts c.requires.years c.loop-place-test.false c.end_place-end.ensures.later
+    c.loop-place.invariant

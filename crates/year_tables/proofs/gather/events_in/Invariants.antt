@@ -4,6 +4,6 @@ use Rattle.table_rows.specs.Events.{events_of}
 use Rattle.year_tables.specs.Parts.{YearPart}
 use Rattle.year_tables.proofs.gather.events_in.Given as goal
 
-abbrev pub invariant-loop-part : goal.invariant-loop-part
-invariant-loop-part l =
-    l.events.items ≡ gathered (λ (part : YearPart). events_of l.asked.program l.asked.from_day l.asked.to_day part.contents.events) (take l.part-index l.parts)
+abbrev pub invariant-loop-place : goal.invariant-loop-place
+invariant-loop-place l =
+    l.events.items ≡ gathered (λ (part : YearPart). events_of l.asked.program l.asked.from_day l.asked.to_day part.contents.events) (take l.place l.parts)

@@ -1,7 +1,8 @@
 use Rattle.std.proofs.Common.{sym, ◌∙◌}
 use Rattle.dh_base.specs.declared.plain.CutKind.TheVariants.{Full}
 use Rattle.shared_engine.specs.Ends.{staged_in}
-use Rattle.shared_engine.proofs.Calls.{end_made, end_staged, end_begun, end_low}
+use Rattle.shared_engine.proofs.BuildLemmas.{full_ticket, parts_fit}
+use Rattle.shared_engine.proofs.Calls.{end_made, end_staged, end_low}
 use Rattle.shared_engine.proofs.locked.Locked.finish.Goals as goal
 
 pub take_in-requires-clause-table : goal.take_in-requires-clause-table
@@ -11,26 +12,33 @@ take_in-requires-clause-table g c =
 pub take_in-requires-clause-nobody : goal.take_in-requires-clause-nobody
 take_in-requires-clause-nobody g c = c.self.invariant.nobody
 
-pub end_update-reply-requires : goal.end_update-reply-requires
-end_update-reply-requires g c =
-    end_begun c.self.inside.engine.state Full (staged_in c.args.cut.now)
+pub end_with-reply-requires-clause-begun : goal.end_with-reply-requires-clause-begun
+end_with-reply-requires-clause-begun g c =
+    full_ticket c.self.inside.engine.state.full (staged_in c.args.cut.now)
     (end_staged g.J.Naming.made _ _ _ c.args.token Full (staged_in c.args.cut.now) _ c.self.invariant c.take_in.ensures.taken
     c.take_in.ensures.follows c.requires.begun).0
 
+pub end_with-reply-requires-clause-parts : goal.end_with-reply-requires-clause-parts
+end_with-reply-requires-clause-parts g c =
+    let staged = end_staged g.J.Naming.made _ _ _ c.args.token Full (staged_in c.args.cut.now) _ c.self.invariant c.take_in.ensures.taken
+    c.take_in.ensures.follows c.requires.begun in
+    parts_fit g.J.Naming.made.meta c.self.inside.engine (staged_in c.args.cut.now) _ c.args.parts.items c.self.invariant.stands.meta staged.0 staged.1
+    c.requires.parts
+
 pub note_end-requires-clause-rises : goal.note_end-requires-clause-rises
 note_end-requires-clause-rises g c =
-    end_low g.J.Naming.made _ _ _ _ _ c.self.invariant c.take_in.ensures.taken c.end_update-reply.ensures.rises
+    end_low g.J.Naming.made _ _ _ _ _ c.self.invariant c.take_in.ensures.taken c.end_with-reply.ensures.rises
 
 pub invariant_of-self : goal.invariant_of-self
 invariant_of-self g c =
     (end_made g.J.Naming.made _ _ _ _ _ _ _ _ _ _ c.self.invariant c.requires.table.1 c.take_in.ensures.taken c.take_in.ensures.follows
-    _ _ _ c.requires.begun c.end_update-reply.ensures.goes c.end_update-reply.ensures.published c.end_update-reply.ensures.rises c.note_end.ensures
+    _ _ _ c.requires.begun c.end_with-reply.ensures.goes c.end_with-reply.ensures.published c.end_with-reply.ensures.rises c.note_end.ensures
     c.give_back-token.ensures.lock c.give_back-token.ensures.token).0
 
 pub returns : goal.returns
 returns g c = (
-  c.end_update-reply.new.engine.faults,
+  c.end_with-reply.new.engine.faults,
   (end_made g.J.Naming.made _ _ _ _ _ _ _ _ _ _ c.self.invariant c.requires.table.1 c.take_in.ensures.taken c.take_in.ensures.follows
-      _ _ _ c.requires.begun c.end_update-reply.ensures.goes c.end_update-reply.ensures.published c.end_update-reply.ensures.rises c.note_end.ensures
+      _ _ _ c.requires.begun c.end_with-reply.ensures.goes c.end_with-reply.ensures.published c.end_with-reply.ensures.rises c.note_end.ensures
       c.give_back-token.ensures.lock c.give_back-token.ensures.token).1,
 )

@@ -1,3 +1,0 @@
-pub mod OrderLemmas
-mod DayLemmas
-pub mod CellLemmas

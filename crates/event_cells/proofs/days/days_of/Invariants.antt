@@ -1,6 +1,0 @@
-use Rattle.std.proofs.Common.{take}
-use Rattle.event_cells.specs.Days.{Cover}
-use Rattle.event_cells.proofs.days.days_of.Given as goal
-
-abbrev pub invariant-loop-period : goal.invariant-loop-period
-invariant-loop-period l = Cover (take l.period-index l.periods) l.days

@@ -1,3 +1,0 @@
-pub mod Order
-pub mod Cells
-pub mod Days

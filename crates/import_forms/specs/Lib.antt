@@ -1,0 +1,10 @@
+pub mod Bodies
+pub mod Texts
+pub mod Sets
+pub mod Completions
+pub mod Lists
+pub mod Pairs
+pub mod Events
+pub mod Enrollments
+pub mod Entities
+pub mod Bundles

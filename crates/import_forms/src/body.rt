@@ -1,0 +1,28 @@
+//! Bodies of requests.
+
+ghost use Rattle.std.specs.Prelude.{◌≡◌, []};
+ghost use Rattle.import_forms.specs.Bodies.{Told};
+
+use dh_base::items::Items;
+use json_read::fault::FormFault;
+use record_index::outcome::BodyFault;
+use std::alloc::Global;
+
+/// The fault of a body that isn't JSON.
+pub(crate) fn no_document(alloc: Global) -> BodyFault
+    ensures { result ≡ BodyFault.Bad [] }
+{
+    BodyFault::Bad {
+        path: Items::new(alloc),
+    }
+}
+
+/// A fault of a form, as that of a body.
+pub(crate) fn fault_of(fault: FormFault) -> BodyFault
+    ensures { Told fault result }
+{
+    match fault {
+        FormFault::At(path) => BodyFault::Bad { path },
+        FormFault::Memory => BodyFault::Memory,
+    }
+}

@@ -1,0 +1,111 @@
+//! Tracker bundles.
+
+ghost use Rattle.std.specs.Prelude.{◌≡◌, IfOk};
+ghost use Rattle.json_read.specs.Views.{data_of};
+ghost use Rattle.json_read.specs.Given as forms;
+ghost use Rattle.import_forms.specs.Bodies.{body_of, Gives};
+ghost use Rattle.import_forms.specs.Bundles.{lists_of, in_order, bundle_of};
+
+use crate::body::{fault_of, no_document};
+use crate::enrollment::{BundleEnrollment, EnrollmentForm, put_enrollments};
+use crate::entity::{BundleEntity, EntityForm, put_entities};
+use crate::event::BundleEvent;
+use crate::lists::list_at;
+use dh_base::items::Items;
+use dh_base::memory::Memory;
+use json::{Scratch, Value};
+use json_read::fault::FormFault;
+use json_read::form::require_object;
+use json_read::read::read;
+use record_index::outcome::{BodyFault, ImportStrategy};
+use std::alloc::Global;
+
+/// How a bundle is to be imported.
+#[derive(Clone, Copy, PartialEq, Eq)]
+pub struct BundleParams {
+    pub strategy: ImportStrategy,
+    /// Whether one conflict leaves all objects unwritten.
+    pub atomic: bool,
+}
+
+/// The three lists of a body, each object with those that stand in it.
+#[derive(Drop)]
+pub struct BundleLists {
+    pub entities: Items<EntityForm>,
+    pub enrollments: Items<EnrollmentForm>,
+    pub events: Items<BundleEvent>,
+}
+
+/// A tracker bundle, each of its lists in the order in which its objects are judged: those of the body's list first, then
+/// those that stand in other objects, in the order of these.
+#[derive(Drop)]
+pub struct Bundle {
+    pub params: BundleParams,
+    pub entities: Items<BundleEntity>,
+    pub enrollments: Items<BundleEnrollment>,
+    pub events: Items<BundleEvent>,
+}
+
+#[tactic(auto, unfolding(crate::specs::Bundles::lists_of))]
+fn lists_of(alloc: Global, value: &Value<'_>) -> Result<BundleLists, FormFault>
+    ensures { forms.Gives (lists_of (data_of value.now)) result }
+{
+    require_object(alloc, value)?;
+    let entities: Items<EntityForm> = list_at(alloc, value, "trackedEntities")?;
+    let enrollments: Items<EnrollmentForm> = list_at(alloc, value, "enrollments")?;
+    let events: Items<BundleEvent> = list_at(alloc, value, "events")?;
+    Ok(BundleLists {
+        entities,
+        enrollments,
+        events,
+    })
+}
+
+#[tactic(auto, unfolding(crate::specs::Bundles::in_order))]
+fn in_order(alloc: Global, params: BundleParams, lists: BundleLists) -> Result<Bundle, Memory>
+    ensures { IfOk result (λ bundle. bundle ≡ in_order params lists) }
+{
+    let BundleLists {
+        entities: forms,
+        enrollments: mut all,
+        mut events,
+    } = lists;
+    let mut entities = Items::new(alloc);
+    let mut enrollments = Items::new(alloc);
+    put_entities(forms, &mut entities, &mut all)?;
+    put_enrollments(all, &mut enrollments, &mut events)?;
+    Ok(Bundle {
+        params,
+        entities,
+        enrollments,
+        events,
+    })
+}
+
+#[tactic(auto, unfolding(crate::specs::Bundles::bundle_of))]
+fn bundle_of(alloc: Global, params: BundleParams, value: &Value<'_>) -> Result<Bundle, FormFault>
+    ensures { forms.Gives (bundle_of params (data_of value.now)) result }
+{
+    let lists = lists_of(alloc, value)?;
+    match in_order(alloc, params, lists) {
+        Ok(bundle) => Ok(bundle),
+        Err(_) => Err(FormFault::Memory),
+    }
+}
+
+/// The tracker bundle of a body. A body that isn't JSON or no object is at fault with the empty path. Of several faults
+/// the first counts, by the order `trackedEntities`, `enrollments`, `events`; in an object the list of those that stand
+/// in it comes before its attributes.
+pub fn read_bundle(alloc: Global, body: &[u8], params: BundleParams) -> Result<Bundle, BodyFault>
+    ensures { Gives (body_of (bundle_of params) body.now) result }
+{
+    let mut scratch = Scratch::new(alloc);
+    match read(alloc, body, &mut scratch) {
+        Ok(Some(value)) => match bundle_of(alloc, params, &value) {
+            Ok(bundle) => Ok(bundle),
+            Err(fault) => Err(fault_of(fault)),
+        },
+        Ok(None) => Err(no_document(alloc)),
+        Err(_) => Err(BodyFault::Memory),
+    }
+}

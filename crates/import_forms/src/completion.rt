@@ -1,0 +1,81 @@
+//! Complete data set registrations.
+
+ghost use Rattle.std.specs.Prelude.{◌≡◌, IfOk};
+ghost use Rattle.json_read.specs.Views.{data_of};
+ghost use Rattle.json_read.specs.Given as forms;
+ghost use Rattle.import_forms.specs.Bodies.{body_of, Gives};
+ghost use Rattle.import_forms.specs.Completions.{completion_of, completions_of};
+
+use crate::body::{fault_of, no_document};
+use crate::text::{text_in, truth_in};
+use dh_base::items::Items;
+use json::{Scratch, Value};
+use json_read::fault::FormFault;
+use json_read::form::{ReadJson, require_object, required_list};
+use json_read::read::read;
+use record_index::outcome::BodyFault;
+use std::alloc::{AllocError, Global};
+
+/// A complete data set registration, as it stands in the body.
+#[derive(Drop)]
+pub struct Completion {
+    pub data_set: Option<Items<u8>>,
+    pub period: Option<Items<u8>>,
+    /// The organisation unit.
+    pub unit: Option<Items<u8>>,
+    /// The attribute option combination.
+    pub attribute: Option<Items<u8>>,
+    /// The day of the registration, by default that of the request.
+    pub date: Option<Items<u8>>,
+    /// Whether the set is completed; else the registration is taken away.
+    pub done: bool,
+}
+
+#[tactic(auto, unfolding(crate::specs::Completions::completion_of))]
+fn completion_of(alloc: Global, value: &Value<'_>) -> Result<Completion, AllocError>
+    ensures { IfOk result (λ found. found ≡ completion_of (data_of value.now)) }
+{
+    Ok(Completion {
+        data_set: text_in(alloc, value, "dataSet")?,
+        period: text_in(alloc, value, "period")?,
+        unit: text_in(alloc, value, "organisationUnit")?,
+        attribute: text_in(alloc, value, "attributeOptionCombo")?,
+        date: text_in(alloc, value, "date")?,
+        done: truth_in(value, "completed").unwrap_or(true),
+    })
+}
+
+impl ReadJson for Completion {
+    ghost use Rattle.import_forms.specs.Completions.{completion_form};
+
+    ghost form = { completion_form };
+
+    fn read(alloc: Global, value: &Value<'_>) -> Result<Completion, FormFault> {
+        require_object(alloc, value)?;
+        Ok(completion_of(alloc, value)?)
+    }
+}
+
+#[tactic(auto, unfolding(crate::specs::Completions::completions_of))]
+fn completions_of(alloc: Global, value: &Value<'_>) -> Result<Items<Completion>, FormFault>
+    ensures { forms.Gives (completions_of (data_of value.now)) result }
+{
+    require_object(alloc, value)?;
+    required_list(alloc, value, "completeDataSetRegistrations")
+}
+
+/// The complete data set registrations of a body. A body that isn't JSON or no object is at fault with
+/// the empty path, one without the list at the list's key.
+pub fn read_completions(alloc: Global, body: &[u8]) -> Result<Items<Completion>, BodyFault>
+    ensures { Gives (body_of completions_of body.now) result }
+{
+    let mut scratch = Scratch::new(alloc);
+    match read(alloc, body, &mut scratch) {
+        Ok(Some(value)) => match completions_of(alloc, &value) {
+            Ok(list) => Ok(list),
+            Err(fault) => Err(fault_of(fault)),
+        },
+        Ok(None) => Err(no_document(alloc)),
+        Err(_) => Err(BodyFault::Memory),
+    }
+}

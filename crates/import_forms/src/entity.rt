@@ -1,0 +1,121 @@
+//! Tracked entities, with the enrollments that stand in them.
+
+ghost use Rattle.std.specs.Prelude.{◌≡◌, ◌++◌, [], IfOk, OnOk, map};
+ghost use Rattle.std.specs.List.{flat_map};
+ghost use Rattle.json_read.specs.Views.{data_of};
+ghost use Rattle.json_read.specs.Given.{Gives};
+ghost use Rattle.import_forms.specs.Entities.{entity_of, whole_entity, in_entity};
+
+use crate::enrollment::{EnrollmentForm, fill_in};
+use crate::lists::{append, list_at};
+use crate::pair::{Pair, attributes_of};
+use crate::text::text_in;
+use dh_base::items::Items;
+use dh_base::memory::Memory;
+use json::Value;
+use json_read::fault::FormFault;
+use json_read::form::{ReadJson, require_object};
+use std::alloc::{AllocError, Global};
+
+/// A tracked entity, as it stands in the body.
+#[derive(Drop)]
+pub struct BundleEntity {
+    pub id: Option<Items<u8>>,
+    /// The tracked entity type.
+    pub kind: Option<Items<u8>>,
+    /// The organisation unit.
+    pub unit: Option<Items<u8>>,
+    pub attributes: Items<Pair>,
+}
+
+/// A tracked entity with the enrollments that stand in it.
+#[derive(Drop)]
+pub struct EntityForm {
+    pub own: BundleEntity,
+    pub enrollments: Items<EnrollmentForm>,
+}
+
+// The entity without its attributes.
+#[tactic(auto, unfolding(crate::specs::Entities::entity_of))]
+fn entity_of(alloc: Global, value: &Value<'_>) -> Result<BundleEntity, AllocError>
+    ensures { IfOk result (λ own. own ≡ entity_of [] (data_of value.now)) }
+{
+    Ok(BundleEntity {
+        id: text_in(alloc, value, "trackedEntity")?,
+        kind: text_in(alloc, value, "trackedEntityType")?,
+        unit: text_in(alloc, value, "orgUnit")?,
+        attributes: Items::new(alloc),
+    })
+}
+
+// The entity with its attributes.
+#[tactic(auto, unfolding(crate::specs::Entities::whole_entity, crate::specs::Entities::entity_of))]
+fn whole_entity(alloc: Global, value: &Value<'_>) -> Result<BundleEntity, FormFault>
+    ensures { Gives (whole_entity (data_of value.now)) result }
+{
+    let attributes = attributes_of(alloc, value)?;
+    let mut own = entity_of(alloc, value)?;
+    own.attributes = attributes;
+    Ok(own)
+}
+
+fn in_entity(
+    alloc: Global,
+    id: &Option<Items<u8>>,
+    form: EnrollmentForm,
+) -> Result<EnrollmentForm, AllocError>
+    ensures { IfOk result (λ filled. filled ≡ in_entity id.now form) }
+{
+    let mut form = form;
+    fill_in(alloc, &mut form.own.entity, id)?;
+    Ok(form)
+}
+
+fn all_in_entity(
+    alloc: Global,
+    id: &Option<Items<u8>>,
+    forms: Items<EnrollmentForm>,
+) -> Result<Items<EnrollmentForm>, AllocError>
+    ensures { IfOk result (λ filled. filled ≡ map (in_entity id.now) forms) }
+{
+    let mut filled = Vec::new(alloc);
+    for form in forms.items {
+        filled.push(in_entity(alloc, id, form)?)?;
+    }
+    Ok(Items::from(filled))
+}
+
+impl ReadJson for EntityForm {
+    ghost use Rattle.import_forms.specs.Entities.{entity_form};
+
+    ghost form = { entity_form };
+
+    #[tactic(auto, unfolding(crate::specs::Entities::entity_form))]
+    fn read(alloc: Global, value: &Value<'_>) -> Result<EntityForm, FormFault> {
+        require_object(alloc, value)?;
+        let enrollments: Items<EnrollmentForm> = list_at(alloc, value, "enrollments")?;
+        let own = whole_entity(alloc, value)?;
+        let enrollments = all_in_entity(alloc, &own.id, enrollments)?;
+        Ok(EntityForm { own, enrollments })
+    }
+}
+
+/// Puts entities at the end of a list, and the enrollments that stand in them at the end of another.
+pub(crate) fn put_entities(
+    forms: Items<EntityForm>,
+    entities: &mut Items<BundleEntity>,
+    enrollments: &mut Items<EnrollmentForm>,
+) -> Result<(), Memory>
+    ensures own { OnOk result (entities.new ≡ entities.old ++ map (λ form. form.own) forms) }
+    ensures enrollments { OnOk result (enrollments.new ≡ enrollments.old ++ flat_map (λ form. form.enrollments) forms) }
+{
+    for form in forms.items {
+        let EntityForm {
+            own,
+            enrollments: inner,
+        } = form;
+        entities.push(own)?;
+        append(enrollments, inner)?;
+    }
+    Ok(())
+}

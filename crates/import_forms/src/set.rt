@@ -1,0 +1,183 @@
+//! Data value sets.
+
+ghost use Rattle.std.specs.Prelude.{◌≡◌, IfOk, codes};
+ghost use Rattle.json_read.specs.Views.{data_of};
+ghost use Rattle.json_read.specs.Given as forms;
+ghost use Rattle.import_forms.specs.Bodies.{body_of, Gives};
+ghost use Rattle.import_forms.specs.Sets.{value_of, values_at, place_of, set_of};
+
+use crate::body::{fault_of, no_document};
+use crate::text::{text_at, text_in, truth_in, written_in};
+use dh_base::items::Items;
+use json::{Scratch, Value};
+use json_read::fault::FormFault;
+use json_read::form::{ReadJson, field_or, read_list, require_object};
+use json_read::look::is_null;
+use json_read::read::read;
+use record_index::outcome::{BodyFault, ImportStrategy};
+use std::alloc::{AllocError, Global};
+
+/// How a set is to be imported.
+#[derive(Clone, Copy, PartialEq, Eq)]
+pub struct SetParams {
+    pub strategy: ImportStrategy,
+    /// Whether the set is only judged.
+    pub dry: bool,
+}
+
+/// A value of a set, as it stands in the body.
+#[derive(Drop)]
+pub struct SetValue {
+    /// The data element.
+    pub element: Option<Items<u8>>,
+    /// The category option combination.
+    pub combo: Option<Items<u8>>,
+    /// The attribute option combination.
+    pub attribute: Option<Items<u8>>,
+    pub value: Option<Items<u8>>,
+    pub period: Option<Items<u8>>,
+    /// The organisation unit.
+    pub unit: Option<Items<u8>>,
+    pub deleted: bool,
+}
+
+/// The values of a set.
+#[derive(Drop)]
+pub struct SetValues {
+    pub values: Items<SetValue>,
+}
+
+/// The organisation unit, the attribute option combination and the values of a set.
+#[derive(Drop)]
+pub struct SetPlace {
+    pub unit: Option<Items<u8>>,
+    pub attribute: Option<Items<u8>>,
+    pub values: Items<SetValue>,
+}
+
+/// A data value set, as it stands in the body. A value's own texts go before those of the set.
+#[derive(Drop)]
+pub struct ValueSet {
+    pub params: SetParams,
+    pub data_set: Option<Items<u8>>,
+    pub complete_date: Option<Items<u8>>,
+    pub period: Option<Items<u8>>,
+    /// The organisation unit.
+    pub unit: Option<Items<u8>>,
+    /// The attribute option combination.
+    pub attribute: Option<Items<u8>>,
+    pub values: Items<SetValue>,
+}
+
+#[tactic(auto, unfolding(crate::specs::Sets::value_of))]
+fn value_of(alloc: Global, value: &Value<'_>) -> Result<SetValue, AllocError>
+    ensures { IfOk result (λ found. found ≡ value_of (data_of value.now)) }
+{
+    Ok(SetValue {
+        element: text_in(alloc, value, "dataElement")?,
+        combo: text_in(alloc, value, "categoryOptionCombo")?,
+        attribute: text_in(alloc, value, "attributeOptionCombo")?,
+        value: written_in(alloc, value, "value")?,
+        period: text_in(alloc, value, "period")?,
+        unit: text_in(alloc, value, "orgUnit")?,
+        deleted: truth_in(value, "deleted").unwrap_or(false),
+    })
+}
+
+impl ReadJson for SetValue {
+    ghost use Rattle.import_forms.specs.Sets.{value_form};
+
+    ghost form = { value_form };
+
+    fn read(alloc: Global, value: &Value<'_>) -> Result<SetValue, FormFault> {
+        require_object(alloc, value)?;
+        Ok(value_of(alloc, value)?)
+    }
+}
+
+impl ReadJson for SetValues {
+    ghost use Rattle.import_forms.specs.Sets.{values_form};
+
+    ghost form = { values_form };
+
+    #[tactic(auto, unfolding(crate::specs::Sets::values_form))]
+    fn read(alloc: Global, value: &Value<'_>) -> Result<SetValues, FormFault> {
+        if is_null(value) {
+            return Ok(SetValues {
+                values: Items::new(alloc),
+            });
+        }
+        let values: Items<SetValue> = read_list(alloc, value)?;
+        Ok(SetValues { values })
+    }
+}
+
+#[tactic(auto, unfolding(crate::specs::Sets::values_at))]
+fn values_at(alloc: Global, value: &Value<'_>, key: &str) -> Result<Items<SetValue>, FormFault>
+    ensures { forms.Gives (values_at key.now (data_of value.now)) result }
+{
+    let none = SetValues {
+        values: Items::new(alloc),
+    };
+    let found: SetValues = field_or(alloc, value, key, none)?;
+    Ok(found.values)
+}
+
+#[tactic(auto, unfolding(crate::specs::Sets::place_of, crate::specs::Texts::text_at))]
+fn place_of(alloc: Global, value: &Value<'_>) -> Result<SetPlace, FormFault>
+    ensures { forms.Gives (place_of (data_of value.now)) result }
+{
+    let unit = text_at(alloc, value, "orgUnit")?;
+    let attribute = text_at(alloc, value, "attributeOptionCombo")?;
+    let values = values_at(alloc, value, "dataValues")?;
+    Ok(SetPlace {
+        unit,
+        attribute,
+        values,
+    })
+}
+
+#[tactic(auto, unfolding(crate::specs::Sets::set_of))]
+fn set_of(alloc: Global, params: SetParams, value: &Value<'_>) -> Result<ValueSet, FormFault>
+    ensures { forms.Gives (set_of params (data_of value.now)) result }
+{
+    require_object(alloc, value)?;
+    let data_set = text_at(alloc, value, "dataSet")?;
+    let complete_date = text_at(alloc, value, "completeDate")?;
+    let period = text_at(alloc, value, "period")?;
+    let place = place_of(alloc, value)?;
+    Ok(ValueSet {
+        params,
+        data_set,
+        complete_date,
+        period,
+        unit: place.unit,
+        attribute: place.attribute,
+        values: place.values,
+    })
+}
+
+/// The values of a bundle: those under `dataValues`, none where the key is absent or null. No other key is
+/// looked at. A fault has its path from the bundle's top.
+pub fn read_values(alloc: Global, bundle: &Value<'_>) -> Result<Items<SetValue>, FormFault>
+    ensures { forms.Gives (values_at (codes "dataValues") (data_of bundle.now)) result }
+{
+    values_at(alloc, bundle, "dataValues")
+}
+
+/// The data value set of a body. A body that isn't JSON or no object is at fault with the empty path.
+/// Of several faults the first counts, by the order `dataSet`, `completeDate`, `period`, `orgUnit`,
+/// `attributeOptionCombo`, `dataValues`.
+pub fn read_set(alloc: Global, body: &[u8], params: SetParams) -> Result<ValueSet, BodyFault>
+    ensures { Gives (body_of (set_of params) body.now) result }
+{
+    let mut scratch = Scratch::new(alloc);
+    match read(alloc, body, &mut scratch) {
+        Ok(Some(value)) => match set_of(alloc, params, &value) {
+            Ok(set) => Ok(set),
+            Err(fault) => Err(fault_of(fault)),
+        },
+        Ok(None) => Err(no_document(alloc)),
+        Err(_) => Err(BodyFault::Memory),
+    }
+}

@@ -1,0 +1,133 @@
+//! Texts and truths under the keys of JSON objects.
+
+ghost use Rattle.std.specs.Prelude.{◌≡◌, IfOk, Some, option_and_then};
+ghost use Rattle.std.specs.Fmt.{decimal, signed_decimal};
+ghost use Rattle.json_read.specs.Views.{data_of};
+ghost use Rattle.serde_json.specs.Find.{as_number};
+ghost use Rattle.json_read.specs.Given.{Gives};
+ghost use Rattle.import_forms.specs.Texts.{text_at, text_in, truth_in, truth_text, whole_text, written_of, written_in};
+
+use dh_base::items::Items;
+use json::Value;
+use json_read::fault::FormFault;
+use json_read::form::{ReadJson, field_or};
+use json_read::look::{integer, is_null, member, natural, text, truth};
+use std::alloc::{AllocError, Global};
+
+/// A text that may be absent.
+#[derive(Drop)]
+pub struct TextOrNull {
+    pub text: Option<Items<u8>>,
+}
+
+impl ReadJson for TextOrNull {
+    ghost use Rattle.import_forms.specs.Texts.{text_or_null_of};
+
+    ghost form = { text_or_null_of };
+
+    #[tactic(auto, unfolding(crate::specs::Texts::text_or_null_of))]
+    fn read(alloc: Global, value: &Value<'_>) -> Result<TextOrNull, FormFault> {
+        if is_null(value) {
+            return Ok(TextOrNull { text: None });
+        }
+        let found: Items<u8> = ReadJson::read(alloc, value)?;
+        Ok(TextOrNull { text: Some(found) })
+    }
+}
+
+/// The text under a key, where null counts as absent and data of another type is at fault.
+#[tactic(auto, unfolding(crate::specs::Texts::text_at))]
+pub(crate) fn text_at(
+    alloc: Global,
+    value: &Value<'_>,
+    key: &str,
+) -> Result<Option<Items<u8>>, FormFault>
+    ensures { Gives (text_at key.now (data_of value.now)) result }
+{
+    let found: TextOrNull = field_or(alloc, value, key, TextOrNull { text: None })?;
+    Ok(found.text)
+}
+
+fn copied(alloc: Global, text: &str) -> Result<Items<u8>, AllocError>
+    ensures { IfOk result (λ copy. copy ≡ text.now) }
+{
+    Ok(Items::from(text.as_bytes().to_vec(alloc)?))
+}
+
+/// The text under a key, where data of another type counts as absent.
+pub(crate) fn text_in(
+    alloc: Global,
+    value: &Value<'_>,
+    key: &str,
+) -> Result<Option<Items<u8>>, AllocError>
+    ensures { IfOk result (λ text. text ≡ text_in key.now (data_of value.now)) }
+{
+    match member(value, key).and_then(text) {
+        Some(found) => Ok(Some(copied(alloc, found)?)),
+        None => Ok(None),
+    }
+}
+
+/// The truth under a key, where data of another type counts as absent.
+pub(crate) fn truth_in(value: &Value<'_>, key: &str) -> Option<bool>
+    ensures { result ≡ truth_in key.now (data_of value.now) }
+{
+    member(value, key).and_then(truth)
+}
+
+fn truth_text(truth: bool) -> &'static str
+    ensures { result.now ≡ truth_text truth }
+{
+    if truth { "true" } else { "false" }
+}
+
+fn unsigned_text(alloc: Global, number: u64) -> Result<Items<u8>, AllocError>
+    ensures { IfOk result (λ text. text ≡ decimal number) }
+{
+    Ok(Items::from(format!(in alloc; "{number}")?.into_bytes()))
+}
+
+fn signed_text(alloc: Global, number: i64) -> Result<Items<u8>, AllocError>
+    ensures { IfOk result (λ text. text ≡ signed_decimal number) }
+{
+    Ok(Items::from(format!(in alloc; "{number}")?.into_bytes()))
+}
+
+fn whole_text(alloc: Global, value: &Value<'_>) -> Result<Option<Items<u8>>, AllocError>
+    ensures { IfOk result (λ text. text ≡ option_and_then whole_text (as_number (data_of value.now))) }
+{
+    if let Some(number) = natural(value) {
+        return Ok(Some(unsigned_text(alloc, number)?));
+    }
+    match integer(value) {
+        Some(number) => Ok(Some(signed_text(alloc, number)?)),
+        None => Ok(None),
+    }
+}
+
+fn written(alloc: Global, value: &Value<'_>) -> Result<Option<Items<u8>>, AllocError>
+    ensures { IfOk result (λ text. text ≡ written_of (data_of value.now)) }
+{
+    if let Some(found) = text(value) {
+        return Ok(Some(copied(alloc, found)?));
+    }
+    match truth(value) {
+        Some(found) => Ok(Some(copied(alloc, truth_text(found))?)),
+        None => whole_text(alloc, value),
+    }
+}
+
+/// The text under a key, where a whole number or a truth counts as its text and data of another type
+/// as absent.
+pub(crate) fn written_in(
+    alloc: Global,
+    value: &Value<'_>,
+    key: &str,
+) -> Result<Option<Items<u8>>, AllocError>
+    ensures { IfOk result (λ text. text ≡ written_in key.now (data_of value.now)) }
+{
+    match member(value, key) {
+        Some(found) => written(alloc, found),
+        None => Ok(None),
+    }
+}

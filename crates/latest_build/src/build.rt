@@ -1,0 +1,86 @@
+//! The latest part of touched keys.
+ghost use Rattle.std.specs.Prelude.{◌≡◌, ◌≤◌, List, length, map, IsTrue, IfOk};
+ghost use Rattle.std.specs.Arc.{arc_value};
+ghost use Rattle.std.specs.List.{list_all};
+ghost use Rattle.dh_changes.specs.declared.change.Write.{Write};
+ghost use Rattle.org_tree.specs.Units.{IsTree};
+ghost use Rattle.record_index.specs.Facts.{facts_in};
+ghost use Rattle.record_index.specs.World.{facts};
+ghost use Rattle.dh_records.specs.Access.{tree};
+ghost use Rattle.table_rows.specs.Store.{contents_in};
+ghost use Rattle.table_build.specs.Listed.{listed_in};
+ghost use Rattle.table_build.specs.Log.{writes_of, is_of_days};
+ghost use Rattle.table_latest.specs.Later.{LeadsTo};
+ghost use Rattle.latest_build.specs.Covers.{Covers};
+ghost use Rattle.latest_build.specs.Places.{held_by, touched_of};
+ghost use Rattle.dh_base.specs.declared.limits.TheConstants.{MOST_RECORDS};
+
+use crate::touched::{LogKeys, touched_keys};
+use dh_base::memory::Memory;
+use dh_changes::change::Change;
+use dh_metadata::metadata::Metadata;
+use dh_records::access::tree_of;
+use record_index::world::World;
+use std::alloc::Global;
+use std::sync::Arc;
+use table_build::events::events_of;
+use table_build::regs::regs_of;
+use table_build::values::rows_of;
+use table_latest::Latest;
+use table_sums::{SummedRows, with_sums};
+
+// The units are a tree, so that no two have one order.
+pub(crate) fn units_stand(meta: &Metadata, world: &World)
+    ensures tree { IsTree (tree (facts world.now) meta.now) }
+    ensures numbers { length (tree (facts world.now) meta.now) ≡ length meta.now.organisation_units }
+{
+    let _units = tree_of(world, meta).count();
+}
+
+// The store of what the keys hold.
+fn store_of(
+    alloc: Global,
+    meta: &Metadata,
+    world: &World,
+    changes: &[Arc<Change>],
+    keys: &LogKeys<'_>,
+) -> Result<SummedRows, Memory>
+    requires held { facts world.now ≡ facts_in (writes_of (map arc_value changes.now)) }
+    requires few { length (writes_of (map arc_value changes.now)) ≤ MOST_RECORDS }
+    requires days { IsTrue (list_all is_of_days (writes_of (map arc_value changes.now))) }
+    requires tree { IsTree (tree (facts world.now) meta.now) }
+    requires numbers { length (tree (facts world.now) meta.now) ≡ length meta.now.organisation_units }
+    ensures { IfOk result (λ store. contents_in store ≡ held_by meta.now (facts world.now) keys.now.values.now keys.now.events.now keys.now.regs.now) }
+{
+    let rows = rows_of(alloc, meta, world, keys.values)?;
+    let events = events_of(alloc, meta, world, keys.events)?;
+    let regs = regs_of(alloc, meta, world, keys.regs)?;
+    with_sums(alloc, &rows, events, regs, Vec::new(alloc))
+}
+
+/// The latest part of these keys: what each holds after the changes, of which `from` stand in the base. Where the keys are all
+/// that changed, tables under it stand for the changes.
+pub fn latest_of(
+    alloc: Global,
+    meta: &Metadata,
+    world: &World,
+    changes: &[Arc<Change>],
+    keys: &LogKeys<'_>,
+    from: u64,
+) -> Result<Latest, Memory>
+    requires held { facts world.now ≡ facts_in (writes_of (map arc_value changes.now)) }
+    requires few { length (writes_of (map arc_value changes.now)) ≤ MOST_RECORDS }
+    requires days { IsTrue (list_all is_of_days (writes_of (map arc_value changes.now))) }
+    ensures touched { IfOk result (λ latest. latest.touched ≡ touched_of meta.now (facts world.now) keys.now.values.now keys.now.events.now keys.now.regs.now) }
+    ensures holds { IfOk result (λ latest. latest.holds ≡ held_by meta.now (facts world.now) keys.now.values.now keys.now.events.now keys.now.regs.now) }
+    ensures leads { IfOk result (λ latest. (base : List Write) → Covers meta.now (facts_in base)
+        (facts world.now) keys.now.values.now keys.now.events.now keys.now.regs.now
+        → LeadsTo (contents_in (listed_in meta.now base)) latest (contents_in (listed_in meta.now (writes_of (map arc_value changes.now))))) }
+    ensures from { IfOk result (λ latest. latest.from ≡ from) }
+    ensures to { IfOk result (λ latest. latest.to ≡ length changes.now) }
+{
+    units_stand(meta, world);
+    let store = store_of(alloc, meta, world, changes, keys)?;
+    let touched = touched_keys(alloc, meta, world, keys)?;
+    Ok(Latest::of(touched, store, from, changes.len() as u64))
+}

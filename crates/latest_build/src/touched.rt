@@ -1,0 +1,224 @@
+//! The touched keys of a log as keys of tables.
+ghost use Rattle.std.specs.Prelude.{◌≡◌, ◌<◌, [], length, IfOk, IfSome};
+ghost use Rattle.std.specs.Cmp.Lexicographic.{slice_cmp};
+ghost use Rattle.std.specs.List.{filter_map};
+ghost use Rattle.std.specs.Ordering.{nat_cmp};
+ghost use Rattle.record_index.specs.World.{facts};
+ghost use Rattle.table_build.specs.Ordered.{put_all};
+ghost use Rattle.table_build.specs.Values as values;
+ghost use Rattle.table_build.specs.Regs as registrations;
+ghost use Rattle.table_latest.specs.Keys.{place_cmp, reg_place_cmp};
+ghost use Rattle.table_latest.specs.Latest.{touched_in};
+ghost use Rattle.latest_build.specs.Places as known;
+
+use dh_base::memory::Memory;
+use dh_base::uid::Uid;
+use dh_changes::keys::{RegKey, ValueKey};
+use dh_metadata::metadata::Metadata;
+use dh_records::access::tree_of;
+use meta_parts::kind::Kind;
+use record_index::world::World;
+use std::alloc::Global;
+use std::collections::BTreeMap;
+use table_build::regs::RegObjects;
+use table_build::values::ValueObjects;
+use table_latest::{RegPlace, RowPlace, TouchedKeys};
+use table_rows::Group;
+
+/// Keys of a log, in any order.
+#[derive(Clone, Copy)]
+pub struct LogKeys<'a> {
+    pub values: &'a [ValueKey],
+    /// Events by their identifiers.
+    pub events: &'a [Uid],
+    pub regs: &'a [RegKey],
+}
+
+#[tactic(auto, unfolding(table_build::specs::Values::objects_of))]
+fn value_objects(meta: &Metadata, key: &ValueKey) -> Option<ValueObjects>
+    ensures value { result ≡ values.objects_of meta.now key.now }
+    ensures in_range { IfSome result (λ objects. objects.unit < length meta.now.organisation_units) }
+{
+    let element = meta.find(Kind::DataElement, key.element)?;
+    let unit = meta.find(Kind::OrganisationUnit, key.unit)?;
+    let combo = meta.find(Kind::CategoryOptionCombo, key.combo)?;
+    let attribute = meta.find(Kind::CategoryOptionCombo, key.attribute)?;
+    Some(ValueObjects {
+        element,
+        unit,
+        combo,
+        attribute,
+    })
+}
+
+fn value_at(meta: &Metadata, world: &World, key: &ValueKey, objects: ValueObjects) -> RowPlace
+    requires { objects.unit < length meta.now.organisation_units }
+    ensures { result ≡ known.value_at meta.now (facts world.now) key.now objects }
+{
+    RowPlace {
+        group: Group {
+            element: objects.element,
+            combo: objects.combo,
+            attribute: objects.attribute,
+            period: key.period,
+        },
+        order: tree_of(world, meta).order(objects.unit),
+    }
+}
+
+#[tactic(auto, unfolding(crate::specs::Places::value_place))]
+fn value_place(meta: &Metadata, world: &World, key: &ValueKey) -> Option<RowPlace>
+    ensures { result ≡ known.value_place meta.now (facts world.now) key.now }
+{
+    let objects = value_objects(meta, key)?;
+    Some(value_at(meta, world, key, objects))
+}
+
+fn same_place(place: &RowPlace) -> RowPlace
+    ensures { result ≡ place.now }
+{
+    RowPlace {
+        group: place.group,
+        order: place.order,
+    }
+}
+
+fn value_map(
+    alloc: Global,
+    meta: &Metadata,
+    world: &World,
+    keys: &[ValueKey],
+) -> Result<BTreeMap<RowPlace, RowPlace>, Memory>
+    ensures { IfOk result (λ map. map.entries ≡ put_all place_cmp (λ place. place) [] (filter_map (known.value_place meta.now (facts world.now)) keys.now)) }
+{
+    let mut map = BTreeMap::new(alloc);
+    for key in keys {
+        if let Some(place) = value_place(meta, world, key) {
+            map.insert(same_place(&place), place)?;
+        }
+    }
+    Ok(map)
+}
+
+#[tactic(auto, unfolding(crate::specs::Places::value_places))]
+fn value_places(
+    alloc: Global,
+    meta: &Metadata,
+    world: &World,
+    keys: &[ValueKey],
+) -> Result<Vec<RowPlace>, Memory>
+    ensures { IfOk result (λ places. places.items ≡ known.value_places meta.now (facts world.now) keys.now) }
+{
+    let map = value_map(alloc, meta, world, keys)?;
+    Ok(map.into_values().collect(alloc)?)
+}
+
+#[tactic(auto, unfolding(table_build::specs::Regs::objects_of))]
+fn reg_objects(meta: &Metadata, key: &RegKey) -> Option<RegObjects>
+    ensures value { result ≡ registrations.objects_of meta.now key.now }
+    ensures in_range { IfSome result (λ objects. objects.unit < length meta.now.organisation_units) }
+{
+    let set = meta.find(Kind::DataSet, key.set)?;
+    let unit = meta.find(Kind::OrganisationUnit, key.unit)?;
+    let attribute = meta.find(Kind::CategoryOptionCombo, key.attribute)?;
+    Some(RegObjects {
+        set,
+        unit,
+        attribute,
+    })
+}
+
+fn reg_at(meta: &Metadata, world: &World, key: &RegKey, objects: RegObjects) -> RegPlace
+    requires { objects.unit < length meta.now.organisation_units }
+    ensures { result ≡ known.reg_at meta.now (facts world.now) key.now objects }
+{
+    RegPlace {
+        set: objects.set,
+        period: key.period,
+        order: tree_of(world, meta).order(objects.unit),
+        attribute: objects.attribute,
+    }
+}
+
+#[tactic(auto, unfolding(crate::specs::Places::reg_place))]
+fn reg_place(meta: &Metadata, world: &World, key: &RegKey) -> Option<RegPlace>
+    ensures { result ≡ known.reg_place meta.now (facts world.now) key.now }
+{
+    let objects = reg_objects(meta, key)?;
+    Some(reg_at(meta, world, key, objects))
+}
+
+fn same_reg_place(place: &RegPlace) -> RegPlace
+    ensures { result ≡ place.now }
+{
+    RegPlace {
+        set: place.set,
+        period: place.period,
+        order: place.order,
+        attribute: place.attribute,
+    }
+}
+
+fn reg_map(
+    alloc: Global,
+    meta: &Metadata,
+    world: &World,
+    keys: &[RegKey],
+) -> Result<BTreeMap<RegPlace, RegPlace>, Memory>
+    ensures { IfOk result (λ map. map.entries ≡ put_all reg_place_cmp (λ place. place) [] (filter_map (known.reg_place meta.now (facts world.now)) keys.now)) }
+{
+    let mut map = BTreeMap::new(alloc);
+    for key in keys {
+        if let Some(place) = reg_place(meta, world, key) {
+            map.insert(same_reg_place(&place), place)?;
+        }
+    }
+    Ok(map)
+}
+
+#[tactic(auto, unfolding(crate::specs::Places::reg_places))]
+fn reg_places(
+    alloc: Global,
+    meta: &Metadata,
+    world: &World,
+    keys: &[RegKey],
+) -> Result<Vec<RegPlace>, Memory>
+    ensures { IfOk result (λ places. places.items ≡ known.reg_places meta.now (facts world.now) keys.now) }
+{
+    let map = reg_map(alloc, meta, world, keys)?;
+    Ok(map.into_values().collect(alloc)?)
+}
+
+fn id_map(alloc: Global, ids: &[Uid]) -> Result<BTreeMap<Uid, Uid>, Memory>
+    ensures { IfOk result (λ map. map.entries ≡ put_all (slice_cmp nat_cmp) (λ id. id) [] ids.now) }
+{
+    let mut map = BTreeMap::new(alloc);
+    for id in ids {
+        map.insert(*id, *id)?;
+    }
+    Ok(map)
+}
+
+#[tactic(auto, unfolding(crate::specs::Places::event_ids))]
+fn event_ids(alloc: Global, ids: &[Uid]) -> Result<Vec<Uid>, Memory>
+    ensures { IfOk result (λ all. all.items ≡ known.event_ids ids.now) }
+{
+    let map = id_map(alloc, ids)?;
+    Ok(map.into_values().collect(alloc)?)
+}
+
+/// These keys as keys of tables, each list ascending.
+pub(crate) fn touched_keys(
+    alloc: Global,
+    meta: &Metadata,
+    world: &World,
+    keys: &LogKeys<'_>,
+) -> Result<TouchedKeys, Memory>
+    ensures { IfOk result (λ touched. touched_in touched ≡ known.touched_of meta.now
+        (facts world.now) keys.now.values.now keys.now.events.now keys.now.regs.now) }
+{
+    let rows = value_places(alloc, meta, world, keys.values)?;
+    let events = event_ids(alloc, keys.events)?;
+    let regs = reg_places(alloc, meta, world, keys.regs)?;
+    Ok(TouchedKeys { rows, events, regs })
+}

@@ -1,0 +1,228 @@
+//! The workers: each accepts a link under the lock, serves it outside, closes it, and gives it back under the lock.
+ghost use denote.Param.Send.{IsSend, IsSync};
+ghost use Rattle.std.specs.Prelude.{◌≡◌, ◌<◌, ℕ, length, IfSome, option_to_list};
+ghost use Rattle.net_doors.specs.Doors.{IsUntouched};
+ghost use Rattle.net_doors.specs.Serving.{IsServed, HasServed};
+
+use crate::door::Door;
+use crate::ending::Served;
+use crate::names::Opening;
+use crate::{End, Listener};
+use std::marker::Brand;
+use std::sync::ledger::{Blank, Ledger, Share};
+use std::sync::{Mutex, Wait};
+use std::thread::{Threads, join};
+
+// Accepts a link under the lock.
+fn accept_one<N: End, L: Listener<N>, J: Opening<N>, R: Wait>(
+    rt: &R,
+    door: &Mutex<Door<N, L, J>>,
+    share: &mut Share<J>,
+) -> Option<N>
+    requires parts { share.old.parts ≡ 1 }
+    requires none { share.old.amount ≡ 0 }
+    ensures parts { share.new.parts ≡ 1 }
+    ensures amount { share.new.amount ≡ length (option_to_list result) }
+    ensures untouched { IfSome result (λ link. IsUntouched (N.source_talk link) (N.source_faults link)) }
+{
+    door.lock(rt).next(share)
+}
+
+// Gives a link back under the lock.
+fn return_one<N: End, L: Listener<N>, J: Opening<N>, R: Wait>(
+    rt: &R,
+    door: &Mutex<Door<N, L, J>>,
+    share: &mut Share<J>,
+    link: N,
+)
+    requires parts { share.old.parts ≡ 1 }
+    requires one { share.old.amount ≡ 1 }
+    requires served { IsServed (λ link. IsUntouched (N.source_talk link) (N.source_faults link)) J.serves link }
+    ensures parts { share.new.parts ≡ 1 }
+    ensures none { share.new.amount ≡ 0 }
+{
+    door.lock(rt).give_back(share, link)
+}
+
+// Serves a link and closes it.
+fn serve_one<N: End, F: Fn(N) -> N>(serve: &F, link: N) -> N
+    requires accepts { (link : N) → IsUntouched (N.source_talk link) (N.source_faults link) → F.pre serve.now link }
+    requires untouched { IsUntouched (N.source_talk link) (N.source_faults link) }
+    ensures { IsServed (λ link. IsUntouched (N.source_talk link) (N.source_faults link)) (λ came link. F.post serve.now came link) result }
+{
+    let mut link = serve(link);
+    link.close();
+    link
+}
+
+// Accepts, serves and gives back one link. It answers false when accepting has ended.
+fn turn<N: End, L: Listener<N>, F: Fn(N) -> N, J: Opening<N>, R: Wait>(
+    rt: &R,
+    door: &Mutex<Door<N, L, J>>,
+    serve: &F,
+    share: &mut Share<J>,
+) -> bool
+    requires accepts { (link : N) → IsUntouched (N.source_talk link) (N.source_faults link) → F.pre serve.now link }
+    requires serves { (came link : N) → F.post serve.now came link → J.serves came link }
+    requires parts { share.old.parts ≡ 1 }
+    requires none { share.old.amount ≡ 0 }
+    ensures parts { share.new.parts ≡ 1 }
+    ensures none { share.new.amount ≡ 0 }
+{
+    let Some(link) = accept_one(rt, door, share) else {
+        return false;
+    };
+    let link = serve_one(serve, link);
+    return_one(rt, door, share, link);
+    true
+}
+
+// One worker: turns until accepting has ended.
+fn work<N: End, L: Listener<N>, F: Fn(N) -> N, J: Opening<N>, R: Wait>(
+    rt: &R,
+    door: &Mutex<Door<N, L, J>>,
+    serve: &F,
+    share: Share<J>,
+) -> Share<J>
+    requires accepts { (link : N) → IsUntouched (N.source_talk link) (N.source_faults link) → F.pre serve.now link }
+    requires serves { (came link : N) → F.post serve.now came link → J.serves came link }
+    requires parts { share.parts ≡ 1 }
+    requires none { share.amount ≡ 0 }
+    ensures parts { result.parts ≡ 1 }
+    ensures none { result.amount ≡ 0 }
+{
+    let mut share = share;
+    for _ in rt.forever() {
+        if !turn(rt, door, serve, &mut share) {
+            return share;
+        }
+    }
+    unreachable!()
+}
+
+// So many workers at the same time.
+fn crew<
+    N: End + Send,
+    L: Listener<N> + Send,
+    F: Fn(N) -> N + Sync,
+    J: Opening<N> + Send + Sync,
+    R: Threads + Wait + Sync,
+>(rt: &R, door: &Mutex<Door<N, L, J>>, serve: &F, share: Share<J>, workers: u32) -> Share<J>
+    requires accepts { (link : N) → IsUntouched (N.source_talk link) (N.source_faults link) → F.pre serve.now link }
+    requires serves { (came link : N) → F.post serve.now came link → J.serves came link }
+    requires some { 0 < workers }
+    requires parts { share.parts ≡ workers }
+    requires none { share.amount ≡ 0 }
+    ensures parts { result.parts ≡ workers }
+    ensures none { result.amount ≡ 0 }
+{
+    if workers == 1 {
+        return work(rt, door, serve, share);
+    }
+    let mut share = share;
+    let mine = share.split_off(1, 0);
+    let others = workers - 1;
+    let (mut mine, rest) = join(
+        rt,
+        || -> Share<J>
+            requires { IsSync R.row × IsSync F.row × IsSend N.row × IsSend L.row × IsSend J.row × IsSync J.row
+                × ((link : N) → IsUntouched (N.source_talk link) (N.source_faults link) → F.pre serve.now link)
+                × ((came link : N) → F.post serve.now came link → J.serves came link)
+                × (mine.parts ≡ 1) × (mine.amount ≡ 0) }
+            ensures { (result.parts ≡ 1) × (result.amount ≡ 0) }
+        { work(rt, door, serve, mine) },
+        || -> Share<J>
+            requires { IsSync R.row × IsSync F.row × IsSend N.row × IsSend L.row × IsSend J.row × IsSync J.row
+                × ((link : N) → IsUntouched (N.source_talk link) (N.source_faults link) → F.pre serve.now link)
+                × ((came link : N) → F.post serve.now came link → J.serves came link)
+                × (0 < others) × (share.parts ≡ others) × (share.amount ≡ 0) }
+            ensures { (result.parts ≡ others) × (result.amount ≡ 0) }
+        { crew(rt, door, serve, share, others) },
+    );
+    mine.merge(rest);
+    mine
+}
+
+// Workers go on until accepting has ended.
+fn round<
+    N: End + Send,
+    L: Listener<N> + Send,
+    F: Fn(N) -> N + Sync,
+    J: Opening<N> + Send + Sync,
+    R: Threads + Wait + Sync,
+>(
+    rt: &R,
+    door: Door<N, L, J>,
+    serve: &F,
+    share: Share<J>,
+    workers: u32,
+) -> (Door<N, L, J>, Share<J>)
+    requires accepts { (link : N) → IsUntouched (N.source_talk link) (N.source_faults link) → F.pre serve.now link }
+    requires serves { (came link : N) → F.post serve.now came link → J.serves came link }
+    requires some { 0 < workers }
+    requires parts { share.parts ≡ workers }
+    requires none { share.amount ≡ 0 }
+    ensures parts { result.1.parts ≡ workers }
+    ensures none { result.1.amount ≡ 0 }
+{
+    let door = Mutex::new(door);
+    let share = crew(rt, &door, serve, share, workers);
+    (door.into_inner(), share)
+}
+
+// The same with the name of the call.
+fn serve_as<
+    N: End + Send,
+    L: Listener<N> + Send,
+    F: Fn(N) -> N + Sync,
+    J: Opening<N> + Send + Sync,
+    R: Threads + Wait + Sync,
+>(rt: &R, listener: L, serve: &F, workers: u32, connections: u64, blank: Blank) -> Served<L>
+    requires some { 0 < workers }
+    requires name { blank.name ≡ J.name }
+    requires parts { (blank.parts ≡ J.parts) × (blank.parts ≡ workers) }
+    requires began { J.began ≡ L.shows listener }
+    requires most { J.most ≡ connections }
+    requires accepts { (link : N) → IsUntouched (N.source_talk link) (N.source_faults link) → F.pre serve.now link }
+    requires serves { (came link : N) → F.post serve.now came link → J.serves came link }
+    ensures { HasServed (λ link. IsUntouched (N.source_talk link) (N.source_faults link)) J.serves J.began
+        (L.shows result.listener) J.most result.links result.ending }
+{
+    let (book, share) = blank.open::<J>();
+    let mut door = Door::new(listener, connections, book);
+    let mut share = share;
+    for _ in rt.forever() {
+        let (next_door, next_share) = round(rt, door, serve, share, workers);
+        if next_door.is_over() {
+            return next_door.finish(next_share);
+        }
+        door = next_door;
+        share = next_share;
+    }
+    unreachable!()
+}
+
+/// Serves the links of a listener by so many workers, until so many connections were accepted, the listener is closed, or an accept
+/// failed. Each link that was accepted is served by a call of `serve`, closed and given back, whatever became of the others. Of its own
+/// this takes no memory. `serve` has to take each link that comes with nothing read or written, and says by its own contract how it
+/// leaves it.
+pub fn serve_all<
+    N: End + Send,
+    L: Listener<N> + Send,
+    F: Fn(N) -> N + Sync,
+    R: Threads + Wait + Sync,
+>(rt: &R, listener: L, serve: &F, workers: u32, connections: u64) -> Served<L>
+    requires some { 0 < workers }
+    requires accepts { (link : N) → IsUntouched (N.source_talk link) (N.source_faults link) → F.pre serve.now link }
+    ensures { HasServed (λ link. IsUntouched (N.source_talk link) (N.source_faults link)) (λ came link. F.post serve.now came link) (L.shows listener)
+        (L.shows result.listener) connections result.links result.ending }
+{
+    serve_as::<N, L, F, Brand, R>(
+        rt,
+        listener,
+        serve,
+        workers,
+        connections,
+        Blank::new(workers as u64),
+    )
+}

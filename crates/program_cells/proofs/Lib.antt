@@ -1,0 +1,7 @@
+pub mod OrderLemmas
+mod DayLemmas
+pub mod CellLemmas
+pub mod ValueLemmas
+pub mod LoopLemmas
+pub mod SortLemmas
+pub mod GroupLemmas

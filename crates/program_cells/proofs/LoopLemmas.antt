@@ -1,0 +1,102 @@
+-- One step of the loops over subjects, samples and identifiers.
+use Rattle.std.proofs.Common.{◌≡◌, ◌∙◌, ◌<◌, ◌+◌, ℕ, suc, Bool, List, [], ◌∷◌, ◌++◌, map, take, drop, get_or, length, refl, sym, ap, add-one}
+use Rattle.std.proofs.Common.{drop-cons, append_assoc, arith}
+use Rattle.std.proofs.Common.{Option, Some, None}
+use Rattle.std.proofs.lemmas.List.{take_more}
+use Rattle.std.specs.Prelude.{option_and_then, option_map, if◌then◌else◌}
+use Rattle.std.specs.Option.{unwrap_or}
+use Rattle.dh_base.specs.Fractions.{Fraction, add_of}
+use Rattle.meta_parts.specs.Places.{is_one_of}
+use Rattle.program_cells.specs.Value.{if_passing, collected, sum_from, best_from, better_if_any, unless_fault, different_after}
+
+-- the rest of a list at a place
+pub rest_at : {A : Type 0} (xs : List A) (i : ℕ) (x : A) → i < length xs → x ≡ get_or xs i x → drop i xs ≡ x ∷ drop (i + 1) xs
+rest_at xs i x within is = rw add-one (drop-cons xs i x within ∙ ap (λ y. y ∷ drop (suc i) xs) (sym is))
+
+-- the first members of a list up to a place
+pub first_at : {A : Type 0} (xs : List A) (i : ℕ) (x : A) → i < length xs → x ≡ get_or xs i x → take (i + 1) xs ≡ take i xs ++ x ∷ []
+first_at xs i x within is = take_more xs i x within ∙ ap (λ y. take i xs ++ y ∷ []) (sym is)
+
+-- ---- subjects
+
+joined : {B : Type 0} (done own : List B) (rest : Option (List B)) → option_map (λ more. done ++ more) (option_map (λ more. own ++ more) rest)
+    ≡ option_map (λ more. done ++ own ++ more) rest
+joined done own None = refl
+joined done own (Some more) = ap Some (sym (append_assoc done own more))
+
+value_of : {B : Type 0} (one other : List B) → Some one ≡ Some other → one ≡ other
+value_of one other same = ap (λ found. unwrap_or found one) same
+
+added : {B : Type 0} (taken : Option (List B)) (done new : List B) (rest : Option (List B)) → option_map (λ found. done ++ found) taken ≡ Some new
+    → option_map (λ more. done ++ more) (option_and_then (λ found. option_map (λ more. found ++ more) rest) taken) ≡ option_map (λ more. new ++ more) rest
+added None done new rest is = absurd (cc)
+added (Some found) done new rest is = joined done found rest ∙ ap (λ list. option_map (λ more. list ++ more) rest) (value_of (done ++ found) new is)
+
+lacking : {B : Type 0} (taken : Option (List B)) (done : List B) (rest : Option (List B)) → option_map (λ found. done ++ found) taken ≡ None
+    → option_map (λ more. done ++ more) (option_and_then (λ found. option_map (λ more. found ++ more) rest) taken) ≡ None
+lacking None done rest is = refl
+lacking (Some found) done rest is = absurd (cc)
+
+-- one subject more
+pub subjects_step : {X A B : Type 0} (view : X → A) (passing : A → Option Bool) (own : A → Option (List B)) (xs : List X) (i : ℕ) (x : X) (done new : List B)
+    (all : Option (List B)) → i < length xs → x ≡ get_or xs i x
+    → all ≡ option_map (λ more. done ++ more) (collected passing own (map view (drop i xs)))
+    → option_map (λ found. done ++ found) (if_passing (passing (view x)) (own (view x))) ≡ Some new
+    → all ≡ option_map (λ more. new ++ more) (collected passing own (map view (drop (i + 1) xs)))
+subjects_step view passing own xs i x done new all within at so_far is =
+    so_far ∙ ap (λ rest. option_map (λ more. done ++ more) (collected passing own (map view rest))) (rest_at xs i x within at)
+    ∙ added (if_passing (passing (view x)) (own (view x))) done new (collected passing own (map view (drop (i + 1) xs))) is
+
+-- one of which a number is too wide
+pub subjects_end : {X A B : Type 0} (view : X → A) (passing : A → Option Bool) (own : A → Option (List B)) (xs : List X) (i : ℕ) (x : X) (done : List B)
+    (all : Option (List B)) → i < length xs → x ≡ get_or xs i x
+    → all ≡ option_map (λ more. done ++ more) (collected passing own (map view (drop i xs)))
+    → option_map (λ found. done ++ found) (if_passing (passing (view x)) (own (view x))) ≡ None → None ≡ all
+subjects_end view passing own xs i x done all within at so_far is =
+    sym (so_far ∙ ap (λ rest. option_map (λ more. done ++ more) (collected passing own (map view rest))) (rest_at xs i x within at)
+    ∙ lacking (if_passing (passing (view x)) (own (view x))) done (collected passing own (map view (drop (i + 1) xs))) is)
+
+-- ---- numbers
+
+sum_next : (rest : List Fraction) (x sum next : Fraction) → Some next ≡ unless_fault (add_of sum x) → sum_from sum (x ∷ rest) ≡ sum_from next rest
+sum_next rest x sum next is = ap (λ (o : Option Fraction). option_and_then (λ n. sum_from n rest) o) (sym is)
+
+sum_wide : (rest : List Fraction) (x sum : Fraction) → None ≡ unless_fault (add_of sum x) → sum_from sum (x ∷ rest) ≡ None
+sum_wide rest x sum is = ap (λ (o : Option Fraction). option_and_then (λ n. sum_from n rest) o) (sym is)
+
+-- one number more in a sum
+pub sum_step : (xs : List Fraction) (i : ℕ) (x sum next : Fraction) (all : Option Fraction) → i < length xs → x ≡ get_or xs i x
+    → all ≡ sum_from sum (drop i xs) → Some next ≡ unless_fault (add_of sum x) → all ≡ sum_from next (drop (i + 1) xs)
+sum_step xs i x sum next all within at so_far is =
+    so_far ∙ ap (sum_from sum) (rest_at xs i x within at) ∙ sum_next (drop (i + 1) xs) x sum next is
+
+pub sum_end : (xs : List Fraction) (i : ℕ) (x sum : Fraction) (all : Option Fraction) → i < length xs → x ≡ get_or xs i x
+    → all ≡ sum_from sum (drop i xs) → None ≡ unless_fault (add_of sum x) → None ≡ all
+sum_end xs i x sum all within at so_far is =
+    sym (so_far ∙ ap (sum_from sum) (rest_at xs i x within at) ∙ sum_wide (drop (i + 1) xs) x sum is)
+
+-- one number more among which the greatest or the least is sought
+pub best_step : (greatest : Bool) (xs : List Fraction) (i : ℕ) (x next : Fraction) (best : Option Fraction) (all : Option (Option Fraction)) → i < length xs
+    → x ≡ get_or xs i x → all ≡ best_from greatest best (drop i xs) → Some next ≡ better_if_any greatest best x
+    → all ≡ best_from greatest (Some next) (drop (i + 1) xs)
+best_step greatest xs i x next best all within at so_far is =
+    so_far ∙ ap (best_from greatest best) (rest_at xs i x within at)
+    ∙ ap (λ (o : Option Fraction). option_and_then (λ n. best_from greatest (Some n) (drop (i + 1) xs)) o) (sym is)
+
+pub best_end : (greatest : Bool) (xs : List Fraction) (i : ℕ) (x : Fraction) (best : Option Fraction) (all : Option (Option Fraction)) → i < length xs
+    → x ≡ get_or xs i x → all ≡ best_from greatest best (drop i xs) → None ≡ better_if_any greatest best x → None ≡ all
+best_end greatest xs i x best all within at so_far is =
+    sym (so_far ∙ ap (best_from greatest best) (rest_at xs i x within at)
+    ∙ ap (λ (o : Option Fraction). option_and_then (λ n. best_from greatest (Some n) (drop (i + 1) xs)) o) (sym is))
+
+-- ---- counting
+
+more_here : (count n m rest all : ℕ) → n ≡ m → all ≡ count + (m + rest) → all ≡ (count + n) + rest
+more_here count n m rest all same is = omega (arith, same, is)
+
+-- one identifier more, counted if it is new
+pub counted_step : (before : List (List ℕ)) (x : List ℕ) (rest : List (List ℕ)) (count n all : ℕ) (held : Bool) → held ≡ is_one_of before x
+    → n ≡ (if held then 0 else 1) → all ≡ count + different_after before (x ∷ rest) → all ≡ (count + n) + different_after (before ++ x ∷ []) rest
+counted_step before x rest count n all held is counted so_far =
+    more_here count n (if is_one_of before x then 0 else 1) (different_after (before ++ x ∷ []) rest) all
+    (counted ∙ ap (λ b. if b then 0 else 1) is) so_far

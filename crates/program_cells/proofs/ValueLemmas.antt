@@ -1,0 +1,73 @@
+-- What a form gives is what its indicator means.
+use Rattle.std.proofs.Common.{◌≡◌, ◌∙◌, Bool, List, [], ◌∷◌, map, Option, Some, None, refl, ap}
+use Rattle.std.proofs.Math.Path.{fun_ext}
+use Rattle.std.specs.Prelude.{option_and_then}
+use Rattle.dh_base.specs.declared.plain.AggType.{AggType}
+use Rattle.dh_base.specs.declared.plain.Strategy.TheVariants.{Never}
+use Rattle.expr_lang.specs.declared.expr.Expr.{Expr}
+use Rattle.expr_lang.specs.declared.tree.Item.{Item}
+use Rattle.expr_lang.specs.Expr.{items_in}
+use Rattle.expr_eval.specs.declared.code.Postfix.{Postfix}
+use Rattle.expr_eval.specs.declared.indicator.PiCode.{PiCode}
+use Rattle.expr_eval.specs.declared.indicator.PiItem.{PiItem}
+use Rattle.expr_eval.specs.declared.indicator.PiValue.{PiValue}
+use Rattle.expr_eval.specs.declared.indicator.PiValue.TheVariants as taken
+use Rattle.expr_eval.specs.Correct.{Means}
+use Rattle.expr_eval.specs.Given.{given_by}
+use Rattle.expr_eval.specs.Meaning.{meaning}
+use Rattle.meta_parts.specs.declared.held.Records.{Records}
+use Rattle.meta_parts.specs.declared.records.ProgramIndicator.{ProgramIndicator}
+use Rattle.table_rows.specs.declared.event.EventRow.{EventRow}
+use Rattle.program_cells.specs.Items.{named_item, item_in}
+use Rattle.program_cells.specs.Value.{passes_by, sample_by, item_value, subject_value, passes, sample, collected, aggregated}
+use Rattle.program_cells.specs.Value.{measure_of, value_over, told, program_value}
+use Rattle.program_cells.specs.Code.{measure_in, IsFormula, items_by, IsFilter, filter_items_of, IsCodeOf, form_value, passes_form}
+use Rattle.program_cells.specs.Code.{sample_form, code_value}
+
+items_are : (r : Records) (subject : List EventRow) (its : List Item) → map (item_in subject) (map (named_item r) its) ≡ map (item_value r subject) its
+items_are r subject [] = refl
+items_are r subject (it ∷ its) = ap (λ more. item_value r subject it ∷ more) (items_are r subject its)
+
+-- a form of an expression
+form_is : (r : Records) (expr : Expr) (form : Postfix) (its : List PiItem) (subject : List EventRow) → Means (items_in expr) expr.tree form
+    → its ≡ map (named_item r) (items_in expr) → form_value form its subject ≡ subject_value r expr subject
+unfolding subject_value
+form_is r expr form its subject means are =
+    means.agrees Never (map (item_in subject) its)
+    ∙ ap (λ entries. meaning Never (given_by (items_in expr) entries) expr.tree) (ap (map (item_in subject)) are ∙ items_are r subject (items_in expr))
+
+-- a form of a filter, if there is one
+filter_is : (r : Records) (filter : Option Expr) (form : Option Postfix) (its : List PiItem) (subject : List EventRow) → IsFilter filter form
+    → its ≡ filter_items_of r filter → passes_form form its subject ≡ passes r filter subject
+filter_is r None None its subject is are = refl
+filter_is r (Some expr) (Some form) its subject is are = ap passes_by (form_is r expr form its subject is are)
+filter_is r None (Some form) its subject is are = absurd is
+filter_is r (Some expr) None its subject is are = absurd is
+
+-- a form of what is taken of each subject
+value_is : (r : Records) (expr : Expr) (value : PiValue) (its : List PiItem) (by : AggType) (passing : List EventRow → Option Bool)
+    (subjects : List (List EventRow)) → IsFormula expr value → its ≡ items_by r (measure_in value) expr
+    → value_over (measure_in value) by passing (sample_form value its) subjects ≡ value_over (measure_in value) by passing (sample r expr) subjects
+value_is r expr (taken.Formula form) its by passing subjects is are =
+    ap (λ own. option_and_then (aggregated by) (collected passing own subjects)) (fun_ext (λ subject. ap sample_by (form_is r expr form its subject is are)))
+value_is r expr taken.Events its by passing subjects is are = refl
+value_is r expr taken.Enrollments its by passing subjects is are = refl
+value_is r expr taken.Entities its by passing subjects is are = refl
+
+-- a form of an indicator
+pub value_meant : (r : Records) (indicator : ProgramIndicator) (code : PiCode) (subjects : List (List EventRow)) → IsCodeOf r indicator code
+    → told (code_value code subjects) ≡ program_value r indicator subjects
+unfolding code_value program_value
+value_meant r indicator code subjects is =
+    let passing : passes_form code.filter code.filter_items ≡ passes r indicator.filter =
+    fun_ext (λ subject. filter_is r indicator.filter code.filter code.filter_items subject is.filter is.filter_items) in
+    let own : value_over (measure_in code.value) code.aggregation (passes_form code.filter code.filter_items) (sample_form code.value code.value_items) subjects
+    ≡ value_over (measure_in code.value) code.aggregation (passes_form code.filter code.filter_items) (sample r indicator.expression) subjects =
+    value_is r indicator.expression code.value code.value_items code.aggregation (passes_form code.filter code.filter_items) subjects is.value
+    is.value_items in
+    ap told own
+    ∙ ap (λ which. told (value_over which code.aggregation (passes_form code.filter code.filter_items) (sample r indicator.expression) subjects)) is.measured
+    ∙ ap (λ by. told
+    (value_over (measure_of indicator.expression.tree) by (passes_form code.filter code.filter_items) (sample r indicator.expression) subjects))
+    is.aggregation
+    ∙ ap (λ test. told (value_over (measure_of indicator.expression.tree) indicator.aggregation_type test (sample r indicator.expression) subjects)) passing

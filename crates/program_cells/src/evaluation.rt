@@ -1,0 +1,240 @@
+//! The value of a program indicator over subjects.
+
+ghost use Rattle.std.specs.Prelude.{◌≡◌, ◌++◌, Some, map, option_map, option_and_then, IfOk, OnOk};
+ghost use Rattle.std.specs.Option.{option_to_list};
+ghost use Rattle.meta_parts.specs.declared.held.Records.{Records};
+ghost use Rattle.meta_parts.specs.declared.records.ProgramIndicator.{ProgramIndicator};
+ghost use Rattle.program_cells.specs.Items.{item_in};
+ghost use Rattle.program_cells.specs.Value.{passes_by, sample_by, if_passing, collected, aggregated, counted, ids_of, value_over, told, program_value, Values};
+ghost use Rattle.program_cells.specs.Value.{some_where};
+ghost use Rattle.program_cells.specs.Code.{measure_in, form_value, passes_form, sample_form, code_value, IsCodeOf};
+
+use crate::counting::count;
+use crate::items::list_items;
+use crate::measure::{Measure, push_ids};
+use crate::samples::aggregate;
+use dh_base::frac::Frac;
+use dh_base::items::Items;
+use dh_base::memory::Memory;
+use dh_base::plain::Strategy;
+use dh_base::uid::Uid;
+use expr_eval::{PiCode, PiFault, PiItem, PiValue, Postfix, Value, eval};
+use std::alloc::Global;
+use table_rows::EventRow;
+
+fn evaluate(
+    alloc: Global,
+    form: &Postfix,
+    items: &[PiItem],
+    entries: &mut Vec<Option<Frac>>,
+    subject: &[EventRow],
+) -> Result<Value, Memory>
+    ensures { IfOk result (λ value. value ≡ form_value form.now items.now subject.now) }
+{
+    list_items(entries, items, subject)?;
+    eval(alloc, form, entries, Strategy::Never)
+}
+
+fn passes_by(value: Value) -> Option<bool>
+    ensures { result ≡ passes_by value }
+{
+    match value {
+        Value::Truth(truth) => Some(truth),
+        Value::Wide => None,
+        _ => Some(false),
+    }
+}
+
+fn sample_by(value: Value) -> Option<Option<Frac>>
+    ensures { option_map option_to_list result ≡ sample_by value }
+{
+    match value {
+        Value::Number(number) => Some(Some(number)),
+        Value::Wide => None,
+        _ => Some(None),
+    }
+}
+
+/// Whether the subject passes the filter.
+fn passes(
+    alloc: Global,
+    code: &PiCode,
+    entries: &mut Vec<Option<Frac>>,
+    subject: &[EventRow],
+) -> Result<Option<bool>, Memory>
+    ensures { IfOk result (λ passes. passes ≡ passes_form code.now.filter code.now.filter_items subject.now) }
+{
+    match &code.filter {
+        Some(form) => {
+            let value = evaluate(alloc, form, code.filter_items.as_slice(), entries, subject)?;
+            Ok(passes_by(value))
+        }
+        None => Ok(Some(true)),
+    }
+}
+
+/// The sample of a subject, if it passes the filter and has one.
+fn sample(
+    alloc: Global,
+    code: &PiCode,
+    form: &Postfix,
+    entries: &mut Vec<Option<Frac>>,
+    subject: &[EventRow],
+) -> Result<Option<Option<Frac>>, Memory>
+    ensures { IfOk result (λ sample. option_map option_to_list sample
+        ≡ if_passing (passes_form code.now.filter code.now.filter_items subject.now) (sample_by (form_value form.now code.now.value_items subject.now))) }
+{
+    let Some(passes) = passes(alloc, code, entries, subject)? else {
+        return Ok(None);
+    };
+    if !passes {
+        return Ok(Some(None));
+    }
+    let value = evaluate(alloc, form, code.value_items.as_slice(), entries, subject)?;
+    Ok(sample_by(value))
+}
+
+fn put(list: &mut Vec<Frac>, item: Option<Frac>) -> Result<(), Memory>
+    ensures { OnOk result (list.new.items ≡ list.old.items ++ option_to_list item) }
+{
+    if let Some(item) = item {
+        list.push(item)?;
+    }
+    Ok(())
+}
+
+/// The samples, `None` where a number on the way is too wide.
+fn samples(
+    alloc: Global,
+    code: &PiCode,
+    form: &Postfix,
+    subjects: &[&[EventRow]],
+) -> Result<Option<Items<Frac>>, Memory>
+    ensures { IfOk result (λ samples. samples
+        ≡ collected (passes_form code.now.filter code.now.filter_items) (λ subject. sample_by (form_value form.now code.now.value_items subject))
+        (map (λ subject. subject.now) subjects.now)) }
+{
+    let mut entries = Vec::new(alloc);
+    let mut samples = Vec::new(alloc);
+    for subject in subjects {
+        let Some(found) = sample(alloc, code, form, &mut entries, subject)? else {
+            return Ok(None);
+        };
+        put(&mut samples, found)?;
+    }
+    Ok(Some(Items::from(samples)))
+}
+
+/// Adds the identifiers of what is counted of a subject, if it passes the filter. Says whether no number on the way is too wide.
+fn put_ids(
+    alloc: Global,
+    code: &PiCode,
+    measure: Measure,
+    entries: &mut Vec<Option<Frac>>,
+    subject: &[EventRow],
+    ids: &mut Vec<Uid>,
+) -> Result<bool, Memory>
+    ensures { IfOk result (λ fits. option_map (λ found. ids.old.items ++ found)
+        (if_passing (passes_form code.now.filter code.now.filter_items subject.now) (Some (ids_of measure subject.now))) ≡ some_where fits ids.new.items) }
+{
+    match passes(alloc, code, entries, subject)? {
+        None => Ok(false),
+        Some(false) => Ok(true),
+        Some(true) => {
+            push_ids(ids, measure, subject)?;
+            Ok(true)
+        }
+    }
+}
+
+/// The identifiers of what is counted.
+fn ids(
+    alloc: Global,
+    code: &PiCode,
+    measure: Measure,
+    subjects: &[&[EventRow]],
+) -> Result<Option<Items<Uid>>, Memory>
+    ensures { IfOk result (λ ids. ids
+        ≡ collected (passes_form code.now.filter code.now.filter_items) (λ subject. Some (ids_of measure subject))
+        (map (λ subject. subject.now) subjects.now)) }
+{
+    let mut entries = Vec::new(alloc);
+    let mut ids = Vec::new(alloc);
+    for subject in subjects {
+        if !put_ids(alloc, code, measure, &mut entries, subject, &mut ids)? {
+            return Ok(None);
+        }
+    }
+    Ok(Some(Items::from(ids)))
+}
+
+fn aggregate_subjects(
+    alloc: Global,
+    code: &PiCode,
+    form: &Postfix,
+    subjects: &[&[EventRow]],
+) -> Result<Option<Option<Frac>>, Memory>
+    ensures { IfOk result (λ value. value ≡ option_and_then (aggregated code.now.aggregation)
+        (collected (passes_form code.now.filter code.now.filter_items) (λ subject. sample_by (form_value form.now code.now.value_items subject))
+        (map (λ subject. subject.now) subjects.now))) }
+{
+    let Some(samples) = samples(alloc, code, form, subjects)? else {
+        return Ok(None);
+    };
+    Ok(aggregate(code.aggregation, samples.as_slice()))
+}
+
+fn count_subjects(
+    alloc: Global,
+    code: &PiCode,
+    measure: Measure,
+    subjects: &[&[EventRow]],
+) -> Result<Option<Option<Frac>>, Memory>
+    ensures { IfOk result (λ value. value ≡ option_map counted
+        (collected (passes_form code.now.filter code.now.filter_items) (λ subject. Some (ids_of measure subject))
+        (map (λ subject. subject.now) subjects.now))) }
+{
+    let Some(ids) = ids(alloc, code, measure, subjects)? else {
+        return Ok(None);
+    };
+    let number = count(alloc, ids.as_slice())?;
+    Ok(Some(number))
+}
+
+#[tactic(auto, unfolding(crate::specs::Code::code_value))]
+fn evaluate_code(
+    alloc: Global,
+    code: &PiCode,
+    subjects: &[&[EventRow]],
+) -> Result<Option<Option<Frac>>, Memory>
+    ensures { IfOk result (λ value. value ≡ code_value code.now (map (λ subject. subject.now) subjects.now)) }
+{
+    match &code.value {
+        PiValue::Formula(form) => aggregate_subjects(alloc, code, form, subjects),
+        PiValue::Events => count_subjects(alloc, code, Measure::Events, subjects),
+        PiValue::Enrollments => count_subjects(alloc, code, Measure::Enrollments, subjects),
+        PiValue::Entities => count_subjects(alloc, code, Measure::Entities, subjects),
+    }
+}
+
+fn told(value: Option<Option<Frac>>) -> Result<Option<Frac>, PiFault>
+    ensures { Values result (told value) }
+{
+    match value {
+        Some(value) => Ok(value),
+        None => Err(PiFault::Wide),
+    }
+}
+
+/// The value of a program indicator over the subjects of a cell, in their order. There is none where no subject gives a sample.
+pub(crate) fn value_over(
+    alloc: Global,
+    code: &PiCode,
+    subjects: &[&[EventRow]],
+) -> Result<Option<Frac>, PiFault>
+    ensures { (r : Records) (indicator : ProgramIndicator) → IsCodeOf r indicator code.now
+        → Values result (program_value r indicator (map (λ subject. subject.now) subjects.now)) }
+{
+    let value = evaluate_code(alloc, code, subjects)?;
+    told(value)
+}

@@ -1,0 +1,18 @@
+//! Program indicators: `program_plan` makes one ready once, `subjects_during` finds its subjects in some periods (each event
+//! alone, or the events of each enrollment), and `value` is its value over those of some units. How it is printed stands above.
+#![tactic(auto)]
+
+mod coding;
+mod counting;
+mod days;
+mod enrolled;
+mod evaluation;
+mod grouping;
+mod items;
+mod measure;
+mod plan;
+mod samples;
+mod seen;
+mod under;
+
+pub use plan::{ProgramPlan, Subjects, program_plan, subjects_during, value};

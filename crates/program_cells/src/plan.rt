@@ -1,0 +1,145 @@
+//! What is made of a program indicator once, its subjects in some periods, and its value over those of some units.
+ghost use Rattle.std.specs.Prelude.{◌≡◌, ◌<◌, false, length, map, IfOk, List, ℕ};
+ghost use Rattle.cell_values.specs.Held.{IsSeer, AreCellUnits};
+ghost use Rattle.cell_values.specs.Seen.{seen_events};
+ghost use Rattle.dh_periods.specs.declared.name.PeriodName.{PeriodName};
+ghost use Rattle.meta_parts.specs.declared.held.Records.{Records};
+ghost use Rattle.meta_parts.specs.declared.names.AnalyticsType.TheVariants as analytics;
+ghost use Rattle.program_cells.specs.Cells.{cell_value};
+ghost use Rattle.program_cells.specs.Enrollments.{enrollments};
+ghost use Rattle.program_cells.specs.Kept.{IsPlanOf, IsProgramPlan, AreSubjects, subjects_in};
+ghost use Rattle.program_cells.specs.Value.{Values};
+ghost use Rattle.table_rows.specs.declared.event.EventRow.{EventRow};
+
+use crate::coding::code_of;
+use crate::enrolled::{enrolled_during, enrollments};
+use crate::evaluation::value_over;
+use crate::seen::events_during;
+use crate::under::{enrollments_in, events_in};
+use cell_values::{CellPeriods, CellUnits, Source};
+use dh_base::frac::Frac;
+use dh_base::items::Items;
+use dh_base::memory::Memory;
+use expr_eval::{PiCode, PiFault};
+use meta_parts::names::AnalyticsType;
+use meta_parts::records::ProgramIndicator;
+use std::alloc::Global;
+use table_rows::{EventRow, RowStore};
+
+/// What is made of a program indicator once a query.
+#[derive(Drop)]
+pub struct ProgramPlan {
+    pub code: PiCode,
+    /// Whether its subjects are events or enrollments.
+    pub over: AnalyticsType,
+    /// The enrollments of its program by the events that the user sees, if these are its subjects.
+    pub enrollments: Items<Items<EventRow>>,
+}
+
+/// The subjects of a program indicator in some periods, for the cells of all units.
+#[derive(Drop)]
+pub enum Subjects<'a> {
+    /// Each event alone, by day and identifier.
+    Events(Items<EventRow>),
+    /// The events of each enrollment, by the day on which it began and its identifier.
+    Enrollments(Vec<&'a [EventRow]>),
+}
+
+fn enrollments_for<S: RowStore>(
+    alloc: Global,
+    source: &Source<'_, S>,
+    program: u32,
+    over: AnalyticsType,
+) -> Result<Items<Items<EventRow>>, Memory>
+    requires { IsSeer source.now.meta.now source.now.seer.now }
+    ensures { over ≡ analytics.Enrollment → IfOk result (λ found. found
+        ≡ enrollments program (seen_events source.now.meta.now source.now.seer.now.user (S.events source.now.store.now))) }
+{
+    match over {
+        AnalyticsType::Event => Ok(Items::new(alloc)),
+        AnalyticsType::Enrollment => enrollments(alloc, source, program),
+    }
+}
+
+fn plan_of<S: RowStore>(
+    alloc: Global,
+    source: &Source<'_, S>,
+    indicator: &ProgramIndicator,
+) -> Result<ProgramPlan, Memory>
+    requires { IsSeer source.now.meta.now source.now.seer.now }
+    ensures { IfOk result (IsPlanOf source.now.meta.now source.now.seer.now.user (S.events source.now.store.now) indicator.now) }
+{
+    let over = indicator.analytics_type;
+    let enrollments = enrollments_for(alloc, source, indicator.program, over)?;
+    let code = code_of(alloc, source.meta, indicator)?;
+    Ok(ProgramPlan {
+        code,
+        over,
+        enrollments,
+    })
+}
+
+/// The plan of the program indicator with that number.
+pub fn program_plan<S: RowStore>(
+    alloc: Global,
+    source: &Source<'_, S>,
+    number: u32,
+) -> Result<ProgramPlan, Memory>
+    requires seer { IsSeer source.now.meta.now source.now.seer.now }
+    requires there { number < length source.now.meta.now.program_indicators }
+    ensures { IfOk result (IsProgramPlan source.now.meta.now source.now.seer.now.user (S.events source.now.store.now) number) }
+{
+    plan_of(alloc, source, source.meta.program_indicator(number))
+}
+
+/// The subjects of a plan in some periods that the user sees.
+pub fn subjects_during<'a, S: RowStore>(
+    alloc: Global,
+    source: &Source<'_, S>,
+    plan: &'a ProgramPlan,
+    periods: &CellPeriods,
+) -> Result<Subjects<'a>, Memory>
+    requires { IsSeer source.now.meta.now source.now.seer.now }
+    ensures { IfOk result (AreSubjects source.now.meta.now source.now.seer.now.user (S.events source.now.store.now) periods.now plan.now) }
+{
+    match plan.over {
+        AnalyticsType::Event => {
+            let events = events_during(alloc, source, plan.code.program, periods)?;
+            Ok(Subjects::Events(events))
+        }
+        AnalyticsType::Enrollment => {
+            let kept = enrolled_during(alloc, periods.periods(), plan.enrollments.as_slice())?;
+            Ok(Subjects::Enrollments(kept))
+        }
+    }
+}
+
+fn subjects_under<'a>(
+    alloc: Global,
+    subjects: &'a Subjects<'_>,
+    units: &CellUnits,
+) -> Result<Vec<&'a [EventRow]>, Memory>
+    ensures { IfOk result (λ kept. map (λ subject. subject.now) kept.items ≡ subjects_in units.now.asked subjects.now) }
+{
+    match subjects {
+        Subjects::Events(events) => events_in(alloc, &units.asked, events.as_slice()),
+        Subjects::Enrollments(kept) => enrollments_in(alloc, &units.asked, kept.as_slice()),
+    }
+}
+
+/// The value of a plan in a cell of these units, by its subjects in the periods of the cell. There is none where no subject gives a
+/// sample.
+pub fn value(
+    alloc: Global,
+    plan: &ProgramPlan,
+    subjects: &Subjects<'_>,
+    units: &CellUnits,
+) -> Result<Option<Frac>, PiFault>
+    ensures { (r : Records) (user n : ℕ) (periods : List PeriodName) (all : List EventRow)
+        → IsProgramPlan r user all n plan.now → AreSubjects r user all periods plan.now subjects.now
+        → AreCellUnits r user units.now → units.now.alone ≡ false
+        → Values result (cell_value r n periods units.now.units (seen_events r user all)) }
+{
+    let own = subjects_under(alloc, subjects, units)?;
+    value_over(alloc, &plan.code, own.as_slice())
+}

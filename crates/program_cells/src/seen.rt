@@ -1,0 +1,64 @@
+//! The events that a user sees.
+ghost use Rattle.std.specs.Prelude.{◌≡◌, IfOk};
+ghost use Rattle.cell_values.specs.Held.{IsSeer};
+ghost use Rattle.program_cells.specs.Kept.{is_seen_during, seen_during, AreDuring};
+
+use crate::days::{days_of, is_on_some};
+use cell_values::{CellPeriods, Seer, Source};
+use dh_base::items::Items;
+use dh_base::memory::Memory;
+use dh_metadata::metadata::Metadata;
+use dh_periods::Period;
+use std::alloc::Global;
+use table_rows::{EventRow, RowStore};
+
+#[tactic(auto, unfolding(crate::specs::Kept::is_seen_during))]
+fn is_seen_during(
+    meta: &Metadata,
+    seer: &Seer,
+    program: u32,
+    periods: &[Period],
+    event: &EventRow,
+) -> bool
+    requires { IsSeer meta.now seer.now }
+    ensures { result ≡ is_seen_during meta.now seer.now.user program periods.now event.now }
+{
+    event.program == program && is_on_some(periods, &event.day) && seer.sees_event(meta, event)
+}
+
+/// Those of the events that are of the program, on days of the periods, and seen.
+fn kept(
+    alloc: Global,
+    meta: &Metadata,
+    seer: &Seer,
+    program: u32,
+    periods: &[Period],
+    events: Items<EventRow>,
+) -> Result<Items<EventRow>, Memory>
+    requires { IsSeer meta.now seer.now }
+    ensures { IfOk result (λ kept. kept ≡ seen_during meta.now seer.now.user program periods.now events) }
+{
+    let mut kept = Vec::new(alloc);
+    for event in events.items {
+        if is_seen_during(meta, seer, program, periods, &event) {
+            kept.push(event)?;
+        }
+    }
+    Ok(Items::from(kept))
+}
+
+/// The events of the program on days of the periods that the user sees, by day and identifier: they serve for the cells of all units.
+pub(crate) fn events_during<S: RowStore>(
+    alloc: Global,
+    source: &Source<'_, S>,
+    program: u32,
+    periods: &CellPeriods,
+) -> Result<Items<EventRow>, Memory>
+    requires { IsSeer source.now.meta.now source.now.seer.now }
+    ensures { IfOk result (λ found. AreDuring source.now.meta.now source.now.seer.now.user program periods.now (S.events source.now.store.now) found) }
+{
+    let asked = periods.periods();
+    let days = days_of(asked);
+    let all = source.store.events_of(alloc, program, days.from, days.to)?;
+    kept(alloc, source.meta, source.seer, program, asked, all)
+}

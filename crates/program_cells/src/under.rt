@@ -1,0 +1,57 @@
+//! The subjects of some units.
+ghost use Rattle.std.specs.Prelude.{◌≡◌, map, IfOk};
+ghost use Rattle.std.specs.List.{filter};
+ghost use Rattle.dh_sharing.specs.Ranges.{is_within};
+ghost use Rattle.program_cells.specs.Cells.{alone};
+ghost use Rattle.program_cells.specs.Enrollments.{first_is};
+ghost use Rattle.program_cells.specs.Kept.{is_placed_in};
+
+use dh_base::memory::Memory;
+use dh_sharing::ranges::ViewRanges;
+use std::alloc::Global;
+use std::slice::from_ref;
+use table_rows::EventRow;
+
+/// The events whose units lie in the ranges, each alone.
+pub(crate) fn events_in<'a>(
+    alloc: Global,
+    ranges: &ViewRanges,
+    events: &'a [EventRow],
+) -> Result<Vec<&'a [EventRow]>, Memory>
+    ensures { IfOk result (λ kept. map (λ subject. subject.now) kept.items ≡ map alone (filter (is_placed_in ranges.now) events.now)) }
+{
+    let mut kept = Vec::new(alloc);
+    for event in events {
+        if ranges.holds(event.order) {
+            kept.push(from_ref(event))?;
+        }
+    }
+    Ok(kept)
+}
+
+fn lies_in(ranges: &ViewRanges, subject: &[EventRow]) -> bool
+    ensures { result ≡ first_is (is_placed_in ranges.now) subject.now }
+{
+    match subject.first() {
+        Some(event) => ranges.holds(event.order),
+        None => false,
+    }
+}
+
+/// The enrollments whose units lie in the ranges.
+pub(crate) fn enrollments_in<'a>(
+    alloc: Global,
+    ranges: &ViewRanges,
+    enrollments: &[&'a [EventRow]],
+) -> Result<Vec<&'a [EventRow]>, Memory>
+    ensures { IfOk result (λ kept. map (λ subject. subject.now) kept.items
+        ≡ filter (first_is (is_placed_in ranges.now)) (map (λ subject. subject.now) enrollments.now)) }
+{
+    let mut kept = Vec::new(alloc);
+    for enrollment in enrollments {
+        if lies_in(ranges, enrollment) {
+            kept.push(*enrollment)?;
+        }
+    }
+    Ok(kept)
+}

@@ -1,0 +1,5 @@
+//! Tests of a server over links in memory.
+#![tactic(auto)]
+
+#[cfg(test)]
+mod links;

@@ -1,0 +1,35 @@
+//! The answers to one link.
+ghost use Rattle.shared_server.specs.Links.{Answered};
+
+use crate::setup::Setup;
+use build_workers::Gate;
+use dh_outside::{Clock, Keeper};
+use net_doors::End;
+use shared_engine::{Naming, Shared};
+use shared_replies::{System, serve_connection};
+use std::sync::Wait;
+use std::thread::Threads;
+
+/// Answers the requests of a link, for a new caller of the shared engine.
+pub(crate) fn answer_link<
+    J: Naming,
+    K: Keeper + Send,
+    R: Threads + Wait + Sync,
+    C: Clock,
+    G: Gate + Sync,
+    N: End,
+>(setup: &Setup<'_, R, C, G>, shared: &Shared<J, K>, link: N) -> N
+    ensures { Answered (C.shows setup.now.clock.now) N.left N.written N.source_talk N.source_faults J.made link result }
+{
+    let mut link = link;
+    let mut pass = shared.pass(setup.rt);
+    let system = System {
+        shared,
+        rt: setup.rt,
+        alloc: setup.alloc,
+        workers: setup.workers,
+        gate: setup.gate,
+    };
+    serve_connection(system, &mut pass, setup.clock, &mut link);
+    link
+}

@@ -1,0 +1,120 @@
+-- What a log leaves of one year, of the keys of that year alone.
+use Rattle.std.proofs.Common.{◌≡◌, ◌∙◌, ◌≤◌, ℕ, true, List, [], Some, length, sym, ap, ℤ}
+use Rattle.std.specs.Prelude.{option_map}
+use Rattle.std.specs.List.{filter, filter_map, list_all}
+use Rattle.std.specs.Ordering.{int_eq}
+use Rattle.dh_periods.proofs.TextLemmas.{and_then-some, map-some}
+use Rattle.dh_changes.specs.declared.change.Write.{Write}
+use Rattle.dh_changes.specs.declared.keys.ValueKey.{ValueKey}
+use Rattle.dh_changes.specs.declared.keys.RegKey.{RegKey}
+use Rattle.meta_parts.specs.declared.held.Records.{Records}
+use Rattle.record_index.specs.Facts.{Facts, facts_in}
+use Rattle.table_rows.specs.declared.row.Row.{Row}
+use Rattle.table_rows.specs.declared.row.RowKey.{RowKey}
+use Rattle.table_rows.specs.declared.event.EventRow.{EventRow}
+use Rattle.table_rows.specs.declared.event.RegRow.{RegRow}
+use Rattle.table_rows.specs.Rows.{key_of}
+use Rattle.table_rows.specs.Order.{key_cmp}
+use Rattle.table_rows.specs.Store.{Contents, contents_in, is_store, have_own_places}
+use Rattle.table_rows.proofs.OrderLemmas.{key_total}
+use Rattle.year_tables.specs.Years.{period_year, day_year, is_row_in, is_event_in, is_reg_in, is_year_if_any}
+use Rattle.year_tables.specs.Parts.{in_year, listed_as}
+use Rattle.year_tables.proofs.CutLemmas.{no-years, year-store}
+use Rattle.table_build.specs.declared.events.EventPlace.{EventPlace}
+use Rattle.table_build.specs.declared.regs.RegPlace.{RegPlace}
+use Rattle.table_build.specs.InYear.{is_value_key_in, is_reg_key_in, is_place_in}
+use Rattle.table_build.specs.Listed.{listed_in}
+use Rattle.table_build.specs.Reading.{IsReadOf}
+use Rattle.table_build.specs.Log.{values_named, regs_named, events_named, is_of_days}
+use Rattle.table_build.specs.Ordered.{in_order}
+use Rattle.table_build.specs.Values as values
+use Rattle.table_build.specs.Regs as registrations
+use Rattle.table_build.specs.Events as tracker
+use Rattle.table_build.proofs.FilterLemmas.{filter_map-filter, in_order-filter}
+use Rattle.table_build.proofs.OrderLemmas.{same-key, reg_total, same-reg}
+use Rattle.table_build.proofs.StoreLemmas.{listed-store, own-place}
+
+module _ (r : Records) (facts : Facts) (year : ℤ) where
+  row-year : (key : ValueKey) (row : Row) → values.row_of r facts key ≡ Some row → is_row_in year row ≡ is_value_key_in year key
+  unfolding values.row_of values.row_with
+  row-year key row e =
+      let held = and_then-some (λ text. option_map (values.row_with r facts key text) (values.objects_of r key)) (facts.value key) row e in
+      let objects = map-some (values.row_with r facts key held.0) (values.objects_of r key) row held.2 in
+      ap (is_row_in year) (sym objects.2)
+
+  pub rows-of-year : (all keys : List ValueKey) (rows : List Row) → keys ≡ filter (is_value_key_in year) all → rows ≡ values.rows_of r facts keys
+      → rows ≡ filter (is_row_in year) (values.rows_of r facts all)
+  unfolding values.rows_of
+  rows-of-year all keys rows known is =
+      is ∙ ap (values.rows_of r facts) known
+      ∙ ap (in_order key_cmp key_of) (filter_map-filter (values.row_of r facts) (is_value_key_in year) (is_row_in year) all row-year)
+      ∙ in_order-filter key_cmp key_total same-key (λ (key : RowKey). int_eq (period_year key.group.period) year) key_of
+      (filter_map (values.row_of r facts) all)
+
+  reg-year : (key : RegKey) (reg : RegRow) → registrations.reg_of r facts key ≡ Some reg → is_reg_in year reg ≡ is_reg_key_in year key
+  unfolding registrations.reg_of registrations.reg_with
+  reg-year key reg e =
+      let held = and_then-some (λ day. option_map (registrations.reg_with r facts key day) (registrations.objects_of r key)) (facts.registration key) reg e in
+      let objects = map-some (registrations.reg_with r facts key held.0) (registrations.objects_of r key) reg held.2 in
+      ap (is_reg_in year) (sym objects.2)
+
+  pub regs-of-year : (all keys : List RegKey) (regs : List RegRow) → keys ≡ filter (is_reg_key_in year) all → regs ≡ registrations.regs_of r facts keys
+      → regs ≡ filter (is_reg_in year) (registrations.regs_of r facts all)
+  unfolding registrations.regs_of
+  regs-of-year all keys regs known is =
+      is ∙ ap (registrations.regs_of r facts) known
+      ∙ ap (in_order registrations.place_cmp registrations.place_of)
+      (filter_map-filter (registrations.reg_of r facts) (is_reg_key_in year) (is_reg_in year) all reg-year)
+      ∙ in_order-filter registrations.place_cmp reg_total same-reg (λ (place : RegPlace). int_eq (period_year place.period) year) registrations.place_of
+      (filter_map (registrations.reg_of r facts) all)
+
+  pub events-of-year : (all places : List EventPlace) (events : List EventRow) → places ≡ filter (is_place_in year) all
+      → events ≡ filter_map (tracker.event_at r facts) places → events ≡ filter (is_event_in year) (filter_map (tracker.event_at r facts) all)
+  events-of-year all places events known is =
+      is ∙ ap (filter_map (tracker.event_at r facts)) known
+      ∙ filter_map-filter (tracker.event_at r facts) (is_place_in year) (is_event_in year) all
+      (λ place row e. ap (λ (p : EventPlace). is_year_if_any (day_year p.day) year) (own-place r facts place row e))
+
+-- ---- the lists of a year
+
+lists-of-year : (r : Records) (writes : List Write) (facts : Facts) (year : ℤ) (rows : List Row) (events : List EventRow) (regs : List RegRow)
+    → facts ≡ facts_in writes
+    → rows ≡ filter (is_row_in year) (values.rows_of r facts (values_named writes))
+    → events ≡ filter (is_event_in year) (tracker.events_of r facts (events_named writes))
+    → regs ≡ filter (is_reg_in year) (registrations.regs_of r facts (regs_named writes))
+    → listed_as rows events regs ≡ in_year year (contents_in (listed_in r writes))
+unfolding listed_in
+lists-of-year r writes facts year rows events regs held row event reg =
+    let rows_are = row ∙ ap (λ f. filter (is_row_in year) (values.rows_of r f (values_named writes))) held in
+    let events_are = event ∙ ap (λ f. filter (is_event_in year) (tracker.events_of r f (events_named writes))) held in
+    let regs_are = reg ∙ ap (λ f. filter (is_reg_in year) (registrations.regs_of r f (regs_named writes))) held in
+    λ i. record { rows = rows_are i; events = events_are i; regs = regs_are i }
+
+events-at : (r : Records) (facts : Facts) (year : ℤ) (ids : List (List ℕ)) (places : List EventPlace) (events : List EventRow)
+    → places ≡ tracker.places_of facts ids → events ≡ filter (is_event_in year) (filter_map (tracker.event_at r facts) places)
+    → events ≡ filter (is_event_in year) (tracker.events_of r facts ids)
+unfolding tracker.events_of
+events-at r facts year ids places events known is =
+    is ∙ ap (λ ps. filter (is_event_in year) (filter_map (tracker.event_at r facts) ps)) known
+
+-- the same, of what is read of the writes once
+pub lists-of-reading : (r : Records) (writes : List Write) (facts : Facts) (keys : List ValueKey) (sets : List RegKey) (places : List EventPlace) (year : ℤ)
+    (rows : List Row) (events : List EventRow) (regs : List RegRow) → IsReadOf writes facts keys sets places
+    → rows ≡ filter (is_row_in year) (values.rows_of r facts keys)
+    → events ≡ filter (is_event_in year) (filter_map (tracker.event_at r facts) places)
+    → regs ≡ filter (is_reg_in year) (registrations.regs_of r facts sets)
+    → listed_as rows events regs ≡ in_year year (contents_in (listed_in r writes))
+lists-of-reading r writes facts keys sets places year rows events regs read row event reg =
+    lists-of-year r writes facts year rows events regs read.holds
+    (row ∙ ap (λ ks. filter (is_row_in year) (values.rows_of r facts ks)) read.value_keys)
+    (events-at r facts year (events_named writes) places events read.event_places event)
+    (reg ∙ ap (λ ks. filter (is_reg_in year) (registrations.regs_of r facts ks)) read.reg_keys)
+
+-- are those of a store
+pub store-of-year : (r : Records) (writes : List Write) (year : ℤ) (rows : List Row) (events : List EventRow) (regs : List RegRow)
+    → length writes ≤ 4194304 → list_all is_of_days writes ≡ true → have_own_places (listed_in r writes).rows ≡ true
+    → listed_as rows events regs ≡ in_year year (contents_in (listed_in r writes)) → is_store rows events regs [] ≡ true
+store-of-year r writes year rows events regs few days own is =
+    let all = listed_in r writes in
+    ap (λ (c : Contents). is_store c.rows c.events c.regs []) is
+    ∙ year-store all.rows all.events all.regs year (no-years all.rows all.events all.regs all.years (listed-store r writes few days own))

@@ -1,0 +1,106 @@
+//! A list of changes that is read once for the parts of all its years.
+ghost use Rattle.std.specs.Prelude.{◌≡◌, ◌≤◌, length, map, IsTrue, IfOk};
+ghost use Rattle.std.specs.List.{list_all};
+ghost use Rattle.std.specs.Arc.{arc_value};
+ghost use Rattle.record_index.specs.World.{facts};
+ghost use Rattle.table_build.specs.Events as tracker;
+ghost use Rattle.table_build.specs.Log as log;
+ghost use Rattle.table_build.specs.Log.{writes_of, is_of_days};
+ghost use Rattle.table_build.specs.Listed.{listed_in};
+ghost use Rattle.table_rows.specs.Store.{contents_in};
+ghost use Rattle.year_tables.specs.Parts.{part_of};
+ghost use Rattle.dh_base.specs.declared.limits.TheConstants.{MOST_RECORDS};
+
+use crate::events::{EventPlace, places_of};
+use crate::in_year::{events_in, regs_in, rows_in};
+use crate::named::{events_named, regs_named, values_named};
+use crate::world::world_of;
+use dh_base::memory::Memory;
+use dh_changes::change::Change;
+use dh_changes::keys::{RegKey, ValueKey};
+use dh_metadata::metadata::Metadata;
+use dh_records::access::tree_of;
+use record_index::world::World;
+use std::alloc::Global;
+use std::marker::Model;
+use std::sync::Arc;
+use year_tables::{Partition, part_from};
+
+/// A list of changes, with the world after them, the keys of values and registrations that they name, and the places of the
+/// events. It is made once, and several builders may share it. Contracts see the changes.
+#[derive(Drop)]
+pub struct Reading<'a> {
+    changes: &'a [Arc<Change>],
+    world: World,
+    values: Vec<ValueKey>,
+    regs: Vec<RegKey>,
+    places: Vec<EventPlace>,
+}
+
+impl<'a> Model for Reading<'a> {
+    ghost use Rattle.std.specs.Arc.{arc_value};
+    ghost use Rattle.std.specs.Prelude.{List, map};
+    ghost use Rattle.dh_changes.specs.declared.change.Change.{Change};
+    ghost use Rattle.record_index.specs.World.{facts};
+    ghost use Rattle.table_build.specs.Log.{writes_of};
+    ghost use Rattle.table_build.specs.Reading.{IsReadOf};
+
+    ghost Value = { List Change };
+
+    ghost view = { λ reading. map arc_value reading.changes.now };
+
+    ghost invariant = { λ reading. IsReadOf (writes_of (map arc_value reading.changes.now)) (facts reading.world) reading.values.items
+        reading.regs.items reading.places.items };
+}
+
+// The places of the events that the changes name, of what the world holds after them.
+fn places_named(
+    alloc: Global,
+    world: &World,
+    changes: &[Arc<Change>],
+) -> Result<Vec<EventPlace>, Memory>
+    ensures { IfOk result (λ places. places.items ≡ tracker.places_of (facts world.now) (log.events_named (writes_of (map arc_value changes.now)))) }
+{
+    let ids = events_named(alloc, changes)?;
+    places_of(alloc, world, &ids)
+}
+
+impl<'a> Reading<'a> {
+    /// Reads the changes. A part of each of their years can be made of this without reading them again.
+    pub fn of(alloc: Global, changes: &'a [Arc<Change>]) -> Result<Reading<'a>, Memory>
+        ensures { IfOk result (λ reading. reading ≡ map arc_value changes.now) }
+    {
+        let values = values_named(alloc, changes)?;
+        let regs = regs_named(alloc, changes)?;
+        let world = world_of(alloc, changes)?;
+        let places = places_named(alloc, &world, changes)?;
+        Ok(Reading {
+            changes,
+            world,
+            values,
+            regs,
+            places,
+        })
+    }
+
+    /// The part of one year: its rows, registrations and events, of those that the changes leave. It is made of the keys of that
+    /// year alone.
+    pub fn part_of_year(
+        &self,
+        alloc: Global,
+        meta: &Metadata,
+        year: &i32,
+    ) -> Result<Partition, Memory>
+        requires few { length (writes_of self.now) ≤ MOST_RECORDS }
+        requires days { IsTrue (list_all is_of_days (writes_of self.now)) }
+        ensures { IfOk result (λ part. part ≡ part_of (contents_in (listed_in meta.now (writes_of self.now))) year.now) }
+    {
+        // since the units are a tree, of a group no two rows have one place
+        let _units = tree_of(&self.world, meta).count();
+        let rows = rows_in(alloc, meta, &self.world, &self.values, year)?;
+        let events = events_in(alloc, meta, &self.world, &self.places, year)?;
+        let regs = regs_in(alloc, meta, &self.world, &self.regs, year)?;
+        let part = part_from(alloc, *year, rows, events, regs)?;
+        Ok(part)
+    }
+}

@@ -1,0 +1,4 @@
+pub mod Keys
+pub mod Latest
+pub mod Merged
+pub mod Later

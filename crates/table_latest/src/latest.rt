@@ -1,0 +1,140 @@
+//! The latest part.
+ghost use Rattle.std.specs.Prelude.{◌≡◌, IfOk};
+ghost use Rattle.std.specs.List.Sorted.{IsStrictlySortedBy};
+ghost use Rattle.table_rows.specs.Store.{contents_in};
+ghost use Rattle.table_latest.specs.Keys.{place_cmp};
+ghost use Rattle.table_latest.specs.Latest as known;
+ghost use Rattle.table_latest.specs.Later.{ChangesNothing, no_contents};
+
+use crate::places::{RegPlace, RowPlace, place_of, reg_place_of};
+use crate::search::is_among;
+use dh_base::memory::Memory;
+use dh_base::uid::Uid;
+use std::alloc::Global;
+use std::marker::Model;
+use table_rows::{EventRow, RegRow, Row};
+use table_sums::{SummedRows, with_sums};
+
+/// The keys that were touched, each list in its order.
+#[derive(Drop)]
+pub struct TouchedKeys {
+    pub rows: Vec<RowPlace>,
+    /// Events by their identifiers.
+    pub events: Vec<Uid>,
+    pub regs: Vec<RegPlace>,
+}
+
+/// The keys that changes touched, and what each of them holds after the changes, or nothing where it is gone.
+#[derive(Drop)]
+pub struct Latest {
+    keys: TouchedKeys,
+    store: SummedRows,
+    from: u64,
+    to: u64,
+}
+
+impl Model for Latest {
+    ghost use Rattle.table_rows.specs.Store.{contents_in};
+    ghost use Rattle.table_latest.specs.Latest.{LatestPart, AreInOrder, touched_in};
+
+    ghost Value = { LatestPart };
+
+    ghost view = { λ latest. record { touched = touched_in latest.keys; holds = contents_in latest.store; from = latest.from; to = latest.to } };
+
+    ghost invariant = { λ latest. AreInOrder (touched_in latest.keys) };
+}
+
+#[tactic(auto, unfolding(table_rows::specs::Store::is_store))]
+fn empty_store(alloc: Global) -> Result<SummedRows, Memory>
+    ensures { IfOk result (λ store. contents_in store ≡ no_contents) }
+{
+    let rows: Vec<Row> = Vec::new(alloc);
+    with_sums(
+        alloc,
+        &rows,
+        Vec::new(alloc),
+        Vec::new(alloc),
+        Vec::new(alloc),
+    )
+}
+
+impl Latest {
+    /// The latest part of these keys and of the store of what they hold, of the changes after the first `from` up to the
+    /// first `to`.
+    pub fn of(keys: TouchedKeys, store: SummedRows, from: u64, to: u64) -> Latest
+        requires { known.AreInOrder (known.touched_in keys) }
+        ensures touched { result.touched ≡ known.touched_in keys }
+        ensures holds { result.holds ≡ contents_in store }
+        ensures from { result.from ≡ from }
+        ensures to { result.to ≡ to }
+    {
+        Latest {
+            keys,
+            store,
+            from,
+            to,
+        }
+    }
+
+    /// The latest part of no changes: it touches nothing.
+    pub fn none(alloc: Global, at: u64) -> Result<Latest, Memory>
+        ensures nothing { IfOk result (λ latest. ChangesNothing latest) }
+        ensures from { IfOk result (λ latest. latest.from ≡ at) }
+        ensures to { IfOk result (λ latest. latest.to ≡ at) }
+    {
+        let store = empty_store(alloc)?;
+        let keys = TouchedKeys {
+            rows: Vec::new(alloc),
+            events: Vec::new(alloc),
+            regs: Vec::new(alloc),
+        };
+        Ok(Latest::of(keys, store, at, at))
+    }
+
+    /// After how many changes of the log its own begin.
+    pub fn from(&self) -> u64
+        ensures { result ≡ self.now.from }
+    {
+        self.from
+    }
+
+    /// For how many changes of the log the tables stand with it.
+    pub fn to(&self) -> u64
+        ensures { result ≡ self.now.to }
+    {
+        self.to
+    }
+
+    /// The keys of rows, in their order.
+    pub fn places(&self) -> &[RowPlace]
+        ensures places { result.now ≡ self.now.touched.rows }
+        ensures rise { IsStrictlySortedBy place_cmp result.now }
+    {
+        &self.keys.rows
+    }
+
+    /// What the touched keys hold.
+    pub(crate) fn store(&self) -> &SummedRows
+        ensures { contents_in result.now ≡ self.now.holds }
+    {
+        &self.store
+    }
+
+    pub(crate) fn touches_row(&self, row: &Row) -> bool
+        ensures { result ≡ known.is_row_touched self.now.touched row.now }
+    {
+        is_among(self.keys.rows.as_slice(), &place_of(row))
+    }
+
+    pub(crate) fn touches_event(&self, event: &EventRow) -> bool
+        ensures { result ≡ known.is_event_touched self.now.touched event.now }
+    {
+        is_among(self.keys.events.as_slice(), &event.id)
+    }
+
+    pub(crate) fn touches_reg(&self, reg: &RegRow) -> bool
+        ensures { result ≡ known.is_reg_touched self.now.touched reg.now }
+    {
+        is_among(self.keys.regs.as_slice(), &reg_place_of(reg))
+    }
+}

@@ -1,0 +1,68 @@
+//! A list without what is touched, and two lists in one order made one. No member is copied.
+ghost use Rattle.std.specs.Prelude.{◌≡◌, ◌++◌, OnOk, IfOk};
+ghost use Rattle.std.specs.Cmp.{IsTotalOrder};
+ghost use Rattle.std.specs.List.Sorted.{IsStrictlySortedBy};
+ghost use Rattle.year_tables.specs.Ascending.{ascending};
+ghost use Rattle.table_latest.specs.Latest.{untouched};
+ghost use Rattle.table_latest.specs.Merged.{TakesAbove};
+
+use crate::held::{Keyed, Ranked};
+use crate::latest::Latest;
+use dh_base::memory::Memory;
+use std::alloc::Global;
+
+/// The members that the latest part doesn't touch.
+pub(crate) fn untouched<T: Drop + Keyed>(
+    alloc: Global,
+    all: Vec<T>,
+    latest: &Latest,
+) -> Result<Vec<T>, Memory>
+    ensures { IfOk result (λ kept. kept.items ≡ untouched (T.touched latest.now.touched) all.items) }
+{
+    let mut kept = Vec::new(alloc);
+    for item in all {
+        if !item.is_touched(latest) {
+            kept.push(item)?;
+        }
+    }
+    Ok(kept)
+}
+
+// Moves what stands after x from the end of the first list to the end of the other.
+fn take_above<T: Drop + Ranked>(first: &mut Vec<T>, x: &T, back: &mut Vec<T>) -> Result<(), Memory>
+    requires total { IsTotalOrder T.rank }
+    requires first { IsStrictlySortedBy T.rank first.old.items }
+    ensures { OnOk result (TakesAbove T.rank x.now first.old.items first.new.items back.old.items back.new.items) }
+{
+    while let Some(last) = first.pop() {
+        if !x.stands_before(&last) {
+            first.push(last)?;
+            return Ok(());
+        }
+        back.push(last)?;
+    }
+    Ok(())
+}
+
+/// The members of both lists in their order. Of the first only those move that stand after one of the second.
+pub(crate) fn merged<T: Drop + Ranked>(
+    alloc: Global,
+    first: Vec<T>,
+    more: Vec<T>,
+) -> Result<Vec<T>, Memory>
+    requires total { IsTotalOrder T.rank }
+    requires first { IsStrictlySortedBy T.rank first.items }
+    requires more { IsStrictlySortedBy T.rank more.items }
+    ensures { IfOk result (λ list. list.items ≡ ascending T.rank (first.items ++ more.items)) }
+{
+    let mut list = first;
+    let mut more = more;
+    let mut back = Vec::new(alloc);
+    while let Some(last) = more.pop() {
+        take_above(&mut list, &last, &mut back)?;
+        back.push(last)?;
+    }
+    back.reverse();
+    list.append(&mut back)?;
+    Ok(list)
+}

@@ -1,0 +1,197 @@
+//! Tables under a latest part, as one store.
+ghost use Rattle.std.specs.Prelude.{◌≡◌, IfOk};
+ghost use Rattle.table_rows.specs.Events.{events_of, regs_of};
+ghost use Rattle.table_rows.specs.Rows.{wanted_rows};
+ghost use Rattle.table_rows.specs.Store.{Contents, contents_in};
+ghost use Rattle.table_rows.specs.Sums.{sum_of_rows, IsSized};
+ghost use Rattle.table_latest.specs.Latest.{IsOverlay, events_over, listed_from, overlaid, regs_over, rows_over};
+ghost use Rattle.table_latest.specs.Later.{Bridges};
+
+use crate::groups::groups_over;
+use crate::kept::kept_sum;
+use crate::latest::Latest;
+use crate::merged::{merged, untouched};
+use dh_base::items::Items;
+use dh_base::memory::Memory;
+use dh_base::plain::Need;
+use std::alloc::Global;
+use std::marker::Model;
+use table_rows::{EventRow, Group, RegRow, Row, RowStore, Sum};
+
+/// A base store with a latest part over it. A touched key has what the latest part holds, or nothing; each other key has
+/// what the base holds.
+pub struct Overlay<'a, S: RowStore> {
+    base: &'a S,
+    latest: &'a Latest,
+}
+
+impl<'a, S: RowStore> Model for Overlay<'a, S> {
+    ghost use Rattle.table_latest.specs.Latest.{IsOverlay, Overlaid, listed_from};
+
+    ghost Value = { Overlaid };
+
+    ghost view = { λ overlay. record {
+      base = listed_from (S.rows overlay.base.now) (S.events overlay.base.now) (S.regs overlay.base.now)
+          (S.built overlay.base.now);
+      latest = overlay.latest.now;
+    } };
+
+    ghost invariant = { λ overlay. IsOverlay (listed_from (S.rows overlay.base.now) (S.events overlay.base.now) (S.regs overlay.base.now)
+        (S.built overlay.base.now)) overlay.latest.now };
+}
+
+fn sum_over<S: RowStore>(
+    base: &S,
+    latest: &Latest,
+    group: &Group,
+    need: Need,
+    from: u32,
+    to: u32,
+) -> Sum
+    requires { IsOverlay (listed_from (S.rows base.now) (S.events base.now) (S.regs base.now) (S.built base.now)) latest.now }
+    ensures sum { result ≡ sum_of_rows (wanted_rows group.now need from to (rows_over (contents_in (listed_from (S.rows base.now) (S.events base.now)
+        (S.regs base.now) (S.built base.now))) latest.now)) }
+    ensures size { IsSized result }
+{
+    if from < to {
+        let kept = kept_sum(base, latest.places(), group, need, from, to);
+        kept.join(&RowStore::range_sum(latest.store(), *group, need, from, to))
+    } else {
+        Sum::none()
+    }
+}
+
+fn rows_in<S: RowStore>(
+    alloc: Global,
+    base: &S,
+    latest: &Latest,
+    group: &Group,
+    need: Need,
+    from: u32,
+    to: u32,
+) -> Result<Items<Row>, Memory>
+    requires { IsOverlay (listed_from (S.rows base.now) (S.events base.now) (S.regs base.now) (S.built base.now)) latest.now }
+    ensures { IfOk result (λ found. found ≡ wanted_rows group.now need from to (rows_over (contents_in (listed_from (S.rows base.now) (S.events base.now)
+        (S.regs base.now) (S.built base.now))) latest.now)) }
+{
+    let Items { items: all } = base.rows_of(alloc, *group, need, from, to)?;
+    let Items { items: now } = RowStore::rows_of(latest.store(), alloc, *group, need, from, to)?;
+    let kept = untouched(alloc, all, latest)?;
+    let rows = merged(alloc, kept, now)?;
+    Ok(Items::from(rows))
+}
+
+/// The events that are asked for, by program and days.
+#[derive(Clone, Copy)]
+struct Asked {
+    program: u32,
+    from_day: i32,
+    to_day: i32,
+}
+
+fn events_in<S: RowStore>(
+    alloc: Global,
+    base: &S,
+    latest: &Latest,
+    asked: &Asked,
+) -> Result<Items<EventRow>, Memory>
+    requires { IsOverlay (listed_from (S.rows base.now) (S.events base.now) (S.regs base.now) (S.built base.now)) latest.now }
+    ensures { IfOk result (λ found. found ≡ events_of asked.now.program asked.now.from_day asked.now.to_day (events_over (contents_in (listed_from
+        (S.rows base.now) (S.events base.now) (S.regs base.now) (S.built base.now))) latest.now)) }
+{
+    let Items { items: all } = base.events_of(alloc, asked.program, asked.from_day, asked.to_day)?;
+    let Items { items: now } = RowStore::events_of(
+        latest.store(),
+        alloc,
+        asked.program,
+        asked.from_day,
+        asked.to_day,
+    )?;
+    let kept = untouched(alloc, all, latest)?;
+    let events = merged(alloc, kept, now)?;
+    Ok(Items::from(events))
+}
+
+fn regs_in<S: RowStore>(
+    alloc: Global,
+    base: &S,
+    latest: &Latest,
+    set: u32,
+) -> Result<Items<RegRow>, Memory>
+    requires { IsOverlay (listed_from (S.rows base.now) (S.events base.now) (S.regs base.now) (S.built base.now)) latest.now }
+    ensures { IfOk result (λ found. found ≡ regs_of set (regs_over (contents_in (listed_from (S.rows base.now) (S.events base.now) (S.regs base.now)
+        (S.built base.now))) latest.now)) }
+{
+    let Items { items: all } = base.regs_of(alloc, set)?;
+    let Items { items: now } = RowStore::regs_of(latest.store(), alloc, set)?;
+    let kept = untouched(alloc, all, latest)?;
+    let regs = merged(alloc, kept, now)?;
+    Ok(Items::from(regs))
+}
+
+impl<'a, S: RowStore> Overlay<'a, S> {
+    /// The base with the latest part over it.
+    pub fn of(base: &'a S, latest: &'a Latest) -> Overlay<'a, S>
+        requires { IsOverlay (listed_from (S.rows base.now) (S.events base.now) (S.regs base.now) (S.built base.now)) latest.now }
+        ensures base { result.base ≡ listed_from (S.rows base.now) (S.events base.now) (S.regs base.now) (S.built base.now) }
+        ensures latest { result.latest ≡ latest.now }
+        ensures later { (later : Contents) → Bridges result.base result.latest later → overlaid (contents_in result.base) result.latest ≡ later }
+    {
+        Overlay { base, latest }
+    }
+}
+
+impl<'a, S: RowStore> RowStore for Overlay<'a, S> {
+    ghost use Rattle.table_rows.specs.Store.{contents_in};
+    ghost use Rattle.table_latest.specs.Latest.{events_over, regs_over, rows_over};
+
+    ghost rows = { λ overlay. rows_over (contents_in overlay.base) overlay.latest };
+
+    ghost events = { λ overlay. events_over (contents_in overlay.base) overlay.latest };
+
+    ghost regs = { λ overlay. regs_over (contents_in overlay.base) overlay.latest };
+
+    ghost built = { λ overlay. overlay.base.years };
+
+    fn groups(&self, alloc: Global, element: u32) -> Result<Items<Group>, Memory> {
+        groups_over(alloc, self.base, self.latest, element)
+    }
+
+    fn range_sum(&self, group: Group, need: Need, from: u32, to: u32) -> Sum {
+        sum_over(self.base, self.latest, &group, need, from, to)
+    }
+
+    fn rows_of(
+        &self,
+        alloc: Global,
+        group: Group,
+        need: Need,
+        from: u32,
+        to: u32,
+    ) -> Result<Items<Row>, Memory> {
+        rows_in(alloc, self.base, self.latest, &group, need, from, to)
+    }
+
+    fn events_of(
+        &self,
+        alloc: Global,
+        program: u32,
+        from_day: i32,
+        to_day: i32,
+    ) -> Result<Items<EventRow>, Memory> {
+        let asked = Asked {
+            program,
+            from_day,
+            to_day,
+        };
+        events_in(alloc, self.base, self.latest, &asked)
+    }
+
+    fn regs_of(&self, alloc: Global, set: u32) -> Result<Items<RegRow>, Memory> {
+        regs_in(alloc, self.base, self.latest, set)
+    }
+
+    fn years(&self) -> &[i32] {
+        self.base.years()
+    }
+}

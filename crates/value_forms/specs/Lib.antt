@@ -1,4 +1,0 @@
-pub mod Bodies
-pub mod Texts
-pub mod Sets
-pub mod Completions
