@@ -1,4 +1,4 @@
-//! Tests of the engine that threads share: what other callers are told, and builders that run at the same time.
+//! Tests of the engine that threads share: what other callers are told, builders that run at the same time, and looks beside them.
 #![tactic(auto)]
 
 #[cfg(test)]

@@ -9,9 +9,11 @@ use shared_engine::{Naming, Opened, Pass, Shared};
 use std::alloc::Global;
 use std::marker::Brand;
 use std::sync::Wait;
-use std::thread::Threads;
+use std::sync::atomic::{AtomicU64, Ordering};
+use std::thread;
+use std::thread::{Threads, join};
 
-// How many turns a builder waits for another at most.
+// How many turns a builder or a caller waits for another at most.
 const TURNS: u64 = 10_000_000;
 
 // Whether an update publishes one change.
@@ -75,4 +77,103 @@ fn two_years_are_built_at_the_same_time(rt: HostRuntime) {
     assert!(rt; passes::<Brand, HostRuntime, Meeting>(&rt, alloc, opened, &gate));
     assert!(rt; gate.arrivals() == 2);
     assert!(rt; gate.missed() == 0);
+}
+
+// A gate that holds each builder until it is opened, or until it has waited long enough. It counts those that arrived, and those
+// that went on before it was open.
+#[derive(Drop)]
+struct Held {
+    opened: AtomicU64,
+    arrivals: AtomicU64,
+    missed: AtomicU64,
+}
+
+impl Gate for Held {
+    fn arrive(&self, _year: i32) {
+        self.arrivals.fetch_add(1, Ordering::SeqCst);
+        for _ in 0..TURNS {
+            if self.opened.load(Ordering::SeqCst) == 1 {
+                return;
+            }
+            thread::yield_now();
+        }
+        self.missed.fetch_add(1, Ordering::SeqCst);
+    }
+}
+
+// Waits until a builder has arrived.
+fn is_reached(gate: &Held) -> bool {
+    for _ in 0..TURNS {
+        if gate.arrivals.load(Ordering::SeqCst) > 0 {
+            return true;
+        }
+        thread::yield_now();
+    }
+    false
+}
+
+// Whether a look is answered while a builder is held. Then the gate is opened.
+fn looks<J: Naming, R: Wait>(
+    rt: &R,
+    shared: &Shared<J, Unkept>,
+    pass: Pass<J>,
+    gate: &Held,
+) -> bool {
+    let mut pass = pass;
+    let held = is_reached(gate);
+    let answered = match shared.look(rt, &mut pass, 0) {
+        Ok(view) => view.published == 0,
+        Err(_) => false,
+    };
+    gate.opened.store(1, Ordering::SeqCst);
+    held && answered
+}
+
+// Whether an update with this pass publishes one change.
+fn updates_by<J: Naming, R: Threads + Wait + Sync>(
+    rt: &R,
+    alloc: Global,
+    shared: &Shared<J, Unkept>,
+    pass: Pass<J>,
+    gate: &Held,
+) -> bool {
+    let mut pass = pass;
+    updates(rt, alloc, shared, &mut pass, gate)
+}
+
+// Whether one caller's update is made, and another caller's look is answered while its builders are held.
+fn both<J: Naming + Send + Sync, R: Threads + Wait + Sync>(
+    rt: &R,
+    alloc: Global,
+    opened: Opened<Unkept>,
+    gate: &Held,
+) -> bool
+    requires { opened ≡ J.made }
+{
+    let shared = opened.named::<J>();
+    let mut one = shared.pass(rt);
+    let other = shared.pass(rt);
+    if !import(rt, alloc, &shared, &mut one) {
+        return false;
+    }
+    let (updated, looked) = join(
+        rt,
+        || updates_by(rt, alloc, &shared, one, gate),
+        || looks(rt, &shared, other, gate),
+    );
+    updated && looked
+}
+
+#[test]
+fn a_look_waits_for_no_builder(rt: HostRuntime) {
+    let alloc = rt.alloc();
+    let opened = opened(alloc).expect(&rt, "memory");
+    let gate = Held {
+        opened: AtomicU64::new(0),
+        arrivals: AtomicU64::new(0),
+        missed: AtomicU64::new(0),
+    };
+    assert!(rt; both::<Brand, HostRuntime>(&rt, alloc, opened, &gate));
+    assert!(rt; gate.arrivals.load(Ordering::SeqCst) == 2);
+    assert!(rt; gate.missed.load(Ordering::SeqCst) == 0);
 }
