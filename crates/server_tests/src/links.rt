@@ -11,7 +11,8 @@ use std::alloc::Global;
 use std::sync::Wait;
 use std::thread::Threads;
 
-const FILE: &[u8] =
+/// The metadata of each server.
+pub(crate) const FILE: &[u8] =
     b"{\"apiTokens\":[{\"token\":\"tok-country\",\"user\":{\"id\":\"UsCountry01\"}}],\
 \"dataElements\":[{\"aggregationType\":\"SUM\",\"id\":\"DeFormsRecv\",\"valueType\":\"NUMBER\"}],\
 \"dataSets\":[{\"dataSetElements\":[{\"dataElement\":{\"id\":\"DeFormsRecv\"}}],\"id\":\"DsMonthly01\",\
@@ -44,7 +45,8 @@ fn door(alloc: Global, fails: u64) -> Result<MemDoor, Memory> {
     MemDoor::with(alloc, links, failing)
 }
 
-fn clock(alloc: Global) -> Result<MemClock, Memory> {
+/// A clock of one moment.
+pub(crate) fn clock(alloc: Global) -> Result<MemClock, Memory> {
     let mut moments = Vec::new(alloc);
     moments.push(1_720_000_000i64)?;
     MemClock::with(alloc, moments)
