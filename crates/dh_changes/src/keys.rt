@@ -7,9 +7,10 @@ ghost use Rattle.dh_changes.specs.declared.keys.RegKey.{RegKey};
 
 use dh_base::uid::Uid;
 use dh_periods::Period;
+use std::hash::{Hash, Hasher};
 
 /// What a data value is of.
-#[derive(Clone, Copy, PartialEq, Eq, Hash)]
+#[derive(Clone, Copy, PartialEq, Eq)]
 pub struct ValueKey {
     /// The data element.
     pub element: Uid,
@@ -20,6 +21,23 @@ pub struct ValueKey {
     pub combo: Uid,
     /// The attribute option combination.
     pub attribute: Uid,
+}
+
+// Each identifier is fed as one text, where a derived hash would feed its bytes one by one. Of a period its last day tells enough.
+impl Hash for ValueKey {
+    ghost use Rattle.dh_changes.specs.Keys.{value_key_fed, same_value_keys};
+
+    ghost hash_input = { value_key_fed };
+
+    ghost respects_eq = { same_value_keys.fed };
+
+    fn hash<H: Hasher>(&self, state: &mut H) {
+        state.write(&self.element.bytes());
+        state.write_i32(self.period.last());
+        state.write(&self.unit.bytes());
+        state.write(&self.combo.bytes());
+        state.write(&self.attribute.bytes());
+    }
 }
 
 /// What an approval is of.

@@ -1,3 +1,4 @@
+pub mod Text
 pub mod Said
 pub mod Hanging
 pub mod Maps

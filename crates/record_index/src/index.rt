@@ -10,6 +10,7 @@ ghost use Rattle.record_index.specs.Index.{is_linked, IsLinked, IsReady, Keeps, 
 use crate::children::note;
 use crate::held::{enter, look, put};
 use crate::said::{ApprovalState, Said};
+use crate::text::Text;
 use dh_base::items::Items;
 use dh_base::memory::Memory;
 use dh_base::uid::Uid;
@@ -21,7 +22,7 @@ use std::collections::HashMap;
 /// What each key holds. A key that is entered may hold nothing.
 #[derive(Drop)]
 pub struct Index {
-    pub values: HashMap<ValueKey, Option<Items<u8>>>,
+    pub values: HashMap<ValueKey, Option<Text>>,
     pub events: HashMap<Uid, Option<Event>>,
     pub enrollments: HashMap<Uid, Option<Enrollment>>,
     pub entities: HashMap<Uid, Option<Entity>>,

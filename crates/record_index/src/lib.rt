@@ -7,4 +7,5 @@ mod held;
 pub mod index;
 pub mod outcome;
 pub mod said;
+pub mod text;
 pub mod world;

@@ -2,6 +2,7 @@ ghost use Rattle.std.specs.Prelude.{◌≡◌, Some, IfOk};
 ghost use Rattle.record_index.specs.declared.said.Said.TheVariants as said;
 ghost use Rattle.record_index.specs.Said as holds;
 
+use crate::text::Text;
 use dh_base::items::Items;
 use dh_base::memory::Memory;
 use dh_base::uid::Uid;
@@ -23,7 +24,7 @@ pub enum ApprovalState {
 pub enum Said {
     Value {
         key: ValueKey,
-        value: Option<Items<u8>>,
+        value: Option<Text>,
     },
     Event {
         id: Uid,
@@ -99,7 +100,7 @@ fn approval(key: &ApprovalKey, state: ApprovalState) -> Said
 fn said_of_value(alloc: Global, key: &ValueKey, value: &[u8]) -> Result<Said, Memory>
     ensures { IfOk result (λ found. found ≡ said.Value key.now (Some value.now)) }
 {
-    let value = copy_text(alloc, value)?;
+    let value = Text::of(alloc, value)?;
     Ok(Said::Value {
         key: *key,
         value: Some(value),
