@@ -1,6 +1,7 @@
 //! Running the postfix form.
 
-ghost use Rattle.std.specs.Prelude.{◌≡◌, ◌≤◌, ◌<◌, ◌∷◌, [], length, take, reverse, is_none, IfOk};
+ghost use Rattle.std.specs.Prelude.{◌≡◌, ◌≤◌, ◌<◌, ◌∷◌, [], length, take, reverse, is_none, IfOk, IfSome};
+ghost use Rattle.expr_eval.specs.declared.code.Instr.TheVariants as instr;
 ghost use Rattle.std.specs.List.{list_any, list_all};
 ghost use Rattle.expr_eval.specs.Meaning.{best_of, skips, value_of_cell};
 ghost use Rattle.expr_eval.specs.Given.{entry_at};
@@ -37,7 +38,7 @@ pub fn eval(
     if is_skipped(strategy, entries, &form.plain) {
         return Ok(Value::Missing);
     }
-    run_code(alloc, entries, &form.code)
+    run_form(alloc, entries, &form.code)
 }
 
 fn entry(entries: &[Option<Frac>], index: usize) -> Option<Frac>
@@ -238,4 +239,27 @@ fn run_code(alloc: Global, entries: &[Option<Frac>], code: &[Instr]) -> Result<V
         }
     }
     Ok(value_of(top(&mut stack)))
+}
+
+/// The item that the code puts on top, if it does nothing else.
+fn only_load(code: &[Instr]) -> Option<usize>
+    ensures { IfSome result (λ n. code.now ≡ instr.Load n ∷ []) }
+{
+    if code.len() != 1 {
+        return None;
+    }
+    match &code[0] {
+        Instr::Load(n) => Some(*n),
+        _ => None,
+    }
+}
+
+/// The value of the code. One item alone is most of what is evaluated for each event, and needs no stack.
+fn run_form(alloc: Global, entries: &[Option<Frac>], code: &[Instr]) -> Result<Value, Memory>
+    ensures { IfOk result (λ value. value ≡ value_of_cell (top_value (run entries.now code.now 0 []))) }
+{
+    match only_load(code) {
+        Some(n) => Ok(Value::Number(entry(entries, n).unwrap_or(zero()))),
+        None => run_code(alloc, entries, code),
+    }
 }

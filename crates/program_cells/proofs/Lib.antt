@@ -5,3 +5,5 @@ pub mod ValueLemmas
 pub mod LoopLemmas
 pub mod SortLemmas
 pub mod GroupLemmas
+pub mod PlaceLemmas
+pub mod SumLemmas

@@ -5,4 +5,5 @@ pub mod Order
 pub mod Enrollments
 pub mod Cells
 pub mod Days
+pub mod Places
 pub mod Kept

@@ -10,9 +10,11 @@ mod evaluation;
 mod grouping;
 mod items;
 mod measure;
+mod placed;
 mod plan;
 mod samples;
 mod seen;
 mod under;
 
+pub use placed::PlacedEvents;
 pub use plan::{ProgramPlan, Subjects, program_plan, subjects_during, value};

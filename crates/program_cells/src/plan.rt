@@ -7,20 +7,22 @@ ghost use Rattle.meta_parts.specs.declared.held.Records.{Records};
 ghost use Rattle.meta_parts.specs.declared.names.AnalyticsType.TheVariants as analytics;
 ghost use Rattle.program_cells.specs.Cells.{cell_value};
 ghost use Rattle.program_cells.specs.Enrollments.{enrollments};
-ghost use Rattle.program_cells.specs.Kept.{IsPlanOf, IsProgramPlan, AreSubjects, subjects_in};
+ghost use Rattle.program_cells.specs.Kept.{IsPlanOf, IsProgramPlan, AreDuring, AreSubjects, subjects_in};
 ghost use Rattle.program_cells.specs.Value.{Values};
 ghost use Rattle.table_rows.specs.declared.event.EventRow.{EventRow};
 
 use crate::coding::code_of;
 use crate::enrolled::{enrolled_during, enrollments};
 use crate::evaluation::value_over;
+use crate::placed::PlacedEvents;
 use crate::seen::events_during;
-use crate::under::{enrollments_in, events_in};
+use crate::under::enrollments_in;
 use cell_values::{CellPeriods, CellUnits, Source};
 use dh_base::frac::Frac;
 use dh_base::items::Items;
 use dh_base::memory::Memory;
 use expr_eval::{PiCode, PiFault};
+use meta_parts::kind::Kind;
 use meta_parts::names::AnalyticsType;
 use meta_parts::records::ProgramIndicator;
 use std::alloc::Global;
@@ -40,7 +42,7 @@ pub struct ProgramPlan {
 #[derive(Drop)]
 pub enum Subjects<'a> {
     /// Each event alone, by day and identifier.
-    Events(Items<EventRow>),
+    Events(PlacedEvents),
     /// The events of each enrollment, by the day on which it began and its identifier.
     Enrollments(Vec<&'a [EventRow]>),
 }
@@ -92,6 +94,19 @@ pub fn program_plan<S: RowStore>(
     plan_of(alloc, source, source.meta.program_indicator(number))
 }
 
+fn placed_during<S: RowStore>(
+    alloc: Global,
+    source: &Source<'_, S>,
+    program: u32,
+    periods: &CellPeriods,
+) -> Result<PlacedEvents, Memory>
+    requires { IsSeer source.now.meta.now source.now.seer.now }
+    ensures { IfOk result (λ found. AreDuring source.now.meta.now source.now.seer.now.user program periods.now (S.events source.now.store.now) found) }
+{
+    let events = events_during(alloc, source, program, periods)?;
+    PlacedEvents::of(alloc, events, source.meta.count(Kind::OrganisationUnit))
+}
+
 /// The subjects of a plan in some periods that the user sees.
 pub fn subjects_during<'a, S: RowStore>(
     alloc: Global,
@@ -104,7 +119,7 @@ pub fn subjects_during<'a, S: RowStore>(
 {
     match plan.over {
         AnalyticsType::Event => {
-            let events = events_during(alloc, source, plan.code.program, periods)?;
+            let events = placed_during(alloc, source, plan.code.program, periods)?;
             Ok(Subjects::Events(events))
         }
         AnalyticsType::Enrollment => {
@@ -122,7 +137,7 @@ fn subjects_under<'a>(
     ensures { IfOk result (λ kept. map (λ subject. subject.now) kept.items ≡ subjects_in units.now.asked subjects.now) }
 {
     match subjects {
-        Subjects::Events(events) => events_in(alloc, &units.asked, events.as_slice()),
+        Subjects::Events(events) => events.within(alloc, &units.asked),
         Subjects::Enrollments(kept) => enrollments_in(alloc, &units.asked, kept.as_slice()),
     }
 }

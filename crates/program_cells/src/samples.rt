@@ -1,7 +1,7 @@
 //! Samples, and the one number that is made of them.
 
-ghost use Rattle.std.specs.Prelude.{◌≡◌, None};
-ghost use Rattle.dh_base.specs.Fractions.{add_of};
+ghost use Rattle.std.specs.Prelude.{◌≡◌, ◌<◌, ◌^◌, ◌+ℤ◌, unsigned_abs, option_map, None, Some, IfSome};
+ghost use Rattle.dh_base.specs.Fractions.{add_of, fraction_of, some_if, fits};
 ghost use Rattle.expr_eval.specs.Meaning.{takes_next, is_less, is_greater};
 ghost use Rattle.program_cells.specs.Value.{whole, unless_fault, sum_of, mean_of, some_of, better, better_if_any, best_from, value_by, aggregated};
 
@@ -31,7 +31,62 @@ fn plus(sum: Frac, sample: Frac) -> Option<Frac>
     unless_fault(sum.add(sample))
 }
 
+// The first size that does not fit.
+const LIMIT: u128 = 1 << 127;
+
+/// A whole number.
+#[derive(Clone, Copy)]
+struct WholeSum {
+    number: i128,
+}
+
+fn total(sum: &WholeSum, more: i128) -> Option<WholeSum>
+    ensures { option_map (λ whole. whole.number) result ≡ some_if (fits (sum.now.number +ℤ more)) (sum.now.number +ℤ more) }
+{
+    match sum.number.checked_add(more) {
+        Some(number) if number.unsigned_abs() < LIMIT => Some(WholeSum { number }),
+        _ => None,
+    }
+}
+
+/// A whole number more, if the sample is one and the sum isn't too wide.
+fn with_whole(sum: &WholeSum, sample: Frac) -> Option<WholeSum>
+    requires { unsigned_abs sum.now.number < 2 ^ 127 }
+    ensures next { IfSome result (λ next. unless_fault (add_of (fraction_of sum.now.number 1) sample) ≡ Some (fraction_of next.number 1)) }
+    ensures fits { IfSome result (λ next. unsigned_abs next.number < 2 ^ 127) }
+{
+    if sample.den() == 1 {
+        total(sum, sample.num())
+    } else {
+        None
+    }
+}
+
+/// The sum of samples that are all whole numbers, if no sum on the way is too wide. Most samples are whole, and such a sum needs no division.
+fn whole_sum(samples: &[Frac]) -> Option<WholeSum>
+    ensures sum { IfSome result (λ sum. sum_of samples.now ≡ Some (fraction_of sum.number 1)) }
+    ensures fits { IfSome result (λ sum. unsigned_abs sum.number < 2 ^ 127) }
+{
+    let mut sum = WholeSum { number: 0 };
+    for sample in samples {
+        match with_whole(&sum, *sample) {
+            Some(next) => sum = next,
+            None => return None,
+        }
+    }
+    Some(sum)
+}
+
 fn sum(samples: &[Frac]) -> Option<Frac>
+    ensures { result ≡ sum_of samples.now }
+{
+    match whole_sum(samples) {
+        Some(sum) => Some(Frac::of(sum.number, 1)),
+        None => fraction_sum(samples),
+    }
+}
+
+fn fraction_sum(samples: &[Frac]) -> Option<Frac>
     ensures { result ≡ sum_of samples.now }
 {
     let mut sum = Frac::of(0, 1);

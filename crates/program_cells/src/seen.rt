@@ -1,5 +1,6 @@
 //! The events that a user sees.
 ghost use Rattle.std.specs.Prelude.{◌≡◌, IfOk};
+ghost use Rattle.std.specs.List.{list_all};
 ghost use Rattle.cell_values.specs.Held.{IsSeer};
 ghost use Rattle.program_cells.specs.Kept.{is_seen_during, seen_during, AreDuring};
 
@@ -26,8 +27,26 @@ fn is_seen_during(
     event.program == program && is_on_some(periods, &event.day) && seer.sees_event(meta, event)
 }
 
-/// Those of the events that are of the program, on days of the periods, and seen.
-fn kept(
+/// Whether all of the events are of the program, on days of the periods, and seen.
+fn are_seen(
+    meta: &Metadata,
+    seer: &Seer,
+    program: u32,
+    periods: &[Period],
+    events: &[EventRow],
+) -> bool
+    requires { IsSeer meta.now seer.now }
+    ensures { result ≡ list_all (is_seen_during meta.now seer.now.user program periods.now) events.now }
+{
+    for event in events {
+        if !is_seen_during(meta, seer, program, periods, event) {
+            return false;
+        }
+    }
+    true
+}
+
+fn picked(
     alloc: Global,
     meta: &Metadata,
     seer: &Seer,
@@ -45,6 +64,25 @@ fn kept(
         }
     }
     Ok(Items::from(kept))
+}
+
+/// Those of the events that are of the program, on days of the periods, and seen. Mostly these are all, and then none is moved.
+fn kept(
+    alloc: Global,
+    meta: &Metadata,
+    seer: &Seer,
+    program: u32,
+    periods: &[Period],
+    events: Items<EventRow>,
+) -> Result<Items<EventRow>, Memory>
+    requires { IsSeer meta.now seer.now }
+    ensures { IfOk result (λ kept. kept ≡ seen_during meta.now seer.now.user program periods.now events) }
+{
+    if are_seen(meta, seer, program, periods, events.as_slice()) {
+        Ok(events)
+    } else {
+        picked(alloc, meta, seer, program, periods, events)
+    }
 }
 
 /// The events of the program on days of the periods that the user sees, by day and identifier: they serve for the cells of all units.

@@ -17,7 +17,7 @@ use dh_base::items::Items;
 use dh_base::memory::Memory;
 use dh_base::plain::Rate;
 use meta_parts::records::Indicator;
-use program_cells::{ProgramPlan, Subjects, program_plan, subjects_during};
+use program_cells::{PlacedEvents, ProgramPlan, Subjects, program_plan, subjects_during};
 use query_forms::{Dx, DxKind};
 use rate_items::Due;
 use std::alloc::Global;
@@ -146,7 +146,7 @@ fn nothing_due(alloc: Global) -> Due {
 }
 
 fn no_subjects<'a>(alloc: Global) -> Subjects<'a> {
-    Subjects::Events(Items::new(alloc))
+    Subjects::Events(PlacedEvents::none(alloc))
 }
 
 /// What is made of a plan once for some periods.

@@ -4,3 +4,4 @@ pub mod SumLemmas
 pub mod PartLemmas
 pub mod JumpLemmas
 pub mod StoreLemmas
+pub mod DayLemmas

@@ -1,6 +1,7 @@
 //! A store of rows that keeps running sums beside them.
 #![tactic(auto)]
 
+mod days;
 mod groups;
 mod range;
 mod rows;

@@ -6,6 +6,7 @@ ghost use Rattle.table_rows.specs.Store.{is_store};
 ghost use Rattle.table_rows.specs.Sums.{sum_of_rows, IsSized};
 ghost use Rattle.table_sums.specs.Running.{IsPlaced};
 
+use crate::days::{Asked, events_between};
 use crate::groups::groups_of;
 use crate::range::{Part, rows_of_part, sum_of_part};
 use crate::running::RunningRows;
@@ -22,7 +23,8 @@ use table_rows::{EventRow, Group, ListRows, RegRow, Row, RowStore, Sum};
 #[derive(Drop)]
 pub struct SummedRows {
     list: RunningRows,
-    // the events, registrations and years
+    events: Vec<EventRow>,
+    // the registrations and years
     rest: ListRows,
 }
 
@@ -32,19 +34,18 @@ impl Model for SummedRows {
 
     ghost Value = { Listed };
 
-    ghost view = { λ store. record { rows = store.list; events = store.rest.events; regs = store.rest.regs; years = store.rest.years } };
+    ghost view = { λ store. record { rows = store.list; events = store.events.items; regs = store.rest.regs; years = store.rest.years } };
 
-    ghost invariant = { λ store. IsTrue (is_store store.list store.rest.events store.rest.regs store.rest.years) };
+    ghost invariant = { λ store. IsTrue (is_store store.list store.events.items store.rest.regs store.rest.years) };
 }
 
-// A store of no rows.
-fn rest_of(alloc: Global, events: Vec<EventRow>, regs: Vec<RegRow>, years: Vec<i32>) -> ListRows
-    requires { IsTrue (is_store [] events.items regs.items years.items) }
-    ensures events { result.events ≡ events.items }
+// A store of no rows and no events.
+fn rest_of(alloc: Global, regs: Vec<RegRow>, years: Vec<i32>) -> ListRows
+    requires { IsTrue (is_store [] [] regs.items years.items) }
     ensures regs { result.regs ≡ regs.items }
     ensures years { result.years ≡ years.items }
 {
-    ListRows::of(Vec::new(alloc), events, regs, years)
+    ListRows::of(Vec::new(alloc), Vec::new(alloc), regs, years)
 }
 
 /// The store of these lists. Of the rows each takes 64 bytes.
@@ -62,8 +63,8 @@ pub fn with_sums(
     ensures years { IfOk result (λ store. store.years ≡ years.items) }
 {
     let list = RunningRows::of(alloc, rows)?;
-    let rest = rest_of(alloc, events, regs, years);
-    Ok(SummedRows { list, rest })
+    let rest = rest_of(alloc, regs, years);
+    Ok(SummedRows { list, events, rest })
 }
 
 // For a caller that counts nothing.
@@ -165,6 +166,7 @@ impl RowStore for SummedRows {
         rows_in(alloc, &self.list, &Part { group, from, to }, need)
     }
 
+    #[tactic(auto, using(crate::proofs::DayLemmas::events_up))]
     fn events_of(
         &self,
         alloc: Global,
@@ -172,7 +174,12 @@ impl RowStore for SummedRows {
         from_day: i32,
         to_day: i32,
     ) -> Result<Items<EventRow>, Memory> {
-        self.rest.events_of(alloc, program, from_day, to_day)
+        let asked = Asked {
+            program,
+            from_day,
+            to_day,
+        };
+        events_between(alloc, &self.events, &asked)
     }
 
     fn regs_of(&self, alloc: Global, set: u32) -> Result<Items<RegRow>, Memory> {

@@ -1,4 +1,4 @@
-use Rattle.std.proofs.Common.{◌≡◌, ◌∙◌, ◌<◌, ◌≤◌, [], List, length, sym, subst, rules, arith}
+use Rattle.std.proofs.Common.{◌≡◌, ◌∙◌, ◌<◌, [], List, length, sym, subst, rules, arith}
 use Rattle.std.proofs.Math.Nat.{le_refl}
 use Rattle.table_rows.specs.declared.row.Group.{Group}
 use Rattle.table_rows.proofs.GroupLemmas.{Step, groups_upto}

@@ -1,9 +1,7 @@
-use Rattle.std.proofs.Common.{◌∙◌, ◌≡◌, ap, subst, arith, refl}
+use Rattle.std.proofs.Common.{subst, arith}
 use Rattle.std.proofs.lemmas.List.Elements.{All-more}
-use Rattle.table_rows.specs.declared.sum.Sum.{Sum}
-use Rattle.table_rows.specs.Sums.{no_sum}
 use Rattle.table_sums.specs.Running.{IsFit}
-use Rattle.table_sums.proofs.SumLemmas.{sum-next, sums-first, sums-more, NoneYet, none-yet}
+use Rattle.table_sums.proofs.SumLemmas.{sum-next, sums-first, sums-more, none-yet}
 use Rattle.table_sums.proofs.running.sums_of.Goals as goal
 
 pub loop-row-init : goal.loop-row-init

@@ -1,4 +1,4 @@
-use Rattle.std.proofs.Common.{◌≡◌, ℕ, ◌<◌, ◌≤◌, ◌-◌, ◌+◌, ◌^◌, true, false, length, get_or}
+use Rattle.std.proofs.Common.{◌≡◌, ℕ, ◌<◌, ◌≤◌, ◌-◌, ◌^◌, true, false, length, get_or}
 use Rattle.table_rows.specs.declared.row.Row.{Row}
 use Rattle.table_sums.specs.Bounds.{is_before}
 use Rattle.table_sums.proofs.BoundLemmas.{Left}

@@ -1,6 +1,6 @@
 use Rattle.std.proofs.Common.{◌≡◌, ◌<◌, length, get_or, rules, sym, ap, ◌∙◌, FitsSigned, to_z-of_z}
 use Rattle.std.specs.Int.{w64}
-use Rattle.table_sums.specs.Columns.{rows_from, row_from}
+use Rattle.table_sums.specs.Columns.{row_from}
 use Rattle.table_sums.proofs.ColumnLemmas.{row-here, columns}
 use Rattle.table_sums.proofs.rows.Rows.row.Goals as goal
 

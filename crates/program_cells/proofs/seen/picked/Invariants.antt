@@ -1,7 +1,7 @@
 use Rattle.std.proofs.Common.{◌≡◌, ◌++◌}
 use Rattle.std.specs.Vec.Iter.{into_iter_items}
 use Rattle.program_cells.specs.Kept.{seen_during}
-use Rattle.program_cells.proofs.seen.kept.Given as goal
+use Rattle.program_cells.proofs.seen.picked.Given as goal
 
 abbrev pub invariant-loop-event : goal.invariant-loop-event
 invariant-loop-event l =

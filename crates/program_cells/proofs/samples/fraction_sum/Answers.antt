@@ -1,6 +1,6 @@
 use Rattle.program_cells.specs.Value.{sum_of}
 use Rattle.program_cells.proofs.LoopLemmas.{sum_step, sum_end}
-use Rattle.program_cells.proofs.samples.sum.Goals as goal
+use Rattle.program_cells.proofs.samples.fraction_sum.Goals as goal
 
 pub loop-sample-preserved : goal.loop-sample-preserved
 loop-sample-preserved c =

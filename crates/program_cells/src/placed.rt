@@ -1,0 +1,192 @@
+//! Events that are found by their unit.
+ghost use Rattle.std.specs.Prelude.{◌≡◌, ◌++◌, ◌∷◌, [], ◌<◌, ℕ, List, length, get_or, set, map, nat_eq, slice_get, IfOk, OnOk, IfSome};
+ghost use Rattle.std.specs.Option.{option_to_list};
+ghost use Rattle.std.specs.List.{filter, filter_map};
+ghost use Rattle.dh_sharing.specs.Ranges.{is_within};
+ghost use Rattle.table_rows.specs.declared.event.EventRow.{EventRow};
+ghost use Rattle.program_cells.specs.Cells.{alone};
+ghost use Rattle.program_cells.specs.Kept.{is_placed_in};
+ghost use Rattle.program_cells.specs.Places.{ArePlaces, order_of};
+
+use crate::under::events_in;
+use dh_base::items::Items;
+use dh_base::memory::Memory;
+use dh_sharing::ranges::ViewRanges;
+use std::alloc::Global;
+use std::marker::Model;
+use std::slice::from_ref;
+use table_rows::EventRow;
+
+/// Events in an order of their own. Those of one unit are found without a look at the others. Contracts see the list of them.
+#[derive(Drop)]
+pub struct PlacedEvents {
+    events: Vec<EventRow>,
+    // for each of the first units in the order of the tree, where its events stand
+    places: Vec<Items<usize>>,
+}
+
+impl Model for PlacedEvents {
+    ghost use Rattle.std.specs.Prelude.{List};
+    ghost use Rattle.table_rows.specs.declared.event.EventRow.{EventRow};
+    ghost use Rattle.program_cells.specs.Places.{ArePlaces, order_of};
+
+    ghost Value = { List EventRow };
+
+    ghost view = { λ placed. placed.events.items };
+
+    ghost invariant = { λ placed. ArePlaces order_of placed.events.items placed.places.items };
+}
+
+fn empty_lists(alloc: Global, count: u32) -> Result<Vec<Items<usize>>, Memory>
+    ensures { IfOk result (λ lists. ArePlaces order_of [] lists.items) }
+{
+    let mut lists = Vec::new(alloc);
+    for _unit in 0..count {
+        lists.push(Items::new(alloc))?;
+    }
+    Ok(lists)
+}
+
+fn add(lists: &mut Vec<Items<usize>>, unit: usize, at: usize) -> Result<(), Memory>
+    requires { unit < length lists.old.items }
+    ensures { OnOk result (lists.new.items ≡ set lists.old.items unit (get_or lists.old.items unit [] ++ at ∷ [])) }
+{
+    lists[unit].push(at)
+}
+
+/// Puts the place of an event to those of its unit.
+fn put(lists: &mut Vec<Items<usize>>, event: &EventRow, at: usize) -> Result<(), Memory>
+    ensures { (before : List EventRow) → at ≡ length before → ArePlaces order_of before lists.old.items
+        → OnOk result (ArePlaces order_of (before ++ event.now ∷ []) lists.new.items) }
+{
+    let unit = event.order as usize;
+    if unit < lists.len() {
+        add(lists, unit, at)
+    } else {
+        Ok(())
+    }
+}
+
+/// The places of the events of each of so many units.
+fn places_of(alloc: Global, events: &[EventRow], count: u32) -> Result<Vec<Items<usize>>, Memory>
+    ensures { IfOk result (λ places. ArePlaces order_of events.now places.items) }
+{
+    let mut places = empty_lists(alloc, count)?;
+    for at in 0..events.len() {
+        put(&mut places, &events[at], at)?;
+    }
+    Ok(places)
+}
+
+/// The unit that the ranges hold, if they hold one alone.
+fn only_unit(parts: &[(u32, u32)]) -> Option<u32>
+    ensures { IfSome result (λ unit. (n : ℕ) → is_within parts.now n ≡ nat_eq n unit) }
+{
+    if parts.len() != 1 {
+        return None;
+    }
+    let (from, to) = parts[0];
+    if from < to && to - from == 1 {
+        Some(from)
+    } else {
+        None
+    }
+}
+
+/// The places of the events in the ranges, if one list has them all.
+fn own_places<'a>(places: &'a [Items<usize>], parts: &[(u32, u32)]) -> Option<&'a [usize]>
+    ensures { (events : List EventRow) → ArePlaces order_of events places.now
+        → IfSome result (λ own. filter_map (slice_get events) own.now ≡ filter (is_placed_in parts.now) events) }
+{
+    let unit = only_unit(parts)? as usize;
+    if unit < places.len() {
+        Some(places[unit].as_slice())
+    } else {
+        None
+    }
+}
+
+fn put_at<'a>(
+    kept: &mut Vec<&'a [EventRow]>,
+    events: &'a [EventRow],
+    place: usize,
+) -> Result<(), Memory>
+    ensures { OnOk result (map (λ subject. subject.now) kept.new.items
+        ≡ map (λ subject. subject.now) kept.old.items ++ map alone (option_to_list (slice_get events.now place))) }
+{
+    if place < events.len() {
+        kept.push(from_ref(&events[place]))?;
+    }
+    Ok(())
+}
+
+/// The events at these places, each alone.
+fn events_at<'a>(
+    alloc: Global,
+    events: &'a [EventRow],
+    places: &[usize],
+) -> Result<Vec<&'a [EventRow]>, Memory>
+    ensures { IfOk result (λ kept. map (λ subject. subject.now) kept.items ≡ map alone (filter_map (slice_get events.now) places.now)) }
+{
+    let mut kept = Vec::new(alloc);
+    for place in places {
+        put_at(&mut kept, events, *place)?;
+    }
+    Ok(kept)
+}
+
+fn events_within<'a>(
+    alloc: Global,
+    events: &'a [EventRow],
+    places: &[Items<usize>],
+    ranges: &ViewRanges,
+) -> Result<Vec<&'a [EventRow]>, Memory>
+    requires { ArePlaces order_of events.now places.now }
+    ensures { IfOk result (λ kept. map (λ subject. subject.now) kept.items ≡ map alone (filter (is_placed_in ranges.now) events.now)) }
+{
+    match own_places(places, ranges.parts()) {
+        Some(own) => events_at(alloc, events, own),
+        None => events_in(alloc, ranges, events),
+    }
+}
+
+impl PlacedEvents {
+    ghost use Rattle.std.specs.Prelude.{◌≡◌, [], map, IfOk};
+    ghost use Rattle.std.specs.List.{filter};
+    ghost use Rattle.program_cells.specs.Cells.{alone};
+    ghost use Rattle.program_cells.specs.Kept.{is_placed_in};
+
+    /// No events.
+    pub fn none(alloc: Global) -> PlacedEvents
+        ensures { result ≡ [] }
+    {
+        PlacedEvents {
+            events: Vec::new(alloc),
+            places: Vec::new(alloc),
+        }
+    }
+
+    /// These events. Those of each of the first `count` units in the order of the tree are found at once.
+    pub(crate) fn of(
+        alloc: Global,
+        events: Items<EventRow>,
+        count: u32,
+    ) -> Result<PlacedEvents, Memory>
+        ensures { IfOk result (λ placed. placed ≡ events) }
+    {
+        let events = events.items;
+        let places = places_of(alloc, &events, count)?;
+        Ok(PlacedEvents { events, places })
+    }
+
+    /// The events whose units lie in the ranges, each alone.
+    pub(crate) fn within(
+        &self,
+        alloc: Global,
+        ranges: &ViewRanges,
+    ) -> Result<Vec<&[EventRow]>, Memory>
+        ensures { IfOk result (λ kept. map (λ subject. subject.now) kept.items ≡ map alone (filter (is_placed_in ranges.now) self.now)) }
+    {
+        events_within(alloc, &self.events, &self.places, ranges)
+    }
+}

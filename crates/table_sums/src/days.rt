@@ -1,0 +1,69 @@
+//! The events of some days, among events by day and identifier.
+ghost use Rattle.std.specs.Prelude.{◌≡◌, ◌++◌, ◌∷◌, [], ◌<◌, ◌≤◌, ℕ, true, false, int_lt, int_le, length, get_or, IfOk, OnOk};
+ghost use Rattle.table_rows.specs.declared.event.EventRow.{EventRow};
+ghost use Rattle.table_rows.specs.Events.{event_cmp, events_of};
+ghost use Rattle.table_rows.specs.Store.{rises};
+
+use dh_base::items::Items;
+use dh_base::memory::Memory;
+use std::alloc::Global;
+use table_rows::EventRow;
+
+/// The events that are asked for, by program and days.
+#[derive(Clone, Copy)]
+pub(crate) struct Asked {
+    pub program: u32,
+    pub from_day: i32,
+    pub to_day: i32,
+}
+
+// How many events occurred before the days.
+fn count_before(events: &[EventRow], asked: &Asked) -> usize
+    requires { rises event_cmp events.now ≡ true }
+    ensures within { result ≤ length events.now }
+    ensures before { (k : ℕ) (d : EventRow) → k < result → int_lt (get_or events.now k d).day asked.now.from_day ≡ true }
+{
+    events.partition_point(|event| event.day < asked.from_day)
+}
+
+// How many events occurred before the days or on them.
+fn count_upto(events: &[EventRow], asked: &Asked) -> usize
+    requires { rises event_cmp events.now ≡ true }
+    ensures within { result ≤ length events.now }
+    ensures after { (k : ℕ) (d : EventRow) → result ≤ k → k < length events.now → int_le (get_or events.now k d).day asked.now.to_day ≡ false }
+{
+    events.partition_point(|event| event.day <= asked.to_day)
+}
+
+fn put(
+    alloc: Global,
+    found: &mut Vec<EventRow>,
+    event: &EventRow,
+    asked: &Asked,
+) -> Result<(), Memory>
+    ensures { OnOk result (found.new.items ≡ found.old.items ++ events_of asked.now.program asked.now.from_day asked.now.to_day (event.now ∷ [])) }
+{
+    if event.is_of(asked.program, asked.from_day, asked.to_day) {
+        let copy = event.copy(alloc)?;
+        found.push(copy)?;
+    }
+    Ok(())
+}
+
+/// The events that are asked for. No other event is looked at but those of these days, and a few by which these are found.
+pub(crate) fn events_between(
+    alloc: Global,
+    events: &[EventRow],
+    asked: &Asked,
+) -> Result<Items<EventRow>, Memory>
+    requires { rises event_cmp events.now ≡ true }
+    ensures { IfOk result (λ found. found ≡ events_of asked.now.program asked.now.from_day asked.now.to_day events.now) }
+{
+    let first = count_before(events, asked);
+    let end = count_upto(events, asked);
+    let mut found = Vec::new(alloc);
+    for place in first..end {
+        put(alloc, &mut found, &events[place], asked)?;
+    }
+    Ok(Items::from(found))
+}
