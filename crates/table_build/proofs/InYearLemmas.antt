@@ -1,9 +1,10 @@
 -- What a log leaves of one year, of the keys of that year alone.
-use Rattle.std.proofs.Common.{◌≡◌, ◌∙◌, ◌≤◌, ℕ, true, List, [], Some, length, sym, ap, ℤ}
+use Rattle.std.proofs.Common.{◌≡◌, ◌∙◌, ◌≤◌, ℕ, true, List, [], Some, length, refl, sym, ap, ℤ}
 use Rattle.std.specs.Prelude.{option_map}
 use Rattle.std.specs.List.{filter, filter_map, list_all}
 use Rattle.std.specs.Ordering.{int_eq}
 use Rattle.dh_periods.proofs.TextLemmas.{and_then-some, map-some}
+use Rattle.dh_changes.specs.declared.change.Change.{Change}
 use Rattle.dh_changes.specs.declared.change.Write.{Write}
 use Rattle.dh_changes.specs.declared.keys.ValueKey.{ValueKey}
 use Rattle.dh_changes.specs.declared.keys.RegKey.{RegKey}
@@ -25,13 +26,15 @@ use Rattle.table_build.specs.declared.regs.RegPlace.{RegPlace}
 use Rattle.table_build.specs.InYear.{is_value_key_in, is_reg_key_in, is_place_in}
 use Rattle.table_build.specs.Listed.{listed_in}
 use Rattle.table_build.specs.Reading.{IsReadOf}
-use Rattle.table_build.specs.Log.{values_named, regs_named, events_named, is_of_days}
+use Rattle.table_build.specs.Log.{writes_of, values_named, regs_named, events_named, with_others, is_of_days}
 use Rattle.table_build.specs.Ordered.{in_order}
+use Rattle.table_build.specs.Placed.{is_wanted}
 use Rattle.table_build.specs.Values as values
 use Rattle.table_build.specs.Regs as registrations
 use Rattle.table_build.specs.Events as tracker
 use Rattle.table_build.proofs.FilterLemmas.{filter_map-filter, in_order-filter}
 use Rattle.table_build.proofs.OrderLemmas.{same-key, reg_total, same-reg}
+use Rattle.table_build.proofs.OtherLemmas.{others-agree, regs-others, events-others, events-same, regs-same}
 use Rattle.table_build.proofs.StoreLemmas.{listed-store, own-place}
 
 module _ (r : Records) (facts : Facts) (year : ℤ) where
@@ -97,18 +100,41 @@ unfolding tracker.events_of
 events-at r facts year ids places events known is =
     is ∙ ap (λ ps. filter (is_event_in year) (filter_map (tracker.event_at r facts) ps)) known
 
--- the same, of what is read of the writes once
-pub lists-of-reading : (r : Records) (writes : List Write) (facts : Facts) (keys : List ValueKey) (sets : List RegKey) (places : List EventPlace) (year : ℤ)
-    (rows : List Row) (events : List EventRow) (regs : List RegRow) → IsReadOf writes facts keys sets places
-    → rows ≡ filter (is_row_in year) (values.rows_of r facts keys)
-    → events ≡ filter (is_event_in year) (filter_map (tracker.event_at r facts) places)
-    → regs ≡ filter (is_reg_in year) (registrations.regs_of r facts sets)
-    → listed_as rows events regs ≡ in_year year (contents_in (listed_in r writes))
-lists-of-reading r writes facts keys sets places year rows events regs read row event reg =
-    lists-of-year r writes facts year rows events regs read.holds
-    (row ∙ ap (λ ks. filter (is_row_in year) (values.rows_of r facts ks)) read.value_keys)
-    (events-at r facts year (events_named writes) places events read.event_places event)
-    (reg ∙ ap (λ ks. filter (is_reg_in year) (registrations.regs_of r facts ks)) read.reg_keys)
+-- the same, of what is read of the writes once, and of the values of the year
+lists-of-reading : (r : Records) (changes : List Change) (known : Facts) (sets : List RegKey) (places : List EventPlace) (year : ℤ)
+    (rows : List Row) (events : List EventRow) (regs : List RegRow) → IsReadOf changes known sets places
+    → rows ≡ values.rows_of r (facts_in (writes_of changes)) (filter (is_value_key_in year) (values_named (writes_of changes)))
+    → events ≡ filter (is_event_in year) (filter_map (tracker.event_at r known) places)
+    → regs ≡ filter (is_reg_in year) (registrations.regs_of r known sets)
+    → listed_as rows events regs ≡ in_year year (contents_in (listed_in r (writes_of changes)))
+lists-of-reading r changes known sets places year rows events regs read row event reg =
+    let writes = writes_of changes in
+    let others = writes_of (with_others changes) in
+    let same = others-agree changes in
+    lists-of-year r writes (facts_in writes) year rows events regs refl
+    (rows-of-year r (facts_in writes) year (values_named writes) (filter (is_value_key_in year) (values_named writes)) rows refl row)
+    (events-at r known year (events_named others) places events read.event_places event
+    ∙ ap (λ f. filter (is_event_in year) (tracker.events_of r f (events_named others))) read.holds
+    ∙ ap (filter (is_event_in year)) (events-same r (facts_in others) (facts_in writes) same (events_named others)
+    ∙ ap (tracker.events_of r (facts_in writes)) (events-others changes)))
+    (reg ∙ ap (λ f. filter (is_reg_in year) (registrations.regs_of r f sets)) read.holds
+    ∙ ap (filter (is_reg_in year)) (regs-same r (facts_in others) (facts_in writes) same sets
+    ∙ ap (registrations.regs_of r (facts_in writes)) (read.reg_keys ∙ regs-others changes)))
+
+-- the same, where what was read is seen by other names
+pub year-lists : (r : Records) (seen changes : List Change) (known : Facts) (sets seen_sets : List RegKey) (places seen_places : List EventPlace)
+    (year seen_year : ℤ) (rows : List Row) (events : List EventRow) (regs : List RegRow) → IsReadOf seen known sets places
+    → seen ≡ changes → seen_sets ≡ sets → seen_places ≡ places → seen_year ≡ year
+    → rows ≡ values.rows_of r (facts_in (writes_of seen)) (filter (is_wanted (Some seen_year)) (values_named (writes_of seen)))
+    → events ≡ filter (is_event_in year) (filter_map (tracker.event_at r known) seen_places)
+    → regs ≡ filter (is_reg_in year) (registrations.regs_of r known seen_sets)
+    → listed_as rows events regs ≡ in_year year (contents_in (listed_in r (writes_of changes)))
+year-lists r seen changes known sets seen_sets places seen_places year seen_year rows events regs read same sets_are places_are year_is row event reg =
+    lists-of-reading r seen known sets places year rows events regs read
+    (row ∙ ap (λ y. values.rows_of r (facts_in (writes_of seen)) (filter (is_value_key_in y) (values_named (writes_of seen)))) year_is)
+    (event ∙ ap (λ ps. filter (is_event_in year) (filter_map (tracker.event_at r known) ps)) places_are)
+    (reg ∙ ap (λ ks. filter (is_reg_in year) (registrations.regs_of r known ks)) sets_are)
+    ∙ ap (λ cs. in_year year (contents_in (listed_in r (writes_of cs)))) same
 
 -- are those of a store
 pub store-of-year : (r : Records) (writes : List Write) (year : ℤ) (rows : List Row) (events : List EventRow) (regs : List RegRow)

@@ -1,6 +1,6 @@
 -- No two keys have one row, so that a list of rows is told by which they are.
 use Rattle.std.proofs.Common.{◌≡◌, ◌∙◌, inl, inr, ℕ, ◌<◌, List, [], ◌∷◌, Option, Some, None, suc, length, map, get_or, refl, sym, ap, subst}
-use Rattle.std.specs.Prelude.{option_map, true, nat_eq}
+use Rattle.std.specs.Prelude.{option_map, option_and_then, true, nat_eq}
 use Rattle.std.specs.Option.{unwrap_or}
 use Rattle.std.specs.List.{AllByRecursion, filter_map, cons_option}
 use Rattle.std.specs.List.Sorted.{IsStrictlySortedBy}
@@ -19,6 +19,7 @@ use Rattle.meta_parts.specs.declared.kind.Kind.TheVariants.{DataElement, Organis
 use Rattle.dh_metadata.specs.Objects.{ids_of, find_of}
 use Rattle.record_index.specs.Facts.{Facts}
 use Rattle.dh_records.specs.Access.{tree}
+use Rattle.dh_records.specs.Approved.{approved_at, approved_of, approved_by_element}
 use Rattle.table_rows.specs.declared.row.Row.{Row}
 use Rattle.table_rows.specs.Rows.{group_of, key_of, same_group, same_place}
 use Rattle.table_rows.specs.Order.{key_cmp, row_cmp}
@@ -78,6 +79,15 @@ objects-parts r key o e =
       combo = combo.1 ∙ ap (λ (x : ValueObjects). Some x.combo) attribute.2;
       attribute = attribute.1 ∙ ap (λ (x : ValueObjects). Some x.attribute) attribute.2;
     }
+
+-- the approved position of a key, by the numbers of its objects
+pub approved-with : (r : Records) (facts : Facts) (key : ValueKey) (o : ValueObjects) → values.objects_of r key ≡ Some o
+    → approved_at facts r key ≡ approved_of facts r o.element o.unit key.period key.attribute
+unfolding approved_at
+approved-with r facts key o is =
+    let are = objects-parts r key o is in
+    ap (option_and_then (approved_by_element facts r key)) are.element
+    ∙ ap (option_and_then (λ unit. approved_of facts r o.element unit key.period key.attribute)) are.unit
 
 -- the row of a key, and the objects that the key names
 record Rowed (r : Records) (facts : Facts) (key : ValueKey) (x : Row) : Type 0 where

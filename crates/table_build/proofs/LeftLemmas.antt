@@ -1,14 +1,17 @@
 -- The years of what writes name are those of the rows that they leave.
-use Rattle.std.proofs.Common.{◌≡◌, ◌∙◌, ◌⊎◌, inl, inr, ℕ, ◌+◌, ◌<◌, ℤ, List, [], ◌∷◌, ◌++◌, Option, Some, None, length, map, drop, get_or, refl, sym, ap}
-use Rattle.std.proofs.Common.{subst, add-one, drop-cons}
+use Rattle.std.proofs.Common.{◌≡◌, ◌∙◌, ◌⊎◌, inl, inr, true, cond, ℕ, ◌+◌, ◌<◌, ℤ, List, [], ◌∷◌, ◌++◌, Option, Some, None, length, map}
+use Rattle.std.proofs.Common.{drop, get_or, refl, sym, ap, subst, add-one, drop-cons}
 use Rattle.std.proofs.Common.{Ordering, Less, Equal, Greater}
 use Rattle.std.specs.Prelude.{option_map, option_and_then}
-use Rattle.std.specs.Option.{unwrap_or}
+use Rattle.std.specs.Option.{unwrap_or, option_to_list}
 use Rattle.std.specs.FinMap.{IsAntisymmetric, int_cmp-IsAntisymmetric}
-use Rattle.std.specs.List.{filter_map, cons_option}
-use Rattle.std.specs.Ordering.{int_cmp, match_ordering}
-use Rattle.std.specs.BTreeMap.{insert_entry}
-use Rattle.std.specs.Map.{keys_of}
+use Rattle.std.specs.List.{AllByRecursion, filter_map, list_all, cons_option}
+use Rattle.std.specs.List.Sorted.{IsStrictlySortedBy}
+use Rattle.std.specs.Ordering.{int_cmp, is_eq, match_ordering}
+use Rattle.std.specs.BTreeMap.{insert_entry, is_at}
+use Rattle.std.specs.Map.{keys_of, lookup}
+use Rattle.std.proofs.lemmas.Bool.{and_parts, false≢true}
+use Rattle.std.proofs.lemmas.Bool.Decides.{Decides-int_eq}
 use Rattle.std.proofs.lemmas.Cmp.{int_cmp_total}
 use Rattle.std.proofs.lemmas.List.Elements.{filter_map-append}
 use Rattle.dh_periods.proofs.TextLemmas.{and_then-some, map-some}
@@ -27,7 +30,7 @@ use Rattle.table_rows.specs.declared.event.RegRow.{RegRow}
 use Rattle.table_rows.specs.Rows.{key_of}
 use Rattle.table_rows.specs.Order.{key_cmp}
 use Rattle.table_rows.proofs.OrderLemmas.{key_total}
-use Rattle.year_tables.specs.Years.{period_year, day_year}
+use Rattle.year_tables.specs.Years.{period_year, day_year, is_year_if_any}
 use Rattle.table_build.specs.declared.events.EventPlace.{EventPlace}
 use Rattle.table_build.specs.declared.regs.RegPlace.{RegPlace}
 use Rattle.table_build.specs.Log.{writes_of, value_named, reg_named, event_named, values_named, regs_named, events_named}
@@ -36,13 +39,13 @@ use Rattle.table_build.specs.Values as values
 use Rattle.table_build.specs.Regs as registrations
 use Rattle.table_build.specs.Events as tracker
 use Rattle.table_build.specs.Years as years
-use Rattle.table_build.specs.Left.{value_year, reg_year, place_year, event_year, write_year, years_named}
+use Rattle.table_build.specs.Left.{value_year, reg_year, place_year, event_year, write_year, told_year, tells, IsThere, AreThere, years_named}
 use Rattle.table_build.specs.Listed.{listed_in}
 use Rattle.table_build.proofs.EachLemmas.{every}
 use Rattle.table_build.proofs.KeyLemmas.{given-in}
 use Rattle.table_build.proofs.MemberLemmas.{IsIn, in_order-is, in_order-has, in_order-from}
 use Rattle.table_build.proofs.OrderLemmas.{same-key, reg_total, same-reg, event_total, same-event}
-use Rattle.table_build.proofs.OrderedLemmas.{put_all_append, put_all-keyed, keys-keyed, in_order-sorted}
+use Rattle.table_build.proofs.OrderedLemmas.{below_all, put_all_append, put_all-keyed, keys-keyed, in_order-sorted}
 use Rattle.table_build.proofs.YearLemmas.{in-map, in-left, in-right}
 
 -- ---- change by change
@@ -62,18 +65,138 @@ module _ {A : Type 0} (of : A → Change) (named : Write → Option ℤ) where
       ∙ put_all_append int_cmp (λ year. year) old (filter_map named change.writes) (filter_map named rest)
       ∙ ap (λ es. put_all int_cmp (λ year. year) es (filter_map named rest)) (sym next)
 
+-- ---- write by write
+
+inside : {A : Type 0} (x y : A) → Some x ≡ Some y → x ≡ y
+inside x y e = ap (λ o. unwrap_or o x) e
+
+put-option : (es : List (ℤ × ℤ)) (o : Option ℤ) (rest : List ℤ)
+    → put_all int_cmp (λ year. year) es (cons_option o rest) ≡ put_all int_cmp (λ year. year) (put_all int_cmp (λ year. year) es (option_to_list o)) rest
+put-option es None rest = refl
+put-option es (Some year) rest = refl
+
+-- the writes after one more
+pub write-step : (named : Write → Option ℤ) (writes : List Write) (i : ℕ) (w : Write) (old new : List (ℤ × ℤ)) → i < length writes → w ≡ get_or writes i w
+    → new ≡ put_all int_cmp (λ year. year) old (option_to_list (named w))
+    → put_all int_cmp (λ year. year) old (filter_map named (drop i writes)) ≡ put_all int_cmp (λ year. year) new (filter_map named (drop (i + 1) writes))
+write-step named writes i w old new within is next =
+    let rest : List Write = drop (i + 1) writes in
+    let here : drop i writes ≡ get_or writes i w ∷ rest = rw add-one (drop-cons writes i w within) in
+    ap (λ l. put_all int_cmp (λ year. year) old (filter_map named l)) here
+    ∙ ap (λ x. put_all int_cmp (λ year. year) old (filter_map named (x ∷ rest))) (sym is)
+    ∙ put-option old (named w) (filter_map named rest)
+    ∙ ap (λ es. put_all int_cmp (λ year. year) es (filter_map named rest)) (sym next)
+
+-- an ascending list in which a year is found stays as it is when that is put there
+pub there : (es : List (ℤ × ℤ)) (year : ℤ) → IsStrictlySortedBy int_cmp (keys_of es) → lookup (is_at (int_cmp year)) es ≡ Some year
+    → IsThere es (Some year)
+unfolding IsStrictlySortedBy
+there [] year s found = absurd (cc)
+there (e ∷ es) year s found = by_order (int_cmp year e.0) refl (there es year s.1)
+  where
+    above : (fs : List (ℤ × ℤ)) → AllByRecursion (λ y. int_cmp year y ≡ Less) (keys_of fs) → lookup (is_at (int_cmp year)) fs ≡ None
+    above [] all = refl
+    above (f ∷ fs) all = ap (λ r. cond (is_eq r) (Some f.1) (lookup (is_at (int_cmp year)) fs)) all.0 ∙ above fs all.1
+
+    here : (r : Ordering) → int_cmp year e.0 ≡ r → cond (is_eq r) (Some e.1) (lookup (is_at (int_cmp year)) es) ≡ Some year
+    here r is = ap (λ o. cond (is_eq o) (Some e.1) (lookup (is_at (int_cmp year)) es)) (sym is) ∙ found
+
+    by_order : (r : Ordering) → int_cmp year e.0 ≡ r
+        → (lookup (is_at (int_cmp year)) es ≡ Some year → insert_entry int_cmp es year year ≡ es)
+        → match_ordering (int_cmp year e.0) ((year, year) ∷ e ∷ es) ((e.0, year) ∷ es) (e ∷ insert_entry int_cmp es year year) ≡ e ∷ es
+    by_order Less is rest =
+        let none = above (e ∷ es) (is, below_all int_cmp int_cmp_total year e.0 (keys_of es) is s.0) in
+        absurd (let e = sym none ∙ found in cc)
+    by_order Equal is rest =
+        let own : e.1 ≡ year = inside e.1 year (here Equal is) in
+        ap (λ o. match_ordering o ((year, year) ∷ e ∷ es) ((e.0, year) ∷ es) (e ∷ insert_entry int_cmp es year year)) is
+        ∙ ap (λ y. (e.0, y) ∷ es) (sym own)
+    by_order Greater is rest =
+        ap (λ o. match_ordering o ((year, year) ∷ e ∷ es) ((e.0, year) ∷ es) (e ∷ insert_entry int_cmp es year year)) is
+        ∙ ap (λ fs. e ∷ fs) (rest (here Greater is))
+
+module _ (r : Records) (facts : Facts) where
+  value-told : (key : ValueKey) (es : List (ℤ × ℤ)) → IsThere es (Some (period_year key.period))
+      → es ≡ put_all int_cmp (λ year. year) es (option_to_list (value_year r facts key))
+  unfolding value_year
+  value-told key es is = by_text (facts.value key)
+    where
+      by_objects : {A : Type 0} (o : Option A)
+          → es ≡ put_all int_cmp (λ year. year) es (option_to_list (option_map (λ objects. period_year key.period) o))
+      by_objects None = refl
+      by_objects (Some objects) = sym is
+
+      by_text : {T : Type 0} (o : Option T) → es
+          ≡ put_all int_cmp (λ year. year) es
+          (option_to_list (option_and_then (λ text. option_map (λ objects. period_year key.period) (values.objects_of r key)) o))
+      by_text None = refl
+      by_text (Some text) = by_objects (values.objects_of r key)
+
+  reg-told : (key : RegKey) (es : List (ℤ × ℤ)) → IsThere es (Some (period_year key.period))
+      → es ≡ put_all int_cmp (λ year. year) es (option_to_list (reg_year r facts key))
+  unfolding reg_year
+  reg-told key es is = by_day (facts.registration key)
+    where
+      by_objects : {A : Type 0} (o : Option A)
+          → es ≡ put_all int_cmp (λ year. year) es (option_to_list (option_map (λ objects. period_year key.period) o))
+      by_objects None = refl
+      by_objects (Some objects) = sym is
+
+      by_day : {T : Type 0} (o : Option T) → es
+          ≡ put_all int_cmp (λ year. year) es
+          (option_to_list (option_and_then (λ day. option_map (λ objects. period_year key.period) (registrations.objects_of r key)) o))
+      by_day None = refl
+      by_day (Some day) = by_objects (registrations.objects_of r key)
+
+  -- where a write tells a year that is there, its year changes nothing
+  pub told : (w : Write) (es : List (ℤ × ℤ)) → IsThere es (told_year w) → es ≡ put_all int_cmp (λ year. year) es (option_to_list (write_year r facts w))
+  unfolding told_year write_year
+  told (write.ValueSet key value) es is = value-told key es is
+  told (write.ValueCleared key) es is = value-told key es is
+  told (write.EventWritten event) es is = absurd is
+  told (write.EventDeleted id) es is = absurd is
+  told (write.EnrollmentWritten enrollment) es is = absurd is
+  told (write.EnrollmentDeleted id) es is = absurd is
+  told (write.EntityWritten entity) es is = absurd is
+  told (write.EntityDeleted id) es is = absurd is
+  told (write.Approve key) es is = absurd is
+  told (write.Unapprove key) es is = absurd is
+  told (write.Accept key) es is = absurd is
+  told (write.Unaccept key) es is = absurd is
+  told (write.Complete key day) es is = reg-told key es is
+  told (write.Uncomplete key) es is = reg-told key es is
+
+  -- where all writes do, their years change nothing
+  pub settled : (ws : List Write) (es : List (ℤ × ℤ)) → AreThere es ws
+      → es ≡ put_all int_cmp (λ year. year) es (filter_map (write_year r facts) ws)
+  settled [] es all = refl
+  settled (w ∷ ws) es all =
+      settled ws es all.1 ∙ ap (λ fs. put_all int_cmp (λ year. year) fs (filter_map (write_year r facts) ws)) (told w es all.0)
+      ∙ sym (put-option es (write_year r facts w) (filter_map (write_year r facts) ws))
+
+told-by : (o : Option ℤ) (year : ℤ) → is_year_if_any o year ≡ true → o ≡ Some year
+told-by None year e = absurd (false≢true e)
+told-by (Some found) year e = ap Some ((Decides-int_eq found year).0 e)
+
+-- where all writes tell a year that is there, each does
+pub all-there : (ws : List Write) (es : List (ℤ × ℤ)) (year : ℤ) → IsThere es (Some year) → list_all (tells year) ws ≡ true → AreThere es ws
+all-there [] es year is all = tt
+all-there (w ∷ ws) es year is all =
+    let parts = and_parts (tells year w) (list_all (tells year) ws) all in
+    (subst (IsThere es) (sym (told-by (told_year w) year parts.0)) is, all-there ws es year is parts.1)
+
 -- ---- members
 
 -- a member of a list of which f gives b
-record Gives {A B : Type 0} (f : A → Option B) (xs : List A) (b : B) : Type 0 where
-  a : A
-  there : IsIn a xs
-  is : f a ≡ Some b
+pub record Gives {A B : Type 0} (f : A → Option B) (xs : List A) (b : B) : Type 0 where
+  pub a : A
+  pub there : IsIn a xs
+  pub is : f a ≡ Some b
 
 later : {A B : Type 0} (f : A → Option B) (x : A) (xs : List A) (b : B) → Gives f xs b → Gives f (x ∷ xs) b
 later f x xs b g = record { a = g.a; there = inr g.there; is = g.is }
 
-in-given : {A B : Type 0} (f : A → Option B) (xs : List A) (b : B) → IsIn b (filter_map f xs) → Gives f xs b
+pub in-given : {A B : Type 0} (f : A → Option B) (xs : List A) (b : B) → IsIn b (filter_map f xs) → Gives f xs b
 in-given f [] b none = absurd none
 in-given {A = A} {B = B} f (x ∷ xs) b is = by_first (f x) refl is (λ in_rest. in-given f xs b in_rest)
   where
@@ -140,9 +263,6 @@ module _ {K X : Type 0} (cmp : K → K → Ordering) (key : X → K) (decides : 
       subst (IsIn k) (keys-keyed cmp key (put_all cmp key [] xs) (put_all-keyed cmp key decides [] xs tt)) (put_all-key k [] xs (inr is))
 
 -- ---- what a write names
-
-inside : {A : Type 0} (x y : A) → Some x ≡ Some y → x ≡ y
-inside x y e = ap (λ o. unwrap_or o x) e
 
 module _ (r : Records) (facts : Facts) where
   value-write : (w : Write) (named : ValueKey) → value_named w ≡ Some named → write_year r facts w ≡ value_year r facts named

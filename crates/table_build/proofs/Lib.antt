@@ -1,5 +1,6 @@
 pub mod OrderedLemmas
 pub mod MemberLemmas
+pub mod PlaceLemmas
 pub mod OrderLemmas
 pub mod NamedLemmas
 pub mod EachLemmas
@@ -9,6 +10,8 @@ pub mod StoreLemmas
 pub mod KeyLemmas
 pub mod YearLemmas
 pub mod LeftLemmas
+pub mod PlacedLemmas
+pub mod OtherLemmas
 pub mod SlotLemmas
 pub mod FilterLemmas
 pub mod InYearLemmas

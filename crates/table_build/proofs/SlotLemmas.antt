@@ -3,7 +3,8 @@ use Rattle.std.proofs.Common.{◌≡◌, ◌∙◌, ◌≤◌, ◌<◌, ℕ, zer
 use Rattle.std.specs.List.{AllByRecursion, list_all}
 use Rattle.dh_changes.specs.declared.change.Write.{Write}
 use Rattle.meta_parts.specs.declared.held.Records.{Records}
-use Rattle.record_index.specs.Facts.{facts_in}
+use Rattle.record_index.specs.Facts.{Facts, facts_in}
+use Rattle.dh_records.specs.Access.{tree}
 use Rattle.table_rows.specs.Store.{Contents, Listed, contents_in, have_own_places}
 use Rattle.year_tables.specs.Parts.{YearPart, AreOfYears, part_of}
 use Rattle.table_build.specs.declared.slots.Slot.{Slot}
@@ -38,6 +39,11 @@ first-slots listed years slots is year own =
 pub left-own : (r : Records) (writes : List Write) → StandsTree r (facts_in writes) → have_own_places (listed_in r writes).rows ≡ true
 unfolding listed_in
 left-own r writes stands = rows-own r (facts_in writes) stands (values_named writes)
+
+-- the same, of the units that any log leaves: no write moves one
+pub left-own-by : (r : Records) (known : Facts) (writes : List Write) → StandsTree r known → have_own_places (listed_in r writes).rows ≡ true
+unfolding tree
+left-own-by r known writes stands = left-own r writes (record { is_tree = stands.is_tree; numbers = stands.numbers })
 
 -- ---- a part is put into the slot of its year
 

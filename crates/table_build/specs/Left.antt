@@ -1,7 +1,8 @@
 -- The years in which a log leaves something, by its writes and what it holds, without the rows.
-use Rattle.std.specs.Prelude.{ℕ, ℤ, List, Option, None, option_map, option_and_then}
-use Rattle.std.specs.List.{filter_map}
+use Rattle.std.specs.Prelude.{◌≡◌, Bool, ℕ, ℤ, List, Option, None, Some, option_map, option_and_then}
+use Rattle.std.specs.List.{AllByRecursion, filter_map}
 use Rattle.std.specs.Ordering.{int_cmp}
+use Rattle.std.specs.BTreeMap.{insert_entry}
 use Rattle.dh_changes.specs.declared.change.Write.{Write}
 use Rattle.dh_changes.specs.declared.change.Write.TheVariants as write
 use Rattle.dh_changes.specs.declared.keys.ValueKey.{ValueKey}
@@ -9,7 +10,7 @@ use Rattle.dh_changes.specs.declared.keys.RegKey.{RegKey}
 use Rattle.dh_changes.specs.declared.tracker.Event.{Event}
 use Rattle.meta_parts.specs.declared.held.Records.{Records}
 use Rattle.record_index.specs.Facts.{Facts}
-use Rattle.year_tables.specs.Years.{period_year, day_year}
+use Rattle.year_tables.specs.Years.{period_year, day_year, is_year_if_any}
 use Rattle.table_build.specs.declared.events.EventPlace.{EventPlace}
 use Rattle.table_build.specs.Ordered.{in_order}
 use Rattle.table_build.specs.Values as values
@@ -41,6 +42,27 @@ write_year r facts (write.Uncomplete key) = reg_year r facts key
 write_year r facts (write.EventWritten event) = event_year r facts event.id
 write_year r facts (write.EventDeleted id) = event_year r facts id
 write_year r facts _ = None
+
+-- the year of what a write names, where the write itself tells it
+unfoldable pub told_year : Write → Option ℤ
+told_year (write.ValueSet key value) = Some (period_year key.period)
+told_year (write.ValueCleared key) = Some (period_year key.period)
+told_year (write.Complete key day) = Some (period_year key.period)
+told_year (write.Uncomplete key) = Some (period_year key.period)
+told_year _ = None
+
+-- a year is among these, so that to put it there once more changes nothing
+abbrev pub IsThere : List (ℤ × ℤ) → Option ℤ → Type 0
+IsThere years None = ⊥
+IsThere years (Some year) = insert_entry int_cmp years year year ≡ years
+
+-- a write tells the year
+abbrev pub tells : ℤ → Write → Bool
+tells year w = is_year_if_any (told_year w) year
+
+-- each write tells a year, which is among these
+abbrev pub AreThere : List (ℤ × ℤ) → List Write → Type 0
+AreThere years writes = AllByRecursion (λ w. IsThere years (told_year w)) writes
 
 -- the years of what writes name, ascending, each once
 unfoldable pub years_named : Records → Facts → List Write → List ℤ

@@ -7,6 +7,7 @@ pub mod Events
 pub mod Years
 pub mod Left
 pub mod InYear
+pub mod Placed
 pub mod Reading
 pub mod Listed
 pub mod Slots

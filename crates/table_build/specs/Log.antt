@@ -1,6 +1,6 @@
 -- The writes of a log, the keys that they name, and the days in them.
-use Rattle.std.specs.Prelude.{ℕ, Bool, true, ◌&&◌, List, [], ◌∷◌, ◌++◌, Option, Some, None}
-use Rattle.std.specs.List.{filter_map}
+use Rattle.std.specs.Prelude.{ℕ, Bool, true, false, ◌&&◌, List, [], ◌∷◌, ◌++◌, Option, Some, None}
+use Rattle.std.specs.List.{filter, filter_map, list_any}
 use Rattle.dh_changes.specs.declared.change.Change.{Change}
 use Rattle.dh_changes.specs.declared.change.Write.{Write}
 use Rattle.dh_changes.specs.declared.change.Write.TheVariants as write
@@ -39,6 +39,23 @@ regs_named writes = filter_map reg_named writes
 
 abbrev pub events_named : List Write → List (List ℕ)
 events_named writes = filter_map event_named writes
+
+-- a write of something else than a data value
+
+abbrev pub is_other : Write → Bool
+is_other (write.ValueSet key value) = false
+is_other (write.ValueCleared key) = false
+is_other _ = true
+
+abbrev pub any_other : List Write → Bool
+any_other writes = list_any is_other writes
+
+abbrev pub has_other : Change → Bool
+has_other change = any_other change.writes
+
+-- the changes that have one
+abbrev pub with_others : List Change → List Change
+with_others changes = filter has_other changes
 
 -- the days of a write lie in the years from 1900 to 2100
 abbrev pub is_of_days : Write → Bool

@@ -2,6 +2,10 @@
 ghost use Rattle.std.specs.Prelude.{◌≡◌, ◌≤◌, length, map, IsTrue, IfOk};
 ghost use Rattle.std.specs.List.{list_all};
 ghost use Rattle.std.specs.Arc.{arc_value};
+ghost use Rattle.record_index.specs.World.{facts};
+ghost use Rattle.table_build.specs.Events as tracker;
+ghost use Rattle.table_build.specs.Regs as registrations;
+ghost use Rattle.table_build.specs.Log as log;
 ghost use Rattle.table_build.specs.Log.{writes_of, is_of_days};
 ghost use Rattle.table_build.specs.Listed.{listed_in};
 ghost use Rattle.table_rows.specs.Store.{contents_in};
@@ -9,17 +13,20 @@ ghost use Rattle.year_tables.specs.Parts.{part_of, together, years_in};
 ghost use Rattle.dh_base.specs.declared.limits.TheConstants.{MOST_RECORDS};
 
 use crate::events::events_of;
-use crate::named::{events_named, regs_named, values_named};
+use crate::named::{events_named, regs_named};
+use crate::others::with_others;
+use crate::placed::rows_left;
 use crate::reading::Reading;
 use crate::regs::regs_of;
-use crate::values::rows_of;
 use crate::world::world_of;
 use crate::years::years_of;
 use dh_base::memory::Memory;
 use dh_changes::change::Change;
 use dh_metadata::metadata::Metadata;
+use record_index::world::World;
 use std::alloc::Global;
 use std::sync::Arc;
+use table_rows::{EventRow, RegRow};
 use year_tables::{Partition, Tables, tables_of};
 
 /// The part of one year: its rows, registrations and events, of those that the changes leave. Where parts of several years are
@@ -39,6 +46,32 @@ pub fn build_part(
     Ok(part)
 }
 
+// The events that the changes name, of what the world holds after them.
+fn events_left(
+    alloc: Global,
+    meta: &Metadata,
+    world: &World,
+    changes: &[Arc<Change>],
+) -> Result<Vec<EventRow>, Memory>
+    ensures { IfOk result (λ events. events.items ≡ tracker.events_of meta.now (facts world.now) (log.events_named (writes_of (map arc_value changes.now)))) }
+{
+    let ids = events_named(alloc, changes)?;
+    events_of(alloc, meta, world, &ids)
+}
+
+// The registrations that the changes name.
+fn regs_left(
+    alloc: Global,
+    meta: &Metadata,
+    world: &World,
+    changes: &[Arc<Change>],
+) -> Result<Vec<RegRow>, Memory>
+    ensures { IfOk result (λ regs. regs.items ≡ registrations.regs_of meta.now (facts world.now) (log.regs_named (writes_of (map arc_value changes.now)))) }
+{
+    let keys = regs_named(alloc, changes)?;
+    regs_of(alloc, meta, world, &keys)
+}
+
 /// The tables of the rows, registrations and events that the changes leave, under these metadata, with a part of each
 /// year in which one stands. The log is read once for all years.
 pub fn build(alloc: Global, meta: &Metadata, changes: &[Arc<Change>]) -> Result<Tables, Memory>
@@ -48,10 +81,11 @@ pub fn build(alloc: Global, meta: &Metadata, changes: &[Arc<Change>]) -> Result<
     ensures years { IfOk result (λ tables. years_in tables.parts ≡ (listed_in meta.now (writes_of (map arc_value changes.now))).years) }
     ensures base_cut { IfOk result (λ tables. tables.base_cut ≡ length changes.now) }
 {
-    let world = world_of(alloc, changes)?;
-    let rows = rows_of(alloc, meta, &world, &values_named(alloc, changes)?)?;
-    let events = events_of(alloc, meta, &world, &events_named(alloc, changes)?)?;
-    let regs = regs_of(alloc, meta, &world, &regs_named(alloc, changes)?)?;
+    let others = with_others(alloc, changes)?;
+    let world = world_of(alloc, &others)?;
+    let rows = rows_left(alloc, meta, &world, changes, &None)?;
+    let events = events_left(alloc, meta, &world, &others)?;
+    let regs = regs_left(alloc, meta, &world, &others)?;
     let years = years_of(alloc, &rows, &regs, &events)?;
     let tables = tables_of(alloc, rows, events, regs, &years, changes.len() as u64)?;
     Ok(tables)

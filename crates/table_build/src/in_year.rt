@@ -1,25 +1,23 @@
-//! The rows, events and registrations of one year, of the keys of that year alone.
+//! The events and registrations of one year, of the keys of that year alone.
 ghost use Rattle.std.specs.Prelude.{◌≡◌, IfOk};
 ghost use Rattle.std.specs.List.{filter, filter_map};
 ghost use Rattle.record_index.specs.World.{facts};
-ghost use Rattle.year_tables.specs.Years.{is_row_in, is_event_in, is_reg_in, is_year_if_any};
+ghost use Rattle.year_tables.specs.Years.{is_event_in, is_reg_in, is_year_if_any};
 ghost use Rattle.table_build.specs.InYear.{is_value_key_in, is_reg_key_in, is_place_in};
-ghost use Rattle.table_build.specs.Values as values;
 ghost use Rattle.table_build.specs.Events as tracker;
 ghost use Rattle.table_build.specs.Regs as registrations;
 
 use crate::events::{EventPlace, rows_at};
 use crate::regs::regs_of;
-use crate::values::rows_of;
 use dh_base::memory::Memory;
 use dh_changes::keys::{RegKey, ValueKey};
 use dh_metadata::metadata::Metadata;
 use record_index::world::World;
 use std::alloc::Global;
-use table_rows::{EventRow, RegRow, Row};
+use table_rows::{EventRow, RegRow};
 use year_tables::day_year;
 
-fn is_value_key_in(key: &ValueKey, year: &i32) -> bool
+pub(crate) fn is_value_key_in(key: &ValueKey, year: &i32) -> bool
     ensures { result ≡ is_value_key_in year.now key.now }
 {
     key.period.year() == *year
@@ -31,7 +29,7 @@ fn is_reg_key_in(key: &RegKey, year: &i32) -> bool
     key.period.year() == *year
 }
 
-fn is_year_if_any(found: Option<i32>, year: &i32) -> bool
+pub(crate) fn is_year_if_any(found: Option<i32>, year: &i32) -> bool
     ensures { result ≡ is_year_if_any found year.now }
 {
     match found {
@@ -44,18 +42,6 @@ fn is_place_in(place: &EventPlace, year: &i32) -> bool
     ensures { result ≡ is_place_in year.now place.now }
 {
     is_year_if_any(day_year(place.day), year)
-}
-
-fn value_keys_in(alloc: Global, keys: &[ValueKey], year: &i32) -> Result<Vec<ValueKey>, Memory>
-    ensures { IfOk result (λ found. found.items ≡ filter (is_value_key_in year.now) keys.now) }
-{
-    let mut found = Vec::new(alloc);
-    for key in keys {
-        if is_value_key_in(key, year) {
-            found.push(*key)?;
-        }
-    }
-    Ok(found)
 }
 
 fn reg_keys_in(alloc: Global, keys: &[RegKey], year: &i32) -> Result<Vec<RegKey>, Memory>
@@ -80,21 +66,6 @@ fn places_in(alloc: Global, places: &[EventPlace], year: &i32) -> Result<Vec<Eve
         }
     }
     Ok(found)
-}
-
-/// The rows of the year, of those of the keys.
-pub(crate) fn rows_in(
-    alloc: Global,
-    meta: &Metadata,
-    world: &World,
-    keys: &[ValueKey],
-    year: &i32,
-) -> Result<Vec<Row>, Memory>
-    ensures { IfOk result (λ rows. rows.items ≡ filter (is_row_in year.now) (values.rows_of meta.now (facts world.now) keys.now)) }
-{
-    let found = value_keys_in(alloc, keys, year)?;
-    let rows = rows_of(alloc, meta, world, &found)?;
-    Ok(rows)
 }
 
 /// The events of the year, of those at the places.

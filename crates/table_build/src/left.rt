@@ -1,14 +1,16 @@
 //! The years in which a log leaves something, without its rows.
-ghost use Rattle.std.specs.Prelude.{◌≡◌, [], map, OnOk, IfOk};
+ghost use Rattle.std.specs.Prelude.{◌≡◌, [], map, true, Some, OnOk, IfOk};
 ghost use Rattle.std.specs.Arc.{arc_value};
-ghost use Rattle.std.specs.List.{filter_map};
-ghost use Rattle.std.specs.Ordering.{int_cmp};
+ghost use Rattle.std.specs.List.{filter_map, list_all};
+ghost use Rattle.std.specs.Option.{option_to_list};
+ghost use Rattle.std.specs.Ordering.{int_cmp, int_eq};
 ghost use Rattle.record_index.specs.World.{facts};
 ghost use Rattle.table_build.specs.Left as known;
 ghost use Rattle.table_build.specs.Log.{writes_of};
 ghost use Rattle.table_build.specs.Ordered.{put_all};
 
 use crate::events::{EventPlace, objects_of as event_objects, place_of};
+use crate::in_year::is_year_if_any;
 use crate::regs::objects_of as reg_objects;
 use crate::values::objects_of as value_objects;
 use crate::years::put_year;
@@ -73,6 +75,67 @@ fn write_year(meta: &Metadata, world: &World, write: &Write) -> Option<i32>
     }
 }
 
+// The year of what a write names, where the write itself tells it.
+#[tactic(auto, unfolding(crate::specs::Left::told_year))]
+fn told_year(write: &Write) -> Option<i32>
+    ensures { result ≡ known.told_year write.now }
+{
+    match write {
+        Write::ValueSet { key, .. } => Some(key.period.year()),
+        Write::ValueCleared { key } => Some(key.period.year()),
+        Write::Complete { key, .. } => Some(key.period.year()),
+        Write::Uncomplete { key } => Some(key.period.year()),
+        _ => None,
+    }
+}
+
+fn is_year(found: &i32, year: &i32) -> bool
+    ensures { result ≡ int_eq found.now year.now }
+{
+    *found == *year
+}
+
+// Whether the year is among those found.
+fn is_found(years: &BTreeMap<i32, i32>, year: i32) -> bool
+    ensures { result ≡ true → known.IsThere years.now.entries (Some year) }
+{
+    // the years ascend
+    let _count = years.len();
+    match years.get(&year) {
+        Some(found) => is_year(found, &year),
+        None => false,
+    }
+}
+
+// Whether the year of what a write names is known to be among those found.
+fn is_settled(years: &BTreeMap<i32, i32>, write: &Write) -> bool
+    ensures { result ≡ true → known.IsThere years.now.entries (known.told_year write.now) }
+{
+    match told_year(write) {
+        Some(year) => is_found(years, year),
+        None => false,
+    }
+}
+
+// Puts the year of what a write names. Most writes tell a year that was found before, and of these nothing is looked up.
+fn put_write(
+    years: &mut BTreeMap<i32, i32>,
+    meta: &Metadata,
+    world: &World,
+    write: &Write,
+) -> Result<(), Memory>
+    ensures { OnOk result (years.new.entries
+        ≡ put_all int_cmp (λ year. year) years.old.entries (option_to_list (known.write_year meta.now (facts world.now) write.now))) }
+{
+    if is_settled(years, write) {
+        return Ok(());
+    }
+    match write_year(meta, world, write) {
+        Some(year) => put_year(years, year),
+        None => Ok(()),
+    }
+}
+
 fn put_writes(
     years: &mut BTreeMap<i32, i32>,
     meta: &Metadata,
@@ -83,11 +146,50 @@ fn put_writes(
         ≡ put_all int_cmp (λ year. year) years.old.entries (filter_map (known.write_year meta.now (facts world.now)) writes.now)) }
 {
     for write in writes {
-        if let Some(year) = write_year(meta, world, write) {
-            put_year(years, year)?;
-        }
+        put_write(years, meta, world, write)?;
     }
     Ok(())
+}
+
+fn tells(write: &Write, year: &i32) -> bool
+    ensures { result ≡ known.tells year.now write.now }
+{
+    is_year_if_any(told_year(write), year)
+}
+
+fn all_tell(writes: &[Write], year: &i32) -> bool
+    ensures { result ≡ list_all (known.tells year.now) writes.now }
+{
+    for write in writes {
+        if !tells(write, year) {
+            return false;
+        }
+    }
+    true
+}
+
+// Whether the writes all tell the year, and that is among those found.
+fn have_year(years: &BTreeMap<i32, i32>, writes: &[Write], year: i32) -> bool
+    ensures { result ≡ true → known.AreThere years.now.entries writes.now }
+{
+    if is_found(years, year) {
+        all_tell(writes, &year)
+    } else {
+        false
+    }
+}
+
+// Whether the writes all tell the year that the first one tells, and that is among those found: the rule for values of one period.
+fn are_settled(years: &BTreeMap<i32, i32>, writes: &[Write]) -> bool
+    ensures { result ≡ true → known.AreThere years.now.entries writes.now }
+{
+    if writes.is_empty() {
+        return false;
+    }
+    match told_year(&writes[0]) {
+        Some(year) => have_year(years, writes, year),
+        None => false,
+    }
 }
 
 fn put_change(
@@ -99,7 +201,11 @@ fn put_change(
     ensures { OnOk result (years.new.entries
         ≡ put_all int_cmp (λ year. year) years.old.entries (filter_map (known.write_year meta.now (facts world.now)) change.now.writes)) }
 {
-    put_writes(years, meta, world, change.writes.as_slice())
+    let writes = change.writes.as_slice();
+    if are_settled(years, writes) {
+        return Ok(());
+    }
+    put_writes(years, meta, world, writes)
 }
 
 fn year_map(

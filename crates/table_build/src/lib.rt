@@ -7,6 +7,8 @@ mod in_year;
 mod items;
 mod left;
 mod named;
+mod others;
+mod placed;
 pub mod reading;
 pub mod regs;
 pub mod slots;

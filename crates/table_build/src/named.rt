@@ -1,25 +1,14 @@
-//! The keys that writes name.
+//! The keys of registrations and events that writes name.
 ghost use Rattle.std.specs.Prelude.{◌≡◌, ◌++◌, map, OnOk, IfOk};
-ghost use Rattle.std.specs.Option.{option_to_list};
 ghost use Rattle.std.specs.Arc.{arc_value};
-ghost use Rattle.table_build.specs.Log.{writes_of, value_named, reg_named, event_named, values_named, regs_named, events_named};
+ghost use Rattle.table_build.specs.Log.{writes_of, reg_named, event_named, regs_named, events_named};
 
 use dh_base::memory::Memory;
 use dh_base::uid::Uid;
 use dh_changes::change::{Change, Write};
-use dh_changes::keys::{RegKey, ValueKey};
+use dh_changes::keys::RegKey;
 use std::alloc::Global;
 use std::sync::Arc;
-
-fn value_named(write: &Write) -> Option<ValueKey>
-    ensures { result ≡ value_named write.now }
-{
-    match write {
-        Write::ValueSet { key, .. } => Some(*key),
-        Write::ValueCleared { key } => Some(*key),
-        _ => None,
-    }
-}
 
 fn reg_named(write: &Write) -> Option<RegKey>
     ensures { result ≡ reg_named write.now }
@@ -39,17 +28,6 @@ fn event_named(write: &Write) -> Option<Uid>
         Write::EventDeleted(id) => Some(*id),
         _ => None,
     }
-}
-
-fn put_values(keys: &mut Vec<ValueKey>, writes: &[Write]) -> Result<(), Memory>
-    ensures { OnOk result (keys.new.items ≡ keys.old.items ++ values_named writes.now) }
-{
-    for write in writes {
-        if let Some(key) = value_named(write) {
-            keys.push(key)?;
-        }
-    }
-    Ok(())
 }
 
 fn put_regs(keys: &mut Vec<RegKey>, writes: &[Write]) -> Result<(), Memory>
@@ -74,12 +52,6 @@ fn put_events(ids: &mut Vec<Uid>, writes: &[Write]) -> Result<(), Memory>
     Ok(())
 }
 
-fn put_change_values(keys: &mut Vec<ValueKey>, change: &Change) -> Result<(), Memory>
-    ensures { OnOk result (keys.new.items ≡ keys.old.items ++ values_named change.now.writes) }
-{
-    put_values(keys, change.writes.as_slice())
-}
-
 fn put_change_regs(keys: &mut Vec<RegKey>, change: &Change) -> Result<(), Memory>
     ensures { OnOk result (keys.new.items ≡ keys.old.items ++ regs_named change.now.writes) }
 {
@@ -90,17 +62,6 @@ fn put_change_events(ids: &mut Vec<Uid>, change: &Change) -> Result<(), Memory>
     ensures { OnOk result (ids.new.items ≡ ids.old.items ++ events_named change.now.writes) }
 {
     put_events(ids, change.writes.as_slice())
-}
-
-/// The keys of data values that the writes of the changes name.
-pub fn values_named(alloc: Global, changes: &[Arc<Change>]) -> Result<Vec<ValueKey>, Memory>
-    ensures { IfOk result (λ keys. keys.items ≡ values_named (writes_of (map arc_value changes.now))) }
-{
-    let mut keys = Vec::new(alloc);
-    for change in changes {
-        put_change_values(&mut keys, &**change)?;
-    }
-    Ok(keys)
 }
 
 /// The keys of registrations that the writes of the changes name.

@@ -12,12 +12,14 @@ ghost use Rattle.year_tables.specs.Parts.{part_of};
 ghost use Rattle.dh_base.specs.declared.limits.TheConstants.{MOST_RECORDS};
 
 use crate::events::{EventPlace, places_of};
-use crate::in_year::{events_in, regs_in, rows_in};
-use crate::named::{events_named, regs_named, values_named};
+use crate::in_year::{events_in, regs_in};
+use crate::named::{events_named, regs_named};
+use crate::others::with_others;
+use crate::placed::rows_left;
 use crate::world::world_of;
 use dh_base::memory::Memory;
 use dh_changes::change::Change;
-use dh_changes::keys::{RegKey, ValueKey};
+use dh_changes::keys::RegKey;
 use dh_metadata::metadata::Metadata;
 use dh_records::access::tree_of;
 use record_index::world::World;
@@ -26,13 +28,13 @@ use std::marker::Model;
 use std::sync::Arc;
 use year_tables::{Partition, part_from};
 
-/// A list of changes, with the world after them, the keys of values and registrations that they name, and the places of the
-/// events. It is made once, and several builders may share it. Contracts see the changes.
+/// A list of changes, and what several builders of their years share: the world after the changes that write something else than
+/// data values, the keys of the registrations that they name, and the places of the events. The values of a year are read by its
+/// builder. Contracts see the changes.
 #[derive(Drop)]
 pub struct Reading<'a> {
     changes: &'a [Arc<Change>],
     world: World,
-    values: Vec<ValueKey>,
     regs: Vec<RegKey>,
     places: Vec<EventPlace>,
 }
@@ -42,15 +44,13 @@ impl<'a> Model for Reading<'a> {
     ghost use Rattle.std.specs.Prelude.{List, map};
     ghost use Rattle.dh_changes.specs.declared.change.Change.{Change};
     ghost use Rattle.record_index.specs.World.{facts};
-    ghost use Rattle.table_build.specs.Log.{writes_of};
     ghost use Rattle.table_build.specs.Reading.{IsReadOf};
 
     ghost Value = { List Change };
 
     ghost view = { λ reading. map arc_value reading.changes.now };
 
-    ghost invariant = { λ reading. IsReadOf (writes_of (map arc_value reading.changes.now)) (facts reading.world) reading.values.items
-        reading.regs.items reading.places.items };
+    ghost invariant = { λ reading. IsReadOf (map arc_value reading.changes.now) (facts reading.world) reading.regs.items reading.places.items };
 }
 
 // The places of the events that the changes name, of what the world holds after them.
@@ -70,21 +70,20 @@ impl<'a> Reading<'a> {
     pub fn of(alloc: Global, changes: &'a [Arc<Change>]) -> Result<Reading<'a>, Memory>
         ensures { IfOk result (λ reading. reading ≡ map arc_value changes.now) }
     {
-        let values = values_named(alloc, changes)?;
-        let regs = regs_named(alloc, changes)?;
-        let world = world_of(alloc, changes)?;
-        let places = places_named(alloc, &world, changes)?;
+        let others = with_others(alloc, changes)?;
+        let world = world_of(alloc, &others)?;
+        let regs = regs_named(alloc, &others)?;
+        let places = places_named(alloc, &world, &others)?;
         Ok(Reading {
             changes,
             world,
-            values,
             regs,
             places,
         })
     }
 
-    /// The part of one year: its rows, registrations and events, of those that the changes leave. It is made of the keys of that
-    /// year alone.
+    /// The part of one year: its rows, registrations and events, of those that the changes leave. It is made of what is written of
+    /// that year alone.
     pub fn part_of_year(
         &self,
         alloc: Global,
@@ -97,7 +96,7 @@ impl<'a> Reading<'a> {
     {
         // since the units are a tree, of a group no two rows have one place
         let _units = tree_of(&self.world, meta).count();
-        let rows = rows_in(alloc, meta, &self.world, &self.values, year)?;
+        let rows = rows_left(alloc, meta, &self.world, self.changes, &Some(*year))?;
         let events = events_in(alloc, meta, &self.world, &self.places, year)?;
         let regs = regs_in(alloc, meta, &self.world, &self.regs, year)?;
         let part = part_from(alloc, *year, rows, events, regs)?;

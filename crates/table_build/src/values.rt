@@ -1,8 +1,9 @@
 //! The rows of data values.
-ghost use Rattle.std.specs.Prelude.{◌≡◌, ◌<◌, true, [], length, OnOk, IfOk, IfSome};
+ghost use Rattle.std.specs.Prelude.{◌≡◌, ◌<◌, true, [], length, Some, IfOk, IfSome};
 ghost use Rattle.std.specs.List.{filter_map};
-ghost use Rattle.dh_metadata.specs.Objects.{count_of};
-ghost use Rattle.org_tree.specs.Units.{order_of};
+ghost use Rattle.dh_metadata.specs.Objects.{find_of};
+ghost use Rattle.dh_records.specs.Approved.{approved_at};
+ghost use Rattle.meta_parts.specs.declared.kind.Kind.TheVariants.{CategoryOptionCombo};
 ghost use Rattle.record_index.specs.World.{facts};
 ghost use Rattle.table_rows.specs.Rows.{key_of};
 ghost use Rattle.table_rows.specs.Order.{key_cmp};
@@ -11,11 +12,10 @@ ghost use Rattle.table_build.specs.Ordered.{put_all};
 ghost use Rattle.table_build.specs.Values as known;
 
 use dh_base::memory::Memory;
-use dh_base::uid::Uid;
 use dh_changes::keys::ValueKey;
 use dh_metadata::metadata::Metadata;
 use dh_records::access::tree_of;
-use dh_records::approved::approved_at;
+use dh_records::approved::approved_position_of;
 use dh_records::number::number_of;
 use meta_parts::kind::Kind;
 use record_index::world::World;
@@ -34,6 +34,18 @@ pub struct ValueObjects {
     pub attribute: u32,
 }
 
+// The number of a key's attribute option combination, which often is its category option combination too.
+fn attribute_of(meta: &Metadata, key: &ValueKey, combo: u32) -> Option<u32>
+    requires { find_of meta.now CategoryOptionCombo key.now.combo ≡ Some combo }
+    ensures { result ≡ find_of meta.now CategoryOptionCombo key.now.attribute }
+{
+    if key.attribute == key.combo {
+        Some(combo)
+    } else {
+        meta.find(Kind::CategoryOptionCombo, key.attribute)
+    }
+}
+
 #[tactic(auto, unfolding(crate::specs::Values::objects_of))]
 pub(crate) fn objects_of(meta: &Metadata, key: &ValueKey) -> Option<ValueObjects>
     ensures value { result ≡ known.objects_of meta.now key.now }
@@ -42,7 +54,7 @@ pub(crate) fn objects_of(meta: &Metadata, key: &ValueKey) -> Option<ValueObjects
     let element = meta.find(Kind::DataElement, key.element)?;
     let unit = meta.find(Kind::OrganisationUnit, key.unit)?;
     let combo = meta.find(Kind::CategoryOptionCombo, key.combo)?;
-    let attribute = meta.find(Kind::CategoryOptionCombo, key.attribute)?;
+    let attribute = attribute_of(meta, key, combo)?;
     Some(ValueObjects {
         element,
         unit,
@@ -62,14 +74,37 @@ fn number_at(meta: &Metadata, element: u32, text: &[u8]) -> Option<i64>
     }
 }
 
+// The position up to which the value of a key is approved, by the numbers of its objects.
+fn approved_with(
+    meta: &Metadata,
+    world: &World,
+    key: &ValueKey,
+    objects: ValueObjects,
+) -> Option<u8>
+    requires of { known.objects_of meta.now key.now ≡ Some objects }
+    requires element { objects.element < length meta.now.data_elements }
+    requires unit { objects.unit < length meta.now.organisation_units }
+    ensures { result ≡ approved_at (facts world.now) meta.now key.now }
+{
+    approved_position_of(
+        world,
+        meta,
+        objects.element,
+        objects.unit,
+        key.period,
+        key.attribute,
+    )
+}
+
 #[tactic(auto, unfolding(crate::specs::Values::row_with))]
-fn row_with(
+pub(crate) fn row_with(
     meta: &Metadata,
     world: &World,
     key: &ValueKey,
     text: &[u8],
     objects: ValueObjects,
 ) -> Row
+    requires of { known.objects_of meta.now key.now ≡ Some objects }
     requires element { objects.element < length meta.now.data_elements }
     requires unit { objects.unit < length meta.now.organisation_units }
     ensures { result ≡ known.row_with meta.now (facts world.now) key.now text.now objects }
@@ -79,7 +114,7 @@ fn row_with(
         combo: objects.combo,
         attribute: objects.attribute,
         period: key.period,
-        approved: approved_at(world, meta, key),
+        approved: approved_with(meta, world, key, objects),
         order: tree_of(world, meta).order(objects.unit),
         micros: number_at(meta, objects.element, text),
     }
