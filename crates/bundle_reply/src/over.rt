@@ -54,7 +54,7 @@ fn over_tables(
 ) -> Result<Reply, Memory>
     requires user { user < length meta.now.users }
     requires query { CanAnswer meta.now query.now }
-    ensures { IfOk result (λ reply. reply ≡ answer_reply (answer_of meta.now query.now (seen_of meta.now user (contents_in tables.now)))) }
+    ensures { IfOk result (λ reply. reply ≡ answer_reply (answer_of meta.now query.now (seen_of meta.now user (contents_in tables.now.all)))) }
 {
     let seer = Seer::of(alloc, meta, user)?;
     match answer(alloc, meta, tables, &seer, query) {

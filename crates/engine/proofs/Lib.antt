@@ -4,4 +4,5 @@ pub mod Days
 pub mod Orders
 pub mod HistoryLaws
 pub mod LoadLemmas
+pub mod StandLemmas
 pub mod SlotLemmas

@@ -1,8 +1,8 @@
 -- The steps of the machine, from what its parts do.
 use Rattle.std.proofs.Common.{◌≡◌, ◌∙◌, ◌≤◌, ◌<◌, ℕ, List, [], ◌∷◌, ◌++◌, length, take, drop, sym, ap, subst, refl, arith, Bool, true, false}
-use Rattle.std.specs.Prelude.{is_some, option_map, Option, None, Some, IfSome, Result, Ok, Err, if◌then◌else◌}
+use Rattle.std.specs.Prelude.{is_some, option_map, Option, None, Some, Result, Ok, Err, if◌then◌else◌}
+use Rattle.std.specs.Arc.{arc_value}
 use Rattle.std.specs.List.{All}
-use Rattle.std.specs.Global.{Vec}
 use Rattle.std.proofs.lemmas.Bool.{lt-ltb}
 use Rattle.std.proofs.lemmas.Bool.Decides.{nat_tests}
 use Rattle.std.proofs.lemmas.Grind.{flat_map-append}
@@ -20,18 +20,16 @@ use Rattle.change_requests.specs.declared.request.JudgeFault.{JudgeFault}
 use Rattle.change_requests.specs.declared.request.JudgeFault.TheVariants as judge
 use Rattle.change_requests.specs.Requests.{Asked, judged, judged_by, maker_of, cause_of}
 use Rattle.change_requests.specs.declared.request.Judged.{Judged}
-use Rattle.table_build.specs.declared.slots.Slot.{Slot}
-use Rattle.engine.specs.Histories.{IsInOrder, IsUpdate}
+use Rattle.engine.specs.Histories.{IsInOrder}
 use Rattle.engine.specs.Machine.{State, Step, StepBy, IsReplyBy, log_by, has_writes, grown, judged_in, change_of, change_lacks, report_of}
 use Rattle.engine.specs.Machine.Act.{changed}
-use Rattle.engine.specs.Seen.{seen_of, state_of, AreParts, FitSlots, HaveSlots, Puts, BringsBy, BringsIf, Brings, Brought, fault_by}
-use Rattle.engine.specs.Tables.{tables_of}
+use Rattle.engine.specs.Seen.{seen_of, state_of, AreParts, Shows, Puts, BringsBy, BringsIf, Brings, Brought, fault_by}
 use Rattle.engine.specs.declared.updates.Shown.{Shown}
 use Rattle.engine.specs.declared.machine.Report.{Report}
-use Rattle.engine.specs.declared.machine.Staged.{Staged}
 use Rattle.engine.specs.declared.machine.ChangeFault.{ChangeFault}
 use Rattle.engine.specs.declared.machine.ChangeFault.TheVariants as change
 use Rattle.engine.proofs.Orders.{longer_in_order}
+use Rattle.engine.proofs.StandLemmas.{shows-longer}
 
 -- ---- a change of the log
 
@@ -155,6 +153,7 @@ put-brought : (meta : Records) (shown : Shown) (old new : LogSeen) (asked : Aske
 put-brought meta shown old new asked found (Ok report) h = (
   ap (λ (l : Limits). record {
     state = state_of new.changes shown;
+    tables = arc_value shown.tables;
     limits = l;
     meta = meta;
     acknowledged = new.acknowledged;
@@ -193,8 +192,7 @@ same-parts : (meta : Records) (shown : Shown) (old new : LogSeen) → IsWhole ne
 same-parts meta shown old new w c l p = record {
   whole = w;
   order = subst (λ x. IsInOrder new.limits (state_of x shown)) (sym c) (subst (λ x. IsInOrder x (state_of old.changes shown)) (sym l) p.order);
-  tables = p.tables ∙ ap (λ x. tables_of meta (take shown.published x)) (sym c);
-  slots = subst (λ x. HaveSlots meta x shown) (sym c) p.slots;
+  shows = subst (λ x. Shows meta x shown) (sym c) p.shows;
 }
 
 first-of : (b : Bool) (log : List Change) (c : Change) (n : ℕ) → n ≤ length log → take n (if b then log ++ c ∷ [] else log) ≡ take n log
@@ -205,19 +203,6 @@ longer-by : (b : Bool) (log : List Change) (c : Change) → length log ≤ lengt
 longer-by true log c = let e = length-append log (c ∷ []) in omega arith
 longer-by false log c = omega arith
 
--- the changes of the full update stay
-still-first : (state : State) (full : Option Staged) (c : Change) → IfSome full (IsUpdate state)
-    → IfSome full (λ (update : Staged). take update.number (grown state.log c) ≡ take update.number state.log)
-still-first state None c given = tt
-still-first state (Some update) c given = first-of (has_writes c) state.log c update.number given.there
-
-still-fit : (meta : Records) (full : Option Staged) (slots : Option (Vec Slot)) (old log : List Change)
-    → IfSome full (λ (update : Staged). take update.number log ≡ take update.number old)
-    → IfSome full (λ (update : Staged). FitSlots meta (take update.number old) slots)
-    → IfSome full (λ (update : Staged). FitSlots meta (take update.number log) slots)
-still-fit meta None slots old log same fit = tt
-still-fit meta (Some update) slots old log same fit = subst (λ changes. FitSlots meta changes slots) (sym same) fit
-
 -- a log of the same limits with a change last, if it has writes
 grown-parts : (meta : Records) (shown : Shown) (old new : LogSeen) (c : Change) → IsWhole new → new.changes ≡ grown old.changes c → new.limits ≡ old.limits
     → AreParts old meta shown
@@ -226,10 +211,8 @@ grown-parts meta shown old new c w is l p = record {
   whole = w;
   order = subst (λ x. IsInOrder new.limits (state_of x shown)) (sym is) (subst (λ x. IsInOrder x (state_of (grown old.changes c) shown)) (sym l)
       (longer_in_order old.limits (state_of old.changes shown) (grown old.changes c) (longer-by (has_writes c) old.changes c) p.order));
-  tables = p.tables ∙ ap (tables_of meta) (sym (first-of (has_writes c) old.changes c shown.published p.order.published))
-      ∙ ap (λ x. tables_of meta (take shown.published x)) (sym is);
-  slots = subst (λ x. HaveSlots meta x shown) (sym is)
-      (still-fit meta shown.full shown.slots old.changes (grown old.changes c) (still-first (state_of old.changes shown) shown.full c p.order.full) p.slots);
+  shows = subst (λ x. Shows meta x shown) (sym is)
+      (shows-longer meta old.limits old.changes (grown old.changes c) shown p.order (first-of (has_writes c) old.changes c) p.shows);
 }
 
 parts-by : (meta : Records) (shown : Shown) (old new : LogSeen) (asked : Asked) (found : Result Judged Refusal) (result : Result Report ChangeFault)

@@ -16,6 +16,7 @@ use Rattle.engine.specs.declared.machine.ChangeFault.{ChangeFault}
 use Rattle.engine.specs.declared.machine.ChangeFault.TheVariants as change
 use Rattle.engine.specs.Machine.{start, judged_in, change_of, stopped, report_of, log_by}
 use Rattle.engine.specs.Seen.{Seen}
+use Rattle.engine.specs.Tables.{no_tables}
 use Rattle.dh_base.specs.declared.limits.TheConstants.{MOST_RECORDS, MOST_LOG_BYTES, MOST_UPDATES}
 
 -- the largest limits that a log may have
@@ -24,7 +25,7 @@ largest = record { writes = MOST_RECORDS; bytes = MOST_LOG_BYTES; updates = MOST
 
 -- the machine before the first call: no change is there, and no fault of the store
 abbrev pub started : Records → Seen
-started meta = record { state = start; limits = largest; meta = meta; acknowledged = 0; kept = None; faults = 0 }
+started meta = record { state = start; tables = no_tables; limits = largest; meta = meta; acknowledged = 0; kept = None; faults = 0 }
 
 -- what the loader asks for, at a moment
 abbrev pub loading : ℤ → ChangeRequest → Asked

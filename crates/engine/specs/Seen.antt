@@ -1,12 +1,13 @@
 -- What the engine shows of itself, and what always holds of it.
-use Rattle.std.specs.Prelude.{is_some, [], map, ◌≡◌, ◌==◌, ◌≤◌, if◌then◌else◌, ℕ, ℤ, Bool, true, false, List, length, take, Option, None, Some, IfSome, Result}
-use Rattle.std.specs.Prelude.{Ok, Err}
+use Rattle.std.specs.Prelude.{is_some, [], map, ◌≡◌, ◌==◌, ◌≤◌, if◌then◌else◌, nat_lt, ℕ, ℤ, Bool, true, false, List, length, take, Option, None, Some, IfSome, Result}
+use Rattle.std.specs.Prelude.{Ok, Err, option_map}
 use Rattle.std.specs.Arc.{arc_value}
 use Rattle.std.specs.List.{All}
 use Rattle.std.specs.Global.{Vec}
 use Rattle.dh_base.specs.declared.codes.Refusal.{Refusal}
 use Rattle.dh_base.specs.declared.memory.Memory.{Memory}
 use Rattle.dh_base.specs.declared.plain.CutKind.{CutKind}
+use Rattle.dh_base.specs.declared.plain.CutKind.TheVariants.{Full, Latest}
 use Rattle.dh_outside.specs.Faults.{Rose}
 use Rattle.dh_changes.specs.declared.change.Change.{Change}
 use Rattle.meta_parts.specs.declared.held.Records.{Records}
@@ -18,6 +19,7 @@ use Rattle.change_requests.specs.declared.request.JudgeFault.{JudgeFault}
 use Rattle.change_requests.specs.declared.request.JudgeFault.TheVariants as judge
 use Rattle.change_requests.specs.Requests.{Asked}
 use Rattle.change_requests.specs.declared.request.Judged.{Judged}
+use Rattle.engine.specs.declared.updates.LatestUpdate.{LatestUpdate}
 use Rattle.engine.specs.declared.updates.Shown.{Shown}
 use Rattle.engine.specs.declared.machine.Staged.{Staged}
 use Rattle.engine.specs.declared.machine.Report.{Report}
@@ -30,30 +32,33 @@ use Rattle.engine.specs.declared.machine.View.{View}
 use Rattle.engine.specs.declared.machine.LookFault.{LookFault}
 use Rattle.engine.specs.Histories.{IsInOrder}
 use Rattle.engine.specs.Machine.{State, StepBy, IsPutReply, judged_in, change_of, change_lacks, grown, IsCutReply, after_cut, cut_lacks, IsSwapReply}
-use Rattle.engine.specs.Machine.{after_swap, swap_lacks, IsLookReply, look_lacks, changes_for, by_kind}
-use Rattle.table_rows.specs.Store.{contents_in}
+use Rattle.engine.specs.Machine.{after_swap, swap_lacks, IsLookReply, look_lacks, changes_for, by_kind, kind_of, number_of}
 use Rattle.table_build.specs.Listed.{listed_in}
 use Rattle.table_build.specs.Slots.{AreSlots}
 use Rattle.table_build.specs.declared.slots.Slot.{Slot}
 use Rattle.year_tables.specs.Parts.{YearPart, part_of}
 use Rattle.dh_base.specs.declared.limits.TheConstants.{MOST_RECORDS}
-use Rattle.engine.specs.Tables.{tables_of, years_of}
+use Rattle.table_latest.specs.Latest.{LatestPart}
+use Rattle.engine.specs.Tables.{Served, tables_of, years_of}
+use Rattle.engine.specs.Stands.{GoesOn, Stands}
 
--- the machine's state, its limits and metadata; of the keeper, how many bytes are acknowledged, those that are kept, where they
--- are known, and how many of its calls failed
+-- the machine's state with the tables that it serves, its limits and metadata; of the keeper, how many bytes are acknowledged, those that
+-- are kept, where they are known, and how many of its calls failed
 pub record Seen : Type 0 where
   pub state : State
+  pub tables : Served
   pub limits : Limits
   pub meta : Records
   pub acknowledged : ℕ
   pub kept : Option (List ℕ)
   pub faults : ℕ
 
--- the keeper has the bytes of the log, and the numbers are in order
+-- the keeper has the bytes of the log, the numbers are in order, and the tables stand for the published changes
 pub record IsSound (seen : Seen) : Type 0 where
   pub acknowledged : seen.acknowledged ≡ length (log_bytes seen.state.log)
   pub kept : IfSome seen.kept (λ bytes. bytes ≡ log_bytes seen.state.log)
   pub order : IsInOrder seen.limits seen.state
+  pub stands : Stands seen.meta seen.state.log seen.state.base_cut seen.state.published seen.tables
 
 -- what a change does beside its step: it keeps metadata and limits; a keeper that shows its bytes goes on to; only a fault of the
 -- store is the keeper's, whose count rose; any other fault leaves all
@@ -92,7 +97,35 @@ pub record IsCutOf (meta : Records) (state : State) (kind : CutKind) (found : Cu
 abbrev pub IsPartOf : Records → List Change → YearPart → Type 0
 IsPartOf meta changes part = part ≡ part_of (tables_of meta changes) part.year
 
+-- ---- what a swap makes of the tables
+
+-- the latest part that stays over new yearly parts: where these stand for more changes than are published, none
+abbrev pub over_from : ℕ → ℕ → Option LatestPart → Option LatestPart
+over_from published number over = if nat_lt published number then None else over
+
+-- a latest update leaves the yearly parts, and lays its part over them; where yearly parts of more changes were published meanwhile, the
+-- tables stay
+abbrev pub IsLaid : Bool → Served → Served → Type 0
+IsLaid true old new = new ≡ old
+IsLaid false old new = (new.base ≡ old.base) × (is_some new.latest ≡ true)
+
+abbrev pub LaysBy : CutKind → ℕ → ℕ → Served → Served → Type 0
+LaysBy Full published number old new = new.latest ≡ over_from published number old.latest
+LaysBy Latest published number old new = IsLaid (nat_lt number published) old new
+
+abbrev pub Lays : State → ℕ → Result ℕ Memory → Served → Served → Type 0
+Lays state ticket (Ok published) old new = LaysBy (kind_of state ticket) state.published (number_of state ticket) old new
+Lays state ticket (Err memory) old new = new ≡ old
+
 -- ---- of the parts
+
+-- of a latest update that is begun what the machine tells of it, and its part
+
+abbrev pub staged_latest : Option LatestUpdate → Option Staged
+staged_latest latest = option_map (λ (update : LatestUpdate). update.staged) latest
+
+abbrev pub part_in : LatestUpdate → LatestPart
+part_in update = arc_value update.part
 
 abbrev pub state_of : List Change → Shown → State
 state_of log shown = record {
@@ -101,12 +134,13 @@ state_of log shown = record {
   base_cut = shown.base_cut;
   ticket = shown.ticket;
   full = shown.full;
-  latest = shown.latest;
+  latest = staged_latest shown.latest;
 }
 
 abbrev pub seen_of : LogSeen → Records → Shown → Seen
 seen_of log meta shown = record {
   state = state_of log.changes shown;
+  tables = arc_value shown.tables;
   limits = log.limits;
   meta = meta;
   acknowledged = log.acknowledged;
@@ -122,12 +156,18 @@ FitSlots meta changes slots = IfSome slots (λ (kept : Vec Slot). AreSlots (list
 abbrev pub HaveSlots : Records → List Change → Shown → Type 0
 HaveSlots meta log shown = IfSome shown.full (λ (update : Staged). FitSlots meta (take update.number log) shown.slots)
 
--- the tables stand for the first changes of the log, as many as are published
+-- the served tables stand for the published changes; a full update that is begun stands for no fewer changes than the yearly parts, so
+-- that a base cut never falls; a latest one goes on from the yearly parts
+pub record Shows (meta : Records) (log : List Change) (shown : Shown) : Type 0 where
+  pub stands : Stands meta log shown.base_cut shown.published (arc_value shown.tables)
+  pub slots : HaveSlots meta log shown
+  pub full : IfSome shown.full (λ (update : Staged). shown.base_cut ≤ update.number)
+  pub latest : IfSome shown.latest (λ (update : LatestUpdate). GoesOn meta log shown.base_cut update.staged.number (part_in update))
+
 pub record AreParts (log : LogSeen) (meta : Records) (shown : Shown) : Type 0 where
   pub whole : IsWhole log
   pub order : IsInOrder log.limits (state_of log.changes shown)
-  pub tables : contents_in (arc_value shown.tables) ≡ tables_of meta (take shown.published log.changes)
-  pub slots : HaveSlots meta log.changes shown
+  pub shows : Shows meta log.changes shown
 
 -- what it does to the log to put a change last
 abbrev pub Puts : LogSeen → Change → Judged → Result Report ChangeFault → LogSeen → Type 0

@@ -1,7 +1,6 @@
 //! The engine: the machine as a value, over a keeper that stores the log.
 ghost use Rattle.std.specs.Prelude.{◌≡◌, ◌≤◌, true, IsTrue, List, length, take, option_map, IfOk};
 ghost use Rattle.std.specs.Arc.{arc_value};
-ghost use Rattle.dh_base.specs.declared.plain.CutKind.TheVariants.{Full};
 ghost use Rattle.dh_changes.specs.declared.change.Change.{Change};
 ghost use Rattle.change_log.specs.Log.{AreLimits, NeverFails};
 ghost use Rattle.value_import.specs.Outcomes.{IsKnown};
@@ -9,13 +8,15 @@ ghost use Rattle.engine.specs.Machine.{start, Step, is_begun, has_ticket, number
 ghost use Rattle.engine.specs.Machine.Act.{changed, begun, swapped, dropped, looked};
 ghost use Rattle.table_rows.specs.Store.{contents_in};
 ghost use Rattle.engine.specs.MetaAfter.{meta_after, IsAfter, published_meta};
-ghost use Rattle.engine.specs.Tables.{tables_of};
-ghost use Rattle.engine.specs.Seen.{IsSound, Brought, IsCutOf, IsPartOf, update_in, published_in};
+ghost use Rattle.engine.specs.Stands.{Stands};
+ghost use Rattle.engine.specs.Tables.{no_tables, tables_of};
+ghost use Rattle.engine.specs.Seen.{IsSound, Brought, IsCutOf, IsPartOf, Lays, update_in, published_in};
 
 use crate::bring::change;
 use crate::machine::{ChangeFault, Cut, CutFault, LookFault, Report, Staged, Standing, View};
-use crate::tables::tables_of;
-use crate::updates::{Shown, cut, drop_staged, hand_in, look, swap};
+use crate::served::serve_none;
+use crate::swaps::swap;
+use crate::updates::{Shown, cut, drop_staged, hand_in, look, staged_of};
 use change_log::{ChangeLog, Limits};
 use change_requests::ChangeRequest;
 use dh_base::memory::Memory;
@@ -77,9 +78,9 @@ impl<K: Keeper> Engine<K> {
         requires empty { K.acknowledged keeper ≡ 0 }
         requires limits { AreLimits limits }
         ensures { IfOk result (λ engine. engine ≡ record
-            { state = start; limits = limits; meta = arc_value meta; acknowledged = 0; kept = K.kept keeper; faults = K.keeper_faults keeper }) }
+            { state = start; tables = no_tables; limits = limits; meta = arc_value meta; acknowledged = 0; kept = K.kept keeper; faults = K.keeper_faults keeper }) }
     {
-        let tables = tables_of(alloc, &meta, &[])?;
+        let tables = serve_none(alloc, &meta)?;
         let log = ChangeLog::new(alloc, keeper, limits);
         let shown = Shown {
             tables,
@@ -122,7 +123,6 @@ impl<K: Keeper> Engine<K> {
 
     /// Begins an update of the tables.
     pub fn cut(&mut self, alloc: Global, kind: CutKind) -> Result<Cut, CutFault>
-        requires { kind ≡ Full }
         ensures step { Step self.old.meta self.old.limits self.old.state (begun kind (update_in result)) self.new.state }
         ensures same { self.new ≡ record self.old { state = self.new.state } }
         ensures given { IfOk result (IsCutOf self.old.meta self.old.state kind) }
@@ -158,7 +158,8 @@ impl<K: Keeper> Engine<K> {
     pub fn swap(&mut self, alloc: Global, ticket: u64) -> Result<u64, Memory>
         requires { IsTrue (is_begun self.old.state ticket) }
         ensures step { Step self.old.meta self.old.limits self.old.state (swapped ticket result) self.new.state }
-        ensures same { self.new ≡ record self.old { state = self.new.state } }
+        ensures same { self.new ≡ record self.old { state = self.new.state; tables = self.new.tables } }
+        ensures laid { Lays self.old.state ticket result self.old.tables self.new.tables }
         ensures rises { IfOk result (λ number. self.old.state.published ≤ number) }
         ensures sound { IsSound self.new }
     {
@@ -186,7 +187,9 @@ impl<K: Keeper> Engine<K> {
     /// The tables, if so many changes are published.
     pub fn look(&self, asked: u64) -> Result<View, LookFault>
         ensures step { Step self.now.meta self.now.limits self.now.state (looked asked (published_in result)) self.now.state }
-        ensures tables { IfOk result (λ view. contents_in (arc_value view.tables) ≡ tables_of self.now.meta (take view.published self.now.state.log)) }
+        ensures tables { IfOk result (λ view. contents_in (arc_value view.tables).all ≡ tables_of self.now.meta (take view.published self.now.state.log)) }
+        ensures served { IfOk result (λ view. arc_value view.tables ≡ self.now.tables) }
+        ensures stands { Stands self.now.meta self.now.state.log self.now.state.base_cut self.now.state.published self.now.tables }
         ensures published { IfOk result (λ view. view.published ≡ self.now.state.published) }
     {
         look(&self.shown, asked)
@@ -203,7 +206,7 @@ impl<K: Keeper> Engine<K> {
             changes: self.log.count(),
             published: self.shown.published,
             full: ticket_of(self.shown.full),
-            latest: ticket_of(self.shown.latest),
+            latest: ticket_of(staged_of(&self.shown, CutKind::Latest)),
         }
     }
 

@@ -117,7 +117,7 @@ pub fn load(
 pub fn tables_of_all(alloc: Global, engine: &mut Engine<Unkept>) -> Result<Arc<Tables>, Memory>
     requires free { engine.old.state.full ≡ None }
     requires more { engine.old.state.ticket < engine.old.limits.updates }
-    ensures tables { IfOk result (λ tables. contents_in (arc_value tables) ≡ tables_of engine.old.meta engine.old.state.log) }
+    ensures tables { IfOk result (λ tables. contents_in (arc_value tables).all ≡ tables_of engine.old.meta engine.old.state.log) }
     ensures meta { engine.new.meta ≡ engine.old.meta }
     ensures log { engine.new.state.log ≡ engine.old.state.log }
 {

@@ -6,6 +6,8 @@ mod engine;
 mod in_memory;
 mod laws;
 pub mod machine;
+mod served;
+mod swaps;
 mod tables;
 mod updates;
 

@@ -1,15 +1,14 @@
 //! Tables of the first changes of the log.
-ghost use Rattle.std.specs.Prelude.{◌≡◌, ◌≤◌, length, map, IfOk};
+ghost use Rattle.std.specs.Prelude.{◌≡◌, ◌≤◌, length, map, take, option_map, IfOk};
 ghost use Rattle.std.specs.Arc.{arc_value};
 ghost use Rattle.std.specs.List.{All};
 ghost use Rattle.change_bytes.specs.Forms.{WriteFits};
 ghost use Rattle.change_log.specs.Log.{writes_of};
-ghost use Rattle.table_rows.specs.Store.{contents_in};
 ghost use Rattle.table_build.specs.Listed.{listed_in};
 ghost use Rattle.table_build.specs.Slots.{AreSlots};
-ghost use Rattle.year_tables.specs.Parts.{part_of};
-ghost use Rattle.engine.specs.Seen.{IsPartOf};
-ghost use Rattle.engine.specs.Tables.{tables_of};
+ghost use Rattle.year_tables.specs.Parts.{part_of, together, years_in};
+ghost use Rattle.engine.specs.Seen.{FitSlots, IsPartOf};
+ghost use Rattle.engine.specs.Tables.{served_from, tables_of, years_of};
 ghost use Rattle.dh_base.specs.declared.limits.TheConstants.{MOST_RECORDS};
 
 use dh_base::items::Items;
@@ -23,44 +22,67 @@ use std::sync::Arc;
 use table_build::by_year::build;
 use table_build::reading::Reading;
 use table_build::slots::{Slot, build_with};
+use table_latest::{Latest as LatestPart, Overlay};
 use table_rows::{EventRow, Group, RegRow, Row, RowStore, Sum};
 use year_tables::{Partition, Tables as YearTables};
 
-/// The tables, as a store of rows. How they are kept is not shown.
+/// The tables, as a store of rows: yearly parts, and a latest part over them if there is one.
 #[derive(Drop)]
 pub struct Tables {
-    store: YearTables,
+    base: Arc<YearTables>,
+    // The same under a latest part, if one lies over them.
+    over: Option<Overlay<YearTables>>,
 }
 
 impl Model for Tables {
-    ghost use Rattle.table_rows.specs.Store.{Listed};
-    ghost use Rattle.year_tables.specs.Parts.{rows_together, events_together, regs_together, years_in};
+    ghost use Rattle.std.specs.Arc.{arc_value};
+    ghost use Rattle.engine.specs.Tables.{Served, served_from};
 
-    ghost Value = { Listed };
+    ghost Value = { Served };
 
-    ghost view = { λ tables. record {
-      rows = rows_together tables.store.parts;
-      events = events_together tables.store.parts;
-      regs = regs_together tables.store.parts;
-      years = years_in tables.store.parts;
-    } };
+    ghost view = { λ tables. served_from (arc_value tables.base) tables.over };
+}
+
+impl Tables {
+    /// The yearly parts.
+    pub(crate) fn base(&self) -> &Arc<YearTables>
+        ensures { arc_value result.now ≡ self.now.base }
+    {
+        &self.base
+    }
+
+    /// The latest part over them, if there is one.
+    pub(crate) fn latest(&self) -> Option<&Arc<LatestPart>>
+        ensures { option_map (λ part. arc_value part.now) result ≡ self.now.latest }
+    {
+        match &self.over {
+            Some(over) => Some(over.latest()),
+            None => None,
+        }
+    }
 }
 
 impl RowStore for Tables {
-    ghost rows = { λ tables. tables.rows };
+    ghost rows = { λ tables. tables.all.rows };
 
-    ghost events = { λ tables. tables.events };
+    ghost events = { λ tables. tables.all.events };
 
-    ghost regs = { λ tables. tables.regs };
+    ghost regs = { λ tables. tables.all.regs };
 
-    ghost built = { λ tables. tables.years };
+    ghost built = { λ tables. tables.all.years };
 
     fn groups(&self, alloc: Global, element: u32) -> Result<Items<Group>, Memory> {
-        self.store.groups(alloc, element)
+        match &self.over {
+            Some(over) => over.groups(alloc, element),
+            None => self.base.groups(alloc, element),
+        }
     }
 
     fn range_sum(&self, group: Group, need: Need, from: u32, to: u32) -> Sum {
-        self.store.range_sum(group, need, from, to)
+        match &self.over {
+            Some(over) => over.range_sum(group, need, from, to),
+            None => self.base.range_sum(group, need, from, to),
+        }
     }
 
     fn rows_of(
@@ -71,7 +93,10 @@ impl RowStore for Tables {
         from: u32,
         to: u32,
     ) -> Result<Items<Row>, Memory> {
-        self.store.rows_of(alloc, group, need, from, to)
+        match &self.over {
+            Some(over) => over.rows_of(alloc, group, need, from, to),
+            None => self.base.rows_of(alloc, group, need, from, to),
+        }
     }
 
     fn events_of(
@@ -81,48 +106,110 @@ impl RowStore for Tables {
         from_day: i32,
         to_day: i32,
     ) -> Result<Items<EventRow>, Memory> {
-        self.store.events_of(alloc, program, from_day, to_day)
+        match &self.over {
+            Some(over) => over.events_of(alloc, program, from_day, to_day),
+            None => self.base.events_of(alloc, program, from_day, to_day),
+        }
     }
 
     fn regs_of(&self, alloc: Global, set: u32) -> Result<Items<RegRow>, Memory> {
-        self.store.regs_of(alloc, set)
+        match &self.over {
+            Some(over) => over.regs_of(alloc, set),
+            None => self.base.regs_of(alloc, set),
+        }
     }
 
     fn years(&self) -> &[i32] {
-        self.store.years()
+        match &self.over {
+            Some(over) => over.years(),
+            None => self.base.years(),
+        }
     }
 }
 
-// The tables that stand for these changes.
-#[tactic(auto, unfolding(crate::specs::Tables::tables_of))]
-pub(crate) fn tables_of(
+// The tables of these yearly parts, under a latest part if one lies over them.
+pub(crate) fn tables_from(
+    alloc: Global,
+    base: &Arc<YearTables>,
+    over: Option<Overlay<YearTables>>,
+) -> Result<Arc<Tables>, Memory>
+    ensures { IfOk result (λ tables. arc_value tables ≡ served_from (arc_value base.now) over) }
+{
+    let base = Arc::try_clone(base)?;
+    Ok(Arc::new(alloc, Tables { base, over })?)
+}
+
+// The yearly parts of these changes.
+fn base_of(
     alloc: Global,
     meta: &Metadata,
     changes: &[Arc<Change>],
-) -> Result<Arc<Tables>, Memory>
+) -> Result<Arc<YearTables>, Memory>
     requires few { length (writes_of (map arc_value changes.now)) ≤ MOST_RECORDS }
     requires fits { All WriteFits (writes_of (map arc_value changes.now)) }
-    ensures { IfOk result (λ tables. contents_in (arc_value tables) ≡ tables_of meta.now (map arc_value changes.now)) }
+    ensures parts { IfOk result (λ base. together (arc_value base).parts ≡ tables_of meta.now (map arc_value changes.now)) }
+    ensures years { IfOk result (λ base. years_in (arc_value base).parts ≡ years_of meta.now (map arc_value changes.now)) }
+    ensures base_cut { IfOk result (λ base. (arc_value base).base_cut ≡ length changes.now) }
 {
-    let store = build(alloc, meta, changes)?;
-    Ok(Arc::new(alloc, Tables { store })?)
+    let base = build(alloc, meta, changes)?;
+    Ok(Arc::new(alloc, base)?)
 }
 
 // The same, of the parts that were handed in, and of parts that are made for the other years.
-#[tactic(auto, unfolding(crate::specs::Tables::tables_of))]
-pub(crate) fn tables_with(
+fn base_with(
     alloc: Global,
     meta: &Metadata,
     changes: &[Arc<Change>],
     slots: Vec<Slot>,
-) -> Result<Arc<Tables>, Memory>
+) -> Result<Arc<YearTables>, Memory>
     requires few { length (writes_of (map arc_value changes.now)) ≤ MOST_RECORDS }
     requires fits { All WriteFits (writes_of (map arc_value changes.now)) }
     requires slots { AreSlots (listed_in meta.now (writes_of (map arc_value changes.now))) slots.items }
-    ensures { IfOk result (λ tables. contents_in (arc_value tables) ≡ tables_of meta.now (map arc_value changes.now)) }
+    ensures parts { IfOk result (λ base. together (arc_value base).parts ≡ tables_of meta.now (map arc_value changes.now)) }
+    ensures years { IfOk result (λ base. years_in (arc_value base).parts ≡ years_of meta.now (map arc_value changes.now)) }
+    ensures base_cut { IfOk result (λ base. (arc_value base).base_cut ≡ length changes.now) }
 {
-    let store = build_with(alloc, meta, changes, slots)?;
-    Ok(Arc::new(alloc, Tables { store })?)
+    let base = build_with(alloc, meta, changes, slots)?;
+    Ok(Arc::new(alloc, base)?)
+}
+
+// The yearly parts of these changes, of the parts that were handed in, if they are kept.
+fn base_by(
+    alloc: Global,
+    meta: &Metadata,
+    changes: &[Arc<Change>],
+    slots: Option<Vec<Slot>>,
+) -> Result<Arc<YearTables>, Memory>
+    requires few { length (writes_of (map arc_value changes.now)) ≤ MOST_RECORDS }
+    requires fits { All WriteFits (writes_of (map arc_value changes.now)) }
+    requires slots { FitSlots meta.now (map arc_value changes.now) slots }
+    ensures parts { IfOk result (λ base. together (arc_value base).parts ≡ tables_of meta.now (map arc_value changes.now)) }
+    ensures years { IfOk result (λ base. years_in (arc_value base).parts ≡ years_of meta.now (map arc_value changes.now)) }
+    ensures base_cut { IfOk result (λ base. (arc_value base).base_cut ≡ length changes.now) }
+{
+    match slots {
+        Some(slots) => base_with(alloc, meta, changes, slots),
+        None => base_of(alloc, meta, changes),
+    }
+}
+
+// Those of the first changes.
+pub(crate) fn base_of_first(
+    alloc: Global,
+    meta: &Metadata,
+    changes: &[Arc<Change>],
+    number: u64,
+    slots: Option<Vec<Slot>>,
+) -> Result<Arc<YearTables>, Memory>
+    requires within { number ≤ length changes.now }
+    requires few { length (writes_of (map arc_value changes.now)) ≤ MOST_RECORDS }
+    requires fits { All WriteFits (writes_of (map arc_value changes.now)) }
+    requires slots { FitSlots meta.now (take number (map arc_value changes.now)) slots }
+    ensures parts { IfOk result (λ base. together (arc_value base).parts ≡ tables_of meta.now (take number (map arc_value changes.now))) }
+    ensures years { IfOk result (λ base. years_in (arc_value base).parts ≡ years_of meta.now (take number (map arc_value changes.now))) }
+    ensures base_cut { IfOk result (λ base. (arc_value base).base_cut ≡ number) }
+{
+    base_by(alloc, meta, &changes[..number as usize], slots)
 }
 
 /// Reads changes once for the parts of all their years.

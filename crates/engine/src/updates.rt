@@ -1,5 +1,5 @@
-//! The tables that are published, and the updates that are begun.
-ghost use Rattle.std.specs.Prelude.{◌≡◌, ◌≤◌, ◌<◌, ◌^◌, ◌+◌, ◌-◌, [], IsTrue, List, length, map, take, drop, max, Some, IfOk, OnOk, OnErr, None, Ok};
+//! The tables that are served, and the updates that are begun.
+ghost use Rattle.std.specs.Prelude.{◌≡◌, ◌≤◌, ◌<◌, ◌^◌, ◌+◌, ◌-◌, List, length, map, take, drop, Some, IfOk, None};
 ghost use Rattle.std.specs.Arc.{arc_value};
 ghost use Rattle.std.specs.List.{All};
 ghost use Rattle.dh_changes.specs.declared.change.Change.{Change};
@@ -7,21 +7,21 @@ ghost use Rattle.change_bytes.specs.Forms.{WriteFits};
 ghost use Rattle.meta_parts.specs.declared.held.Records.{Records};
 ghost use Rattle.change_log.specs.Log.{writes_of};
 ghost use Rattle.change_log.specs.declared.limits.Limits.{Limits as LogLimits};
-ghost use Rattle.engine.specs.Machine.{by_kind, with_staged, has_ticket, is_begun, kind_by, number_of, number_in, published_by, after_cut, after_drop};
-ghost use Rattle.table_rows.specs.Store.{Listed, contents_in};
+ghost use Rattle.engine.specs.Machine.{by_kind, has_ticket, kind_by, number_in, after_drop};
 ghost use Rattle.table_build.specs.Listed.{listed_in};
 ghost use Rattle.table_build.specs.Slots.{AreSlots};
-ghost use Rattle.year_tables.specs.Parts.{part_of};
 ghost use Rattle.record_index.specs.Facts.{facts_in};
 ghost use Rattle.record_index.specs.World.{facts};
 ghost use Rattle.engine.specs.Tables.{tables_of, years_of};
+ghost use Rattle.table_rows.specs.Store.{contents_in};
 ghost use Rattle.engine.specs.Histories.{IsInOrder};
-ghost use Rattle.engine.specs.Seen.{state_of, update_in, published_in, IsCutOf, IsPartOf, FitSlots, HaveSlots, refused_by, spent_of, Cuts, Swaps, Looks};
-ghost use Rattle.dh_base.specs.declared.plain.CutKind.TheVariants.{Full};
+ghost use Rattle.engine.specs.Seen.{state_of, staged_latest, update_in, published_in, IsCutOf, IsPartOf, FitSlots, Shows, refused_by, spent_of, Cuts, Looks};
+ghost use Rattle.dh_base.specs.declared.plain.CutKind.TheVariants.{Full, Latest};
 ghost use Rattle.dh_base.specs.declared.limits.TheConstants.{MOST_RECORDS, MOST_UPDATES};
 
 use crate::machine::{Cut, CutFault, LookFault, Staged, View};
-use crate::tables::{Tables, tables_of, tables_with};
+use crate::served::latest_part;
+use crate::tables::Tables;
 use change_log::Limits;
 use dh_base::items::Items;
 use dh_base::memory::Memory;
@@ -32,19 +32,27 @@ use record_index::world::World;
 use std::alloc::Global;
 use std::sync::Arc;
 use table_build::slots::{Plan, Slot, plan_of, put_part};
+use table_latest::Latest as LatestPart;
 use year_tables::Partition;
+
+/// A latest update that is begun, with its part.
+#[derive(Drop)]
+pub(crate) struct LatestUpdate {
+    pub(crate) staged: Staged,
+    pub(crate) part: Arc<LatestPart>,
+}
 
 #[derive(Drop)]
 pub(crate) struct Shown {
     pub(crate) tables: Arc<Tables>,
     // How many changes the tables stand for.
     pub(crate) published: u64,
-    // How many changes the last full update stood for.
+    // How many changes the yearly parts stand for.
     pub(crate) base_cut: u64,
     // The last ticket that was given.
     pub(crate) ticket: u64,
     pub(crate) full: Option<Staged>,
-    pub(crate) latest: Option<Staged>,
+    pub(crate) latest: Option<LatestUpdate>,
     // The years of the full update, with the parts that were handed in.
     pub(crate) slots: Option<Vec<Slot>>,
 }
@@ -71,61 +79,37 @@ fn copied_after(
     copied(alloc, &changes[first as usize..])
 }
 
+fn staged_latest(latest: &Option<LatestUpdate>) -> Option<Staged>
+    ensures { result ≡ staged_latest latest.now }
+{
+    match latest {
+        Some(update) => Some(update.staged),
+        None => None,
+    }
+}
+
 // The update of a kind that is begun.
-fn staged_of(shown: &Shown, kind: CutKind) -> Option<Staged>
-    ensures { result ≡ by_kind kind shown.now.full shown.now.latest }
+pub(crate) fn staged_of(shown: &Shown, kind: CutKind) -> Option<Staged>
+    ensures { result ≡ by_kind kind shown.now.full (staged_latest shown.now.latest) }
 {
     match kind {
         CutKind::Full => shown.full,
-        CutKind::Latest => shown.latest,
+        CutKind::Latest => staged_latest(&shown.latest),
     }
 }
 
-fn set_staged(shown: &mut Shown, kind: CutKind, staged: Option<Staged>, slots: Option<Vec<Slot>>)
-    ensures { shown.new ≡ record shown.old {
-      full = by_kind kind staged shown.old.full;
-      latest = by_kind kind shown.old.latest staged;
-      slots = by_kind kind slots shown.old.slots;
-    } }
-{
-    match kind {
-        CutKind::Full => {
-            shown.full = staged;
-            shown.slots = slots;
-        }
-        CutKind::Latest => shown.latest = staged,
-    }
-}
-
-// The years of an update, each with a slot for its part: of a full update those in which the log leaves something.
+// The years in which the log leaves something, each with a slot for its part.
 fn plan_for(
     alloc: Global,
     meta: &Metadata,
     world: &World,
     changes: &[Arc<Change>],
-    kind: CutKind,
 ) -> Result<Plan, Memory>
     requires { facts world.now ≡ facts_in (writes_of (map arc_value changes.now)) }
-    ensures years { IfOk result (λ plan. plan.years ≡ by_kind kind (years_of meta.now (map arc_value changes.now)) []) }
-    ensures slots { IfOk result (λ plan. kind ≡ Full → AreSlots (listed_in meta.now (writes_of (map arc_value changes.now))) plan.slots.items) }
+    ensures years { IfOk result (λ plan. plan.years ≡ years_of meta.now (map arc_value changes.now)) }
+    ensures slots { IfOk result (λ plan. AreSlots (listed_in meta.now (writes_of (map arc_value changes.now))) plan.slots.items) }
 {
-    match kind {
-        CutKind::Full => plan_of(alloc, meta, world, changes),
-        CutKind::Latest => Ok(Plan {
-            years: Items::new(alloc),
-            slots: Vec::new(alloc),
-        }),
-    }
-}
-
-// How many changes the yearly tables stand for, if the update needs only those after them.
-fn first_for(shown: &Shown, kind: CutKind) -> u64
-    ensures { result ≡ by_kind kind 0 shown.now.base_cut }
-{
-    match kind {
-        CutKind::Full => 0,
-        CutKind::Latest => shown.base_cut,
-    }
+    plan_of(alloc, meta, world, changes)
 }
 
 // Why no update may be begun.
@@ -150,24 +134,117 @@ fn spent(ticket: u64, limit: u64) -> Option<CutFault>
     }
 }
 
-// Begins an update with the next ticket.
-fn stage(shown: &mut Shown, kind: CutKind, number: u64, slots: Vec<Slot>) -> u64
+// Begins a full update with the next ticket.
+fn stage_full(shown: &mut Shown, number: u64, slots: Vec<Slot>) -> u64
     requires { shown.old.ticket < 2 ^ 64 - 1 }
     ensures ticket { result ≡ shown.old.ticket + 1 }
-    ensures staged { (log : List Change)
-        → state_of log shown.new ≡ after_cut (state_of log shown.old) kind (Ok (record { ticket = shown.old.ticket + 1; number = number })) }
-    ensures published { shown.new.published ≡ shown.old.published }
-    ensures tables { shown.new.tables ≡ shown.old.tables }
-    ensures kept { (meta : Records) → (log : List Change) → (kind ≡ Full → AreSlots (listed_in meta (writes_of (take number log))) slots.items)
-        → HaveSlots meta log shown.old → HaveSlots meta log shown.new }
+    ensures new { shown.new ≡ record shown.old {
+      ticket = shown.old.ticket + 1;
+      full = Some (record { ticket = shown.old.ticket + 1; number = number });
+      slots = Some slots;
+    } }
 {
     let ticket = shown.ticket + 1;
     shown.ticket = ticket;
-    set_staged(shown, kind, Some(Staged { ticket, number }), Some(slots));
+    shown.full = Some(Staged { ticket, number });
+    shown.slots = Some(slots);
     ticket
 }
 
-#[tactic(auto, using(crate::proofs::Orders::refused_cuts, crate::proofs::SlotLemmas::cut_given))]
+// Begins a latest update with the next ticket.
+fn stage_latest(shown: &mut Shown, number: u64, part: Arc<LatestPart>) -> u64
+    requires { shown.old.ticket < 2 ^ 64 - 1 }
+    ensures ticket { result ≡ shown.old.ticket + 1 }
+    ensures new { shown.new ≡ record shown.old {
+      ticket = shown.old.ticket + 1;
+      latest = Some (record { staged = record { ticket = shown.old.ticket + 1; number = number }; part = part });
+    } }
+{
+    let ticket = shown.ticket + 1;
+    shown.ticket = ticket;
+    shown.latest = Some(LatestUpdate {
+        staged: Staged { ticket, number },
+        part,
+    });
+    ticket
+}
+
+fn begin_full(
+    alloc: Global,
+    shown: &mut Shown,
+    limits: &Limits,
+    meta: &Metadata,
+    world: &World,
+    changes: &[Arc<Change>],
+) -> Result<Cut, CutFault>
+    requires order { IsInOrder limits.now (state_of (map arc_value changes.now) shown.old) }
+    requires limits { limits.now.updates ≤ MOST_UPDATES }
+    requires free { refused_by shown.old.full shown.old.ticket limits.now.updates ≡ None }
+    requires world { facts world.now ≡ facts_in (writes_of (map arc_value changes.now)) }
+    requires few { length (writes_of (map arc_value changes.now)) ≤ MOST_RECORDS }
+    requires fits { All WriteFits (writes_of (map arc_value changes.now)) }
+    requires shows { Shows meta.now (map arc_value changes.now) shown.old }
+    ensures step { Cuts limits.now (state_of (map arc_value changes.now) shown.old) Full (update_in result) (state_of (map arc_value changes.now) shown.new) }
+    ensures given { IfOk result (IsCutOf meta.now (state_of (map arc_value changes.now) shown.old) Full) }
+    ensures shows { Shows meta.now (map arc_value changes.now) shown.new }
+    ensures tables { shown.new.tables ≡ shown.old.tables }
+{
+    let Ok(copy) = copied_after(alloc, changes, 0) else {
+        return Err(CutFault::Memory);
+    };
+    let Ok(Plan { years, slots }) = plan_for(alloc, meta, world, changes) else {
+        return Err(CutFault::Memory);
+    };
+    let number = changes.len() as u64;
+    let ticket = stage_full(shown, number, slots);
+    Ok(Cut {
+        ticket,
+        kind: CutKind::Full,
+        number,
+        years,
+        changes: copy,
+    })
+}
+
+// The part of a latest update is made at its cut, of what the log records now.
+fn begin_latest(
+    alloc: Global,
+    shown: &mut Shown,
+    limits: &Limits,
+    meta: &Metadata,
+    world: &World,
+    changes: &[Arc<Change>],
+) -> Result<Cut, CutFault>
+    requires order { IsInOrder limits.now (state_of (map arc_value changes.now) shown.old) }
+    requires limits { limits.now.updates ≤ MOST_UPDATES }
+    requires free { refused_by (staged_latest shown.old.latest) shown.old.ticket limits.now.updates ≡ None }
+    requires world { facts world.now ≡ facts_in (writes_of (map arc_value changes.now)) }
+    requires few { length (writes_of (map arc_value changes.now)) ≤ MOST_RECORDS }
+    requires fits { All WriteFits (writes_of (map arc_value changes.now)) }
+    requires shows { Shows meta.now (map arc_value changes.now) shown.old }
+    ensures step { Cuts limits.now (state_of (map arc_value changes.now) shown.old) Latest (update_in result) (state_of (map arc_value changes.now) shown.new) }
+    ensures given { IfOk result (IsCutOf meta.now (state_of (map arc_value changes.now) shown.old) Latest) }
+    ensures shows { Shows meta.now (map arc_value changes.now) shown.new }
+    ensures tables { shown.new.tables ≡ shown.old.tables }
+{
+    let Ok(copy) = copied_after(alloc, changes, shown.base_cut) else {
+        return Err(CutFault::Memory);
+    };
+    let Ok(part) = latest_part(alloc, meta, world, changes, shown.tables.base()) else {
+        return Err(CutFault::Memory);
+    };
+    let number = changes.len() as u64;
+    let ticket = stage_latest(shown, number, part);
+    Ok(Cut {
+        ticket,
+        kind: CutKind::Latest,
+        number,
+        years: Items::new(alloc),
+        changes: copy,
+    })
+}
+
+#[tactic(auto, using(crate::proofs::Orders::refused_cuts))]
 fn begin(
     alloc: Global,
     shown: &mut Shown,
@@ -182,30 +259,19 @@ fn begin(
     requires world { facts world.now ≡ facts_in (writes_of (map arc_value changes.now)) }
     requires few { length (writes_of (map arc_value changes.now)) ≤ MOST_RECORDS }
     requires fits { All WriteFits (writes_of (map arc_value changes.now)) }
+    requires shows { Shows meta.now (map arc_value changes.now) shown.old }
     ensures step { Cuts limits.now (state_of (map arc_value changes.now) shown.old) kind (update_in result) (state_of (map arc_value changes.now) shown.new) }
-    ensures same { shown.new.tables ≡ shown.old.tables }
-    ensures published { shown.new.published ≡ shown.old.published }
     ensures given { IfOk result (IsCutOf meta.now (state_of (map arc_value changes.now) shown.old) kind) }
-    ensures kept { HaveSlots meta.now (map arc_value changes.now) shown.old → HaveSlots meta.now (map arc_value changes.now) shown.new }
+    ensures shows { Shows meta.now (map arc_value changes.now) shown.new }
+    ensures tables { shown.new.tables ≡ shown.old.tables }
 {
     if let Some(fault) = refusal(staged_of(shown, kind), shown.ticket, limits.updates) {
         return Err(fault);
     }
-    let Ok(copy) = copied_after(alloc, changes, first_for(shown, kind)) else {
-        return Err(CutFault::Memory);
-    };
-    let Ok(Plan { years, slots }) = plan_for(alloc, meta, world, changes, kind) else {
-        return Err(CutFault::Memory);
-    };
-    let number = changes.len() as u64;
-    let ticket = stage(shown, kind, number, slots);
-    Ok(Cut {
-        ticket,
-        kind,
-        number,
-        years,
-        changes: copy,
-    })
+    match kind {
+        CutKind::Full => begin_full(alloc, shown, limits, meta, world, changes),
+        CutKind::Latest => begin_latest(alloc, shown, limits, meta, world, changes),
+    }
 }
 
 #[tactic(auto, using(crate::proofs::Orders::cuts_in_order))]
@@ -223,12 +289,12 @@ pub(crate) fn cut(
     requires world { facts world.now ≡ facts_in (writes_of (map arc_value changes.now)) }
     requires few { length (writes_of (map arc_value changes.now)) ≤ MOST_RECORDS }
     requires fits { All WriteFits (writes_of (map arc_value changes.now)) }
-    ensures step { Cuts limits.now (state_of (map arc_value changes.now) shown.old) kind (update_in result) (state_of (map arc_value changes.now) shown.new) }
+    requires shows { Shows meta.now (map arc_value changes.now) shown.old }
     ensures order { IsInOrder limits.now (state_of (map arc_value changes.now) shown.new) }
-    ensures same { shown.new.tables ≡ shown.old.tables }
-    ensures published { shown.new.published ≡ shown.old.published }
+    ensures step { Cuts limits.now (state_of (map arc_value changes.now) shown.old) kind (update_in result) (state_of (map arc_value changes.now) shown.new) }
     ensures given { IfOk result (IsCutOf meta.now (state_of (map arc_value changes.now) shown.old) kind) }
-    ensures kept { HaveSlots meta.now (map arc_value changes.now) shown.old → HaveSlots meta.now (map arc_value changes.now) shown.new }
+    ensures shows { Shows meta.now (map arc_value changes.now) shown.new }
+    ensures tables { shown.new.tables ≡ shown.old.tables }
 {
     begin(alloc, shown, limits, meta, world, changes, kind)
 }
@@ -254,7 +320,7 @@ fn has_ticket(staged: Option<Staged>, ticket: u64) -> bool
     }
 }
 
-fn kind_of(shown: &Shown, ticket: u64) -> CutKind
+pub(crate) fn kind_of(shown: &Shown, ticket: u64) -> CutKind
     ensures { result ≡ kind_by ticket shown.now.full }
 {
     if has_ticket(shown.full, ticket) {
@@ -264,150 +330,13 @@ fn kind_of(shown: &Shown, ticket: u64) -> CutKind
     }
 }
 
-fn number_in(staged: Option<Staged>) -> u64
+pub(crate) fn number_in(staged: Option<Staged>) -> u64
     ensures { result ≡ number_in staged }
 {
     match staged {
         Some(update) => update.number,
         None => 0,
     }
-}
-
-// How many changes the last full update stands for, after one of this kind.
-fn set_base_cut(shown: &mut Shown, kind: CutKind, number: u64)
-    ensures { shown.new ≡ record shown.old { base_cut = by_kind kind number shown.old.base_cut } }
-{
-    match kind {
-        CutKind::Full => shown.base_cut = number,
-        CutKind::Latest => (),
-    }
-}
-
-// Publishes tables that stand for so many changes.
-fn publish(shown: &mut Shown, tables: Arc<Tables>, kind: CutKind, number: u64, published: u64)
-    ensures tables { shown.new.tables ≡ tables }
-    ensures published { shown.new.published ≡ published }
-    ensures state { (log : List Change) → state_of log shown.new ≡ with_staged (published_by (state_of log shown.old) kind number published) kind None }
-    ensures kept { (meta : Records) → (log : List Change) → HaveSlots meta log shown.old → HaveSlots meta log shown.new }
-{
-    shown.tables = tables;
-    shown.published = published;
-    set_base_cut(shown, kind, number);
-    set_staged(shown, kind, None, None);
-}
-
-// The tables of the changes, of the parts that were handed in, if they are kept.
-fn tables_by(
-    alloc: Global,
-    meta: &Metadata,
-    changes: &[Arc<Change>],
-    slots: Option<Vec<Slot>>,
-) -> Result<Arc<Tables>, Memory>
-    requires few { length (writes_of (map arc_value changes.now)) ≤ MOST_RECORDS }
-    requires fits { All WriteFits (writes_of (map arc_value changes.now)) }
-    requires slots { FitSlots meta.now (map arc_value changes.now) slots }
-    ensures { IfOk result (λ tables. contents_in (arc_value tables) ≡ tables_of meta.now (map arc_value changes.now)) }
-{
-    match slots {
-        Some(slots) => tables_with(alloc, meta, changes, slots),
-        None => tables_of(alloc, meta, changes),
-    }
-}
-
-// The tables of the first changes.
-fn tables_of_first(
-    alloc: Global,
-    meta: &Metadata,
-    changes: &[Arc<Change>],
-    number: u64,
-    slots: Option<Vec<Slot>>,
-) -> Result<Arc<Tables>, Memory>
-    requires within { number ≤ length changes.now }
-    requires few { length (writes_of (map arc_value changes.now)) ≤ MOST_RECORDS }
-    requires fits { All WriteFits (writes_of (map arc_value changes.now)) }
-    requires slots { FitSlots meta.now (take number (map arc_value changes.now)) slots }
-    ensures { IfOk result (λ tables. contents_in (arc_value tables) ≡ tables_of meta.now (take number (map arc_value changes.now))) }
-{
-    tables_by(alloc, meta, &changes[..number as usize], slots)
-}
-
-// Takes out the slots of the full update, if it stands for so many changes.
-fn take_slots(shown: &mut Shown, number: u64) -> Option<Vec<Slot>>
-    ensures same { shown.new ≡ record shown.old { slots = shown.new.slots } }
-    ensures fit { (meta : Records) → (log : List Change) → HaveSlots meta log shown.old → FitSlots meta (take number log) result }
-    ensures kept { (meta : Records) → (log : List Change) → HaveSlots meta log shown.old → HaveSlots meta log shown.new }
-{
-    let Some(update) = shown.full else {
-        return None;
-    };
-    if update.number == number {
-        shown.slots.take()
-    } else {
-        None
-    }
-}
-
-// Those from which the tables of an update of this kind are made.
-fn slots_for(shown: &mut Shown, kind: CutKind, number: u64) -> Option<Vec<Slot>>
-    ensures same { shown.new ≡ record shown.old { slots = shown.new.slots } }
-    ensures fit { (meta : Records) → (log : List Change) → HaveSlots meta log shown.old → FitSlots meta (take number log) result }
-    ensures kept { (meta : Records) → (log : List Change) → HaveSlots meta log shown.old → HaveSlots meta log shown.new }
-{
-    match kind {
-        CutKind::Full => take_slots(shown, number),
-        CutKind::Latest => None,
-    }
-}
-
-fn swap_in(
-    alloc: Global,
-    shown: &mut Shown,
-    meta: &Metadata,
-    changes: &[Arc<Change>],
-    ticket: u64,
-) -> Result<u64, Memory>
-    requires begun { IsTrue (is_begun (state_of (map arc_value changes.now) shown.old) ticket) }
-    requires there { max shown.old.published (number_of (state_of (map arc_value changes.now) shown.old) ticket) ≤ length changes.now }
-    requires few { length (writes_of (map arc_value changes.now)) ≤ MOST_RECORDS }
-    requires fits { All WriteFits (writes_of (map arc_value changes.now)) }
-    requires slots { HaveSlots meta.now (map arc_value changes.now) shown.old }
-    ensures step { Swaps (state_of (map arc_value changes.now) shown.old) ticket result (state_of (map arc_value changes.now) shown.new) }
-    ensures tables { OnOk result (contents_in (arc_value shown.new.tables) ≡ tables_of meta.now (take shown.new.published (map arc_value changes.now))) }
-    ensures err { OnErr result (shown.new ≡ record shown.old { slots = shown.new.slots }) }
-    ensures kept { HaveSlots meta.now (map arc_value changes.now) shown.new }
-{
-    let kind = kind_of(shown, ticket);
-    let number = number_in(staged_of(shown, kind));
-    let published = shown.published.max(number);
-    let slots = slots_for(shown, kind, published);
-    let tables = tables_of_first(alloc, meta, changes, published, slots)?;
-    publish(shown, tables, kind, number, published);
-    Ok(published)
-}
-
-#[tactic(auto, using(crate::proofs::Orders::swap_is_there, crate::proofs::Orders::swaps_in_order, crate::proofs::Orders::swap_rises))]
-pub(crate) fn swap(
-    alloc: Global,
-    shown: &mut Shown,
-    meta: &Metadata,
-    limits: &Limits,
-    changes: &[Arc<Change>],
-    ticket: u64,
-) -> Result<u64, Memory>
-    requires order { IsInOrder limits.now (state_of (map arc_value changes.now) shown.old) }
-    requires begun { IsTrue (is_begun (state_of (map arc_value changes.now) shown.old) ticket) }
-    requires few { length (writes_of (map arc_value changes.now)) ≤ MOST_RECORDS }
-    requires fits { All WriteFits (writes_of (map arc_value changes.now)) }
-    requires slots { HaveSlots meta.now (map arc_value changes.now) shown.old }
-    ensures step { Swaps (state_of (map arc_value changes.now) shown.old) ticket result (state_of (map arc_value changes.now) shown.new) }
-    ensures order { IsInOrder limits.now (state_of (map arc_value changes.now) shown.new) }
-    ensures tables { OnOk result (contents_in (arc_value shown.new.tables) ≡ tables_of meta.now (take shown.new.published (map arc_value changes.now))) }
-    ensures err { OnErr result (shown.new ≡ record shown.old { slots = shown.new.slots }) }
-    ensures kept { HaveSlots meta.now (map arc_value changes.now) shown.new }
-    ensures rises { IfOk result (λ number. shown.old.published ≤ number) }
-{
-    let _limits = limits;
-    swap_in(alloc, shown, meta, changes, ticket)
 }
 
 // The tables that are published, with the number of the changes for which they stand.
@@ -422,8 +351,9 @@ fn view_of(shown: &Shown) -> Result<View, Memory>
 
 pub(crate) fn look(shown: &Shown, asked: u64) -> Result<View, LookFault>
     ensures step { (log : List Change) → Looks (state_of log shown.now) asked (published_in result) }
-    ensures tables { (meta : Records) → (log : List Change) → contents_in (arc_value shown.now.tables) ≡ tables_of meta (take shown.now.published log)
-        → IfOk result (λ view. contents_in (arc_value view.tables) ≡ tables_of meta (take view.published log)) }
+    ensures tables { (meta : Records) → (log : List Change) → contents_in (arc_value shown.now.tables).all ≡ tables_of meta (take shown.now.published log)
+        → IfOk result (λ view. contents_in (arc_value view.tables).all ≡ tables_of meta (take view.published log)) }
+    ensures served { IfOk result (λ view. arc_value view.tables ≡ arc_value shown.now.tables) }
     ensures published { IfOk result (λ view. view.published ≡ shown.now.published) }
 {
     if shown.published < asked {
@@ -437,24 +367,39 @@ pub(crate) fn look(shown: &Shown, asked: u64) -> Result<View, LookFault>
     }
 }
 
-// Takes away the update with this ticket, and the parts that were handed in for it.
-fn take_away(shown: &mut Shown, ticket: u64)
-    ensures tables { shown.new.tables ≡ shown.old.tables }
-    ensures published { shown.new.published ≡ shown.old.published }
-    ensures state { (log : List Change) → state_of log shown.new ≡ after_drop (state_of log shown.old) ticket }
-    ensures kept { (meta : Records) → (log : List Change) → HaveSlots meta log shown.old → HaveSlots meta log shown.new }
+// Takes away the full update, and the parts that were handed in for it.
+fn end_full(shown: &mut Shown)
+    ensures { shown.new ≡ record shown.old { full = None; slots = None } }
 {
-    let kind = kind_of(shown, ticket);
-    set_staged(shown, kind, None, None);
+    shown.full = None;
+    shown.slots = None;
 }
 
+// Takes away the latest update, with its part.
+pub(crate) fn end_latest(shown: &mut Shown)
+    ensures { shown.new ≡ record shown.old { latest = None } }
+{
+    shown.latest = None;
+}
+
+fn take_away(shown: &mut Shown, ticket: u64)
+    ensures state { (log : List Change) → state_of log shown.new ≡ after_drop (state_of log shown.old) ticket }
+    ensures shows { (meta : Records) → (log : List Change) → Shows meta log shown.old → Shows meta log shown.new }
+    ensures tables { shown.new.tables ≡ shown.old.tables }
+{
+    match kind_of(shown, ticket) {
+        CutKind::Full => end_full(shown),
+        CutKind::Latest => end_latest(shown),
+    }
+}
+
+// Takes away the update with this ticket.
 #[tactic(auto, using(crate::proofs::Orders::drop_in_order))]
 pub(crate) fn drop_staged(shown: &mut Shown, ticket: u64)
-    ensures tables { shown.new.tables ≡ shown.old.tables }
-    ensures published { shown.new.published ≡ shown.old.published }
     ensures state { (log : List Change) → state_of log shown.new ≡ after_drop (state_of log shown.old) ticket }
     ensures order { (limits : LogLimits) → (log : List Change) → IsInOrder limits (state_of log shown.old) → IsInOrder limits (state_of log shown.new) }
-    ensures kept { (meta : Records) → (log : List Change) → HaveSlots meta log shown.old → HaveSlots meta log shown.new }
+    ensures shows { (meta : Records) → (log : List Change) → Shows meta log shown.old → Shows meta log shown.new }
+    ensures tables { shown.new.tables ≡ shown.old.tables }
 {
     take_away(shown, ticket);
 }

@@ -55,7 +55,7 @@ use Rattle.latest_build.proofs.ListLemmas.{changed-is, from-contains, same-is}
 
 -- ---- the orders of keys tell all keys apart
 
-one-place : IsAntisymmetric place_cmp
+pub one-place : IsAntisymmetric place_cmp
 one-place a b e = same-place a b (ap is_eq e)
 
 one-reg_place : IsAntisymmetric reg_place_cmp
@@ -73,7 +73,7 @@ given-all (id ∷ ids) = ap (λ v. id ∷ v) (given-all ids)
 
 -- each list of keys is in its order
 
-places-ordered : (r : Records) (facts : Facts) (keys : List ValueKey) → IsStrictlySortedBy place_cmp (value_places r facts keys)
+pub places-ordered : (r : Records) (facts : Facts) (keys : List ValueKey) → IsStrictlySortedBy place_cmp (value_places r facts keys)
 unfolding value_places
 places-ordered r facts keys = in_order-sorted place_cmp (λ (p : RowPlace). p) place_total one-place (filter_map (value_place r facts) keys)
 

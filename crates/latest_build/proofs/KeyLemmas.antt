@@ -70,13 +70,13 @@ unit-one r facts stands a b n m left right same =
 
 -- ---- values
 
-record Objects (r : Records) (key : ValueKey) (o : ValueObjects) : Type 0 where
-  element : find_of r DataElement key.element ≡ Some o.element
-  unit : find_of r OrganisationUnit key.unit ≡ Some o.unit
-  combo : find_of r CategoryOptionCombo key.combo ≡ Some o.combo
-  attribute : find_of r CategoryOptionCombo key.attribute ≡ Some o.attribute
+pub record Objects (r : Records) (key : ValueKey) (o : ValueObjects) : Type 0 where
+  pub element : find_of r DataElement key.element ≡ Some o.element
+  pub unit : find_of r OrganisationUnit key.unit ≡ Some o.unit
+  pub combo : find_of r CategoryOptionCombo key.combo ≡ Some o.combo
+  pub attribute : find_of r CategoryOptionCombo key.attribute ≡ Some o.attribute
 
-objects-parts : (r : Records) (key : ValueKey) (o : ValueObjects) → values.objects_of r key ≡ Some o → Objects r key o
+pub objects-parts : (r : Records) (key : ValueKey) (o : ValueObjects) → values.objects_of r key ≡ Some o → Objects r key o
 unfolding values.objects_of
 objects-parts r key o e =
     let element = and_then-some _ (find_of r DataElement key.element) o e in

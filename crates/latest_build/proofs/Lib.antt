@@ -2,6 +2,9 @@ pub mod ListLemmas
 pub mod NamedLemmas
 pub mod KeyLemmas
 pub mod CoverLemmas
-pub mod PlainLemmas
-pub mod OverLemmas
+pub mod DecidedLemmas
 pub mod TrackerLemmas
+pub mod FoundLemmas
+pub mod KeptLemmas
+pub mod LeadLemmas
+pub mod OverLemmas

@@ -1,10 +1,12 @@
 -- Tables of a log under a latest part that leads to those of a longer one.
-use Rattle.std.proofs.Common.{◌≡◌, ◌∙◌, ℕ, ℤ, ◌<◌, ◌≤◌, ◌^◌, true, List, length, sym, ap, subst, arith}
+use Rattle.std.proofs.Common.{◌≡◌, ◌∙◌, ℕ, ℤ, ◌<◌, ◌≤◌, ◌^◌, true, List, length, map, take, sym, ap, subst, arith}
 use Rattle.std.specs.Prelude.{nat_lt}
 use Rattle.std.specs.List.{list_all}
 use Rattle.std.specs.Ordering.{int_cmp}
 use Rattle.std.proofs.lemmas.Bool.{and_from}
 use Rattle.std.proofs.lemmas.Bool.Decides.{nat_tests}
+use Rattle.std.proofs.lemmas.List.{length-map, take-map}
+use Rattle.dh_changes.specs.declared.change.Change.{Change}
 use Rattle.dh_changes.specs.declared.change.Write.{Write}
 use Rattle.dh_changes.specs.declared.keys.ValueKey.{ValueKey}
 use Rattle.org_tree.specs.Units.{IsTree}
@@ -18,7 +20,7 @@ use Rattle.table_rows.specs.Store.{Contents, Listed, contents_in, is_store, rise
 use Rattle.table_rows.proofs.StoreLemmas.{store-holds}
 use Rattle.year_tables.proofs.AscendingLemmas.{every-to}
 use Rattle.table_build.specs.Listed.{listed_in}
-use Rattle.table_build.specs.Log.{is_of_days, values_named}
+use Rattle.table_build.specs.Log.{is_of_days, values_named, writes_of}
 use Rattle.table_build.specs.Values as values
 use Rattle.table_build.proofs.EachLemmas.{list_all-each}
 use Rattle.table_build.proofs.KeyLemmas.{StandsTree, rows-own}
@@ -26,8 +28,9 @@ use Rattle.table_build.proofs.MemberLemmas.{IsIn, each-member}
 use Rattle.table_build.proofs.StoreLemmas.{listed-store}
 use Rattle.table_latest.specs.Latest.{LatestPart, is_in_reach}
 use Rattle.table_latest.specs.Later.{Bridges, LeadsTo}
+use Rattle.latest_build.specs.Leads.{LeadsFrom}
 use Rattle.latest_build.proofs.KeyLemmas.{row-order, rows-list}
-use Rattle.latest_build.proofs.PlainLemmas.{units-same}
+use Rattle.latest_build.proofs.KeptLemmas.{units-same}
 
 in-reach : (order count : ℕ) → order < count → count < 2 ^ 32 → nat_lt order 4294967295 ≡ true
 in-reach order count below few = let less : order < 4294967295 = omega (arith, below, few) in grind (arith, nat_tests, less)
@@ -75,3 +78,22 @@ log-bridges r facts is_tree numbers writes before few days base latest store is 
           (whole-store r facts stands writes few days) (store-holds base.rows base.events base.regs base.years store).years_rise;
       reach = ap (λ (all : Contents). list_all is_in_reach all.rows) is ∙ base-reach r facts stands before;
     }
+
+-- ---- by the changes
+
+on-cut : {A : Type 0} (of : A → Change) (r : Records) (cut : ℕ) (changes : List A)
+    → contents_in (listed_in r (writes_of (map of (take cut changes)))) ≡ contents_in (listed_in r (writes_of (take cut (map of changes))))
+on-cut of r cut changes = ap (λ (l : List Change). contents_in (listed_in r (writes_of l))) (sym (take-map of cut changes))
+
+-- tables of the first changes, as many as the part comes from or more, under the part
+pub part-bridges : {A : Type 0} (of : A → Change) (r : Records) (changes : List A) (base : Listed) (cut : ℕ) (latest : LatestPart) → ((log : Facts)
+    → IsTree (tree log r)) → ((log : Facts) → length (tree log r) ≡ length r.organisation_units) → length (writes_of (map of changes)) ≤ 4194304
+    → list_all is_of_days (writes_of (map of changes)) ≡ true → is_store base.rows base.events base.regs base.years ≡ true
+    → contents_in base ≡ contents_in (listed_in r (writes_of (map of (take cut changes)))) → latest.from ≤ cut → cut ≤ length changes
+    → LeadsFrom r (map of changes) latest → Bridges base latest (contents_in (listed_in r (writes_of (map of changes))))
+part-bridges of r changes base cut latest stands numbers few days store is from within leads =
+    let writes = writes_of (map of changes) in
+    let before : contents_in base ≡ contents_in (listed_in r (writes_of (take cut (map of changes)))) = is ∙ on-cut of r cut changes in
+    let led = leads cut from (subst (λ n. cut ≤ n) (sym (length-map changes of)) within) in
+    log-bridges r (facts_in writes) (stands (facts_in writes)) (numbers (facts_in writes)) writes (writes_of (take cut (map of changes))) few days base latest
+    store before (subst (λ (all : Contents). LeadsTo all latest (contents_in (listed_in r writes))) (sym before) led)

@@ -33,7 +33,7 @@ use Rattle.latest_build.proofs.ListLemmas.{to-filter}
 
 -- ---- gathered lists
 
-gathered-append : {A B : Type 0} (f : A → List B) (xs ys : List A) → gathered f (xs ++ ys) ≡ gathered f xs ++ gathered f ys
+pub gathered-append : {A B : Type 0} (f : A → List B) (xs ys : List A) → gathered f (xs ++ ys) ≡ gathered f xs ++ gathered f ys
 gathered-append f [] ys = refl
 gathered-append f (x ∷ xs) ys = ap (λ v. f x ++ v) (gathered-append f xs ys) ∙ sym (append_assoc (f x) (gathered f xs) (gathered f ys))
 
@@ -64,7 +64,7 @@ pub in-right : {A : Type 0} (x : A) (xs ys : List A) → IsIn x ys → IsIn x (x
 in-right x [] ys there = there
 in-right x (z ∷ zs) ys there = inr (in-right x zs ys there)
 
-in-gathered : {A B : Type 0} (f : A → List B) (a : A) (b : B) (xs : List A) → IsIn a xs → IsIn b (f a) → IsIn b (gathered f xs)
+pub in-gathered : {A B : Type 0} (f : A → List B) (a : A) (b : B) (xs : List A) → IsIn a xs → IsIn b (f a) → IsIn b (gathered f xs)
 in-gathered f a b [] none there = absurd none
 in-gathered f a b (x ∷ xs) (inl e) there = in-left b (f x) (gathered f xs) (subst (λ (y : _). IsIn b (f y)) e there)
 in-gathered f a b (x ∷ xs) (inr more) there = in-right b (f x) (gathered f xs) (in-gathered f a b xs more there)

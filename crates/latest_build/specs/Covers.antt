@@ -1,7 +1,5 @@
 -- Keys that hold all that changes moved.
-use Rattle.std.specs.Prelude.{◌≡◌, ℕ, Bool, true, false, List, Contains}
-use Rattle.dh_changes.specs.declared.change.Write.{Write}
-use Rattle.dh_changes.specs.declared.change.Write.TheVariants as write
+use Rattle.std.specs.Prelude.{◌≡◌, ℕ, List, Contains}
 use Rattle.dh_changes.specs.declared.keys.ValueKey.{ValueKey}
 use Rattle.dh_changes.specs.declared.keys.RegKey.{RegKey}
 use Rattle.meta_parts.specs.declared.held.Records.{Records}
@@ -17,11 +15,3 @@ pub record Covers (r : Records) (before after : Facts) (keys : List ValueKey) (i
   pub values : (key : ValueKey) → (Contains keys key → ⊥) → values.row_of r before key ≡ values.row_of r after key
   pub events : (id : List ℕ) → (Contains ids id → ⊥) → event_row r before id ≡ event_row r after id
   pub regs : (key : RegKey) → (Contains names key → ⊥) → registrations.reg_of r before key ≡ registrations.reg_of r after key
-
--- a write is plain that isn't of an approval
-abbrev pub is_plain : Write → Bool
-is_plain (write.Approve key) = false
-is_plain (write.Unapprove key) = false
-is_plain (write.Accept key) = false
-is_plain (write.Unaccept key) = false
-is_plain _ = true

@@ -1,3 +1,5 @@
 pub mod Places
 pub mod Covers
 pub mod Touches
+pub mod Found
+pub mod Leads

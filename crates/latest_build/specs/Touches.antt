@@ -1,15 +1,19 @@
 -- The events and values that writes touch.
-use Rattle.std.specs.Prelude.{ℕ, Bool, true, false, not, cond, nat_eq, Option, Some, None, List, [], ◌∷◌, ◌++◌}
-use Rattle.std.specs.List.{filter, list_all}
+use Rattle.std.specs.Prelude.{ℕ, Bool, Option, Some, None, List, [], ◌∷◌, ◌++◌, map}
+use Rattle.std.specs.List.{filter, filter_map}
+use Rattle.std.specs.Option.{is_some}
 use Rattle.dh_changes.specs.declared.change.Write.{Write}
 use Rattle.dh_changes.specs.declared.change.Write.TheVariants as write
+use Rattle.dh_changes.specs.declared.keys.ApprovalKey.{ApprovalKey}
 use Rattle.dh_changes.specs.declared.keys.ValueKey.{ValueKey}
 use Rattle.meta_parts.specs.declared.held.Records.{Records}
-use Rattle.record_index.specs.Facts.{Facts}
+use Rattle.record_index.specs.Facts.{Facts, facts_in}
 use Rattle.dh_records.specs.Approved.{approved_at}
 use Rattle.table_rows.specs.Cells.{gathered}
-use Rattle.table_build.specs.Log.{values_named}
-use Rattle.latest_build.specs.Covers.{is_plain}
+use Rattle.table_build.specs.Log.{values_named, regs_named}
+use Rattle.table_latest.specs.Latest.{Touched}
+use Rattle.table_build.specs.Values as values
+use Rattle.latest_build.specs.Places.{touched_of}
 
 -- the events of the enrollments of an entity
 abbrev pub events_under : Facts → List ℕ → List (List ℕ)
@@ -31,17 +35,42 @@ events_touched facts writes = gathered (events_by facts) writes
 
 -- ---- values
 
-abbrev pub same_position : Option ℕ → Option ℕ → Bool
-same_position None None = true
-same_position None (Some b) = false
-same_position (Some a) None = false
-same_position (Some a) (Some b) = nat_eq a b
+-- the key that a write of an approval names
+abbrev pub approval_named : Write → Option ApprovalKey
+approval_named (write.Approve key) = Some key
+approval_named (write.Unapprove key) = Some key
+approval_named (write.Accept key) = Some key
+approval_named (write.Unaccept key) = Some key
+approval_named _ = None
 
--- the approved position of a key is another than before
-abbrev pub is_moved : Records → Facts → Facts → ValueKey → Bool
-is_moved r before after key = not (same_position (approved_at before r key) (approved_at after r key))
+abbrev pub approvals_named : List Write → List ApprovalKey
+approvals_named writes = filter_map approval_named writes
 
--- the values that the last of all writes touch: those that they name, and, where one of them is of an approval, those whose position it moves
-abbrev pub values_touched : Records → Facts → Facts → List Write → List Write → List ValueKey
-values_touched r before after all last =
-    values_named last ++ cond (list_all is_plain last) [] (filter (is_moved r before after) (values_named all))
+-- what a log holds that approves these keys and no others
+abbrev pub approved_alone : List ApprovalKey → Facts
+approved_alone keys = facts_in (map write.Approve keys)
+
+-- a value has an approved position after a log
+abbrev pub has_position : Records → Facts → ValueKey → Bool
+has_position r facts key = is_some (approved_at facts r key)
+
+-- writes decide how far a value is approved where one of the approvals that they name is asked for it: were these approved and no others,
+-- it would have a position
+abbrev pub is_decided : Records → List Write → ValueKey → Bool
+is_decided r writes key = has_position r (approved_alone (approvals_named writes)) key
+
+abbrev pub has_row : Records → Facts → ValueKey → Bool
+has_row r facts key = is_some (values.row_of r facts key)
+
+-- the values of which the tables of a log have a row
+abbrev pub values_held : Records → List Write → List ValueKey
+values_held r writes = filter (has_row r (facts_in writes)) (values_named writes)
+
+-- the values that the last writes touch, after those of the base: those that they name, and of those of the base each whose approval they
+-- decide. What an approval was before and is after them plays no part, so tables that stand for a part of them are led on too
+abbrev pub values_touched : Records → List Write → List Write → List ValueKey
+values_touched r base last = values_named last ++ filter (is_decided r last) (values_held r base)
+
+-- ---- all that the last writes touch, as keys of tables, by what the log holds after them
+abbrev pub touched_by : Records → Facts → List Write → List Write → Touched
+touched_by r facts base last = touched_of r facts (values_touched r base last) (events_touched facts last) (regs_named last)

@@ -1,14 +1,17 @@
-//! The latest part of the changes after a cut.
-ghost use Rattle.std.specs.Prelude.{◌≡◌, ◌≤◌, ◌++◌, List, length, map, take, IsTrue, IfOk};
+//! The latest part of the changes after those that the base stands for.
+ghost use Rattle.std.specs.Prelude.{◌≡◌, ◌≤◌, ◌++◌, List, length, map, take, drop, IsTrue, IfOk};
 ghost use Rattle.std.specs.Arc.{arc_value};
 ghost use Rattle.std.specs.List.{list_all};
 ghost use Rattle.dh_changes.specs.declared.change.Write.{Write};
 ghost use Rattle.record_index.specs.Facts.{facts_in};
 ghost use Rattle.record_index.specs.World.{facts};
 ghost use Rattle.table_rows.specs.Store.{contents_in};
+ghost use Rattle.year_tables.specs.Parts.{rows_together, together};
 ghost use Rattle.table_build.specs.Listed.{listed_in};
 ghost use Rattle.table_build.specs.Log.{writes_of, is_of_days};
 ghost use Rattle.table_latest.specs.Later.{LeadsTo};
+ghost use Rattle.latest_build.specs.Leads.{LeadsFrom};
+ghost use Rattle.latest_build.specs.Touches.{touched_by};
 ghost use Rattle.dh_base.specs.declared.limits.TheConstants.{MOST_RECORDS};
 
 use crate::build::latest_of;
@@ -20,51 +23,66 @@ use record_index::world::World;
 use std::alloc::Global;
 use std::sync::Arc;
 use table_latest::Latest;
+use year_tables::Tables;
 
-// The latest part of the last of the changes.
-fn latest_touched(
+// The latest part of the last of the changes: it leads from the tables of all but some of these.
+fn latest_of_last(
     alloc: Global,
     meta: &Metadata,
-    before: &World,
-    after: &World,
+    world: &World,
+    base: &Tables,
     changes: &[Arc<Change>],
     last: &[Arc<Change>],
-    from: u64,
 ) -> Result<Latest, Memory>
-    requires held { facts after.now ≡ facts_in (writes_of (map arc_value changes.now)) }
+    requires held { facts world.now ≡ facts_in (writes_of (map arc_value changes.now)) }
     requires few { length (writes_of (map arc_value changes.now)) ≤ MOST_RECORDS }
     requires days { IsTrue (list_all is_of_days (writes_of (map arc_value changes.now))) }
-    ensures leads { IfOk result (λ latest. (base : List Write) → facts before.now ≡ facts_in base
-        → writes_of (map arc_value changes.now) ≡ base ++ writes_of (map arc_value last.now)
-        → LeadsTo (contents_in (listed_in meta.now base)) latest (contents_in (listed_in meta.now (writes_of (map arc_value changes.now))))) }
-    ensures from { IfOk result (λ latest. latest.from ≡ from) }
+    requires base { rows_together base.now.parts ≡ (listed_in meta.now (writes_of (take base.now.base_cut (map arc_value changes.now)))).rows }
+    requires last { writes_of (map arc_value changes.now)
+        ≡ writes_of (take base.now.base_cut (map arc_value changes.now)) ++ writes_of (map arc_value last.now) }
+    ensures leads { IfOk result (λ latest. (before first more : List Write) → writes_of (map arc_value changes.now) ≡ before ++ more
+        → writes_of (map arc_value last.now) ≡ first ++ more
+        → LeadsTo (contents_in (listed_in meta.now before)) latest (contents_in (listed_in meta.now (writes_of (map arc_value changes.now))))) }
+    ensures from { IfOk result (λ latest. latest.from ≡ base.now.base_cut) }
     ensures to { IfOk result (λ latest. latest.to ≡ length changes.now) }
+    ensures touched { IfOk result (λ latest. latest.touched ≡ touched_by meta.now (facts world.now)
+        (writes_of (take base.now.base_cut (map arc_value changes.now))) (writes_of (map arc_value last.now))) }
 {
-    let touched = keys_touched(alloc, meta, before, after, changes, last)?;
-    latest_of(alloc, meta, after, changes, &touched.keys(), from)
+    let touched = keys_touched(alloc, meta, world, base, last)?;
+    let latest = latest_of(
+        alloc,
+        meta,
+        world,
+        changes,
+        &touched.keys(),
+        base.base_cut(),
+    )?;
+    Ok(latest)
 }
 
-/// The latest part of the changes after the first `from`, by what the worlds before and after them hold: it leads from the tables
-/// of the first changes to those of all.
+/// The latest part of the changes after those that the base stands for. It has the keys that they touch: the values and
+/// registrations that they name, each value of the base whose approval they decide, and the events that they name or that hang on what they name.
+/// So it leads on from the tables of the base and also from tables of more of the changes, which may take the place of the base.
 pub fn build_latest(
     alloc: Global,
     meta: &Metadata,
-    before: &World,
-    after: &World,
+    world: &World,
+    base: &Tables,
     changes: &[Arc<Change>],
-    from: usize,
 ) -> Result<Latest, Memory>
-    requires was { facts before.now ≡ facts_in (writes_of (map arc_value (take from changes.now))) }
-    requires held { facts after.now ≡ facts_in (writes_of (map arc_value changes.now)) }
+    requires held { facts world.now ≡ facts_in (writes_of (map arc_value changes.now)) }
     requires few { length (writes_of (map arc_value changes.now)) ≤ MOST_RECORDS }
     requires days { IsTrue (list_all is_of_days (writes_of (map arc_value changes.now))) }
-    requires cut { from ≤ length changes.now }
-    ensures leads { IfOk result (λ latest. LeadsTo (contents_in (listed_in meta.now (writes_of (map arc_value (take from changes.now))))) latest
-        (contents_in (listed_in meta.now (writes_of (map arc_value changes.now))))) }
-    ensures from { IfOk result (λ latest. latest.from ≡ from) }
+    requires cut { base.now.base_cut ≤ length changes.now }
+    requires base { together base.now.parts ≡ contents_in (listed_in meta.now (writes_of (map arc_value (take base.now.base_cut changes.now)))) }
+    ensures leads { IfOk result (λ latest. LeadsFrom meta.now (map arc_value changes.now) latest) }
+    ensures from { IfOk result (λ latest. latest.from ≡ base.now.base_cut) }
     ensures to { IfOk result (λ latest. latest.to ≡ length changes.now) }
+    ensures touched { IfOk result (λ latest. latest.touched ≡ touched_by meta.now (facts world.now)
+        (writes_of (take base.now.base_cut (map arc_value changes.now))) (writes_of (drop base.now.base_cut (map arc_value changes.now)))) }
 {
-    let last = &changes[from..];
-    let latest = latest_touched(alloc, meta, before, after, changes, last, from as u64)?;
+    let from = base.base_cut();
+    let last = &changes[from as usize..];
+    let latest = latest_of_last(alloc, meta, world, base, changes, last)?;
     Ok(latest)
 }

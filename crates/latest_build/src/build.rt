@@ -4,7 +4,7 @@ ghost use Rattle.std.specs.Arc.{arc_value};
 ghost use Rattle.std.specs.List.{list_all};
 ghost use Rattle.dh_changes.specs.declared.change.Write.{Write};
 ghost use Rattle.org_tree.specs.Units.{IsTree};
-ghost use Rattle.record_index.specs.Facts.{facts_in};
+ghost use Rattle.record_index.specs.Facts.{Facts, facts_in};
 ghost use Rattle.record_index.specs.World.{facts};
 ghost use Rattle.dh_records.specs.Access.{tree};
 ghost use Rattle.table_rows.specs.Store.{contents_in};
@@ -19,7 +19,6 @@ use crate::touched::{LogKeys, touched_keys};
 use dh_base::memory::Memory;
 use dh_changes::change::Change;
 use dh_metadata::metadata::Metadata;
-use dh_records::access::tree_of;
 use record_index::world::World;
 use std::alloc::Global;
 use std::sync::Arc;
@@ -29,12 +28,13 @@ use table_build::values::rows_of;
 use table_latest::Latest;
 use table_sums::{SummedRows, with_sums};
 
-// The units are a tree, so that no two have one order.
-pub(crate) fn units_stand(meta: &Metadata, world: &World)
-    ensures tree { IsTree (tree (facts world.now) meta.now) }
-    ensures numbers { length (tree (facts world.now) meta.now) ≡ length meta.now.organisation_units }
+// The units are a tree after every log, so that no two have one order.
+#[tactic(auto, unfolding(dh_records::specs::Access::tree))]
+pub(crate) fn units_stand(meta: &Metadata)
+    ensures tree { (log : Facts) → IsTree (tree log meta.now) }
+    ensures numbers { (log : Facts) → length (tree log meta.now) ≡ length meta.now.organisation_units }
 {
-    let _units = tree_of(world, meta).count();
+    let _units = meta.tree().count();
 }
 
 // The store of what the keys hold.
@@ -79,7 +79,7 @@ pub fn latest_of(
     ensures from { IfOk result (λ latest. latest.from ≡ from) }
     ensures to { IfOk result (λ latest. latest.to ≡ length changes.now) }
 {
-    units_stand(meta, world);
+    units_stand(meta);
     let store = store_of(alloc, meta, world, changes, keys)?;
     let touched = touched_keys(alloc, meta, world, keys)?;
     Ok(Latest::of(touched, store, from, changes.len() as u64))

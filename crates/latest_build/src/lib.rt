@@ -4,7 +4,8 @@
 
 mod after;
 mod build;
-mod moved;
+mod decided;
+mod found;
 mod named;
 mod over;
 mod touched;

@@ -1,25 +1,31 @@
 //! The keys that changes touch.
-ghost use Rattle.std.specs.Prelude.{◌≡◌, ◌++◌, List, Option, true, map, OnOk, IfOk};
+ghost use Rattle.std.specs.Prelude.{◌≡◌, ◌++◌, List, Option, map, OnOk, IfOk};
 ghost use Rattle.std.specs.Arc.{arc_value};
-ghost use Rattle.std.specs.List.{filter_map, list_all};
+ghost use Rattle.std.specs.List.{filter_map};
 ghost use Rattle.dh_changes.specs.declared.change.Write.{Write as LogWrite};
 ghost use Rattle.record_index.specs.Facts.{facts_in};
 ghost use Rattle.record_index.specs.World.{facts};
 ghost use Rattle.table_build.specs.Log.{writes_of, values_named, regs_named};
-ghost use Rattle.latest_build.specs.Covers.{Covers, is_plain};
-ghost use Rattle.latest_build.specs.Touches.{events_touched, values_touched};
+ghost use Rattle.latest_build.specs.Covers.{Covers};
+ghost use Rattle.table_build.specs.Listed.{listed_in};
+ghost use Rattle.year_tables.specs.Parts.{rows_together};
+ghost use Rattle.latest_build.specs.Found.{values_sought};
+ghost use Rattle.latest_build.specs.Places.{value_places};
+ghost use Rattle.latest_build.specs.Touches.{approvals_named, events_touched, values_touched};
 
-use crate::moved::values_touched;
+use crate::build::units_stand;
+use crate::decided::values_touched;
 use crate::touched::LogKeys;
 use crate::tracker::events_touched;
 use dh_base::memory::Memory;
 use dh_base::uid::Uid;
 use dh_changes::change::{Change, Write};
-use dh_changes::keys::{RegKey, ValueKey};
+use dh_changes::keys::{ApprovalKey, RegKey, ValueKey};
 use dh_metadata::metadata::Metadata;
 use record_index::world::World;
 use std::alloc::Global;
 use std::sync::Arc;
+use year_tables::Tables;
 
 // A key that a write may name.
 trait Named {
@@ -38,6 +44,22 @@ impl Named for ValueKey {
         match write {
             Write::ValueSet { key, .. } => Some(*key),
             Write::ValueCleared { key } => Some(*key),
+            _ => None,
+        }
+    }
+}
+
+impl Named for ApprovalKey {
+    ghost use Rattle.latest_build.specs.Touches.{approval_named};
+
+    ghost named = { approval_named };
+
+    fn named_by(write: &Write) -> Option<ApprovalKey> {
+        match write {
+            Write::Approve(key) => Some(*key),
+            Write::Unapprove(key) => Some(*key),
+            Write::Accept(key) => Some(*key),
+            Write::Unaccept(key) => Some(*key),
             _ => None,
         }
     }
@@ -114,62 +136,44 @@ pub(crate) fn values_of(alloc: Global, changes: &[Arc<Change>]) -> Result<Vec<Va
     named_in(alloc, changes)
 }
 
-/// The keys that the last of the changes touch, by what the worlds before and after them hold: the values that they name and
-/// those whose approved position they move, the registrations that they name, and the events that they name or that hang on what
-/// they name. These are all keys that they move.
+/// The keys of approvals that they name.
+pub(crate) fn approvals_of(
+    alloc: Global,
+    changes: &[Arc<Change>],
+) -> Result<Vec<ApprovalKey>, Memory>
+    ensures { IfOk result (λ keys. keys.items ≡ approvals_named (writes_of (map arc_value changes.now))) }
+{
+    named_in(alloc, changes)
+}
+
+/// The keys that the last of the changes touch, after those that the base stands for, by what the world holds after all: the values
+/// that they name and those of the base whose approval they decide, the registrations that they name, and the events that they name
+/// or that hang on what they name. What isn't among these is after all changes as it was after any of the last.
 pub fn keys_touched(
     alloc: Global,
     meta: &Metadata,
-    before: &World,
-    after: &World,
-    changes: &[Arc<Change>],
+    world: &World,
+    base: &Tables,
     last: &[Arc<Change>],
 ) -> Result<NamedKeys, Memory>
-    ensures values { IfOk result (λ keys. keys.values.items ≡ values_touched meta.now (facts before.now) (facts after.now) (writes_of
-        (map arc_value changes.now)) (writes_of (map arc_value last.now))) }
-    ensures events { IfOk result (λ keys. keys.events.items ≡ events_touched (facts after.now) (writes_of (map arc_value last.now))) }
+    ensures values { IfOk result (λ keys. keys.values.items ≡ values_sought meta.now (rows_together base.now.parts) (writes_of (map arc_value last.now))) }
+    ensures events { IfOk result (λ keys. keys.events.items ≡ events_touched (facts world.now) (writes_of (map arc_value last.now))) }
     ensures regs { IfOk result (λ keys. keys.regs.items ≡ regs_named (writes_of (map arc_value last.now))) }
-    ensures cover { IfOk result (λ keys. (base : List LogWrite) → facts before.now ≡ facts_in base
-        → facts after.now ≡ facts_in (writes_of (map arc_value changes.now))
-        → writes_of (map arc_value changes.now) ≡ base ++ writes_of (map arc_value last.now)
-        → Covers meta.now (facts_in base) (facts after.now) keys.values.items keys.events.items keys.regs.items) }
+    ensures same { IfOk result (λ keys. (start : List LogWrite) → rows_together base.now.parts ≡ (listed_in meta.now start).rows
+        → value_places meta.now (facts world.now) keys.values.items
+        ≡ value_places meta.now (facts world.now) (values_touched meta.now start (writes_of (map arc_value last.now)))) }
+    ensures cover { IfOk result (λ keys. (start before first more : List LogWrite) → rows_together base.now.parts ≡ (listed_in meta.now start).rows
+        → facts world.now ≡ facts_in (start ++ writes_of (map arc_value last.now)) → start ++ writes_of (map arc_value last.now) ≡ before ++ more
+        → writes_of (map arc_value last.now) ≡ first ++ more
+        → Covers meta.now (facts_in before) (facts world.now) keys.values.items keys.events.items keys.regs.items) }
 {
-    let values = values_touched(alloc, meta, before, after, changes, last)?;
-    let events = events_touched(alloc, after, last)?;
+    units_stand(meta);
+    let values = values_touched(alloc, meta, base, last)?;
+    let events = events_touched(alloc, world, last)?;
     let regs: Vec<RegKey> = named_in(alloc, last)?;
     Ok(NamedKeys {
         values,
         events,
         regs,
     })
-}
-
-fn is_plain(write: &Write) -> bool
-    ensures { result ≡ is_plain write.now }
-{
-    match write {
-        Write::Approve(_) => false,
-        Write::Unapprove(_) => false,
-        Write::Accept(_) => false,
-        Write::Unaccept(_) => false,
-        _ => true,
-    }
-}
-
-fn is_plain_change(change: &Change) -> bool
-    ensures { result ≡ list_all is_plain change.now.writes }
-{
-    change.writes.as_slice().iter().all(|write| is_plain(write))
-}
-
-/// Whether no write of the changes is of an approval.
-pub(crate) fn are_plain(changes: &[Arc<Change>]) -> bool
-    ensures { result ≡ list_all is_plain (writes_of (map arc_value changes.now)) }
-{
-    for change in changes {
-        if !is_plain_change(&**change) {
-            return false;
-        }
-    }
-    true
 }

@@ -1,44 +1,62 @@
 //! Tables of the first changes of a log under the latest part of the others.
-ghost use Rattle.std.specs.Prelude.{◌≡◌, ◌≤◌, length, map, take, IsTrue};
+ghost use Rattle.std.specs.Prelude.{◌≡◌, ◌≤◌, length, map, take, IsTrue, IfOk};
 ghost use Rattle.std.specs.Arc.{arc_value};
 ghost use Rattle.std.specs.List.{list_all};
-ghost use Rattle.record_index.specs.Facts.{facts_in};
-ghost use Rattle.record_index.specs.World.{facts};
 ghost use Rattle.table_rows.specs.Store.{contents_in};
 ghost use Rattle.year_tables.specs.Parts.{together, years_in};
 ghost use Rattle.table_build.specs.Listed.{listed_in};
 ghost use Rattle.table_build.specs.Log.{writes_of, is_of_days};
 ghost use Rattle.table_latest.specs.Latest.{overlaid};
-ghost use Rattle.table_latest.specs.Later.{LeadsTo};
+ghost use Rattle.latest_build.specs.Leads.{LeadsFrom};
 ghost use Rattle.dh_base.specs.declared.limits.TheConstants.{MOST_RECORDS};
 
 use crate::build::units_stand;
+use dh_base::memory::Memory;
 use dh_changes::change::Change;
 use dh_metadata::metadata::Metadata;
-use record_index::world::World;
+use std::alloc::Global;
 use std::sync::Arc;
 use table_latest::{Latest, Overlay};
 use table_rows::RowStore;
 use year_tables::Tables;
 
-/// The tables under the latest part: a store of the rows, registrations and events that all the changes leave. Its years are
-/// those of the tables.
-pub fn tables_over<'a>(
+fn shared_tables(tables: &Arc<Tables>) -> Result<Arc<Tables>, Memory>
+    ensures { IfOk result (λ shared. arc_value shared ≡ arc_value tables.now) }
+{
+    Ok(Arc::try_clone(tables)?)
+}
+
+fn shared_part(latest: &Arc<Latest>) -> Result<Arc<Latest>, Memory>
+    ensures { IfOk result (λ shared. arc_value shared ≡ arc_value latest.now) }
+{
+    Ok(Arc::try_clone(latest)?)
+}
+
+/// The base under the latest part: a store of the rows, registrations and events that all the changes leave. Its years are those of
+/// the base, which may stand for more of the changes than the tables from which the part was made.
+pub fn tables_over(
+    alloc: Global,
     meta: &Metadata,
-    world: &World,
     changes: &[Arc<Change>],
-    tables: &'a Tables,
-    latest: &'a Latest,
-) -> Overlay<'a, Tables>
-    requires held { facts world.now ≡ facts_in (writes_of (map arc_value changes.now)) }
+    base: &Arc<Tables>,
+    latest: &Arc<Latest>,
+) -> Result<Overlay<Tables>, Memory>
     requires few { length (writes_of (map arc_value changes.now)) ≤ MOST_RECORDS }
     requires days { IsTrue (list_all is_of_days (writes_of (map arc_value changes.now))) }
-    requires base { together tables.now.parts ≡ contents_in (listed_in meta.now (writes_of (map arc_value (take tables.now.base_cut changes.now)))) }
-    requires leads { LeadsTo (together tables.now.parts) latest.now (contents_in (listed_in meta.now (writes_of (map arc_value changes.now)))) }
-    ensures all { overlaid (contents_in result.base) result.latest ≡ contents_in (listed_in meta.now (writes_of (map arc_value changes.now))) }
-    ensures years { result.base.years ≡ years_in tables.now.parts }
+    requires base { together (arc_value base.now).parts
+        ≡ contents_in (listed_in meta.now (writes_of (map arc_value (take (arc_value base.now).base_cut changes.now)))) }
+    requires from { (arc_value latest.now).from ≤ (arc_value base.now).base_cut }
+    requires cut { (arc_value base.now).base_cut ≤ length changes.now }
+    requires leads { LeadsFrom meta.now (map arc_value changes.now) (arc_value latest.now) }
+    ensures all { IfOk result (λ over. overlaid (contents_in over.base) over.latest
+        ≡ contents_in (listed_in meta.now (writes_of (map arc_value changes.now)))) }
+    ensures years { IfOk result (λ over. over.base.years ≡ years_in (arc_value base.now).parts) }
+    ensures latest { IfOk result (λ over. over.latest ≡ arc_value latest.now) }
 {
-    units_stand(meta, world);
-    let _years = RowStore::years(tables);
-    Overlay::of(tables, latest)
+    units_stand(meta);
+    let _years = RowStore::years(&**base);
+    let shared = shared_tables(base)?;
+    let part = shared_part(latest)?;
+    let over = Overlay::of(alloc, shared, part)?;
+    Ok(over)
 }

@@ -146,7 +146,7 @@ fn tell<K: Keeper>(
     requires set { place.now.set < length (published_meta engine.now).data_sets }
     requires unit { place.now.unit < length (published_meta engine.now).organisation_units }
     requires published { IfOk found (λ view. view.published ≡ engine.now.state.published) }
-    requires tables { IfOk found (λ view. contents_in (arc_value view.tables) ≡ tables_of engine.now.meta (take view.published engine.now.state.log)) }
+    requires tables { IfOk found (λ view. contents_in (arc_value view.tables).all ≡ tables_of engine.now.meta (take view.published engine.now.state.log)) }
     ensures { IsTold (told result) (check_text engine.now.meta engine.now.state.log user place.now keep (published_in found)) }
 {
     match found {

@@ -83,7 +83,7 @@ fn tell<K: Keeper>(
     requires user { user < length (published_meta engine.now).users }
     requires query { CanAnswer (published_meta engine.now) query.now }
     requires published { IfOk found (λ view. view.published ≡ engine.now.state.published) }
-    requires tables { IfOk found (λ view. contents_in (arc_value view.tables) ≡ tables_of engine.now.meta (take view.published engine.now.state.log)) }
+    requires tables { IfOk found (λ view. contents_in (arc_value view.tables).all ≡ tables_of engine.now.meta (take view.published engine.now.state.log)) }
     ensures { IsTold (told result) (look_text engine.now.meta engine.now.state.log user query.now keep (published_in found)) }
 {
     match found {

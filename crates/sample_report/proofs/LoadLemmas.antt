@@ -1,44 +1,50 @@
 -- A log that grows by sets of samples.
-use Rattle.std.proofs.Common.{◌≡◌, ◌∙◌, ℕ, ℤ, ◌+◌, ◌-◌, ◌≤◌, ◌<◌, ◌/◌, suc, List, [], min, refl, sym, ap, subst, arith, Result, Ok, Err}
+use Rattle.std.proofs.Common.{◌≡◌, ◌∙◌, ℕ, ℤ, ◌+◌, ◌-◌, ◌≤◌, ◌<◌, ◌/◌, suc, List, [], min, refl, sym, ap, subst, arith, None, Result, Ok, Err}
+use Rattle.std.specs.Prelude.{OnOk}
 use Rattle.dh_base.specs.declared.codes.Refusal.{Refusal}
 use Rattle.dh_base.specs.declared.memory.Memory.{Memory}
+use Rattle.dh_base.specs.declared.plain.CutKind.TheVariants.{Latest}
 use Rattle.dh_changes.specs.declared.change.Change.{Change}
 use Rattle.meta_parts.specs.declared.held.Records.{Records}
 use Rattle.change_log.specs.declared.limits.Limits.{Limits}
 use Rattle.change_requests.specs.Requests.{Asked}
 use Rattle.engine.specs.declared.machine.Report.{Report}
-use Rattle.engine.specs.Machine.{State}
+use Rattle.engine.specs.declared.machine.Staged.{Staged}
+use Rattle.engine.specs.Machine.{State, Step, kind_by, kind_of, number_of, with_staged, published_by}
+use Rattle.engine.specs.Machine.Act.{begun, swapped}
 use Rattle.engine.specs.Seen.{Seen}
 use Rattle.engine.specs.InMemory.{largest, started, outcome_of, Loads}
 use Rattle.sample_report.specs.declared.draws.Sample.{Sample}
 use Rattle.sample_report.specs.Draws.{start, samples, after_samples}
 use Rattle.sample_report.specs.Sets.{sets_from, sample_sets}
-use Rattle.sample_report.specs.Loaded.{asked_for, log_after, with_set, log_with, HasLoaded}
+use Rattle.sample_report.specs.Loaded.{asked_for, log_after, with_set, log_with, HasLoaded, IsUpdated}
 
 -- ---- one set
 
 -- a machine before the first call
-pub nothing-loaded : (machine : Seen) → machine ≡ started machine.meta → HasLoaded machine.meta machine
+pub nothing-loaded : (machine : Seen) → machine ≡ started machine.meta → HasLoaded machine.meta 0 machine
 nothing-loaded machine is = record {
   meta = refl;
   limits = ap (λ (m : Seen). m.limits) is;
-  free = ap (λ (m : Seen). m.state.full) is;
-  ticket = ap (λ (m : Seen). m.state.ticket) is;
+  full = ap (λ (m : Seen). m.state.full) is;
+  latest = ap (λ (m : Seen). m.state.latest) is;
+  ticket = let e = ap (λ (m : Seen). m.state.ticket) is in omega (arith, e);
   faults = ap (λ (m : Seen). m.faults) is;
 }
 
-pub stays-loaded : (old new : Seen) (r : Records) (asked : Asked) (result : Result (Result Report Refusal) Memory) → HasLoaded r old
+pub stays-loaded : (old new : Seen) (r : Records) (updates : ℕ) (asked : Asked) (result : Result (Result Report Refusal) Memory) → HasLoaded r updates old
     → Loads old asked result new
-    → HasLoaded r new
-stays-loaded old new r asked (Ok (Ok report)) before is = record {
+    → HasLoaded r updates new
+stays-loaded old new r updates asked (Ok (Ok report)) before is = record {
   meta = is.1.1.0 ∙ before.meta;
   limits = is.1.1.1.0 ∙ before.limits;
-  free = ap (λ (s : State). s.full) is.1.0 ∙ before.free;
-  ticket = ap (λ (s : State). s.ticket) is.1.0 ∙ before.ticket;
+  full = ap (λ (s : State). s.full) is.1.0 ∙ before.full;
+  latest = ap (λ (s : State). s.latest) is.1.0 ∙ before.latest;
+  ticket = let e = ap (λ (s : State). s.ticket) is.1.0 in omega (arith, e, before.ticket);
   faults = is.1.1.1.1;
 }
-stays-loaded old new r asked (Ok (Err refused)) before is = subst (λ (m : Seen). HasLoaded r m) (sym is.1) before
-stays-loaded old new r asked (Err memory) before is = subst (λ (m : Seen). HasLoaded r m) (sym is) before
+stays-loaded old new r updates asked (Ok (Err refused)) before is = subst (λ (m : Seen). HasLoaded r updates m) (sym is.1) before
+stays-loaded old new r updates asked (Err memory) before is = subst (λ (m : Seen). HasLoaded r updates m) (sym is) before
 
 -- the log that it leaves
 pub log-loaded : (old new : Seen) (moment : ℤ) (set : List Sample) (found : Result Report Refusal) → old.limits ≡ largest
@@ -53,6 +59,77 @@ log-loaded old new moment set (Err refused) limits is =
     let asked = asked_for moment set in
     ap (λ (m : Seen). m.state.log) is.1
     ∙ ap (log_after old.meta old.state.log asked) (sym (ap (λ (l : Limits). outcome_of old.meta l old.state.log asked) (sym limits) ∙ is.0))
+
+-- ---- one update
+
+-- a cut and its swap, where no other update is begun
+pub updated : (old mid new : Seen) (update : Staged) (published : ℕ) → old.state.full ≡ None
+    → Step old.meta old.limits old.state (begun Latest (Ok update)) mid.state → mid ≡ record old { state = mid.state }
+    → Step mid.meta mid.limits mid.state (swapped update.ticket (Ok published)) new.state
+    → new ≡ record mid { state = new.state; tables = new.tables } → IsUpdated old new
+updated old mid new update published none cut kept swap same =
+    let full : mid.state.full ≡ None = ap (λ (s : State). s.full) cut.1 ∙ none in
+    let kind : kind_of mid.state update.ticket ≡ Latest = ap (kind_by update.ticket) full in
+    let number : ℕ = number_of mid.state update.ticket in
+    let after : new.state ≡ with_staged (published_by mid.state Latest number published) Latest None =
+    subst (λ k. new.state ≡ with_staged (published_by mid.state k number published) k None) kind swap.1 in
+    record {
+      meta = ap (λ (s : Seen). s.meta) same ∙ ap (λ (s : Seen). s.meta) kept;
+      limits = ap (λ (s : Seen). s.limits) same ∙ ap (λ (s : Seen). s.limits) kept;
+      log = ap (λ (s : State). s.log) after ∙ ap (λ (s : State). s.log) cut.1;
+      full = ap (λ (s : State). s.full) after ∙ full;
+      latest = ap (λ (s : State). s.latest) after;
+      ticket = ap (λ (s : State). s.ticket) after ∙ ap (λ (s : State). s.ticket) cut.1 ∙ ap (λ (u : Staged). u.ticket) cut.0.1.1;
+      faults = ap (λ (s : Seen). s.faults) same ∙ ap (λ (s : Seen). s.faults) kept;
+    }
+
+-- one update more
+one_more : (old new : Seen) (updates : ℕ) → HasLoaded old.meta updates old → IsUpdated old new → HasLoaded old.meta (updates + 1) new
+one_more old new updates before is = record {
+  meta = is.meta;
+  limits = is.limits ∙ before.limits;
+  full = is.full;
+  latest = is.latest;
+  ticket = omega (arith, is.ticket, before.ticket);
+  faults = is.faults ∙ before.faults;
+}
+
+pub more_loaded : {A : Type 0} (old new : Seen) (updates : ℕ) (result : Result A Memory) → HasLoaded old.meta updates old
+    → OnOk result (IsUpdated old new) → OnOk result (HasLoaded old.meta (updates + 1) new)
+more_loaded old new updates (Ok done) before is = one_more old new updates before is
+more_loaded old new updates (Err memory) before is = tt
+
+pub same_log : {A : Type 0} (old new : Seen) (result : Result A Memory) → OnOk result (IsUpdated old new) → OnOk result (new.state.log ≡ old.state.log)
+same_log old new (Ok done) is = is.log
+same_log old new (Err memory) is = tt
+
+-- or none
+pub still_loaded : (r : Records) (machine : Seen) (updates more : ℕ) → updates ≤ more → HasLoaded r updates machine → HasLoaded r more machine
+still_loaded r machine updates more within before = record {
+  meta = before.meta;
+  limits = before.limits;
+  full = before.full;
+  latest = before.latest;
+  ticket = omega (arith, within, before.ticket);
+  faults = before.faults;
+}
+
+pub none_more : (machine : Seen) (updates : ℕ) → HasLoaded machine.meta updates machine → HasLoaded machine.meta (updates + 1) machine
+none_more machine updates before = still_loaded machine.meta machine updates (updates + 1) (omega arith) before
+
+-- there are few updates
+pub may_update : (r : Records) (machine : Seen) (updates : ℕ) → HasLoaded r updates machine → updates < 200 → machine.state.ticket < machine.limits.updates
+may_update r machine updates before few =
+    let most = ap (λ (l : Limits). l.updates) before.limits in let ticket = before.ticket in omega (arith, most, ticket, few)
+
+pub ruleset after_set = (more_loaded, same_log, none_more, may_update)
+
+-- there are few sets
+pub few_sets : (count sets set : ℕ) → sets ≡ (count + 999) / 1000 → count ≤ 200000 → set < sets → set < 200
+few_sets count sets set is few below = omega (arith, is, few, below)
+
+pub few_sets_done : (count sets set : ℕ) → sets ≡ (count + 999) / 1000 → count ≤ 200000 → set ≤ sets → set ≤ 200
+few_sets_done count sets set is few within = omega (arith, is, few, within)
 
 -- ---- one set after the other
 
@@ -69,6 +146,10 @@ none-brought machine moment n count x is drawn =
   where
     all-left : n ≡ n - 0
     all-left = omega arith
+
+-- a machine's own metadata
+pub own-meta : (r : Records) (machine : Seen) (updates : ℕ) → HasLoaded r updates machine → HasLoaded machine.meta updates machine
+own-meta r machine updates before = subst (λ (q : Records). HasLoaded q updates machine) (sym before.meta) before
 
 -- one set more
 pub set-step : (r meta : Records) (moment : ℤ) (old new : List Change) (n i left rest size x y : ℕ) (set : List Sample) → meta ≡ r → i < n

@@ -1,5 +1,5 @@
 -- Sets of samples, which the loader brings to the log of a machine in memory, one after the other.
-use Rattle.std.specs.Prelude.{◌≡◌, ℤ, List, [], ◌∷◌, None, Result, Ok, Err}
+use Rattle.std.specs.Prelude.{◌≡◌, ◌≤◌, ◌+◌, ℕ, ℤ, List, [], ◌∷◌, None, Result, Ok, Err}
 use Rattle.dh_base.specs.declared.codes.Refusal.{Refusal}
 use Rattle.dh_changes.specs.declared.change.Change.{Change}
 use Rattle.meta_parts.specs.declared.held.Records.{Records}
@@ -30,10 +30,21 @@ abbrev pub log_with : Records → ℤ → List Change → List (List Sample) →
 log_with r moment log [] = log
 log_with r moment log (set ∷ more) = log_with r moment (with_set r moment log set) more
 
--- a machine in memory over these metadata, to which changes were brought, and nothing else was done
-pub record HasLoaded (r : Records) (machine : Seen) : Type 0 where
+-- a machine in memory over these metadata, to which changes were brought, and at most so many updates made; none is begun
+pub record HasLoaded (r : Records) (updates : ℕ) (machine : Seen) : Type 0 where
   pub meta : machine.meta ≡ r
   pub limits : machine.limits ≡ largest
-  pub free : machine.state.full ≡ None
-  pub ticket : machine.state.ticket ≡ 0
+  pub full : machine.state.full ≡ None
+  pub latest : machine.state.latest ≡ None
+  pub ticket : machine.state.ticket ≤ updates
   pub faults : machine.faults ≡ 0
+
+-- a latest update was made: the log stays, and no update is begun
+pub record IsUpdated (old new : Seen) : Type 0 where
+  pub meta : new.meta ≡ old.meta
+  pub limits : new.limits ≡ old.limits
+  pub log : new.state.log ≡ old.state.log
+  pub full : new.state.full ≡ None
+  pub latest : new.state.latest ≡ None
+  pub ticket : new.state.ticket ≡ old.state.ticket + 1
+  pub faults : new.faults ≡ old.faults

@@ -70,7 +70,7 @@ pub(crate) fn report_of(
     engine: &mut Engine<Unkept>,
     count: u32,
 ) -> Result<Items<u8>, Memory>
-    requires { HasLoaded engine.old.meta engine.old }
+    requires { HasLoaded engine.old.meta 200 engine.old }
     ensures { IfOk result (λ text. text ≡ report_of engine.old.meta count engine.old.state.log) }
 {
     let tables = tables_of_all(alloc, engine)?;

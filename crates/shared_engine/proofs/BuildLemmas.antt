@@ -1,9 +1,10 @@
 -- The parts that are built are those that may be handed in.
 use Rattle.std.proofs.Common.{◌≡◌, ◌∙◌, ℤ, ℕ, List, [], ◌∷◌, Option, None, Some, IfSome, true, take, map, ap, sym, subst, refl, eq-eqb}
-use Rattle.std.specs.Prelude.{Result, Ok, Err, IfOk, IsTrue, ◌||◌}
+use Rattle.std.specs.Prelude.{Result, Ok, Err, IfOk}
 use Rattle.std.specs.Arc.{arc_value}
 use Rattle.std.proofs.lemmas.List.Elements.{All-nil, All-cons}
 use Rattle.dh_base.specs.declared.plain.CutKind.{CutKind}
+use Rattle.dh_base.specs.declared.plain.CutKind.TheVariants.{Full, Latest}
 use Rattle.dh_base.specs.declared.memory.Memory.{Memory}
 use Rattle.dh_changes.specs.declared.change.Change.{Change}
 use Rattle.meta_parts.specs.declared.held.Records.{Records}
@@ -12,11 +13,12 @@ use Rattle.build_workers.specs.Places.{ArePlaces}
 use Rattle.engine.specs.declared.machine.Cut.{Cut}
 use Rattle.engine.specs.declared.machine.CutFault.{CutFault}
 use Rattle.engine.specs.declared.machine.Staged.{Staged}
-use Rattle.engine.specs.Machine.{State, has_ticket, number_in, is_begun}
+use Rattle.engine.specs.Machine.{State, staged_of, has_ticket, number_in}
 use Rattle.engine.specs.Seen.{Seen, IsCutOf, IsPartOf}
 use Rattle.engine.specs.Tables.{tables_of}
-use Rattle.shared_engine.specs.Builds.{CanBuild, IsYearOf, ArePartsOf}
-use Rattle.shared_engine.proofs.Growth.{from_left}
+use Rattle.shared_engine.specs.Builds.{CanBuild, IsYearOf, ArePartsOf, HasParts}
+use Rattle.shared_engine.specs.Ends.{staged_in}
+use Rattle.shared_engine.specs.Histories.{Made}
 
 -- a part of a year is that of its own year
 own_year : (meta : Records) (changes : List Change) (year : ℤ) (part : YearPart) → IsYearOf meta changes year part → IsPartOf meta changes part
@@ -54,10 +56,6 @@ cut_builds meta state kind (Err fault) given = tt
 pub full_ticket : (full : Option Staged) (update : Staged) → full ≡ Some update → has_ticket update.ticket full ≡ true
 full_ticket full update is = ap (has_ticket update.ticket) is ∙ eq-eqb update.ticket update.ticket refl
 
--- an update that is begun as a full one is begun
-pub full_begun : (state : State) (ticket : ℕ) → has_ticket ticket state.full ≡ true → IsTrue (is_begun state ticket)
-full_begun state ticket is = from_left (has_ticket ticket state.full) (has_ticket ticket state.latest) is
-
 -- the parts of a cut's changes are those of the changes for which the update stands
 pub parts_fit : (meta : Records) (engine : Seen) (update : Staged) (changes : List Change) (parts : List (Option YearPart)) → engine.meta ≡ meta
     → engine.state.full ≡ Some update → take update.number engine.state.log ≡ changes → ArePartsOf meta changes parts
@@ -66,3 +64,14 @@ parts_fit meta engine update changes parts same full cut are =
     subst (λ (m : Records). ArePartsOf m (take (number_in engine.state.full) engine.state.log) parts) (sym same)
     (subst (λ (l : List Change). ArePartsOf meta l parts)
     (sym (ap (λ (s : Option Staged). take (number_in s) engine.state.log) full ∙ cut)) are)
+
+-- what is handed in for a full update; a latest one has no parts
+pub parts_handed : (made : Made) (engine : Seen) (cut : Cut) (kind : CutKind) (log : List Change) (parts : List (Option YearPart))
+    → engine.meta ≡ made.meta → staged_of engine.state kind ≡ Some (staged_in cut) → take cut.number engine.state.log ≡ log
+    → (kind ≡ Full → map arc_value cut.changes.items ≡ log) → ArePartsOf made.meta (map arc_value cut.changes.items) parts
+    → HasParts engine kind cut.ticket parts
+parts_handed made engine cut Full log parts same staged before whole are = (
+  full_ticket engine.state.full (staged_in cut) staged,
+  parts_fit made.meta engine (staged_in cut) (map arc_value cut.changes.items) parts same staged (before ∙ sym (whole refl)) are,
+)
+parts_handed made engine cut Latest log parts same staged before whole are = tt

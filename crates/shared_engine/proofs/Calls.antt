@@ -22,9 +22,11 @@ use Rattle.dh_base.specs.declared.plain.CutKind.{CutKind}
 use Rattle.dh_base.specs.declared.plain.CutKind.TheVariants.{Full, Latest}
 use Rattle.engine.specs.Machine.{State, start, Act, IsReply, next, lacks_memory, Step, StepBy, by_kind, staged_of, changes_for, is_begun}
 use Rattle.engine.specs.Machine.Act.{changed, begun, swapped, dropped, looked}
+use Rattle.engine.specs.Tables.{Served}
 use Rattle.engine.specs.Seen.{Seen, Brought, IsCutOf, update_in}
 use Rattle.engine.specs.declared.machine.Cut.{Cut}
 use Rattle.dh_changes.specs.declared.change.Change.{Change}
+use Rattle.engine.specs.Stands.{Stands}
 use Rattle.engine.specs.Tables.{tables_of}
 use Rattle.engine.specs.declared.machine.View.{View}
 use Rattle.table_rows.specs.Store.{contents_in}
@@ -33,6 +35,7 @@ use Rattle.std.specs.Prelude.{take, map, IfOk}
 use Rattle.shared_engine.specs.Entries.{Entry, caller_of, named_of, Stand, entries_if, entries_of, entry_by, entries_by, after_entries, IsRight, IsFault, Owns}
 use Rattle.shared_engine.specs.Histories.{Made, begin, stand_of, IsLegal, StandsAt, IsRunning, IsBegunBy}
 use Rattle.shared_engine.specs.Calls.{IsCall, IsUpdate, last_of}
+use Rattle.shared_engine.specs.Builds.{IsCutBy}
 use Rattle.shared_engine.specs.Ends.{staged_in, end_act, told_after, answer_of, Goes}
 use Rattle.shared_engine.proofs.Growth.{after_both, legal_both, updates_stay, has_staged}
 
@@ -269,12 +272,34 @@ more_callers made engine old new r is = subst (λ (l : LockView Entry). IsRunnin
 
 -- what a look gives stands for the changes of the history as the call left it
 pub look_tables : (made : Made) (engine : Seen) (lock : LockView Entry) (now : TokenView Entry) (reply : Result View LookFault) → IsRunning made engine lock
-    → now.list ≡ lock.list → IfOk reply (λ view. contents_in (arc_value view.tables) ≡ tables_of engine.meta (take view.published engine.state.log))
-    → IfOk reply (λ view. contents_in (arc_value view.tables) ≡ tables_of made.meta (take view.published (stand_of made now.list).machine.log))
+    → now.list ≡ lock.list → IfOk reply (λ view. contents_in (arc_value view.tables).all ≡ tables_of engine.meta (take view.published engine.state.log))
+    → IfOk reply (λ view. contents_in (arc_value view.tables).all ≡ tables_of made.meta (take view.published (stand_of made now.list).machine.log))
 look_tables made engine lock now (Ok view) r same h =
     h ∙ ap (λ (m : Records). tables_of m (take view.published engine.state.log)) r.stands.meta
     ∙ ap (λ (s : State). tables_of made.meta (take view.published s.log)) (r.stands.state ∙ ap (λ l. (stand_of made l).machine) (sym same))
 look_tables made engine lock now (Err fault) r same h = tt
+
+-- the view's tables are those that the machine serves
+pub look_served : (engine : Seen) (reply : Result View LookFault) → IfOk reply (λ view. arc_value view.tables ≡ engine.tables)
+    → IfOk reply (λ view. view.published ≡ engine.state.published)
+    → Stands engine.meta engine.state.log engine.state.base_cut engine.state.published engine.tables
+    → IfOk reply (λ view. Stands engine.meta engine.state.log engine.state.base_cut view.published (arc_value view.tables))
+look_served engine (Ok view) same number stands =
+    subst (λ (n : ℕ). Stands engine.meta engine.state.log engine.state.base_cut n (arc_value view.tables)) (sym number)
+    (subst (Stands engine.meta engine.state.log engine.state.base_cut engine.state.published) (sym same) stands)
+look_served engine (Err fault) same number stands = tt
+
+-- the yearly parts and the latest part of which its tables are made, too
+pub look_stands : (made : Made) (engine : Seen) (lock : LockView Entry) (now : TokenView Entry) (reply : Result View LookFault) → IsRunning made engine lock
+    → now.list ≡ lock.list
+    → IfOk reply (λ view. Stands engine.meta engine.state.log engine.state.base_cut view.published (arc_value view.tables))
+    → IfOk reply (λ view. Stands made.meta (stand_of made now.list).machine.log (stand_of made now.list).machine.base_cut view.published
+    (arc_value view.tables))
+look_stands made engine lock now (Ok view) r same h =
+    subst (λ (s : State). Stands made.meta s.log s.base_cut view.published (arc_value view.tables))
+    (r.stands.state ∙ ap (λ l. (stand_of made l).machine) (sym same))
+    (subst (λ (m : Records). Stands m engine.state.log engine.state.base_cut view.published (arc_value view.tables)) r.stands.meta h)
+look_stands made engine lock now (Err fault) r same h = tt
 
 pub look_told : (made : Made) (engine : Seen) (lock : LockView Entry) (now : TokenView Entry) (reply : Result View LookFault) → IsRunning made engine lock
     → now.told ≡ lock.told → IfOk reply (λ view. view.published ≡ engine.state.published) → IfOk reply (λ view. view.published ≡ now.told)
@@ -316,16 +341,16 @@ cut_begins made engine new list caller kind update faults s step =
     }
 
 pub cut_begun : (made : Made) (engine new : Seen) (list : List Entry) (caller : ℕ) (kind : CutKind) (reply : Result Cut CutFault) (faults : ℕ)
-    → StandsAt made engine list → Step engine.meta engine.limits engine.state (begun kind (update_in reply)) new.state → kind ≡ Full
+    → StandsAt made engine list → Step engine.meta engine.limits engine.state (begun kind (update_in reply)) new.state
     → IfOk reply (IsCutOf engine.meta engine.state kind)
-    → IfOk reply (λ cut. IsBegunBy made (list ++ entries_of caller (begun kind (update_in reply)) faults) caller kind (staged_in cut)
-    (map arc_value cut.changes.items))
-cut_begun made engine new list caller kind (Err fault) faults s step full given = tt
-cut_begun made engine new list caller kind (Ok cut) faults s step full given =
-    let changes : map arc_value cut.changes.items ≡ engine.state.log =
-    given.changes_are ∙ ap (λ (k : CutKind). changes_for engine.state k) full in
-    subst (λ (l : List Change). IsBegunBy made (list ++ entries_of caller (begun kind (Ok (staged_in cut))) faults) caller kind (staged_in cut) l) (sym changes)
-    (cut_begins made engine new list caller kind (staged_in cut) faults s step)
+    → IfOk reply (IsCutBy made (list ++ entries_of caller (begun kind (update_in reply)) faults) caller)
+cut_begun made engine new list caller kind (Err fault) faults s step given = tt
+cut_begun made engine new list caller kind (Ok cut) faults s step given = record {
+  log = engine.state.log;
+  begun = subst (λ (k : CutKind). IsBegunBy made (list ++ entries_of caller (begun kind (Ok (staged_in cut))) faults) caller k (staged_in cut) engine.state.log)
+      (sym given.kind_is) (cut_begins made engine new list caller kind (staged_in cut) faults s step);
+  whole = λ full. given.changes_are ∙ ap (λ (k : CutKind). changes_for engine.state k) (sym given.kind_is ∙ full);
+}
 
 nothing_more : (xs ys : List Entry) → xs ++ ys ≡ xs → ys ≡ []
 nothing_more xs [] e = refl
@@ -417,31 +442,44 @@ cut_published old new kind (Err (cut.UpdatesSpent limit)) step = ap (λ (s : Sta
 cut_published old new kind (Err cut.Memory) step = ap (λ (s : State). s.published) step
 
 pub swapped_goes : (old new : Seen) (ticket number : ℕ) → Step old.meta old.limits old.state (swapped ticket (Ok number)) new.state
-    → new ≡ record old { state = new.state } → Goes old (end_act ticket (Ok number)) new
-swapped_goes old new ticket number step same = plain_goes old new (swapped ticket (Ok number)) tt step same
+    → new ≡ record old { state = new.state; tables = new.tables } → Goes old (end_act ticket (Ok number)) new
+swapped_goes old new ticket number step same = record {
+  step = step;
+  meta = ap (λ (s : Seen). s.meta) same;
+  limits = ap (λ (s : Seen). s.limits) same;
+  count = subst (λ (n : ℕ). old.faults ≤ n) (sym (ap (λ (s : Seen). s.faults) same)) (le_refl old.faults);
+  fault = tt;
+  still = λ e. ap (λ (s : Seen). s.faults) same;
+}
 
 pub swapped_published : (old new : Seen) (ticket number : ℕ) → Step old.meta old.limits old.state (swapped ticket (Ok number)) new.state
     → new.state.published ≡ number
 swapped_published old new ticket number step = ap (λ (s : State). s.published) step.1
 
--- a swap that found no memory leaves all
+-- a swap that found no memory leaves all but, as far as is said here, the tables
 pub swap_stayed : (old mid : Seen) (ticket : ℕ) (memory : Memory) → Step old.meta old.limits old.state (swapped ticket (Err memory)) mid.state
-    → mid ≡ record old { state = mid.state } → mid ≡ old
-swap_stayed old mid ticket memory swap same = same ∙ ap (λ (s : State). record old { state = s }) swap
+    → mid ≡ record old { state = mid.state; tables = mid.tables } → mid ≡ record old { tables = mid.tables }
+swap_stayed old mid ticket memory swap same = same ∙ ap (λ (s : State). record old { state = s; tables = mid.tables }) swap
+
+-- what goes on from a machine goes on from one with other tables
+goes_on : (old new : Seen) (tables : Served) (act : Act) → Goes (record old { tables = tables }) act new → Goes old act new
+goes_on old new tables act goes =
+    record { step = goes.step; meta = goes.meta; limits = goes.limits; count = goes.count; fault = goes.fault; still = goes.still }
 
 pub dropped_goes : (old mid new : Seen) (ticket : ℕ) (memory : Memory) → Step old.meta old.limits old.state (swapped ticket (Err memory)) mid.state
-    → mid ≡ record old { state = mid.state } → Step mid.meta mid.limits mid.state (dropped ticket) new.state → new ≡ record mid { state = new.state }
+    → mid ≡ record old { state = mid.state; tables = mid.tables } → Step mid.meta mid.limits mid.state (dropped ticket) new.state → new ≡ record mid { state = new.state }
     → Goes old (end_act ticket (Err memory)) new
 dropped_goes old mid new ticket memory swap same drop after =
-    subst (λ (m : Seen). Goes m (dropped ticket) new) (swap_stayed old mid ticket memory swap same) (plain_goes mid new (dropped ticket) tt drop after)
+    goes_on old new mid.tables (dropped ticket)
+    (subst (λ (m : Seen). Goes m (dropped ticket) new) (swap_stayed old mid ticket memory swap same) (plain_goes mid new (dropped ticket) tt drop after))
 
 pub dropped_published : (old mid new : Seen) (ticket : ℕ) (memory : Memory) → Step old.meta old.limits old.state (swapped ticket (Err memory)) mid.state
-    → mid ≡ record old { state = mid.state } → Step mid.meta mid.limits mid.state (dropped ticket) new.state → new.state.published ≡ old.state.published
+    → mid ≡ record old { state = mid.state; tables = mid.tables } → Step mid.meta mid.limits mid.state (dropped ticket) new.state → new.state.published ≡ old.state.published
 dropped_published old mid new ticket memory swap same drop =
     ap (λ (s : State). s.published) drop.1 ∙ ap (λ (m : Seen). m.state.published) (swap_stayed old mid ticket memory swap same)
 
 pub stayed_begun : (old mid : Seen) (ticket : ℕ) (memory : Memory) → Step old.meta old.limits old.state (swapped ticket (Err memory)) mid.state
-    → mid ≡ record old { state = mid.state } → IsTrue (is_begun old.state ticket) → IsTrue (is_begun mid.state ticket)
+    → mid ≡ record old { state = mid.state; tables = mid.tables } → IsTrue (is_begun old.state ticket) → IsTrue (is_begun mid.state ticket)
 stayed_begun old mid ticket memory swap same h = subst (λ (m : Seen). IsTrue (is_begun m.state ticket)) (sym (swap_stayed old mid ticket memory swap same)) h
 
 pub ruleset ends = (swapped_goes, swapped_published, dropped_goes, dropped_published, stayed_begun)

@@ -4,10 +4,11 @@ ghost use Rattle.std.specs.Arc.{arc_value};
 ghost use Rattle.build_workers.specs.Places.{ArePlaces};
 ghost use Rattle.engine.specs.Machine.{has_ticket, number_in};
 ghost use Rattle.engine.specs.Seen.{IsPartOf};
-ghost use Rattle.shared_engine.specs.Builds.{CanBuild, IsYearOf, ArePartsOf};
+ghost use Rattle.shared_engine.specs.Builds.{CanBuild, IsYearOf, ArePartsOf, HasParts};
 
 use build_workers::{Builder, Gate, build_each};
 use dh_base::memory::Memory;
+use dh_base::plain::CutKind;
 use dh_changes::change::Change;
 use dh_metadata::metadata::Metadata;
 use dh_outside::Keeper;
@@ -93,9 +94,9 @@ pub fn build_all<R: Threads + Sync, G: Gate + Sync>(
     )
 }
 
-/// The parts of a cut's years that were built; out of memory there is none.
+// The parts of a full cut's years that were built; out of memory there is none.
 #[tactic(auto, using(crate::proofs::BuildLemmas::built))]
-pub(crate) fn build_parts<R: Threads + Sync, G: Gate + Sync>(
+fn built_parts<R: Threads + Sync, G: Gate + Sync>(
     rt: &R,
     alloc: Global,
     meta: &Metadata,
@@ -112,6 +113,25 @@ pub(crate) fn build_parts<R: Threads + Sync, G: Gate + Sync>(
     }
 }
 
+/// The parts of a cut's years that were built. A latest update has none: its part is made by the cut.
+#[tactic(auto, using(crate::proofs::BuildLemmas::none_built))]
+pub(crate) fn build_parts<R: Threads + Sync, G: Gate + Sync>(
+    rt: &R,
+    alloc: Global,
+    meta: &Metadata,
+    cut: &Cut,
+    workers: u32,
+    gate: &G,
+) -> Vec<Option<Partition>>
+    requires { CanBuild (map arc_value cut.now.changes.items) }
+    ensures { ArePartsOf meta.now (map arc_value cut.now.changes.items) result.items }
+{
+    match cut.kind {
+        CutKind::Full => built_parts(rt, alloc, meta, cut, workers, gate),
+        CutKind::Latest => Vec::new(alloc),
+    }
+}
+
 // Hands in what was built of a year.
 fn hand_in<K: Keeper>(engine: &mut Engine<K>, ticket: u64, part: Option<Partition>)
     requires begun { has_ticket ticket engine.old.state.full ≡ true }
@@ -123,17 +143,29 @@ fn hand_in<K: Keeper>(engine: &mut Engine<K>, ticket: u64, part: Option<Partitio
     }
 }
 
-/// Hands in the parts that were built of the full update with this ticket.
-pub(crate) fn hand_in_all<K: Keeper>(
-    engine: &mut Engine<K>,
-    ticket: u64,
-    parts: Vec<Option<Partition>>,
-)
+// Hands in the parts that were built of the full update with this ticket.
+fn hand_in_all<K: Keeper>(engine: &mut Engine<K>, ticket: u64, parts: Vec<Option<Partition>>)
     requires begun { has_ticket ticket engine.old.state.full ≡ true }
     requires parts { ArePartsOf engine.old.meta (take (number_in engine.old.state.full) engine.old.state.log) parts.items }
     ensures { engine.new ≡ engine.old }
 {
     for part in parts {
         hand_in(engine, ticket, part);
+    }
+}
+
+/// Hands in the parts that were built of the update with this ticket, if it is a full one.
+pub(crate) fn hand_in_for<K: Keeper>(
+    engine: &mut Engine<K>,
+    kind: CutKind,
+    ticket: u64,
+    parts: Vec<Option<Partition>>,
+)
+    requires { HasParts engine.old kind ticket parts.items }
+    ensures { engine.new ≡ engine.old }
+{
+    match kind {
+        CutKind::Full => hand_in_all(engine, ticket, parts),
+        CutKind::Latest => drop(parts),
     }
 }

@@ -5,14 +5,14 @@ ghost use Rattle.history_word.specs.Views.{own};
 ghost use Rattle.std.specs.Arc.{arc_value};
 ghost use Rattle.value_import.specs.Outcomes.{IsKnown};
 ghost use Rattle.table_rows.specs.Store.{contents_in};
-ghost use Rattle.dh_base.specs.declared.plain.CutKind.TheVariants.{Full};
 ghost use Rattle.engine.specs.Machine.Act.{changed, begun, looked};
 ghost use Rattle.engine.specs.Seen.{update_in, published_in};
+ghost use Rattle.engine.specs.Stands.{Stands};
 ghost use Rattle.engine.specs.Tables.{tables_of};
 ghost use Rattle.shared_engine.specs.Entries.{entries_of, caller_of};
-ghost use Rattle.shared_engine.specs.Histories.{stand_of, IsLegal, IsBegunBy};
-ghost use Rattle.shared_engine.specs.Ends.{staged_in, end_act};
-ghost use Rattle.shared_engine.specs.Builds.{CanBuild, ArePartsOf};
+ghost use Rattle.shared_engine.specs.Histories.{stand_of, IsLegal};
+ghost use Rattle.shared_engine.specs.Ends.{end_act};
+ghost use Rattle.shared_engine.specs.Builds.{CanBuild, ArePartsOf, IsCutBy};
 ghost use Rattle.shared_engine.specs.Calls.{IsCall};
 
 use crate::names::{Item, Naming};
@@ -99,8 +99,10 @@ impl<J: Naming, K: Keeper> Locked<J, K> {
     ) -> (Token<Item>, Result<View, LookFault>)
         requires table { (words.now ≡ J.made.table) × (token.table ≡ J.made.table) }
         ensures call { (faults : ℕ) × IsCall J.made token result.0 (entries_of token.caller (looked asked (published_in result.1)) faults) }
-        ensures tables { IfOk result.1 (λ view. contents_in (arc_value view.tables)
+        ensures tables { IfOk result.1 (λ view. contents_in (arc_value view.tables).all
             ≡ tables_of J.made.meta (take view.published (stand_of J.made result.0.list).machine.log)) }
+        ensures stands { IfOk result.1 (λ view. Stands J.made.meta (stand_of J.made result.0.list).machine.log
+            (stand_of J.made result.0.list).machine.base_cut view.published (arc_value view.tables)) }
         ensures told { IfOk result.1 (λ view. view.published ≡ result.0.told) }
     {
         self.seat.take_in(words, token);
@@ -119,9 +121,8 @@ impl<J: Naming, K: Keeper> Locked<J, K> {
         kind: CutKind,
     ) -> (Token<Item>, Result<Cut, CutFault>)
         requires table { (words.now ≡ J.made.table) × (token.table ≡ J.made.table) }
-        requires kind { kind ≡ Full }
         ensures call { (faults : ℕ) × IsCall J.made token result.0 (entries_of token.caller (begun kind (update_in result.1)) faults) }
-        ensures begun { IfOk result.1 (λ cut. IsBegunBy J.made result.0.list token.caller kind (staged_in cut) (map arc_value cut.changes.items)) }
+        ensures begun { IfOk result.1 (IsCutBy J.made result.0.list token.caller) }
         ensures builds { IfOk result.1 (λ cut. CanBuild (map arc_value cut.changes.items)) }
     {
         self.seat.take_in(words, token);
@@ -142,13 +143,13 @@ impl<J: Naming, K: Keeper> Locked<J, K> {
         parts: Vec<Option<Partition>>,
     ) -> (Token<Item>, Result<u64, Memory>)
         requires table { (words.now ≡ J.made.table) × (token.table ≡ J.made.table) }
-        requires begun { IsBegunBy J.made token.list token.caller Full (staged_in cut.now) (map arc_value cut.now.changes.items) }
+        requires begun { IsCutBy J.made token.list token.caller cut.now }
         requires parts { ArePartsOf J.made.meta (map arc_value cut.now.changes.items) parts.items }
         ensures { (faults : ℕ) × IsCall J.made token result.0
             (record { caller = token.caller; act = end_act cut.now.ticket result.1; faults = faults } ∷ []) }
     {
         self.seat.take_in(words, token);
-        let reply = end_with(alloc, &mut self.engine, cut.ticket, parts);
+        let reply = end_with(alloc, &mut self.engine, cut.kind, cut.ticket, parts);
         note_end(&mut self.seat, words, &self.engine, cut.ticket, &reply);
         let token = self.seat.give_back(words);
         (token, reply)

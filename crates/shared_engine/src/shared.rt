@@ -1,6 +1,5 @@
 //! The lock, the words beside it, and the passes of its callers.
 ghost use Rattle.std.specs.Prelude.{◌≡◌, ◌≤◌, ◌∷◌, [], ℕ, List, IfOk, map, take};
-ghost use Rattle.dh_base.specs.declared.plain.CutKind.TheVariants.{Full};
 ghost use Rattle.std.specs.Arc.{arc_value};
 ghost use Rattle.value_import.specs.Outcomes.{IsKnown};
 ghost use Rattle.table_rows.specs.Store.{contents_in};
@@ -8,11 +7,12 @@ ghost use Rattle.history_word.specs.Views.{own};
 ghost use Rattle.engine.specs.Machine.{start};
 ghost use Rattle.engine.specs.Machine.Act.{changed, begun, looked};
 ghost use Rattle.engine.specs.Seen.{update_in, published_in};
+ghost use Rattle.engine.specs.Stands.{Stands};
 ghost use Rattle.engine.specs.Tables.{tables_of};
 ghost use Rattle.shared_engine.specs.Entries.{Entry, entries_of, caller_of};
-ghost use Rattle.shared_engine.specs.Histories.{stand_of, IsLegal, IsBegunBy};
-ghost use Rattle.shared_engine.specs.Ends.{staged_in, end_act, answer_of};
-ghost use Rattle.shared_engine.specs.Builds.{CanBuild, ArePartsOf};
+ghost use Rattle.shared_engine.specs.Histories.{stand_of, IsLegal};
+ghost use Rattle.shared_engine.specs.Ends.{end_act, answer_of};
+ghost use Rattle.shared_engine.specs.Builds.{CanBuild, ArePartsOf, IsCutBy};
 ghost use Rattle.shared_engine.specs.Calls.{IsCall, IsUpdate};
 
 use crate::builds::build_parts;
@@ -205,8 +205,10 @@ impl<J: Naming, K: Keeper> Shared<J, K> {
     /// The tables, if so many changes are published.
     pub fn look<R: Wait>(&self, rt: &R, pass: &mut Pass<J>, asked: u64) -> Result<View, LookFault>
         ensures call { (faults : ℕ) × IsCall J.made pass.old pass.new (entries_of pass.old.caller (looked asked (published_in result)) faults) }
-        ensures tables { IfOk result (λ view. contents_in (arc_value view.tables)
+        ensures tables { IfOk result (λ view. contents_in (arc_value view.tables).all
             ≡ tables_of J.made.meta (take view.published (stand_of J.made pass.new.list).machine.log)) }
+        ensures stands { IfOk result (λ view. Stands J.made.meta (stand_of J.made pass.new.list).machine.log
+            (stand_of J.made pass.new.list).machine.base_cut view.published (arc_value view.tables)) }
         ensures told { IfOk result (λ view. view.published ≡ pass.new.told) }
     {
         let Some(token) = pass.token.take() else {
@@ -221,7 +223,8 @@ impl<J: Naming, K: Keeper> Shared<J, K> {
     /// Makes new tables and answers how many changes they stand for. It is begun under the lock; then so many workers build the parts
     /// of its years outside the lock, each of which calls the gate before it builds a year; under the lock again the parts are handed
     /// in and it is ended. Other callers' calls may come between its beginning and its end. The parts for which there was no memory
-    /// are built under the lock; if there is none then, the update is dropped.
+    /// are built under the lock; if there is none then, the update is dropped. A latest update has no years: its part is made as it is
+    /// begun, of what changed since the last full one.
     pub fn update<R: Threads + Wait + Sync, G: Gate + Sync>(
         &self,
         rt: &R,
@@ -231,7 +234,6 @@ impl<J: Naming, K: Keeper> Shared<J, K> {
         workers: u32,
         gate: &G,
     ) -> Result<u64, CutFault>
-        requires { kind ≡ Full }
         ensures { (entries : List Entry) × IsCall J.made pass.old pass.new entries × IsUpdate pass.old.caller kind result entries }
     {
         let Some(token) = pass.token.take() else {
@@ -252,8 +254,7 @@ impl<J: Naming, K: Keeper> Shared<J, K> {
         workers: u32,
         gate: &G,
     ) -> (Token<Item>, Result<u64, CutFault>)
-        requires table { token.table ≡ J.made.table }
-        requires kind { kind ≡ Full }
+        requires { token.table ≡ J.made.table }
         ensures { (entries : List Entry) × IsCall J.made token result.0 entries × IsUpdate token.caller kind result.1 entries }
     {
         let (token, begun) = self.begin(rt, alloc, token, kind);
@@ -274,17 +275,16 @@ impl<J: Naming, K: Keeper> Shared<J, K> {
         token: Token<Item>,
         kind: CutKind,
     ) -> (Token<Item>, Result<Cut, CutFault>)
-        requires table { token.table ≡ J.made.table }
-        requires kind { kind ≡ Full }
+        requires { token.table ≡ J.made.table }
         ensures call { (faults : ℕ) × IsCall J.made token result.0 (entries_of token.caller (begun kind (update_in result.1)) faults) }
-        ensures begun { IfOk result.1 (λ cut. IsBegunBy J.made result.0.list token.caller kind (staged_in cut) (map arc_value cut.changes.items)) }
+        ensures begun { IfOk result.1 (IsCutBy J.made result.0.list token.caller) }
         ensures builds { IfOk result.1 (λ cut. CanBuild (map arc_value cut.changes.items)) }
     {
         let mut locked = self.lock.lock(rt);
         locked.cut(alloc, &self.words, token, kind)
     }
 
-    // The parts of a cut's years, built while nobody has to wait for the lock.
+    // The parts of a cut's years, built while nobody has to wait for the lock. A latest update has none.
     fn build<R: Threads + Sync, G: Gate + Sync>(
         &self,
         rt: &R,
@@ -308,7 +308,7 @@ impl<J: Naming, K: Keeper> Shared<J, K> {
         parts: Vec<Option<Partition>>,
     ) -> (Token<Item>, Result<u64, Memory>)
         requires table { token.table ≡ J.made.table }
-        requires begun { IsBegunBy J.made token.list token.caller Full (staged_in cut.now) (map arc_value cut.now.changes.items) }
+        requires begun { IsCutBy J.made token.list token.caller cut.now }
         requires parts { ArePartsOf J.made.meta (map arc_value cut.now.changes.items) parts.items }
         ensures { (faults : ℕ) × IsCall J.made token result.0
             (record { caller = token.caller; act = end_act cut.now.ticket result.1; faults = faults } ∷ []) }

@@ -1,11 +1,12 @@
 //! How an update ends.
-ghost use Rattle.std.specs.Prelude.{◌≡◌, ◌≤◌, true, take, IsTrue, IfOk, Some};
-ghost use Rattle.engine.specs.Machine.{has_ticket, is_begun, number_in};
-ghost use Rattle.shared_engine.specs.Builds.{ArePartsOf};
+ghost use Rattle.std.specs.Prelude.{◌≡◌, ◌≤◌, IsTrue, IfOk, Some};
+ghost use Rattle.engine.specs.Machine.{is_begun};
+ghost use Rattle.shared_engine.specs.Builds.{HasParts};
 ghost use Rattle.shared_engine.specs.Ends.{end_act, told_after, Goes};
 
-use crate::builds::hand_in_all;
+use crate::builds::hand_in_for;
 use dh_base::memory::Memory;
+use dh_base::plain::CutKind;
 use dh_outside::Keeper;
 use engine::Engine;
 use std::alloc::Global;
@@ -28,20 +29,20 @@ fn end_update<K: Keeper>(alloc: Global, engine: &mut Engine<K>, ticket: u64) -> 
     }
 }
 
-/// Hands in the parts that were built of a full update, and ends it.
-#[tactic(auto, using(crate::proofs::BuildLemmas::full_begun))]
+/// Hands in the parts that were built of an update, and ends it.
 pub(crate) fn end_with<K: Keeper>(
     alloc: Global,
     engine: &mut Engine<K>,
+    kind: CutKind,
     ticket: u64,
     parts: Vec<Option<Partition>>,
 ) -> Result<u64, Memory>
-    requires begun { has_ticket ticket engine.old.state.full ≡ true }
-    requires parts { ArePartsOf engine.old.meta (take (number_in engine.old.state.full) engine.old.state.log) parts.items }
+    requires begun { IsTrue (is_begun engine.old.state ticket) }
+    requires parts { HasParts engine.old kind ticket parts.items }
     ensures goes { Goes engine.old (end_act ticket result) engine.new }
     ensures published { engine.new.state.published ≡ told_after engine.old.state.published result }
     ensures rises { IfOk result (λ number. engine.old.state.published ≤ number) }
 {
-    hand_in_all(engine, ticket, parts);
+    hand_in_for(engine, kind, ticket, parts);
     end_update(alloc, engine, ticket)
 }

@@ -66,7 +66,7 @@ pub query_replied : (made : Made) (before now : TokenView Entry) (asked user : �
     (found : Result View LookFault)
     (text : Option (List ℕ))
     → Looks made before now asked (published_in found)
-    → IfOk found (λ view. contents_in (arc_value view.tables) ≡ tables_of made.meta (take view.published (log_known made now)))
+    → IfOk found (λ view. contents_in (arc_value view.tables).all ≡ tables_of made.meta (take view.published (log_known made now)))
     → IfOk found (λ view. view.published ≡ now.told) → ((log : List Change) → after ≡ meta_after made.meta log)
     → IsTold text (viewed_answer after user query keep found)
     → LookReply made asked (λ log found. look_text made.meta log user query keep found) before text now
@@ -75,7 +75,7 @@ query_replied made before now asked user query keep after (Ok view) text call ta
   faults = call.0;
   call = call.1;
   number = number;
-  tells = answer_meant text made.meta after (log_known made now) user view.published query keep (contents_in (arc_value view.tables))
+  tells = answer_meant text made.meta after (log_known made now) user view.published query keep (contents_in (arc_value view.tables).all)
       (is (take view.published (log_known made now))) tables tells;
 }
 query_replied made before now asked user query keep after (Err (look.NotYet published)) text call tables number is tells =
@@ -87,7 +87,7 @@ pub check_replied : (made : Made) (before now : TokenView Entry) (asked user : �
     (found : Result View LookFault)
     (text : Option (List ℕ))
     → Looks made before now asked (published_in found)
-    → IfOk found (λ view. contents_in (arc_value view.tables) ≡ tables_of made.meta (take view.published (log_known made now)))
+    → IfOk found (λ view. contents_in (arc_value view.tables).all ≡ tables_of made.meta (take view.published (log_known made now)))
     → IfOk found (λ view. view.published ≡ now.told) → ((log : List Change) → after ≡ meta_after made.meta log)
     → IsTold text (viewed_check after user place keep found)
     → LookReply made asked (λ log found. check_text made.meta log user place keep found) before text now
@@ -96,7 +96,7 @@ check_replied made before now asked user place keep after (Ok view) text call ta
   faults = call.0;
   call = call.1;
   number = number;
-  tells = check_meant text made.meta after (log_known made now) user view.published place keep (contents_in (arc_value view.tables))
+  tells = check_meant text made.meta after (log_known made now) user view.published place keep (contents_in (arc_value view.tables).all)
       (is (take view.published (log_known made now))) tables tells;
 }
 check_replied made before now asked user place keep after (Err (look.NotYet published)) text call tables number is tells =

@@ -14,12 +14,12 @@ use Rattle.request_replies.specs.Checks.{check_by}
 
 -- to who asks a query
 abbrev pub viewed_answer : Records → ℕ → Query → Bool → Result View LookFault → Option (List ℕ)
-viewed_answer meta user query keep (Ok view) = Some (answer_by meta (contents_in (arc_value view.tables)) user query keep view.published)
+viewed_answer meta user query keep (Ok view) = Some (answer_by meta (contents_in (arc_value view.tables).all) user query keep view.published)
 viewed_answer meta user query keep (Err (look.NotYet published)) = Some (not_yet_reply published keep)
 viewed_answer meta user query keep (Err look.Memory) = None
 
 -- to who asks for a check
 abbrev pub viewed_check : Records → ℕ → Place → Bool → Result View LookFault → Option (List ℕ)
-viewed_check meta user place keep (Ok view) = Some (check_by meta (contents_in (arc_value view.tables)) user place keep view.published)
+viewed_check meta user place keep (Ok view) = Some (check_by meta (contents_in (arc_value view.tables).all) user place keep view.published)
 viewed_check meta user place keep (Err (look.NotYet published)) = Some (not_yet_reply published keep)
 viewed_check meta user place keep (Err look.Memory) = None

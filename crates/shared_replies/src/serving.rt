@@ -1,7 +1,7 @@
 //! The connection of one caller.
 ghost use denote.Param.Send.{IsSync};
 ghost use Rattle.std.specs.Prelude.{◌≡◌, ◌≤◌, ℕ, Result};
-ghost use Rattle.dh_base.specs.declared.plain.CutKind.TheVariants.{Full};
+ghost use Rattle.dh_base.specs.declared.plain.CutKind.{CutKind as Kind};
 ghost use Rattle.dh_outside.specs.Faults.{Rose};
 ghost use Rattle.request_session.specs.Prompt.{Prompt};
 ghost use Rattle.request_session.specs.Session.{Served};
@@ -74,8 +74,9 @@ fn serve_in<J: Naming, K: Keeper, C: Clock, R: Wait, G, U: Updates<Pass<J>> + Dr
     clock: &C,
     link: &mut N,
 ) -> Ended
-    requires may { U.may updates Full }
-    requires says { (old : _) (answer : Result ℕ Fault) (new : _) → U.says updates old Full answer new → UpdateCall J.made old Full answer new }
+    requires may { (kind : Kind) → U.may updates kind }
+    requires says { (kind : Kind) (old : _) (answer : Result ℕ Fault) (new : _)
+        → U.says updates old kind answer new → UpdateCall J.made old kind answer new }
     ensures served { Served (SharedReply J.made (C.shows clock.now)) most_requests (N.left link.old) (N.left link.new) (N.written link.old)
         (N.written link.new) pass.old pass.new result }
     ensures prompt { Prompt (SharedReply J.made (C.shows clock.now)) most_requests (N.source_talk link.old) (N.source_talk link.new) pass.old }
@@ -110,7 +111,7 @@ pub fn serve_connection<
     let workers = system.workers;
     let gate = system.gate;
     let run = |pass: &mut Pass<J>, kind: CutKind| -> Result<u64, CutFault>
-        requires { IsSync R.row × IsSync G.row × (kind ≡ Full) }
+        requires { IsSync R.row × IsSync G.row }
         ensures { UpdateCall J.made pass.old kind result pass.new }
     { shared.update(rt, alloc, pass, kind, workers, gate) };
     serve_in(system, ByCall { run }, pass, clock, link)

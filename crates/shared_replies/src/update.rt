@@ -1,6 +1,5 @@
 //! Replies to updates of the tables. Room for the reply is made before the update, so that one that was made is always told.
 ghost use Rattle.std.specs.Prelude.{◌≡◌, ◌≤◌, length, take, None, Some, IfOk};
-ghost use Rattle.dh_base.specs.declared.plain.CutKind.TheVariants.{Full};
 ghost use Rattle.request_session.specs.Replies.{text_in};
 ghost use Rattle.request_replies.specs.Texts.{told, IsTold, update_reply};
 ghost use Rattle.shared_replies.specs.Replies.{UpdateReply, Attempt, update_told};
@@ -84,8 +83,7 @@ fn reply_in<J: Naming, U: Updates<Pass<J>> + Drop>(
     keep: bool,
     room: Vec<u8>,
 ) -> Result<Reply, Memory>
-    requires kind { kind ≡ Full }
-    requires room { length room.items ≡ 128 }
+    requires { length room.items ≡ 128 }
     ensures { UpdateReply J.made kind keep pass.old (told result) pass.new }
 {
     let found = updating.update(pass, kind);
@@ -100,7 +98,6 @@ pub(crate) fn reply_to_update<J: Naming, U: Updates<Pass<J>> + Drop>(
     kind: CutKind,
     keep: bool,
 ) -> Result<Reply, Memory>
-    requires { kind ≡ Full }
     ensures { Attempt (UpdateReply J.made kind keep) pass.old (told result) pass.new }
 {
     match room(alloc) {

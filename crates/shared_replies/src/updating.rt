@@ -3,7 +3,6 @@
 ghost use denote.Ref.{MutBor};
 ghost use Rattle.std.specs.Prelude.{◌≡◌, ℕ, Result};
 ghost use Rattle.dh_base.specs.declared.plain.CutKind.{CutKind as Kind};
-ghost use Rattle.dh_base.specs.declared.plain.CutKind.TheVariants.{Full};
 ghost use Rattle.engine.specs.declared.machine.CutFault.{CutFault as Fault};
 ghost use Rattle.shared_replies.specs.Replies.{UpdateCall};
 
@@ -42,7 +41,7 @@ impl<P, F: Fn(&mut P, CutKind) -> Result<u64, CutFault>> Updates<P> for ByCall<F
     }
 }
 
-/// What makes full updates of the system of this name. Contracts see that it is there, and its type what its updates are.
+/// What makes updates of the system of this name. Contracts see that it is there, and its type what its updates are.
 #[derive(Drop)]
 pub(crate) struct Updating<J: Naming, U: Updates<Pass<J>> + Drop> {
     updates: U,
@@ -51,7 +50,7 @@ pub(crate) struct Updating<J: Naming, U: Updates<Pass<J>> + Drop> {
 
 impl<J: Naming, U: Updates<Pass<J>> + Drop> Model for Updating<J, U> {
     ghost use Rattle.std.specs.Prelude.{ℕ, Result};
-    ghost use Rattle.dh_base.specs.declared.plain.CutKind.TheVariants.{Full};
+    ghost use Rattle.dh_base.specs.declared.plain.CutKind.{CutKind as Kind};
     ghost use Rattle.engine.specs.declared.machine.CutFault.{CutFault as Fault};
     ghost use Rattle.shared_replies.specs.Replies.{UpdateCall};
 
@@ -59,15 +58,16 @@ impl<J: Naming, U: Updates<Pass<J>> + Drop> Model for Updating<J, U> {
 
     ghost view = { λ _. 0 };
 
-    ghost invariant = { λ updating. U.may updating.updates Full × ((old : _) (answer : Result ℕ Fault) (new : _)
-        → U.says updating.updates old Full answer new → UpdateCall J.made old Full answer new) };
+    ghost invariant = { λ updating. ((kind : Kind) → U.may updating.updates kind) × ((kind : Kind) (old : _) (answer : Result ℕ Fault) (new : _)
+        → U.says updating.updates old kind answer new → UpdateCall J.made old kind answer new) };
 }
 
 impl<J: Naming, U: Updates<Pass<J>> + Drop> Updating<J, U> {
     /// By what makes an update.
     pub(crate) fn by(updates: U) -> Self
-        requires may { U.may updates Full }
-        requires says { (old : _) (answer : Result ℕ Fault) (new : _) → U.says updates old Full answer new → UpdateCall J.made old Full answer new }
+        requires may { (kind : Kind) → U.may updates kind }
+        requires says { (kind : Kind) (old : _) (answer : Result ℕ Fault) (new : _)
+            → U.says updates old kind answer new → UpdateCall J.made old kind answer new }
     {
         Updating {
             updates,
@@ -77,7 +77,6 @@ impl<J: Naming, U: Updates<Pass<J>> + Drop> Updating<J, U> {
 
     /// Makes an update.
     pub(crate) fn update(&self, pass: &mut Pass<J>, kind: CutKind) -> Result<u64, CutFault>
-        requires { kind ≡ Full }
         ensures { UpdateCall J.made pass.old kind result pass.new }
     {
         self.updates.update(pass, kind)

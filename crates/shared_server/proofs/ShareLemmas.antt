@@ -14,6 +14,7 @@ use Rattle.engine.specs.contracts.engine.Engine as engine
 use Rattle.engine.specs.contracts.engine.Engine.TheInside as of_engine
 use Rattle.engine.specs.contracts.updates.Shown as shown
 use Rattle.engine.proofs.machine.Staged.TheSendSync as staged
+use Rattle.engine.proofs.updates.LatestUpdate.TheSendSync as latest_update
 use Rattle.engine.proofs.tables.Tables.TheSendSync as tables
 use Rattle.table_build.proofs.slots.Slot.TheSendSync as slot
 use Rattle.change_log.proofs.log.ChangeLog.TheSendSync as change_log
@@ -35,7 +36,7 @@ shown_field_send = struct_send (shape (shown.the_type)) (
         (
           search (staged.the_send, crosses, sendable) depth 60 fits 20000,
           (
-            search (staged.the_send, crosses, sendable) depth 60 fits 20000,
+            search (latest_update.the_send, crosses, sendable) depth 60 fits 20000,
             (search (slot.the_send, crosses, sendable) depth 60 fits 20000, tt),
           ),
         ),

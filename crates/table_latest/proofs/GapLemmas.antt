@@ -47,7 +47,7 @@ same-place a b e =
 pub in-group : (g : Group) (a b : ℕ) → place_cmp (place_at g a) (place_at g b) ≡ nat_cmp a b
 in-group g a b = ap (λ o. ordering_then o (nat_cmp a b)) (group_cmp-self g)
 
-below-is : (a b : ℕ) → nat_cmp a b ≡ Less → a < b
+pub below-is : (a b : ℕ) → nat_cmp a b ≡ Less → a < b
 below-is a b e = ranked a b Less (sym e)
 
 less-cmp : (a b : ℕ) → a < b → nat_cmp a b ≡ Less
@@ -222,7 +222,7 @@ module _ (places : List RowPlace) (g : Group) (from to low high : ℕ) (span : I
 
 -- ---- sums
 
-filter-both : {X : Type 0} (p q : X → Bool) (xs : List X) → filter p (filter q xs) ≡ filter (λ x. q x && p x) xs
+pub filter-both : {X : Type 0} (p q : X → Bool) (xs : List X) → filter p (filter q xs) ≡ filter (λ x. q x && p x) xs
 filter-both p q [] = refl
 filter-both p q (x ∷ xs) = by_test (q x) (filter-both p q xs)
   where

@@ -89,7 +89,7 @@ module _ {X : Type 0} (cmp : X → X → Ordering) (total : IsTotalOrder cmp) wh
       λ i. same i ∷ rest i
 
 -- a group is one of these
-abbrev has : List Group → Group → Bool
+abbrev pub has : List Group → Group → Bool
 has groups g = list_any (same_group g) groups
 
 has-from : (g : Group) (groups : List Group) → IsIn g groups → has groups g ≡ true
@@ -117,7 +117,7 @@ same-groups left right up over same =
 
 -- ---- which groups have a row
 
-group-turned : (a b : Group) → same_group a b ≡ same_group b a
+pub group-turned : (a b : Group) → same_group a b ≡ same_group b a
 group-turned a b =
     elim (cases_Bool (same_group a b)) [
       | inl is ↦ is ∙ sym (ap (same_group b) (same_group-true a b is) ∙ same_group-self b)
@@ -164,7 +164,7 @@ element-has element g (x ∷ xs) =
     by_tests false false same of c rest = rest
 
 -- a group is among those of an element where it is of the element and a row is in it
-group-has : (element : ℕ) (g : Group) (rows : List Row) → has (groups_of element rows) g ≡ (nat_eq g.element element && list_any (is_in_group g) rows)
+pub group-has : (element : ℕ) (g : Group) (rows : List Row) → has (groups_of element rows) g ≡ (nat_eq g.element element && list_any (is_in_group g) rows)
 unfolding groups_of
 group-has element g rows = once-has g (map group_of (filter (is_of_element element) rows)) ∙ element-has element g rows
 

@@ -5,3 +5,4 @@ pub mod GapLemmas
 pub mod GroupLemmas
 pub mod OverLemmas
 pub mod LaterLemmas
+pub mod ReplacedLemmas

@@ -11,7 +11,7 @@ use Rattle.year_tables.proofs.AscendingLemmas.{every-append, every-to, ascending
 use Rattle.table_latest.specs.Merged.{TakesAbove}
 use Rattle.table_latest.proofs.OrderLemmas.{turned-less}
 
-every-front : {X : Type 0} (P : X → Type 0) (xs ys : List X) → AllByRecursion P (xs ++ ys) → AllByRecursion P xs
+pub every-front : {X : Type 0} (P : X → Type 0) (xs ys : List X) → AllByRecursion P (xs ++ ys) → AllByRecursion P xs
 every-front P [] ys all = tt
 every-front P (x ∷ xs) ys all = (all.0, every-front P xs ys all.1)
 

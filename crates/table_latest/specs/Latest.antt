@@ -56,6 +56,10 @@ untouched touched xs = filter (λ x. not (touched x)) xs
 abbrev pub untouched_rows : List RowPlace → List Row → List Row
 untouched_rows places rows = untouched (λ row. is_among place_cmp places (place_of row)) rows
 
+-- and those that are
+abbrev pub touched_rows : List RowPlace → List Row → List Row
+touched_rows places rows = filter (λ row. is_among place_cmp places (place_of row)) rows
+
 -- a list without what is touched, and with what stands there now, in its order
 abbrev pub laid_over : {X : Type 0} → (X → X → Ordering) → (X → Bool) → List X → List X → List X
 laid_over cmp touched base now = ascending cmp (untouched touched base ++ now)

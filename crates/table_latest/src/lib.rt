@@ -2,6 +2,7 @@
 //! store of rows. Which keys changes touch is said where a latest part is built.
 #![tactic(auto)]
 
+mod gaps;
 mod groups;
 mod held;
 mod kept;
@@ -9,6 +10,7 @@ mod latest;
 mod merged;
 mod overlay;
 mod places;
+mod replaced;
 mod search;
 
 pub use latest::{Latest, TouchedKeys};

@@ -1,61 +1,74 @@
 //! Tables under a latest part, as one store.
 ghost use Rattle.std.specs.Prelude.{◌≡◌, IfOk};
+ghost use Rattle.std.specs.Arc.{arc_value};
 ghost use Rattle.table_rows.specs.Events.{events_of, regs_of};
 ghost use Rattle.table_rows.specs.Rows.{wanted_rows};
 ghost use Rattle.table_rows.specs.Store.{Contents, contents_in};
 ghost use Rattle.table_rows.specs.Sums.{sum_of_rows, IsSized};
-ghost use Rattle.table_latest.specs.Latest.{IsOverlay, events_over, listed_from, overlaid, regs_over, rows_over};
+ghost use Rattle.table_latest.specs.Latest.{IsOverlay, events_over, listed_from, overlaid, regs_over, rows_over, touched_rows};
 ghost use Rattle.table_latest.specs.Later.{Bridges};
 
 use crate::groups::groups_over;
-use crate::kept::kept_sum;
+use crate::kept::{Asked, kept_sum};
 use crate::latest::Latest;
 use crate::merged::{merged, untouched};
+use crate::replaced::store_at;
 use dh_base::items::Items;
 use dh_base::memory::Memory;
 use dh_base::plain::Need;
 use std::alloc::Global;
 use std::marker::Model;
+use std::sync::Arc;
 use table_rows::{EventRow, Group, RegRow, Row, RowStore, Sum};
+use table_sums::SummedRows;
 
 /// A base store with a latest part over it. A touched key has what the latest part holds, or nothing; each other key has
-/// what the base holds.
-pub struct Overlay<'a, S: RowStore> {
-    base: &'a S,
-    latest: &'a Latest,
+/// what the base holds. It shares both, so that they outlive those who lent them.
+#[derive(Drop)]
+pub struct Overlay<S: RowStore> {
+    base: Arc<S>,
+    latest: Arc<Latest>,
+    // the base's rows of the latest part's keys
+    replaced: SummedRows,
 }
 
-impl<'a, S: RowStore> Model for Overlay<'a, S> {
-    ghost use Rattle.table_latest.specs.Latest.{IsOverlay, Overlaid, listed_from};
+impl<S: RowStore> Model for Overlay<S> {
+    ghost use Rattle.std.specs.Arc.{arc_value};
+    ghost use Rattle.std.specs.Prelude.{◌≡◌};
+    ghost use Rattle.table_latest.specs.Latest.{IsOverlay, Overlaid, listed_from, touched_rows};
 
     ghost Value = { Overlaid };
 
     ghost view = { λ overlay. record {
-      base = listed_from (S.rows overlay.base.now) (S.events overlay.base.now) (S.regs overlay.base.now)
-          (S.built overlay.base.now);
-      latest = overlay.latest.now;
+      base = listed_from (S.rows (arc_value overlay.base)) (S.events (arc_value overlay.base)) (S.regs (arc_value overlay.base))
+          (S.built (arc_value overlay.base));
+      latest = arc_value overlay.latest;
     } };
 
-    ghost invariant = { λ overlay. IsOverlay (listed_from (S.rows overlay.base.now) (S.events overlay.base.now) (S.regs overlay.base.now)
-        (S.built overlay.base.now)) overlay.latest.now };
+    ghost invariant = { λ overlay. record {
+      over : IsOverlay (listed_from (S.rows (arc_value overlay.base)) (S.events (arc_value overlay.base)) (S.regs (arc_value overlay.base))
+          (S.built (arc_value overlay.base))) (arc_value overlay.latest);
+      replaced : overlay.replaced.rows ≡ touched_rows (arc_value overlay.latest).touched.rows (S.rows (arc_value overlay.base));
+    } };
 }
 
-fn sum_over<S: RowStore>(
-    base: &S,
-    latest: &Latest,
-    group: &Group,
-    need: Need,
-    from: u32,
-    to: u32,
-) -> Sum
-    requires { IsOverlay (listed_from (S.rows base.now) (S.events base.now) (S.regs base.now) (S.built base.now)) latest.now }
-    ensures sum { result ≡ sum_of_rows (wanted_rows group.now need from to (rows_over (contents_in (listed_from (S.rows base.now) (S.events base.now)
-        (S.regs base.now) (S.built base.now))) latest.now)) }
+fn sum_over<S: RowStore>(base: &S, latest: &Latest, replaced: &SummedRows, asked: &Asked) -> Sum
+    requires over { IsOverlay (listed_from (S.rows base.now) (S.events base.now) (S.regs base.now) (S.built base.now)) latest.now }
+    requires replaced { replaced.now.rows ≡ touched_rows latest.now.touched.rows (S.rows base.now) }
+    ensures sum { result ≡ sum_of_rows (wanted_rows asked.now.group asked.now.need asked.now.from asked.now.to (rows_over (contents_in (listed_from
+        (S.rows base.now) (S.events base.now) (S.regs base.now) (S.built base.now))) latest.now)) }
     ensures size { IsSized result }
 {
-    if from < to {
-        let kept = kept_sum(base, latest.places(), group, need, from, to);
-        kept.join(&RowStore::range_sum(latest.store(), *group, need, from, to))
+    if asked.from < asked.to {
+        let kept = kept_sum(base, latest, replaced, asked);
+        let now = RowStore::range_sum(
+            latest.store(),
+            asked.group,
+            asked.need,
+            asked.from,
+            asked.to,
+        );
+        kept.join(&now)
     } else {
         Sum::none()
     }
@@ -83,7 +96,7 @@ fn rows_in<S: RowStore>(
 
 /// The events that are asked for, by program and days.
 #[derive(Clone, Copy)]
-struct Asked {
+struct AskedEvents {
     program: u32,
     from_day: i32,
     to_day: i32,
@@ -93,7 +106,7 @@ fn events_in<S: RowStore>(
     alloc: Global,
     base: &S,
     latest: &Latest,
-    asked: &Asked,
+    asked: &AskedEvents,
 ) -> Result<Items<EventRow>, Memory>
     requires { IsOverlay (listed_from (S.rows base.now) (S.events base.now) (S.regs base.now) (S.built base.now)) latest.now }
     ensures { IfOk result (λ found. found ≡ events_of asked.now.program asked.now.from_day asked.now.to_day (events_over (contents_in (listed_from
@@ -129,19 +142,36 @@ fn regs_in<S: RowStore>(
     Ok(Items::from(regs))
 }
 
-impl<'a, S: RowStore> Overlay<'a, S> {
+impl<S: RowStore> Overlay<S> {
     /// The base with the latest part over it.
-    pub fn of(base: &'a S, latest: &'a Latest) -> Overlay<'a, S>
-        requires { IsOverlay (listed_from (S.rows base.now) (S.events base.now) (S.regs base.now) (S.built base.now)) latest.now }
-        ensures base { result.base ≡ listed_from (S.rows base.now) (S.events base.now) (S.regs base.now) (S.built base.now) }
-        ensures latest { result.latest ≡ latest.now }
-        ensures later { (later : Contents) → Bridges result.base result.latest later → overlaid (contents_in result.base) result.latest ≡ later }
+    pub fn of(alloc: Global, base: Arc<S>, latest: Arc<Latest>) -> Result<Overlay<S>, Memory>
+    where
+        S: Drop,
+        requires { IsOverlay (listed_from (S.rows (arc_value base)) (S.events (arc_value base)) (S.regs (arc_value base)) (S.built (arc_value base)))
+            (arc_value latest) }
+        ensures base { IfOk result (λ overlay. overlay.base ≡ listed_from (S.rows (arc_value base)) (S.events (arc_value base)) (S.regs (arc_value base))
+            (S.built (arc_value base))) }
+        ensures latest { IfOk result (λ overlay. overlay.latest ≡ arc_value latest) }
+        ensures later { IfOk result (λ overlay. (later : Contents) → Bridges overlay.base overlay.latest later
+            → overlaid (contents_in overlay.base) overlay.latest ≡ later) }
     {
-        Overlay { base, latest }
+        let replaced = store_at(alloc, &*base, latest.places())?;
+        Ok(Overlay {
+            base,
+            latest,
+            replaced,
+        })
+    }
+
+    /// The latest part.
+    pub fn latest(&self) -> &Arc<Latest>
+        ensures { arc_value result.now ≡ self.now.latest }
+    {
+        &self.latest
     }
 }
 
-impl<'a, S: RowStore> RowStore for Overlay<'a, S> {
+impl<S: RowStore> RowStore for Overlay<S> {
     ghost use Rattle.table_rows.specs.Store.{contents_in};
     ghost use Rattle.table_latest.specs.Latest.{events_over, regs_over, rows_over};
 
@@ -154,11 +184,17 @@ impl<'a, S: RowStore> RowStore for Overlay<'a, S> {
     ghost built = { λ overlay. overlay.base.years };
 
     fn groups(&self, alloc: Global, element: u32) -> Result<Items<Group>, Memory> {
-        groups_over(alloc, self.base, self.latest, element)
+        groups_over(alloc, &*self.base, &self.latest, &self.replaced, element)
     }
 
     fn range_sum(&self, group: Group, need: Need, from: u32, to: u32) -> Sum {
-        sum_over(self.base, self.latest, &group, need, from, to)
+        let asked = Asked {
+            group,
+            need,
+            from,
+            to,
+        };
+        sum_over(&*self.base, &self.latest, &self.replaced, &asked)
     }
 
     fn rows_of(
@@ -169,7 +205,7 @@ impl<'a, S: RowStore> RowStore for Overlay<'a, S> {
         from: u32,
         to: u32,
     ) -> Result<Items<Row>, Memory> {
-        rows_in(alloc, self.base, self.latest, &group, need, from, to)
+        rows_in(alloc, &*self.base, &self.latest, &group, need, from, to)
     }
 
     fn events_of(
@@ -179,16 +215,16 @@ impl<'a, S: RowStore> RowStore for Overlay<'a, S> {
         from_day: i32,
         to_day: i32,
     ) -> Result<Items<EventRow>, Memory> {
-        let asked = Asked {
+        let asked = AskedEvents {
             program,
             from_day,
             to_day,
         };
-        events_in(alloc, self.base, self.latest, &asked)
+        events_in(alloc, &*self.base, &self.latest, &asked)
     }
 
     fn regs_of(&self, alloc: Global, set: u32) -> Result<Items<RegRow>, Memory> {
-        regs_in(alloc, self.base, self.latest, set)
+        regs_in(alloc, &*self.base, &self.latest, set)
     }
 
     fn years(&self) -> &[i32] {

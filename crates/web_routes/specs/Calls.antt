@@ -1,11 +1,10 @@
 -- The call that a request stands for. Its causes of refusal stand in this order: the route, the method, the user, the
 -- right, the parameters, the body.
-use Rattle.std.specs.Prelude.{◌≡◌, ℕ, ℤ, ◌<◌, if◌then◌else◌, List, [], ◌∷◌, length, Option, Some, None, option_and_then, Result, Ok, Err}
+use Rattle.std.specs.Prelude.{◌≡◌, ℕ, ℤ, ◌<◌, if◌then◌else◌, List, [], ◌∷◌, length, Option, Some, None, option_and_then, Result, Ok, Err, ⊤}
 use Rattle.dh_approvals.specs.declared.act.Verb.{Verb}
 use Rattle.dh_approvals.specs.declared.act.Verb.TheVariants as verb
 use Rattle.dh_base.specs.declared.codes.Code.TheVariants as code
 use Rattle.dh_base.specs.declared.codes.Refusal.{Refusal}
-use Rattle.dh_base.specs.declared.plain.CutKind.TheVariants.{Full}
 use Rattle.wire_head.specs.declared.request.Request.{Request}
 use Rattle.meta_parts.specs.declared.held.Records.{Records}
 use Rattle.dh_metadata.specs.Users.{user_of, has_authority}
@@ -107,22 +106,22 @@ routed r day request =
     and_then (user_for r request.token) (λ user.
     allowed_call r day user route request))
 
--- the call is this user's, who may ask its query; an update has no user and is of all tables
+-- the call is this user's, who may ask its query; an update has no user
 abbrev pub IsBy : Records → ℕ → Call → Type 0
 IsBy r by (call.Query user asked query) = (user ≡ by) × IsAskable r by query
 IsBy r by (call.Check user asked checked) = (user ≡ by) × (checked.set < length r.data_sets) × (checked.unit < length r.organisation_units)
-IsBy r by (call.Update kind) = kind ≡ Full
+IsBy r by (call.Update kind) = ⊤
 IsBy r by (call.Values user set) = user ≡ by
 IsBy r by (call.Completion user list) = user ≡ by
 IsBy r by (call.Approval user act) = user ≡ by
 IsBy r by (call.Tracker user bundle) = user ≡ by
 
--- the user of the call is one of the metadata's, and may ask its query; an update is of all tables
+-- the user of the call is one of the metadata's, and may ask its query; an update has no user
 abbrev pub IsSound : Records → Call → Type 0
 IsSound r (call.Query user asked query) = (user < length r.users) × IsAskable r user query
 IsSound r (call.Check user asked checked) =
     (user < length r.users) × (checked.set < length r.data_sets) × (checked.unit < length r.organisation_units)
-IsSound r (call.Update kind) = kind ≡ Full
+IsSound r (call.Update kind) = ⊤
 IsSound r (call.Values user set) = user < length r.users
 IsSound r (call.Completion user list) = user < length r.users
 IsSound r (call.Approval user act) = user < length r.users

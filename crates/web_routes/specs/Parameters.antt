@@ -67,11 +67,14 @@ is_scheme text = bytes_eq text (codes "UID") || bytes_eq text (codes "uid")
 unfoldable pub asked_of : Option (List ℕ) → Result ℕ Refusal
 asked_of field = parameter (codes "X-Min-Change") number_of 0 field
 
--- what an update rebuilds; updates of the latest part alone are not built
+-- what an update rebuilds: the latest part alone, or all
+abbrev pub kind_by : Bool → CutKind
+kind_by latest = if latest then cut.Latest else cut.Full
+
+-- an update is of all years unless `latest` is true
 unfoldable pub kind_of : List (List ℕ × List ℕ) → Result CutKind Refusal
 kind_of pairs =
-    and_then (parameter (codes "latest") truth_of false (value_of (codes "latest") pairs)) (λ latest.
-    if latest then Err (refusal code.F9 []) else Ok cut.Full)
+    and_then (parameter (codes "latest") truth_of false (value_of (codes "latest") pairs)) (λ latest. Ok (kind_by latest))
 
 abbrev pub scheme_names : List (List ℕ)
 scheme_names = codes "idScheme" ∷ codes "dataElementIdScheme" ∷ codes "orgUnitIdScheme" ∷ codes "categoryOptionComboIdScheme" ∷ []

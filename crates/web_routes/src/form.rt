@@ -6,9 +6,8 @@ ghost use Rattle.std.specs.Option.{option_copied};
 ghost use Rattle.std.specs.Str.Parse.{digits_value};
 ghost use Rattle.dh_base.specs.Memory.{Answers};
 ghost use Rattle.web_routes.specs.Given.{cause_of};
-ghost use Rattle.web_routes.specs.Parameters.{value_of, or_default, parameter, truth_of, strategy_of, is_number, number_of, is_scheme, asked_of, kind_of};
+ghost use Rattle.web_routes.specs.Parameters.{value_of, or_default, parameter, truth_of, strategy_of, is_number, number_of, is_scheme, asked_of, kind_by, kind_of};
 ghost use Rattle.web_routes.specs.Parameters.{is_bad_scheme, bad_scheme, params_of, atomic_of, bundle_params_of};
-ghost use Rattle.dh_base.specs.declared.plain.CutKind.TheVariants as cut;
 
 use crate::fault::{RouteFault, refused};
 use crate::pairs::value_of;
@@ -131,17 +130,24 @@ fn truth_in(
     }
 }
 
-/// What an update rebuilds. F21 where `latest` is neither `true` nor `false`.
+fn kind_by(latest: bool) -> CutKind
+    ensures { result ≡ kind_by latest }
+{
+    if latest {
+        CutKind::Latest
+    } else {
+        CutKind::Full
+    }
+}
+
+/// What an update rebuilds: the latest part alone where `latest` is `true`, else all. F21 where it is neither `true` nor
+/// `false`.
 #[tactic(auto, unfolding(crate::specs::Parameters::kind_of))]
 pub fn kind_of(alloc: Global, pairs: &[(Items<u8>, Items<u8>)]) -> Result<CutKind, RouteFault>
-    ensures value { Answers cause_of (kind_of pairs.now) result }
-    ensures full { IfOk result (λ kind. kind ≡ cut.Full) }
+    ensures { Answers cause_of (kind_of pairs.now) result }
 {
-    if truth_in(alloc, pairs, b"latest")? {
-        Err(refused(alloc, Code::F9, b""))
-    } else {
-        Ok(CutKind::Full)
-    }
+    let latest = truth_in(alloc, pairs, b"latest")?;
+    Ok(kind_by(latest))
 }
 
 fn strategy_in(

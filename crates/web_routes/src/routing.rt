@@ -15,7 +15,7 @@ use wire_head::Request;
 
 /// The call that a request stands for on a day from 1 January 1910 to 31 December 2099, or its refusal. Of several
 /// causes the first counts, in the order: F6 and F7 of the path and the method, F8 of the user, F31 of the right, F21
-/// and F10 to F17 of the parameters, F20 of the body. F9 stands for what isn't built yet.
+/// and F10 to F17 of the parameters, F20 of the body.
 #[tactic(auto, using(crate::proofs::CallLaws::sound_call), unfolding(crate::specs::Calls::routed))]
 pub fn route(
     alloc: Global,

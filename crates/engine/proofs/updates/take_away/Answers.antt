@@ -1,8 +1,21 @@
-use Rattle.std.proofs.Common.{sym, subst}
-use Rattle.engine.specs.Seen.{HaveSlots}
-use Rattle.engine.proofs.SlotLemmas.{ended-slots}
+use Rattle.std.proofs.Common.{◌∙◌, None, sym, ap}
+use Rattle.engine.specs.Machine.{with_staged}
+use Rattle.engine.specs.Seen.{state_of}
+use Rattle.engine.proofs.StandLemmas.{full_ended, latest_ended}
 use Rattle.engine.proofs.updates.take_away.Goals as goal
 
-pub returns-clause-kept : goal.returns-clause-kept
-returns-clause-kept c = λ meta log had.
-    subst (HaveSlots meta log) (sym c.set_staged.ensures) (ended-slots meta log c.kind_of-kind.result c.args.shown.now.full c.args.shown.now.slots had)
+pub returns-in-Full-clause-state : goal.returns-in-Full-clause-state
+returns-in-Full-clause-state c = λ log.
+    ap (state_of log) c.end_full.ensures
+    ∙ ap (λ kind. with_staged (state_of log c.args.shown.now) kind None) (sym c.in-Full.is ∙ c.kind_of.ensures)
+
+pub returns-in-Latest-clause-state : goal.returns-in-Latest-clause-state
+returns-in-Latest-clause-state c = λ log.
+    ap (state_of log) c.end_latest.ensures
+    ∙ ap (λ kind. with_staged (state_of log c.args.shown.now) kind None) (sym c.in-Latest.is ∙ c.kind_of.ensures)
+
+pub returns-in-Full-clause-shows : goal.returns-in-Full-clause-shows
+returns-in-Full-clause-shows c = λ meta log h. full_ended meta log c.args.shown.now c.end_full.new.shown c.end_full.ensures h
+
+pub returns-in-Latest-clause-shows : goal.returns-in-Latest-clause-shows
+returns-in-Latest-clause-shows c = λ meta log h. latest_ended meta log c.args.shown.now c.end_latest.new.shown c.end_latest.ensures h

@@ -2,7 +2,7 @@ use Rattle.std.proofs.Common.{◌≡◌, ◌∙◌, IfOk, ap, sym, subst, take}
 use Rattle.std.specs.Prelude.{Result}
 use Rattle.std.specs.Arc.{arc_value}
 use Rattle.table_rows.specs.Store.{contents_in}
-use Rattle.engine.specs.Tables.{tables_of}
+use Rattle.engine.specs.Tables.{Served, tables_of}
 use Rattle.engine.specs.declared.machine.LookFault.{LookFault}
 use Rattle.engine.specs.declared.machine.View.{View}
 use Rattle.engine.specs.Seen.{published_in}
@@ -17,7 +17,7 @@ returns-in-Ok g c =
     let same =
     subst
     (λ (f : Result View LookFault). IfOk f (λ view.
-    contents_in (arc_value view.tables) ≡ tables_of c.args.engine.now.meta (take view.published c.args.engine.now.state.log)))
+    contents_in (arc_value view.tables).all ≡ tables_of c.args.engine.now.meta (take view.published c.args.engine.now.state.log)))
     c.in-Ok.is c.requires.tables in
     subst
     (λ (f : Result View LookFault). IsTold (told c.by_user.result)
@@ -25,4 +25,4 @@ returns-in-Ok g c =
     (sym c.in-Ok.is)
     (check_told c.by_user.result c.args.engine.now.meta c.published_meta.result.now c.args.engine.now.state.log c.args.user c.in-Ok.view.published
     c.args.engine.now.state.published
-    c.args.place.now c.args.keep c.deref.result.now number c.published_meta.ensures.value (ap contents_in c.deref.ensures ∙ same) c.by_user.ensures)
+    c.args.place.now c.args.keep c.deref.result.now.all number c.published_meta.ensures.value (ap (λ (tables : Served). contents_in tables.all) c.deref.ensures ∙ same) c.by_user.ensures)

@@ -6,7 +6,7 @@ use Rattle.sample_report.proofs.load.bring.Goals as goal
 pub returns-clause-loaded : goal.returns-clause-loaded
 returns-clause-loaded c =
     let fits : FitsSigned w64 c.args.moment = c.ranges.moment in
-    λ r before. stays-loaded c.args.engine.now c.load_set.new.engine r (asked_for c.args.moment c.args.samples.now) c.load_set.result before
+    λ r updates before. stays-loaded c.args.engine.now c.load_set.new.engine r updates (asked_for c.args.moment c.args.samples.now) c.load_set.result before
     (rw (to_z-of_z fits) at c.load_set.ensures)
 
 pub returns-clause-log : goal.returns-clause-log

@@ -1,8 +1,9 @@
-use Rattle.std.proofs.Common.{sym, subst}
+use Rattle.std.proofs.Common.{ap, sym, subst}
 use Rattle.std.specs.Prelude.{Result}
 use Rattle.std.specs.Arc.{arc_value}
 use Rattle.engine.specs.declared.machine.LookFault.{LookFault}
 use Rattle.engine.specs.declared.machine.View.{View}
+use Rattle.engine.specs.Tables.{Served}
 use Rattle.request_replies.specs.Texts.{told, IsTold}
 use Rattle.shared_replies.specs.Views.{viewed_answer}
 use Rattle.shared_replies.proofs.ViewLemmas.{answer_viewed}
@@ -13,5 +14,5 @@ returns-in-Ok c =
     subst
     (λ (f : Result View LookFault). IsTold (told c.over_rows.result) (viewed_answer c.args.meta.now c.args.user c.args.query.now c.args.keep f))
     (sym c.in-Ok.is)
-    (answer_viewed c.over_rows.result c.args.meta.now c.args.user c.in-Ok.view.published c.args.query.now c.args.keep c.deref.result.now
-    (arc_value c.in-Ok.view.tables) c.deref.ensures c.over_rows.ensures)
+    (answer_viewed c.over_rows.result c.args.meta.now c.args.user c.in-Ok.view.published c.args.query.now c.args.keep c.deref.result.now.all
+    (arc_value c.in-Ok.view.tables).all (ap (λ (tables : Served). tables.all) c.deref.ensures) c.over_rows.ensures)

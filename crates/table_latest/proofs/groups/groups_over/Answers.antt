@@ -9,15 +9,13 @@ use Rattle.table_rows.proofs.StoreLemmas.{store-holds, true_from}
 use Rattle.table_latest.specs.declared.places.RowPlace.{RowPlace}
 use Rattle.table_latest.specs.Latest.{is_kept_group, is_row_touched, listed_from, untouched, untouched_rows}
 use Rattle.table_latest.proofs.GroupLemmas.{groups-over, kept-groups-sorted, now-groups-sorted}
-use Rattle.table_latest.proofs.OverLemmas.{holds, kept-few}
+use Rattle.table_latest.proofs.OverLemmas.{holds}
+use Rattle.table_latest.proofs.ReplacedLemmas.{groups-some}
 use Rattle.table_latest.proofs.groups.groups_over.Goals as goal
 
-pub kept_groups-requires-clause-few : goal.kept_groups-requires-clause-few
-kept_groups-requires-clause-few g c =
-    subst (λ (places : List RowPlace). length (untouched_rows places (g.S.RowStore.rows c.args.base.now)) ≤ 4194304) (sym c.places.ensures.places)
-    (kept-few (listed_from (g.S.RowStore.rows c.args.base.now) (g.S.RowStore.events c.args.base.now) (g.S.RowStore.regs c.args.base.now)
-    (g.S.RowStore.built c.args.base.now))
-    c.args.latest.now c.requires)
+pub kept_groups-requires-clause-some : goal.kept_groups-requires-clause-some
+kept_groups-requires-clause-some g c =
+    groups-some c.args.element (g.S.RowStore.rows c.args.base.now) c.as_slice.result.now (c.as_slice.ensures ∙ c.in_ok-groups.ensures.groups)
 
 pub kept_groups-requires-clause-rise : goal.kept_groups-requires-clause-rise
 kept_groups-requires-clause-rise g c =
@@ -30,7 +28,7 @@ kept_groups-requires-clause-rise g c =
     let now_rise : rises row_cmp c.args.latest.now.holds.rows ≡ true = ap (λ (h : Contents). rises row_cmp h.rows) (sym c.store.ensures) ∙ own in
     let whole_rise = (holds (listed_from (g.S.RowStore.rows c.args.base.now) (g.S.RowStore.events c.args.base.now) (g.S.RowStore.regs c.args.base.now)
     (g.S.RowStore.built c.args.base.now))
-    c.args.latest.now c.requires).rows_rise in
+    c.args.latest.now c.requires.over).rows_rise in
     let found : c.now.inside.items.items ≡ groups_of c.args.element c.store.result.now.rows = search rules in
     let of_now : c.now.inside.items.items ≡ groups_of c.args.element c.args.latest.now.holds.rows =
     found ∙ ap (λ (h : Contents). groups_of c.args.element h.rows) c.store.ensures in
@@ -53,7 +51,7 @@ merged-requires-clause-first g c =
     let now_rise : rises row_cmp c.args.latest.now.holds.rows ≡ true = ap (λ (h : Contents). rises row_cmp h.rows) (sym c.store.ensures) ∙ own in
     let whole_rise = (holds (listed_from (g.S.RowStore.rows c.args.base.now) (g.S.RowStore.events c.args.base.now) (g.S.RowStore.regs c.args.base.now)
     (g.S.RowStore.built c.args.base.now))
-    c.args.latest.now c.requires).rows_rise in
+    c.args.latest.now c.requires.over).rows_rise in
     let left : c.in_ok-kept.kept.items
     ≡ filter (is_kept_group (untouched (is_row_touched c.args.latest.now.touched) (g.S.RowStore.rows c.args.base.now)) c.now.inside.items.items)
     c.in_ok-groups.groups =
@@ -75,7 +73,7 @@ merged-requires-clause-more g c =
     let now_rise : rises row_cmp c.args.latest.now.holds.rows ≡ true = ap (λ (h : Contents). rises row_cmp h.rows) (sym c.store.ensures) ∙ own in
     let whole_rise = (holds (listed_from (g.S.RowStore.rows c.args.base.now) (g.S.RowStore.events c.args.base.now) (g.S.RowStore.regs c.args.base.now)
     (g.S.RowStore.built c.args.base.now))
-    c.args.latest.now c.requires).rows_rise in
+    c.args.latest.now c.requires.over).rows_rise in
     let found : c.now.inside.items.items ≡ groups_of c.args.element c.store.result.now.rows = search rules in
     let of_now : c.now.inside.items.items ≡ groups_of c.args.element c.args.latest.now.holds.rows =
     found ∙ ap (λ (h : Contents). groups_of c.args.element h.rows) c.store.ensures in
@@ -94,7 +92,7 @@ returns g c =
     let now_rise : rises row_cmp c.args.latest.now.holds.rows ≡ true = ap (λ (h : Contents). rises row_cmp h.rows) (sym c.store.ensures) ∙ own in
     let whole_rise = (holds (listed_from (g.S.RowStore.rows c.args.base.now) (g.S.RowStore.events c.args.base.now) (g.S.RowStore.regs c.args.base.now)
     (g.S.RowStore.built c.args.base.now))
-    c.args.latest.now c.requires).rows_rise in
+    c.args.latest.now c.requires.over).rows_rise in
     let found : c.now.inside.items.items ≡ groups_of c.args.element c.store.result.now.rows = search rules in
     let of_now : c.now.inside.items.items ≡ groups_of c.args.element c.args.latest.now.holds.rows =
     found ∙ ap (λ (h : Contents). groups_of c.args.element h.rows) c.store.ensures in

@@ -22,4 +22,4 @@ returns-clause-sound g c =
     c.hand_in.ensures.same c.hand_in.ensures.kept
     (subst (λ (s : Seen). IsPartOf s.meta (take (number_in s.state.full) s.state.log) c.args.part) (sym c.self.view_is) c.requires.part)
     c.self.invariant in
-    record { acknowledged = parts.whole.acknowledged; kept = parts.whole.kept; order = parts.order }
+    record { acknowledged = parts.whole.acknowledged; kept = parts.whole.kept; order = parts.order; stands = parts.shows.stands }

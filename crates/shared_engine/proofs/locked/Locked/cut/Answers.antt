@@ -1,10 +1,8 @@
 use Rattle.std.proofs.Common.{sym, ◌∙◌, subst, List}
-use Rattle.std.specs.Prelude.{IfOk, map}
-use Rattle.std.specs.Arc.{arc_value}
+use Rattle.std.specs.Prelude.{IfOk}
 use Rattle.engine.specs.Seen.{update_in}
 use Rattle.shared_engine.specs.Entries.{Entry}
-use Rattle.shared_engine.specs.Histories.{IsBegunBy}
-use Rattle.shared_engine.specs.Ends.{staged_in}
+use Rattle.shared_engine.specs.Builds.{IsCutBy}
 use Rattle.shared_engine.proofs.BuildLemmas.{cut_builds}
 use Rattle.shared_engine.proofs.Calls.{cut_made, cut_goes, cut_published, cut_begun}
 use Rattle.shared_engine.proofs.locked.Locked.cut.Goals as goal
@@ -41,11 +39,10 @@ returns-clause-begun g c =
     c.cut-reply.ensures.same) (cut_published c.self.inside.engine c.cut-reply.new.self c.args.kind (update_in c.cut-reply.result)
     c.cut-reply.ensures.step) c.note_cut.ensures c.give_back-token.ensures.lock
     c.give_back-token.ensures.token in
-    subst (λ (l : List Entry). IfOk c.cut-reply.result
-    (λ cut. IsBegunBy g.J.Naming.made l c.args.token.caller c.args.kind (staged_in cut) (map arc_value cut.changes.items))) (sym all.4)
+    subst (λ (l : List Entry). IfOk c.cut-reply.result (IsCutBy g.J.Naming.made l c.args.token.caller)) (sym all.4)
     (cut_begun g.J.Naming.made c.self.inside.engine c.cut-reply.new.self c.self.inside.seat.list c.args.token.caller c.args.kind c.cut-reply.result
     c.cut-reply.new.self.faults
-    c.self.invariant.stands c.cut-reply.ensures.step c.requires.kind c.cut-reply.ensures.given)
+    c.self.invariant.stands c.cut-reply.ensures.step c.cut-reply.ensures.given)
 
 pub returns-clause-builds : goal.returns-clause-builds
 returns-clause-builds g c = cut_builds _ _ c.args.kind c.cut-reply.result c.cut-reply.ensures.given

@@ -1,8 +1,7 @@
 use Rattle.std.proofs.Common.{sym, ◌∙◌}
-use Rattle.dh_base.specs.declared.plain.CutKind.TheVariants.{Full}
 use Rattle.shared_engine.specs.Ends.{staged_in}
-use Rattle.shared_engine.proofs.BuildLemmas.{full_ticket, parts_fit}
-use Rattle.shared_engine.proofs.Calls.{end_made, end_staged, end_low}
+use Rattle.shared_engine.proofs.BuildLemmas.{parts_handed}
+use Rattle.shared_engine.proofs.Calls.{end_made, end_staged, end_begun, end_low}
 use Rattle.shared_engine.proofs.locked.Locked.finish.Goals as goal
 
 pub take_in-requires-clause-table : goal.take_in-requires-clause-table
@@ -14,16 +13,16 @@ take_in-requires-clause-nobody g c = c.self.invariant.nobody
 
 pub end_with-reply-requires-clause-begun : goal.end_with-reply-requires-clause-begun
 end_with-reply-requires-clause-begun g c =
-    full_ticket c.self.inside.engine.state.full (staged_in c.args.cut.now)
-    (end_staged g.J.Naming.made _ _ _ c.args.token Full (staged_in c.args.cut.now) _ c.self.invariant c.take_in.ensures.taken
-    c.take_in.ensures.follows c.requires.begun).0
+    end_begun c.self.inside.engine.state c.args.cut.now.kind (staged_in c.args.cut.now)
+    (end_staged g.J.Naming.made _ _ _ c.args.token c.args.cut.now.kind (staged_in c.args.cut.now) _ c.self.invariant c.take_in.ensures.taken
+    c.take_in.ensures.follows c.requires.begun.begun).0
 
 pub end_with-reply-requires-clause-parts : goal.end_with-reply-requires-clause-parts
 end_with-reply-requires-clause-parts g c =
-    let staged = end_staged g.J.Naming.made _ _ _ c.args.token Full (staged_in c.args.cut.now) _ c.self.invariant c.take_in.ensures.taken
-    c.take_in.ensures.follows c.requires.begun in
-    parts_fit g.J.Naming.made.meta c.self.inside.engine (staged_in c.args.cut.now) _ c.args.parts.items c.self.invariant.stands.meta staged.0 staged.1
-    c.requires.parts
+    let staged = end_staged g.J.Naming.made _ _ _ c.args.token c.args.cut.now.kind (staged_in c.args.cut.now) _ c.self.invariant c.take_in.ensures.taken
+    c.take_in.ensures.follows c.requires.begun.begun in
+    parts_handed g.J.Naming.made c.self.inside.engine c.args.cut.now c.args.cut.now.kind c.requires.begun.log c.args.parts.items
+    c.self.invariant.stands.meta staged.0 staged.1 c.requires.begun.whole c.requires.parts
 
 pub note_end-requires-clause-rises : goal.note_end-requires-clause-rises
 note_end-requires-clause-rises g c =
@@ -32,13 +31,13 @@ note_end-requires-clause-rises g c =
 pub invariant_of-self : goal.invariant_of-self
 invariant_of-self g c =
     (end_made g.J.Naming.made _ _ _ _ _ _ _ _ _ _ c.self.invariant c.requires.table.1 c.take_in.ensures.taken c.take_in.ensures.follows
-    _ _ _ c.requires.begun c.end_with-reply.ensures.goes c.end_with-reply.ensures.published c.end_with-reply.ensures.rises c.note_end.ensures
+    _ _ _ c.requires.begun.begun c.end_with-reply.ensures.goes c.end_with-reply.ensures.published c.end_with-reply.ensures.rises c.note_end.ensures
     c.give_back-token.ensures.lock c.give_back-token.ensures.token).0
 
 pub returns : goal.returns
 returns g c = (
   c.end_with-reply.new.engine.faults,
   (end_made g.J.Naming.made _ _ _ _ _ _ _ _ _ _ c.self.invariant c.requires.table.1 c.take_in.ensures.taken c.take_in.ensures.follows
-      _ _ _ c.requires.begun c.end_with-reply.ensures.goes c.end_with-reply.ensures.published c.end_with-reply.ensures.rises c.note_end.ensures
+      _ _ _ c.requires.begun.begun c.end_with-reply.ensures.goes c.end_with-reply.ensures.published c.end_with-reply.ensures.rises c.note_end.ensures
       c.give_back-token.ensures.lock c.give_back-token.ensures.token).1,
 )

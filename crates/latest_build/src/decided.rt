@@ -1,0 +1,136 @@
+//! The values whose approval changes decide.
+ghost use Rattle.std.specs.Prelude.{◌≡◌, [], map, OnOk, IfOk};
+ghost use Rattle.std.specs.Arc.{arc_value};
+ghost use Rattle.std.specs.List.{filter};
+ghost use Rattle.dh_changes.specs.declared.change.Write.TheVariants as write;
+ghost use Rattle.record_index.specs.Facts.{facts_in};
+ghost use Rattle.record_index.specs.World.{facts};
+ghost use Rattle.year_tables.specs.Parts.{rows_together};
+ghost use Rattle.table_build.specs.Log.{writes_of};
+ghost use Rattle.latest_build.specs.Found.{decided_by, values_sought};
+ghost use Rattle.latest_build.specs.Touches as known;
+
+use crate::found::found;
+use crate::named::{approvals_of, values_of};
+use dh_base::items::Items;
+use dh_base::memory::Memory;
+use dh_changes::change::{Change, Write};
+use dh_changes::keys::{ApprovalKey, ValueKey};
+use dh_metadata::metadata::Metadata;
+use dh_records::approved::approved_at;
+use record_index::world::World;
+use std::alloc::Global;
+use std::sync::Arc;
+use year_tables::Tables;
+
+fn approvals(alloc: Global, keys: &[ApprovalKey]) -> Result<Vec<Write>, Memory>
+    ensures { IfOk result (λ writes. writes.items ≡ map write.Approve keys.now) }
+{
+    let mut writes: Vec<Write> = Vec::new(alloc);
+    for key in keys {
+        writes.push(Write::Approve(*key))?;
+    }
+    Ok(writes)
+}
+
+fn approving(alloc: Global, keys: &[ApprovalKey]) -> Result<Change, Memory>
+    ensures { IfOk result (λ change. change.writes ≡ map write.Approve keys.now) }
+{
+    let writes = approvals(alloc, keys)?;
+    Ok(Change {
+        user: None,
+        moment: 0,
+        writes: Items { items: writes },
+    })
+}
+
+fn take_up(alloc: Global, world: &mut World, change: &Change) -> Result<(), Memory>
+    ensures { OnOk result (facts world.old ≡ facts_in [] → facts world.new ≡ facts_in change.now.writes) }
+{
+    world.reserve(alloc, change.writes.as_slice())?;
+    world.apply(change);
+    Ok(())
+}
+
+fn world_of(alloc: Global, change: &Change) -> Result<World, Memory>
+    ensures { IfOk result (λ world. facts world ≡ facts_in change.now.writes) }
+{
+    let mut world = World::new(alloc);
+    take_up(alloc, &mut world, change)?;
+    Ok(world)
+}
+
+// The world in which these keys are approved and no others: by it the position of a value is looked for as in any.
+fn approved_alone(alloc: Global, keys: &[ApprovalKey]) -> Result<World, Memory>
+    ensures { IfOk result (λ world. facts world ≡ known.approved_alone keys.now) }
+{
+    let change = approving(alloc, keys)?;
+    let world = world_of(alloc, &change);
+    drop(change);
+    world
+}
+
+fn has_position(meta: &Metadata, world: &World, key: &ValueKey) -> bool
+    ensures { result ≡ known.has_position meta.now (facts world.now) key.now }
+{
+    approved_at(world, meta, key).is_some()
+}
+
+fn decided_among(
+    alloc: Global,
+    meta: &Metadata,
+    world: &World,
+    keys: &[ValueKey],
+) -> Result<Vec<ValueKey>, Memory>
+    ensures { IfOk result (λ decided. decided.items ≡ filter (known.has_position meta.now (facts world.now)) keys.now) }
+{
+    let mut decided: Vec<ValueKey> = Vec::new(alloc);
+    for key in keys {
+        if has_position(meta, world, key) {
+            decided.push(*key)?;
+        }
+    }
+    Ok(decided)
+}
+
+fn decided_by(
+    alloc: Global,
+    meta: &Metadata,
+    base: &Tables,
+    approvals: &[ApprovalKey],
+) -> Result<Vec<ValueKey>, Memory>
+    ensures { IfOk result (λ decided. decided.items ≡ decided_by meta.now (rows_together base.now.parts) approvals.now) }
+{
+    let world = approved_alone(alloc, approvals)?;
+    let keys = found(alloc, meta, base, approvals)?;
+    decided_among(alloc, meta, &world, &keys)
+}
+
+// The values of the base whose approval the last of the changes decide.
+fn values_decided(
+    alloc: Global,
+    meta: &Metadata,
+    base: &Tables,
+    last: &[Arc<Change>],
+) -> Result<Vec<ValueKey>, Memory>
+    ensures { IfOk result (λ decided. decided.items ≡ decided_by meta.now (rows_together base.now.parts) (known.approvals_named
+        (writes_of (map arc_value last.now)))) }
+{
+    let approvals = approvals_of(alloc, last)?;
+    decided_by(alloc, meta, base, &approvals)
+}
+
+/// The keys of values that the last of the changes touch, after those that the base stands for.
+pub(crate) fn values_touched(
+    alloc: Global,
+    meta: &Metadata,
+    base: &Tables,
+    last: &[Arc<Change>],
+) -> Result<Vec<ValueKey>, Memory>
+    ensures { IfOk result (λ keys. keys.items ≡ values_sought meta.now (rows_together base.now.parts) (writes_of (map arc_value last.now))) }
+{
+    let mut keys = values_of(alloc, last)?;
+    let mut decided = values_decided(alloc, meta, base, last)?;
+    keys.append(&mut decided)?;
+    Ok(keys)
+}

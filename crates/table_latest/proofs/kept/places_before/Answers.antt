@@ -1,5 +1,0 @@
-use Rattle.table_latest.proofs.SearchLemmas.{place_total}
-use Rattle.table_latest.proofs.kept.places_before.Goals as goal
-
-pub cut_at-requires-clause-total : goal.cut_at-requires-clause-total
-cut_at-requires-clause-total c = place_total
