@@ -1,6 +1,6 @@
 -- The tables that are served stand for the published changes: as the log grows, and as updates are begun, published and dropped.
 use Rattle.std.proofs.Common.{◌≡◌, ◌∙◌, ◌≤◌, ℕ, List, length, map, take, drop, sym, ap, subst, refl, arith, Bool, true, false, cond}
-use Rattle.std.specs.Prelude.{◌||◌, [], ◌∷◌, Option, None, Some, IfSome, Ok, is_some, option_map, nat_lt, max}
+use Rattle.std.specs.Prelude.{◌||◌, [], ◌∷◌, Option, None, Some, IfSome, Ok, option_map, nat_lt, max}
 use Rattle.std.specs.Arc.{arc_value}
 use Rattle.std.specs.Global.{Vec}
 use Rattle.std.specs.List.{take-map}
@@ -31,7 +31,7 @@ use Rattle.engine.specs.declared.updates.LatestUpdate.{LatestUpdate}
 use Rattle.engine.specs.declared.updates.Shown.{Shown}
 use Rattle.engine.specs.Histories.{IsUpdate, IsInOrder}
 use Rattle.engine.specs.Machine.{State, by_kind, has_ticket, kind_by, number_in, staged_of}
-use Rattle.engine.specs.Seen.{state_of, staged_latest, part_in, over_from, FitSlots, IsLaid, Lays, LaysBy, Shows}
+use Rattle.engine.specs.Seen.{state_of, staged_latest, part_in, over_from, part_after, FitSlots, IsLaid, IsMade, Lays, LaysBy, Shows}
 use Rattle.engine.specs.Stands.{GoesOn, GoesTo, LiesOver, Stands, TouchesRest}
 use Rattle.engine.specs.Tables.{Served, served_from, tables_of, years_of}
 use Rattle.engine.proofs.Days.{writes-are}
@@ -230,7 +230,8 @@ latest-there meta log ticket base_cut (Some update) has goes = goes
 -- a latest part goes on from later yearly parts
 later-base : (meta : Records) (log : List Change) (before base_cut number : ℕ) (latest : LatestPart) → before ≤ base_cut → GoesOn meta log before number latest
     → GoesOn meta log base_cut number latest
-later-base meta log before base_cut number latest up goes = record { from = let f = goes.from in omega arith; to = goes.to; leads = goes.leads; touched = goes.touched }
+later-base meta log before base_cut number latest up goes =
+    record { from = let f = goes.from in omega arith; to = goes.to; leads = goes.leads; touched = goes.touched }
 
 later-bases : (meta : Records) (log : List Change) (before base_cut : ℕ) (latest : Option LatestUpdate) → before ≤ base_cut
     → IfSome latest (λ (update : LatestUpdate). GoesOn meta log before update.staged.number (part_in update))
@@ -269,7 +270,8 @@ pub full_published : (meta : Records) (log : List Change) (old new : Shown) (pub
     → new ≡ record old { tables = new.tables; published = published; base_cut = number; full = None; slots = None } → old.base_cut ≤ number
     → Stands meta log number published (arc_value new.tables) → Shows meta log old → Shows meta log new
 full_published meta log old new published number is up stands h =
-    subst (Shows meta log) (sym is) (record { stands = stands; slots = tt; full = tt; latest = later-bases meta log old.base_cut number old.latest up h.latest })
+    subst (Shows meta log) (sym is)
+    (record { stands = stands; slots = tt; full = tt; latest = later-bases meta log old.base_cut number old.latest up h.latest })
 
 pub latest_published : (meta : Records) (log : List Change) (old new : Shown) (number : ℕ)
     → new ≡ record old { tables = new.tables; published = number; latest = None } → Stands meta log old.base_cut number (arc_value new.tables)
@@ -317,25 +319,38 @@ none-stands meta base tables is parts years cut =
 
 -- ---- what a swap makes of the tables
 
-pub laid_full : (state : State) (ticket number published : ℕ) (old new : Served) → has_ticket ticket state.full ≡ true → number ≡ number_in state.full
-    → new.latest ≡ over_from state.published number old.latest → Lays state ticket (Ok published) old new
-laid_full state ticket number published old new has n is =
-    subst (λ kind. LaysBy kind state.published (number_in (staged_of state kind)) old new) (full-kind ticket state.full has)
+pub laid_full : (state : State) (ticket number published : ℕ) (part : Option LatestPart) (old new : Served)
+    → has_ticket ticket state.full ≡ true → number ≡ number_in state.full
+    → new.latest ≡ over_from state.published number old.latest → Lays state ticket (Ok published) part old new
+laid_full state ticket number published part old new has n is =
+    subst (λ kind. LaysBy kind state.published (number_in (staged_of state kind)) part old new) (full-kind ticket state.full has)
     (is ∙ ap (λ x. over_from state.published x old.latest) n)
 
-pub laid_latest : (state : State) (ticket number published : ℕ) (old new : Served) → has_ticket ticket state.full ≡ false → number ≡ number_in state.latest
-    → nat_lt number state.published ≡ false → new.base ≡ old.base → is_some new.latest ≡ true → Lays state ticket (Ok published) old new
-laid_latest state ticket number published old new other n less base there =
-    subst (λ kind. LaysBy kind state.published (number_in (staged_of state kind)) old new) (latest-kind ticket state.full other)
-    (subst (λ b. IsLaid b old new) (sym less ∙ ap (λ x. nat_lt x state.published) n) (base, there))
+pub laid_latest : (state : State) (ticket number published : ℕ) (part : Option LatestPart) (old new : Served)
+    → has_ticket ticket state.full ≡ false → number ≡ number_in state.latest
+    → nat_lt number state.published ≡ false → new.base ≡ old.base → new.latest ≡ part → Lays state ticket (Ok published) part old new
+laid_latest state ticket number published part old new other n less base there =
+    subst (λ kind. LaysBy kind state.published (number_in (staged_of state kind)) part old new) (latest-kind ticket state.full other)
+    (subst (λ b. IsLaid b part old new) (sym less ∙ ap (λ x. nat_lt x state.published) n) (base, there))
 
-pub laid_overtaken : (state : State) (ticket number published : ℕ) (old new : Served) → has_ticket ticket state.full ≡ false → number ≡ number_in state.latest
-    → nat_lt number state.published ≡ true → new ≡ old → Lays state ticket (Ok published) old new
-laid_overtaken state ticket number published old new other n less same =
-    subst (λ kind. LaysBy kind state.published (number_in (staged_of state kind)) old new) (latest-kind ticket state.full other)
-    (subst (λ b. IsLaid b old new) (sym less ∙ ap (λ x. nat_lt x state.published) n) same)
+pub laid_overtaken : (state : State) (ticket number published : ℕ) (part : Option LatestPart) (old new : Served)
+    → has_ticket ticket state.full ≡ false → number ≡ number_in state.latest
+    → nat_lt number state.published ≡ true → new ≡ old → Lays state ticket (Ok published) part old new
+laid_overtaken state ticket number published part old new other n less same =
+    subst (λ kind. LaysBy kind state.published (number_in (staged_of state kind)) part old new) (latest-kind ticket state.full other)
+    (subst (λ b. IsLaid b part old new) (sym less ∙ ap (λ x. nat_lt x state.published) n) same)
 
--- the part of the update is there
-pub part-there : (ticket : ℕ) (latest : Option LatestUpdate) → has_ticket ticket (staged_latest latest) ≡ true → is_some (option_map part_in latest) ≡ true
-part-there ticket None has = absurd (cc)
-part-there ticket (Some update) has = refl
+-- ---- the part of the latest update that is begun
+
+pub ended_full : (state : State) (ticket published : ℕ) (old new : Option LatestPart) → has_ticket ticket state.full ≡ true → new ≡ old
+    → new ≡ part_after state ticket (Ok published) old
+ended_full state ticket published old new has same = subst (λ kind. new ≡ by_kind kind old None) (full-kind ticket state.full has) same
+
+pub ended_latest : (state : State) (ticket published : ℕ) (old new : Option LatestPart) → has_ticket ticket state.full ≡ false → new ≡ None
+    → new ≡ part_after state ticket (Ok published) old
+ended_latest state ticket published old new other none = subst (λ kind. new ≡ by_kind kind old None) (latest-kind ticket state.full other) none
+
+-- a part that was made
+pub part-made : (latest : Option LatestUpdate) (update : LatestUpdate) (from number : ℕ) → latest ≡ Some update → (part_in update).from ≡ from
+    → (part_in update).to ≡ number → IsMade from number (option_map part_in latest)
+part-made latest update from number is starts ends = subst (λ l. IsMade from number (option_map part_in l)) (sym is) (starts, ends)

@@ -23,7 +23,7 @@ use Rattle.change_requests.specs.declared.request.Judged.{Judged}
 use Rattle.engine.specs.Histories.{IsInOrder}
 use Rattle.engine.specs.Machine.{State, Step, StepBy, IsReplyBy, log_by, has_writes, grown, judged_in, change_of, change_lacks, report_of}
 use Rattle.engine.specs.Machine.Act.{changed}
-use Rattle.engine.specs.Seen.{seen_of, state_of, AreParts, Shows, Puts, BringsBy, BringsIf, Brings, Brought, fault_by}
+use Rattle.engine.specs.Seen.{seen_of, state_of, part_in, AreParts, Shows, Puts, BringsBy, BringsIf, Brings, Brought, fault_by}
 use Rattle.engine.specs.declared.updates.Shown.{Shown}
 use Rattle.engine.specs.declared.machine.Report.{Report}
 use Rattle.engine.specs.declared.machine.ChangeFault.{ChangeFault}
@@ -154,6 +154,7 @@ put-brought meta shown old new asked found (Ok report) h = (
   ap (λ (l : Limits). record {
     state = state_of new.changes shown;
     tables = arc_value shown.tables;
+    part = option_map part_in shown.latest;
     limits = l;
     meta = meta;
     acknowledged = new.acknowledged;

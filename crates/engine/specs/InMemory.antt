@@ -25,7 +25,7 @@ largest = record { writes = MOST_RECORDS; bytes = MOST_LOG_BYTES; updates = MOST
 
 -- the machine before the first call: no change is there, and no fault of the store
 abbrev pub started : Records → Seen
-started meta = record { state = start; tables = no_tables; limits = largest; meta = meta; acknowledged = 0; kept = None; faults = 0 }
+started meta = record { state = start; tables = no_tables; part = None; limits = largest; meta = meta; acknowledged = 0; kept = None; faults = 0 }
 
 -- what the loader asks for, at a moment
 abbrev pub loading : ℤ → ChangeRequest → Asked

@@ -1,5 +1,6 @@
 -- What the engine shows of itself, and what always holds of it.
-use Rattle.std.specs.Prelude.{is_some, [], map, ◌≡◌, ◌==◌, ◌≤◌, if◌then◌else◌, nat_lt, ℕ, ℤ, Bool, true, false, List, length, take, Option, None, Some, IfSome, Result}
+use Rattle.std.specs.Prelude.{is_some, [], map, ◌≡◌, ◌==◌, ◌≤◌, if◌then◌else◌, nat_lt, ℕ, ℤ, Bool, true, false, List, length, take, Option, None, Some}
+use Rattle.std.specs.Prelude.{IfSome, Result}
 use Rattle.std.specs.Prelude.{Ok, Err, option_map}
 use Rattle.std.specs.Arc.{arc_value}
 use Rattle.std.specs.List.{All}
@@ -42,11 +43,12 @@ use Rattle.table_latest.specs.Latest.{LatestPart}
 use Rattle.engine.specs.Tables.{Served, tables_of, years_of}
 use Rattle.engine.specs.Stands.{GoesOn, Stands}
 
--- the machine's state with the tables that it serves, its limits and metadata; of the keeper, how many bytes are acknowledged, those that
--- are kept, where they are known, and how many of its calls failed
+-- the machine's state with the tables that it serves and the part of the latest update that is begun, its limits and metadata; of the
+-- keeper, how many bytes are acknowledged, those that are kept, where they are known, and how many of its calls failed
 pub record Seen : Type 0 where
   pub state : State
   pub tables : Served
+  pub part : Option LatestPart
   pub limits : Limits
   pub meta : Records
   pub acknowledged : ℕ
@@ -105,17 +107,37 @@ over_from published number over = if nat_lt published number then None else over
 
 -- a latest update leaves the yearly parts, and lays its part over them; where yearly parts of more changes were published meanwhile, the
 -- tables stay
-abbrev pub IsLaid : Bool → Served → Served → Type 0
-IsLaid true old new = new ≡ old
-IsLaid false old new = (new.base ≡ old.base) × (is_some new.latest ≡ true)
+abbrev pub IsLaid : Bool → Option LatestPart → Served → Served → Type 0
+IsLaid true part old new = new ≡ old
+IsLaid false part old new = (new.base ≡ old.base) × (new.latest ≡ part)
 
-abbrev pub LaysBy : CutKind → ℕ → ℕ → Served → Served → Type 0
-LaysBy Full published number old new = new.latest ≡ over_from published number old.latest
-LaysBy Latest published number old new = IsLaid (nat_lt number published) old new
+abbrev pub LaysBy : CutKind → ℕ → ℕ → Option LatestPart → Served → Served → Type 0
+LaysBy Full published number part old new = new.latest ≡ over_from published number old.latest
+LaysBy Latest published number part old new = IsLaid (nat_lt number published) part old new
 
-abbrev pub Lays : State → ℕ → Result ℕ Memory → Served → Served → Type 0
-Lays state ticket (Ok published) old new = LaysBy (kind_of state ticket) state.published (number_of state ticket) old new
-Lays state ticket (Err memory) old new = new ≡ old
+abbrev pub Lays : State → ℕ → Result ℕ Memory → Option LatestPart → Served → Served → Type 0
+Lays state ticket (Ok published) part old new = LaysBy (kind_of state ticket) state.published (number_of state ticket) part old new
+Lays state ticket (Err memory) part old new = new ≡ old
+
+-- ---- the part of the latest update that is begun
+
+abbrev pub IsMade : ℕ → ℕ → Option LatestPart → Type 0
+IsMade from to None = ⊥
+IsMade from to (Some part) = (part.from ≡ from) × (part.to ≡ to)
+
+-- a latest update's cut makes it, of the changes after the base cut
+abbrev pub BeginsPart : State → CutKind → Result Staged CutFault → Option LatestPart → Option LatestPart → Type 0
+BeginsPart state kind (Err fault) old new = new ≡ old
+BeginsPart state Full (Ok update) old new = new ≡ old
+BeginsPart state Latest (Ok update) old new = IsMade state.base_cut update.number new
+
+-- the end of the update ends it
+abbrev pub part_without : State → ℕ → Option LatestPart → Option LatestPart
+part_without state ticket part = by_kind (kind_of state ticket) part None
+
+abbrev pub part_after : State → ℕ → Result ℕ Memory → Option LatestPart → Option LatestPart
+part_after state ticket (Ok published) part = part_without state ticket part
+part_after state ticket (Err memory) part = part
 
 -- ---- of the parts
 
@@ -141,6 +163,7 @@ abbrev pub seen_of : LogSeen → Records → Shown → Seen
 seen_of log meta shown = record {
   state = state_of log.changes shown;
   tables = arc_value shown.tables;
+  part = option_map part_in shown.latest;
   limits = log.limits;
   meta = meta;
   acknowledged = log.acknowledged;

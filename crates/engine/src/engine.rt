@@ -1,5 +1,5 @@
 //! The engine: the machine as a value, over a keeper that stores the log.
-ghost use Rattle.std.specs.Prelude.{◌≡◌, ◌≤◌, true, IsTrue, List, length, take, option_map, IfOk};
+ghost use Rattle.std.specs.Prelude.{◌≡◌, ◌≤◌, true, IsTrue, List, length, take, None, option_map, IfOk};
 ghost use Rattle.std.specs.Arc.{arc_value};
 ghost use Rattle.dh_changes.specs.declared.change.Change.{Change};
 ghost use Rattle.change_log.specs.Log.{AreLimits, NeverFails};
@@ -10,7 +10,7 @@ ghost use Rattle.table_rows.specs.Store.{contents_in};
 ghost use Rattle.engine.specs.MetaAfter.{meta_after, IsAfter, published_meta};
 ghost use Rattle.engine.specs.Stands.{Stands};
 ghost use Rattle.engine.specs.Tables.{no_tables, tables_of};
-ghost use Rattle.engine.specs.Seen.{IsSound, Brought, IsCutOf, IsPartOf, Lays, update_in, published_in};
+ghost use Rattle.engine.specs.Seen.{IsSound, Brought, BeginsPart, IsCutOf, IsPartOf, Lays, part_after, part_without, update_in, published_in};
 
 use crate::bring::change;
 use crate::machine::{ChangeFault, Cut, CutFault, LookFault, Report, Staged, Standing, View};
@@ -77,8 +77,16 @@ impl<K: Keeper> Engine<K> {
     ) -> Result<Engine<K>, Memory>
         requires empty { K.acknowledged keeper ≡ 0 }
         requires limits { AreLimits limits }
-        ensures { IfOk result (λ engine. engine ≡ record
-            { state = start; tables = no_tables; limits = limits; meta = arc_value meta; acknowledged = 0; kept = K.kept keeper; faults = K.keeper_faults keeper }) }
+        ensures { IfOk result (λ engine. engine ≡ record {
+          state = start;
+          tables = no_tables;
+          part = None;
+          limits = limits;
+          meta = arc_value meta;
+          acknowledged = 0;
+          kept = K.kept keeper;
+          faults = K.keeper_faults keeper;
+        }) }
     {
         let tables = serve_none(alloc, &meta)?;
         let log = ChangeLog::new(alloc, keeper, limits);
@@ -124,7 +132,9 @@ impl<K: Keeper> Engine<K> {
     /// Begins an update of the tables.
     pub fn cut(&mut self, alloc: Global, kind: CutKind) -> Result<Cut, CutFault>
         ensures step { Step self.old.meta self.old.limits self.old.state (begun kind (update_in result)) self.new.state }
-        ensures same { self.new ≡ record self.old { state = self.new.state } }
+        ensures same { self.new ≡ record self.old { state = self.new.state; tables = self.new.tables; part = self.new.part } }
+        ensures tables { self.new.tables ≡ self.old.tables }
+        ensures part { BeginsPart self.old.state kind (update_in result) self.old.part self.new.part }
         ensures given { IfOk result (IsCutOf self.old.meta self.old.state kind) }
         ensures sound { IsSound self.new }
     {
@@ -158,8 +168,9 @@ impl<K: Keeper> Engine<K> {
     pub fn swap(&mut self, alloc: Global, ticket: u64) -> Result<u64, Memory>
         requires { IsTrue (is_begun self.old.state ticket) }
         ensures step { Step self.old.meta self.old.limits self.old.state (swapped ticket result) self.new.state }
-        ensures same { self.new ≡ record self.old { state = self.new.state; tables = self.new.tables } }
-        ensures laid { Lays self.old.state ticket result self.old.tables self.new.tables }
+        ensures same { self.new ≡ record self.old { state = self.new.state; tables = self.new.tables; part = self.new.part } }
+        ensures laid { Lays self.old.state ticket result self.old.part self.old.tables self.new.tables }
+        ensures part { self.new.part ≡ part_after self.old.state ticket result self.old.part }
         ensures rises { IfOk result (λ number. self.old.state.published ≤ number) }
         ensures sound { IsSound self.new }
     {
@@ -178,7 +189,9 @@ impl<K: Keeper> Engine<K> {
     pub fn drop_update(&mut self, ticket: u64)
         requires { IsTrue (is_begun self.old.state ticket) }
         ensures step { Step self.old.meta self.old.limits self.old.state (dropped ticket) self.new.state }
-        ensures same { self.new ≡ record self.old { state = self.new.state } }
+        ensures same { self.new ≡ record self.old { state = self.new.state; tables = self.new.tables; part = self.new.part } }
+        ensures tables { self.new.tables ≡ self.old.tables }
+        ensures part { self.new.part ≡ part_without self.old.state ticket self.old.part }
         ensures sound { IsSound self.new }
     {
         drop_staged(&mut self.shown, ticket);

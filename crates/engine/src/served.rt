@@ -115,7 +115,8 @@ pub(crate) fn latest_part(
     requires fits { All WriteFits (writes_of (map arc_value changes.now)) }
     requires within { (arc_value base.now).base_cut ≤ length changes.now }
     requires base { together (arc_value base.now).parts ≡ tables_of meta.now (take (arc_value base.now).base_cut (map arc_value changes.now)) }
-    ensures { IfOk result (λ part. GoesOn meta.now (map arc_value changes.now) (arc_value base.now).base_cut (length changes.now) (arc_value part)) }
+    ensures goes { IfOk result (λ part. GoesOn meta.now (map arc_value changes.now) (arc_value base.now).base_cut (length changes.now) (arc_value part)) }
+    ensures from { IfOk result (λ part. (arc_value part).from ≡ (arc_value base.now).base_cut) }
 {
     let part = build_latest(alloc, meta, world, base, changes)?;
     Ok(Arc::new(alloc, part)?)

@@ -6,7 +6,7 @@ ghost use Rattle.change_bytes.specs.Forms.{WriteFits};
 ghost use Rattle.change_log.specs.Log.{writes_of};
 ghost use Rattle.engine.specs.Machine.{has_ticket, is_begun, number_in, number_of};
 ghost use Rattle.engine.specs.Histories.{IsInOrder};
-ghost use Rattle.engine.specs.Seen.{state_of, staged_latest, over_from, part_in, FitSlots, Lays, Shows, Swaps};
+ghost use Rattle.engine.specs.Seen.{state_of, staged_latest, over_from, part_in, part_after, FitSlots, Lays, Shows, Swaps};
 ghost use Rattle.engine.specs.Stands.{GoesTo, Stands};
 ghost use Rattle.engine.specs.Tables.{tables_of};
 ghost use Rattle.dh_base.specs.declared.limits.TheConstants.{MOST_RECORDS};
@@ -74,7 +74,7 @@ fn publish_full(shown: &mut Shown, tables: Arc<Tables>, number: u64, published: 
     shown.slots = None;
 }
 
-#[tactic(auto, using(crate::proofs::StandLemmas::laid_full))]
+#[tactic(auto, using(crate::proofs::StandLemmas::laid_full, crate::proofs::StandLemmas::ended_full))]
 fn swap_full(
     alloc: Global,
     shown: &mut Shown,
@@ -89,7 +89,10 @@ fn swap_full(
     requires shows { Shows meta.now (map arc_value changes.now) shown.old }
     ensures step { Swaps (state_of (map arc_value changes.now) shown.old) ticket result (state_of (map arc_value changes.now) shown.new) }
     ensures shows { Shows meta.now (map arc_value changes.now) shown.new }
-    ensures laid { Lays (state_of (map arc_value changes.now) shown.old) ticket result (arc_value shown.old.tables) (arc_value shown.new.tables) }
+    ensures laid { Lays (state_of (map arc_value changes.now) shown.old) ticket result (option_map part_in shown.old.latest) (arc_value shown.old.tables)
+        (arc_value shown.new.tables) }
+    ensures part { option_map part_in shown.new.latest
+        ≡ part_after (state_of (map arc_value changes.now) shown.old) ticket result (option_map part_in shown.old.latest) }
 {
     let number = number_in(shown.full);
     let published = shown.published.max(number);
@@ -142,7 +145,7 @@ fn publish_latest(shown: &mut Shown, tables: Arc<Tables>, number: u64)
 }
 
 // Where yearly parts of more changes were published meanwhile, the tables stay.
-#[tactic(auto, using(crate::proofs::StandLemmas::laid_latest, crate::proofs::StandLemmas::laid_overtaken))]
+#[tactic(auto, using(crate::proofs::StandLemmas::laid_latest, crate::proofs::StandLemmas::laid_overtaken, crate::proofs::StandLemmas::ended_latest))]
 fn swap_latest(
     alloc: Global,
     shown: &mut Shown,
@@ -159,7 +162,10 @@ fn swap_latest(
     requires shows { Shows meta.now (map arc_value changes.now) shown.old }
     ensures step { Swaps (state_of (map arc_value changes.now) shown.old) ticket result (state_of (map arc_value changes.now) shown.new) }
     ensures shows { Shows meta.now (map arc_value changes.now) shown.new }
-    ensures laid { Lays (state_of (map arc_value changes.now) shown.old) ticket result (arc_value shown.old.tables) (arc_value shown.new.tables) }
+    ensures laid { Lays (state_of (map arc_value changes.now) shown.old) ticket result (option_map part_in shown.old.latest) (arc_value shown.old.tables)
+        (arc_value shown.new.tables) }
+    ensures part { option_map part_in shown.new.latest
+        ≡ part_after (state_of (map arc_value changes.now) shown.old) ticket result (option_map part_in shown.old.latest) }
 {
     let number = number_in(staged_of(shown, CutKind::Latest));
     if number < shown.published {
@@ -186,7 +192,10 @@ fn swap_in(
     requires shows { Shows meta.now (map arc_value changes.now) shown.old }
     ensures step { Swaps (state_of (map arc_value changes.now) shown.old) ticket result (state_of (map arc_value changes.now) shown.new) }
     ensures shows { Shows meta.now (map arc_value changes.now) shown.new }
-    ensures laid { Lays (state_of (map arc_value changes.now) shown.old) ticket result (arc_value shown.old.tables) (arc_value shown.new.tables) }
+    ensures laid { Lays (state_of (map arc_value changes.now) shown.old) ticket result (option_map part_in shown.old.latest) (arc_value shown.old.tables)
+        (arc_value shown.new.tables) }
+    ensures part { option_map part_in shown.new.latest
+        ≡ part_after (state_of (map arc_value changes.now) shown.old) ticket result (option_map part_in shown.old.latest) }
 {
     match kind_of(shown, ticket) {
         CutKind::Full => swap_full(alloc, shown, meta, changes, ticket),
@@ -211,7 +220,10 @@ pub(crate) fn swap(
     ensures step { Swaps (state_of (map arc_value changes.now) shown.old) ticket result (state_of (map arc_value changes.now) shown.new) }
     ensures order { IsInOrder limits.now (state_of (map arc_value changes.now) shown.new) }
     ensures shows { Shows meta.now (map arc_value changes.now) shown.new }
-    ensures laid { Lays (state_of (map arc_value changes.now) shown.old) ticket result (arc_value shown.old.tables) (arc_value shown.new.tables) }
+    ensures laid { Lays (state_of (map arc_value changes.now) shown.old) ticket result (option_map part_in shown.old.latest) (arc_value shown.old.tables)
+        (arc_value shown.new.tables) }
+    ensures part { option_map part_in shown.new.latest
+        ≡ part_after (state_of (map arc_value changes.now) shown.old) ticket result (option_map part_in shown.old.latest) }
     ensures rises { IfOk result (λ number. shown.old.published ≤ number) }
 {
     let _limits = limits;

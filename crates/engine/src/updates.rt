@@ -1,5 +1,5 @@
 //! The tables that are served, and the updates that are begun.
-ghost use Rattle.std.specs.Prelude.{◌≡◌, ◌≤◌, ◌<◌, ◌^◌, ◌+◌, ◌-◌, List, length, map, take, drop, Some, IfOk, None};
+ghost use Rattle.std.specs.Prelude.{◌≡◌, ◌≤◌, ◌<◌, ◌^◌, ◌+◌, ◌-◌, List, length, map, take, drop, Some, IfOk, None, option_map};
 ghost use Rattle.std.specs.Arc.{arc_value};
 ghost use Rattle.std.specs.List.{All};
 ghost use Rattle.dh_changes.specs.declared.change.Change.{Change};
@@ -15,7 +15,8 @@ ghost use Rattle.record_index.specs.World.{facts};
 ghost use Rattle.engine.specs.Tables.{tables_of, years_of};
 ghost use Rattle.table_rows.specs.Store.{contents_in};
 ghost use Rattle.engine.specs.Histories.{IsInOrder};
-ghost use Rattle.engine.specs.Seen.{state_of, staged_latest, update_in, published_in, IsCutOf, IsPartOf, FitSlots, Shows, refused_by, spent_of, Cuts, Looks};
+ghost use Rattle.engine.specs.Seen.{state_of, staged_latest, part_in, part_without, BeginsPart, update_in, published_in, IsCutOf, IsPartOf, FitSlots, Shows};
+ghost use Rattle.engine.specs.Seen.{refused_by, spent_of, Cuts, Looks};
 ghost use Rattle.dh_base.specs.declared.plain.CutKind.TheVariants.{Full, Latest};
 ghost use Rattle.dh_base.specs.declared.limits.TheConstants.{MOST_RECORDS, MOST_UPDATES};
 
@@ -186,6 +187,8 @@ fn begin_full(
     requires shows { Shows meta.now (map arc_value changes.now) shown.old }
     ensures step { Cuts limits.now (state_of (map arc_value changes.now) shown.old) Full (update_in result) (state_of (map arc_value changes.now) shown.new) }
     ensures given { IfOk result (IsCutOf meta.now (state_of (map arc_value changes.now) shown.old) Full) }
+    ensures part { BeginsPart (state_of (map arc_value changes.now) shown.old) Full (update_in result) (option_map part_in shown.old.latest)
+        (option_map part_in shown.new.latest) }
     ensures shows { Shows meta.now (map arc_value changes.now) shown.new }
     ensures tables { shown.new.tables ≡ shown.old.tables }
 {
@@ -224,6 +227,8 @@ fn begin_latest(
     requires shows { Shows meta.now (map arc_value changes.now) shown.old }
     ensures step { Cuts limits.now (state_of (map arc_value changes.now) shown.old) Latest (update_in result) (state_of (map arc_value changes.now) shown.new) }
     ensures given { IfOk result (IsCutOf meta.now (state_of (map arc_value changes.now) shown.old) Latest) }
+    ensures part { BeginsPart (state_of (map arc_value changes.now) shown.old) Latest (update_in result) (option_map part_in shown.old.latest)
+        (option_map part_in shown.new.latest) }
     ensures shows { Shows meta.now (map arc_value changes.now) shown.new }
     ensures tables { shown.new.tables ≡ shown.old.tables }
 {
@@ -262,6 +267,8 @@ fn begin(
     requires shows { Shows meta.now (map arc_value changes.now) shown.old }
     ensures step { Cuts limits.now (state_of (map arc_value changes.now) shown.old) kind (update_in result) (state_of (map arc_value changes.now) shown.new) }
     ensures given { IfOk result (IsCutOf meta.now (state_of (map arc_value changes.now) shown.old) kind) }
+    ensures part { BeginsPart (state_of (map arc_value changes.now) shown.old) kind (update_in result) (option_map part_in shown.old.latest)
+        (option_map part_in shown.new.latest) }
     ensures shows { Shows meta.now (map arc_value changes.now) shown.new }
     ensures tables { shown.new.tables ≡ shown.old.tables }
 {
@@ -293,6 +300,8 @@ pub(crate) fn cut(
     ensures order { IsInOrder limits.now (state_of (map arc_value changes.now) shown.new) }
     ensures step { Cuts limits.now (state_of (map arc_value changes.now) shown.old) kind (update_in result) (state_of (map arc_value changes.now) shown.new) }
     ensures given { IfOk result (IsCutOf meta.now (state_of (map arc_value changes.now) shown.old) kind) }
+    ensures part { BeginsPart (state_of (map arc_value changes.now) shown.old) kind (update_in result) (option_map part_in shown.old.latest)
+        (option_map part_in shown.new.latest) }
     ensures shows { Shows meta.now (map arc_value changes.now) shown.new }
     ensures tables { shown.new.tables ≡ shown.old.tables }
 {
@@ -386,6 +395,8 @@ fn take_away(shown: &mut Shown, ticket: u64)
     ensures state { (log : List Change) → state_of log shown.new ≡ after_drop (state_of log shown.old) ticket }
     ensures shows { (meta : Records) → (log : List Change) → Shows meta log shown.old → Shows meta log shown.new }
     ensures tables { shown.new.tables ≡ shown.old.tables }
+    ensures part { (log : List Change) → option_map part_in shown.new.latest
+        ≡ part_without (state_of log shown.old) ticket (option_map part_in shown.old.latest) }
 {
     match kind_of(shown, ticket) {
         CutKind::Full => end_full(shown),
@@ -400,6 +411,8 @@ pub(crate) fn drop_staged(shown: &mut Shown, ticket: u64)
     ensures order { (limits : LogLimits) → (log : List Change) → IsInOrder limits (state_of log shown.old) → IsInOrder limits (state_of log shown.new) }
     ensures shows { (meta : Records) → (log : List Change) → Shows meta log shown.old → Shows meta log shown.new }
     ensures tables { shown.new.tables ≡ shown.old.tables }
+    ensures part { (log : List Change) → option_map part_in shown.new.latest
+        ≡ part_without (state_of log shown.old) ticket (option_map part_in shown.old.latest) }
 {
     take_away(shown, ticket);
 }

@@ -112,10 +112,12 @@ places-same r facts xs ys left right =
     ordered keys = in_order-sorted place_cmp (λ (p : RowPlace). p) place_total one-place (filter_map (value_place r facts) keys)
 
     moved : (xs ys : List ValueKey) → ((k : ValueKey) → IsIn k xs → IsIn k ys) → (p : RowPlace)
-        → IsIn p (in_order place_cmp (λ p. p) (filter_map (value_place r facts) xs)) → IsIn p (in_order place_cmp (λ p. p) (filter_map (value_place r facts) ys))
+        → IsIn p (in_order place_cmp (λ p. p) (filter_map (value_place r facts) xs))
+        → IsIn p (in_order place_cmp (λ p. p) (filter_map (value_place r facts) ys))
     moved xs ys left p there =
         let given = in-given (value_place r facts) xs p
-        (in_order-from place_cmp (λ (q : RowPlace). q) place_total one-place (λ q. Unit {0}) (λ x y p q same. same) (filter_map (value_place r facts) xs) p there) in
+        (in_order-from place_cmp (λ (q : RowPlace). q) place_total one-place (λ q. Unit {0}) (λ x y p q same. same) (filter_map (value_place r facts) xs) p
+        there) in
         in_order-has place_cmp (λ (q : RowPlace). q) place_total one-place (λ q. Unit {0}) (λ x y p q same. same) (filter_map (value_place r facts) ys) p
         (every (filter_map (value_place r facts) ys)) (given-in (value_place r facts) given.a p given.is ys (left given.a given.there))
 
@@ -236,7 +238,8 @@ key-of-row r facts t numbers key row is =
     let has = row-objects r facts key row is in
     let o = has.objects in
     let element : element_id r row.element ≡ Some key.element = ap (element_id r) has.element ∙ element-id r key.element o.element has.are.element in
-    let unit : unit_id r row.order ≡ Some key.unit = unit-id r t key.unit o.unit row.order (unit-in r key.unit o.unit numbers has.are.unit) has.are.unit has.order in
+    let unit : unit_id r row.order ≡ Some key.unit = unit-id r t key.unit o.unit row.order (unit-in r key.unit o.unit numbers has.are.unit) has.are.unit
+    has.order in
     let combo : combo_id r row.combo ≡ Some key.combo = ap (combo_id r) has.combo ∙ combo-id r key.combo o.combo has.are.combo in
     let attribute : combo_id r row.attribute ≡ Some key.attribute = ap (combo_id r) has.attribute ∙ combo-id r key.attribute o.attribute has.are.attribute in
     let around = has.period in
@@ -367,7 +370,8 @@ own-place ids n within differ = by_place (place_of ids (get_or ids n [])) refl
     by_place None is =
         absurd (false≢true (sym (misses (λ other. same_id (get_or ids n []) other) 0 ids n [] is within) ∙ nat_list_eq_equiv.refl (get_or ids n [])))
 
-id-at : (units : List OrgUnit) (x : ℕ) → id_at (map (λ (unit : OrgUnit). (unit.id, unit.parent)) units) x ≡ get_or (map (λ (unit : OrgUnit). unit.id) units) x []
+id-at : (units : List OrgUnit) (x : ℕ) → id_at (map (λ (unit : OrgUnit). (unit.id, unit.parent)) units) x
+    ≡ get_or (map (λ (unit : OrgUnit). unit.id) units) x []
 id-at units x =
     ap (λ o. option_map_or (λ (u : UnitRow). u.0) o []) (slice_get-map (λ (unit : OrgUnit). (unit.id, unit.parent)) units x)
     ∙ by_unit (slice_get units x)

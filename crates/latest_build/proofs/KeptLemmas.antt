@@ -484,11 +484,14 @@ module _ (r : Records) (t : IsTree (unit_rows r)) (rows : List Row) (start : Lis
         to-filter (has_position r (approved_alone approvals)) key (found r rows approvals)
         (found-has r t (rows-count r) rows (facts_in start) approvals key row.0 in_rows row.1 kept.1) kept.1
 
-    pub places-touched : (facts : Facts) (hit : List Write) → value_places r facts (values_sought r rows hit) ≡ value_places r facts (values_touched r start hit)
+    pub places-touched : (facts : Facts) (hit : List Write)
+        → value_places r facts (values_sought r rows hit) ≡ value_places r facts (values_touched r start hit)
     places-touched facts hit =
         places-same r facts (values_sought r rows hit) (values_touched r start hit)
-        (either (values_named hit) (decided_by r rows (approvals_named hit)) (filter (is_decided r hit) (values_held r start)) (to-touched (approvals_named hit)))
-        (either (values_named hit) (filter (is_decided r hit) (values_held r start)) (decided_by r rows (approvals_named hit)) (from-touched (approvals_named hit)))
+        (either (values_named hit) (decided_by r rows (approvals_named hit)) (filter (is_decided r hit) (values_held r start)) (to-touched (approvals_named
+        hit)))
+        (either (values_named hit) (filter (is_decided r hit) (values_held r start)) (decided_by r rows (approvals_named hit)) (from-touched
+        (approvals_named hit)))
       where
         either : (front xs ys : List ValueKey) → ((k : ValueKey) → IsIn k xs → IsIn k ys) → (k : ValueKey) → IsIn k (front ++ xs) → IsIn k (front ++ ys)
         either front xs ys more k there =

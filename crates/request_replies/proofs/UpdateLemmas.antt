@@ -11,7 +11,6 @@ use Rattle.engine.specs.declared.machine.Cut.{Cut}
 use Rattle.engine.specs.declared.machine.CutFault.{CutFault}
 use Rattle.engine.specs.Machine.{State, Step, staged_of, is_begun, number_of}
 use Rattle.engine.specs.Machine.Act.{begun, swapped, dropped}
-use Rattle.engine.specs.Tables.{Served}
 use Rattle.engine.specs.Seen.{Seen, IsSound, update_in}
 use Rattle.engine.proofs.HistoryLaws.{staged-is-begun, number-is}
 use Rattle.request_replies.specs.Texts.{IsTold, cut_text}
@@ -53,14 +52,12 @@ pub cut_begins : (meta : Records) (limits : Limits) (old between : State) (kind 
 cut_begins meta limits old between kind (Ok found) step = cut-staged meta limits old between kind (update-with found.ticket found.number) step
 cut_begins meta limits old between kind (Err fault) step = tt
 
--- two calls that keep all but the state and the tables keep all but these
-pub same_twice : (old between new : Seen) → between ≡ record old { state = between.state; tables = between.tables }
-    → new ≡ record between { state = new.state; tables = new.tables } → new ≡ record old { state = new.state; tables = new.tables }
-same_twice old between new first second = second ∙ ap (λ (s : Seen). record s { state = new.state; tables = new.tables }) first
-
--- a call that keeps the tables too
-pub same_tables : (old new : Seen) → new ≡ record old { state = new.state } → new ≡ record old { state = new.state; tables = new.tables }
-same_tables old new same = same ∙ ap (λ (tables : Served). record old { state = new.state; tables = tables }) (sym (ap (λ (s : Seen). s.tables) same))
+-- two calls that keep all but the state, the tables and the part that is begun keep all but these
+pub same_twice : (old between new : Seen) → between ≡ record old { state = between.state; tables = between.tables; part = between.part }
+    → new ≡ record between { state = new.state; tables = new.tables; part = new.part }
+    → new ≡ record old { state = new.state; tables = new.tables; part = new.part }
+same_twice old between new first second = second
+    ∙ ap (λ (s : Seen). record s { state = new.state; tables = new.tables; part = new.part }) first
 
 pub refused_of : (meta : Records) (limits : Limits) (kind : CutKind) (keep : Bool) (found : Result Cut CutFault) (fault : CutFault) (later : State)
     (text : Option (List ℕ))
@@ -76,9 +73,10 @@ ends-under meta meta' limits limits' kind keep found later text new m l ends =
 
 -- a cut and its end, with nothing between
 pub own_reply : (old between new : Seen) (kind : CutKind) (keep : Bool) (found : Result Cut CutFault) (text : Option (List ℕ))
-    → Step old.meta old.limits old.state (begun kind (update_in found)) between.state → between ≡ record old { state = between.state }
+    → Step old.meta old.limits old.state (begun kind (update_in found)) between.state
+    → between ≡ record old { state = between.state; tables = between.tables; part = between.part }
     → Ends between.meta between.limits kind keep (update_in found) between.state text new.state
-    → new ≡ record between { state = new.state; tables = new.tables }
+    → new ≡ record between { state = new.state; tables = new.tables; part = new.part }
     → OwnUpdateReply old kind keep text new
 own_reply old between new kind keep found text begins first ends second = record {
   between = between.state;
@@ -88,5 +86,5 @@ own_reply old between new kind keep found text begins first ends second = record
     ends = ends-under between.meta old.meta between.limits old.limits kind keep (update_in found) between.state text new.state
         (ap (λ (s : Seen). s.meta) first) (ap (λ (s : Seen). s.limits) first) ends;
   };
-  same = same_twice old between new (same_tables old between first) second;
+  same = same_twice old between new first second;
 }

@@ -39,4 +39,4 @@ pub record UpdateReply (meta : Records) (limits : Limits) (kind : CutKind) (keep
 pub record OwnUpdateReply (old : Seen) (kind : CutKind) (keep : Bool) (text : Option (List ℕ)) (new : Seen) : Type 0 where
   pub between : State
   pub replies : UpdateReply old.meta old.limits kind keep old.state between between text new.state
-  pub same : new ≡ record old { state = new.state; tables = new.tables }
+  pub same : new ≡ record old { state = new.state; tables = new.tables; part = new.part }

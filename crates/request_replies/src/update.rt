@@ -29,12 +29,11 @@ pub fn not_begun(alloc: Global, fault: CutFault, keep: bool) -> Result<Reply, Me
 }
 
 // Out of memory the update is dropped.
-#[tactic(auto, using(crate::proofs::UpdateLemmas::same_tables))]
 fn give_up<K: Keeper>(engine: &mut Engine<K>, ticket: u64) -> Result<Reply, Memory>
     requires { IsTrue (is_begun engine.old.state ticket) }
     ensures none { told result ≡ None }
     ensures dropped { Step engine.old.meta engine.old.limits engine.old.state (dropped ticket) engine.new.state }
-    ensures same { engine.new ≡ record engine.old { state = engine.new.state; tables = engine.new.tables } }
+    ensures same { engine.new ≡ record engine.old { state = engine.new.state; tables = engine.new.tables; part = engine.new.part } }
     ensures sound { IsSound engine.new }
 {
     engine.drop_update(ticket);
@@ -55,7 +54,7 @@ fn publish<K: Keeper>(
     ensures swapped { IfOk result (λ made. Step engine.old.meta engine.old.limits engine.old.state (swapped ticket (Ok published)) engine.new.state) }
     ensures text { IfOk result (λ made. text_in made ≡ text_in reply) }
     ensures dropped { OnErr result (Step engine.old.meta engine.old.limits engine.old.state (dropped ticket) engine.new.state) }
-    ensures same { engine.new ≡ record engine.old { state = engine.new.state; tables = engine.new.tables } }
+    ensures same { engine.new ≡ record engine.old { state = engine.new.state; tables = engine.new.tables; part = engine.new.part } }
     ensures sound { IsSound engine.new }
 {
     let _published = published;
@@ -85,7 +84,7 @@ fn swap_in<K: Keeper>(
     requires begun { IsTrue (is_begun engine.old.state ticket) }
     requires number { published ≡ max engine.old.state.published (number_of engine.old.state ticket) }
     ensures ends { EndsUpdate engine.old.meta engine.old.limits kind ticket keep engine.old.state (told result) engine.new.state }
-    ensures same { engine.new ≡ record engine.old { state = engine.new.state; tables = engine.new.tables } }
+    ensures same { engine.new ≡ record engine.old { state = engine.new.state; tables = engine.new.tables; part = engine.new.part } }
     ensures sound { IsSound engine.new }
 {
     match update_reply(alloc, published, keep, kind) {
@@ -108,7 +107,7 @@ fn finish<K: Keeper>(
     requires sound { IsSound engine.old }
     ensures ends { Ends engine.old.meta engine.old.limits kind keep (Ok (record { ticket = ticket; number = number })) engine.old.state (told result)
         engine.new.state }
-    ensures same { engine.new ≡ record engine.old { state = engine.new.state; tables = engine.new.tables } }
+    ensures same { engine.new ≡ record engine.old { state = engine.new.state; tables = engine.new.tables; part = engine.new.part } }
     ensures sound { IsSound engine.new }
 {
     let published = published_with(engine, number);
@@ -127,7 +126,7 @@ fn end<K: Keeper>(
     requires staged { IfOk found (λ begun. staged_of engine.old.state kind ≡ Some (record { ticket = begun.ticket; number = begun.number })) }
     requires sound { IsSound engine.old }
     ensures ends { Ends engine.old.meta engine.old.limits kind keep (update_in found) engine.old.state (told result) engine.new.state }
-    ensures same { engine.new ≡ record engine.old { state = engine.new.state; tables = engine.new.tables } }
+    ensures same { engine.new ≡ record engine.old { state = engine.new.state; tables = engine.new.tables; part = engine.new.part } }
     ensures sound { IsSound engine.new }
 {
     match found {

@@ -64,9 +64,9 @@ log-loaded old new moment set (Err refused) limits is =
 
 -- a cut and its swap, where no other update is begun
 pub updated : (old mid new : Seen) (update : Staged) (published : ℕ) → old.state.full ≡ None
-    → Step old.meta old.limits old.state (begun Latest (Ok update)) mid.state → mid ≡ record old { state = mid.state }
+    → Step old.meta old.limits old.state (begun Latest (Ok update)) mid.state → mid ≡ record old { state = mid.state; tables = mid.tables; part = mid.part }
     → Step mid.meta mid.limits mid.state (swapped update.ticket (Ok published)) new.state
-    → new ≡ record mid { state = new.state; tables = new.tables } → IsUpdated old new
+    → new ≡ record mid { state = new.state; tables = new.tables; part = new.part } → IsUpdated old new
 updated old mid new update published none cut kept swap same =
     let full : mid.state.full ≡ None = ap (λ (s : State). s.full) cut.1 ∙ none in
     let kind : kind_of mid.state update.ticket ≡ Latest = ap (kind_by update.ticket) full in

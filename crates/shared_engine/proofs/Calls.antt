@@ -22,7 +22,6 @@ use Rattle.dh_base.specs.declared.plain.CutKind.{CutKind}
 use Rattle.dh_base.specs.declared.plain.CutKind.TheVariants.{Full, Latest}
 use Rattle.engine.specs.Machine.{State, start, Act, IsReply, next, lacks_memory, Step, StepBy, by_kind, staged_of, changes_for, is_begun}
 use Rattle.engine.specs.Machine.Act.{changed, begun, swapped, dropped, looked}
-use Rattle.engine.specs.Tables.{Served}
 use Rattle.engine.specs.Seen.{Seen, Brought, IsCutOf, update_in}
 use Rattle.engine.specs.declared.machine.Cut.{Cut}
 use Rattle.dh_changes.specs.declared.change.Change.{Change}
@@ -420,7 +419,7 @@ cut_made made engine new l0 l1 l2 l3 token now kind reply running table taken fo
 
 -- what the engine's own calls say
 pub plain_goes : (old new : Seen) (act : Act) → IsFault act old.faults new.faults → Step old.meta old.limits old.state act new.state
-    → new ≡ record old { state = new.state } → Goes old act new
+    → new ≡ record old { state = new.state; tables = new.tables; part = new.part } → Goes old act new
 plain_goes old new act fault step same = record {
   step = step;
   meta = ap (λ (s : Seen). s.meta) same;
@@ -431,7 +430,8 @@ plain_goes old new act fault step same = record {
 }
 
 pub cut_goes : (old new : Seen) (kind : CutKind) (reply : Result Staged CutFault)
-    → Step old.meta old.limits old.state (begun kind reply) new.state → new ≡ record old { state = new.state } → Goes old (begun kind reply) new
+    → Step old.meta old.limits old.state (begun kind reply) new.state
+    → new ≡ record old { state = new.state; tables = new.tables; part = new.part } → Goes old (begun kind reply) new
 cut_goes old new kind reply step same = plain_goes old new (begun kind reply) tt step same
 
 pub cut_published : (old new : Seen) (kind : CutKind) (reply : Result Staged CutFault)
@@ -442,44 +442,40 @@ cut_published old new kind (Err (cut.UpdatesSpent limit)) step = ap (λ (s : Sta
 cut_published old new kind (Err cut.Memory) step = ap (λ (s : State). s.published) step
 
 pub swapped_goes : (old new : Seen) (ticket number : ℕ) → Step old.meta old.limits old.state (swapped ticket (Ok number)) new.state
-    → new ≡ record old { state = new.state; tables = new.tables } → Goes old (end_act ticket (Ok number)) new
-swapped_goes old new ticket number step same = record {
-  step = step;
-  meta = ap (λ (s : Seen). s.meta) same;
-  limits = ap (λ (s : Seen). s.limits) same;
-  count = subst (λ (n : ℕ). old.faults ≤ n) (sym (ap (λ (s : Seen). s.faults) same)) (le_refl old.faults);
-  fault = tt;
-  still = λ e. ap (λ (s : Seen). s.faults) same;
-}
+    → new ≡ record old { state = new.state; tables = new.tables; part = new.part } → Goes old (end_act ticket (Ok number)) new
+swapped_goes old new ticket number step same = plain_goes old new (swapped ticket (Ok number)) tt step same
 
 pub swapped_published : (old new : Seen) (ticket number : ℕ) → Step old.meta old.limits old.state (swapped ticket (Ok number)) new.state
     → new.state.published ≡ number
 swapped_published old new ticket number step = ap (λ (s : State). s.published) step.1
 
--- a swap that found no memory leaves all but, as far as is said here, the tables
+-- a swap that found no memory leaves all but, as far as is said here, the tables and the part
 pub swap_stayed : (old mid : Seen) (ticket : ℕ) (memory : Memory) → Step old.meta old.limits old.state (swapped ticket (Err memory)) mid.state
-    → mid ≡ record old { state = mid.state; tables = mid.tables } → mid ≡ record old { tables = mid.tables }
-swap_stayed old mid ticket memory swap same = same ∙ ap (λ (s : State). record old { state = s; tables = mid.tables }) swap
+    → mid ≡ record old { state = mid.state; tables = mid.tables; part = mid.part }
+    → mid ≡ record old { tables = mid.tables; part = mid.part }
+swap_stayed old mid ticket memory swap same = same ∙ ap (λ (s : State). record old { state = s; tables = mid.tables; part = mid.part }) swap
 
--- what goes on from a machine goes on from one with other tables
-goes_on : (old new : Seen) (tables : Served) (act : Act) → Goes (record old { tables = tables }) act new → Goes old act new
-goes_on old new tables act goes =
+-- what goes on from a machine goes on from one with other tables and another part
+goes_on : (old mid new : Seen) (act : Act) → Goes (record old { tables = mid.tables; part = mid.part }) act new → Goes old act new
+goes_on old mid new act goes =
     record { step = goes.step; meta = goes.meta; limits = goes.limits; count = goes.count; fault = goes.fault; still = goes.still }
 
 pub dropped_goes : (old mid new : Seen) (ticket : ℕ) (memory : Memory) → Step old.meta old.limits old.state (swapped ticket (Err memory)) mid.state
-    → mid ≡ record old { state = mid.state; tables = mid.tables } → Step mid.meta mid.limits mid.state (dropped ticket) new.state → new ≡ record mid { state = new.state }
+    → mid ≡ record old { state = mid.state; tables = mid.tables; part = mid.part } → Step mid.meta mid.limits mid.state (dropped ticket) new.state
+    → new ≡ record mid { state = new.state; tables = new.tables; part = new.part }
     → Goes old (end_act ticket (Err memory)) new
 dropped_goes old mid new ticket memory swap same drop after =
-    goes_on old new mid.tables (dropped ticket)
+    goes_on old mid new (dropped ticket)
     (subst (λ (m : Seen). Goes m (dropped ticket) new) (swap_stayed old mid ticket memory swap same) (plain_goes mid new (dropped ticket) tt drop after))
 
 pub dropped_published : (old mid new : Seen) (ticket : ℕ) (memory : Memory) → Step old.meta old.limits old.state (swapped ticket (Err memory)) mid.state
-    → mid ≡ record old { state = mid.state; tables = mid.tables } → Step mid.meta mid.limits mid.state (dropped ticket) new.state → new.state.published ≡ old.state.published
+    → mid ≡ record old { state = mid.state; tables = mid.tables; part = mid.part } → Step mid.meta mid.limits mid.state (dropped ticket) new.state
+    → new.state.published ≡ old.state.published
 dropped_published old mid new ticket memory swap same drop =
     ap (λ (s : State). s.published) drop.1 ∙ ap (λ (m : Seen). m.state.published) (swap_stayed old mid ticket memory swap same)
 
 pub stayed_begun : (old mid : Seen) (ticket : ℕ) (memory : Memory) → Step old.meta old.limits old.state (swapped ticket (Err memory)) mid.state
-    → mid ≡ record old { state = mid.state; tables = mid.tables } → IsTrue (is_begun old.state ticket) → IsTrue (is_begun mid.state ticket)
+    → mid ≡ record old { state = mid.state; tables = mid.tables; part = mid.part } → IsTrue (is_begun old.state ticket) → IsTrue (is_begun mid.state ticket)
 stayed_begun old mid ticket memory swap same h = subst (λ (m : Seen). IsTrue (is_begun m.state ticket)) (sym (swap_stayed old mid ticket memory swap same)) h
 
 pub ruleset ends = (swapped_goes, swapped_published, dropped_goes, dropped_published, stayed_begun)

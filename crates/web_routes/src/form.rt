@@ -6,7 +6,8 @@ ghost use Rattle.std.specs.Option.{option_copied};
 ghost use Rattle.std.specs.Str.Parse.{digits_value};
 ghost use Rattle.dh_base.specs.Memory.{Answers};
 ghost use Rattle.web_routes.specs.Given.{cause_of};
-ghost use Rattle.web_routes.specs.Parameters.{value_of, or_default, parameter, truth_of, strategy_of, is_number, number_of, is_scheme, asked_of, kind_by, kind_of};
+ghost use Rattle.web_routes.specs.Parameters.{value_of, or_default, parameter, truth_of, strategy_of, is_number, number_of, is_scheme, asked_of, kind_by};
+ghost use Rattle.web_routes.specs.Parameters.{kind_of};
 ghost use Rattle.web_routes.specs.Parameters.{is_bad_scheme, bad_scheme, params_of, atomic_of, bundle_params_of};
 
 use crate::fault::{RouteFault, refused};

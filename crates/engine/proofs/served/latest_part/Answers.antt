@@ -10,6 +10,7 @@ use Rattle.table_build.specs.Log.{is_of_days}
 use Rattle.table_build.specs.Log as rows
 use Rattle.table_build.specs.Listed.{listed_in}
 use Rattle.latest_build.specs.Touches.{touched_by}
+use Rattle.table_latest.specs.Latest.{LatestPart}
 use Rattle.engine.proofs.Days.{all-of-days, writes-are}
 use Rattle.engine.proofs.StandLemmas.{made-part, base-words}
 use Rattle.engine.proofs.served.latest_part.Goals as goal
@@ -35,8 +36,8 @@ build_latest-requires-clause-base c =
     ≡ contents_in (listed_in c.args.meta.now (rows.writes_of (map arc_value (take base.base_cut c.args.changes.now))))) (sym c.deref.ensures)
     (base-words arc_value c.args.meta.now c.args.changes.now (arc_value c.args.base.now) c.requires.base)
 
-pub returns : goal.returns
-returns c =
+pub returns-clause-goes : goal.returns-clause-goes
+returns-clause-goes c =
     let deref = ap (λ (base : YearParts). base.base_cut) c.deref.ensures in
     let log = map arc_value c.args.changes.now in
     made-part c.args.meta.now (facts c.args.world.now) log (arc_value c.args.base.now).base_cut (length c.args.changes.now) c.in_ok-part.part _
@@ -44,3 +45,7 @@ returns c =
     c.requires.world
     (c.in_ok-part.ensures.touched
     ∙ ap (λ n. touched_by c.args.meta.now (facts c.args.world.now) (rows.writes_of (take n log)) (rows.writes_of (drop n log))) deref)
+
+pub returns-clause-from : goal.returns-clause-from
+returns-clause-from c =
+    ap (λ (part : LatestPart). part.from) c.in_ok-new.ensures.ok ∙ c.in_ok-part.ensures.from ∙ ap (λ (base : YearParts). base.base_cut) c.deref.ensures

@@ -1,13 +1,13 @@
 use Rattle.std.proofs.Common.{◌∙◌, ◌≤◌, None, length, map, take, sym, ap, subst}
-use Rattle.std.specs.Prelude.{max}
+use Rattle.std.specs.Prelude.{max, option_map}
 use Rattle.std.specs.Arc.{arc_value}
 use Rattle.dh_base.specs.declared.plain.CutKind.TheVariants.{Full}
 use Rattle.engine.specs.declared.updates.Shown.{Shown}
 use Rattle.engine.specs.Machine.{published_by, with_staged}
-use Rattle.engine.specs.Seen.{FitSlots, state_of, staged_latest}
+use Rattle.engine.specs.Seen.{FitSlots, state_of, staged_latest, part_in}
 use Rattle.engine.specs.Stands.{Stands}
 use Rattle.engine.specs.Tables.{Served}
-use Rattle.engine.proofs.StandLemmas.{full-there, full_published, laid_full, without_slots, full-owns, full-kind}
+use Rattle.engine.proofs.StandLemmas.{full-there, full_published, laid_full, ended_full, without_slots, full-owns, full-kind}
 use Rattle.engine.proofs.Orders.{swaps_of}
 use Rattle.engine.proofs.swaps.swap_full.Goals as goal
 
@@ -59,5 +59,13 @@ pub returns-clause-laid : goal.returns-clause-laid
 returns-clause-laid c =
     let log = map arc_value c.args.changes.now in
     let shown = c.args.shown.now in
-    laid_full (state_of log shown) c.args.ticket c.number_in-number.result c.max-published.result (arc_value shown.tables) _ c.requires.begun
+    laid_full (state_of log shown) c.args.ticket c.number_in-number.result c.max-published.result _ (arc_value shown.tables) _ c.requires.begun
     c.number_in-number.ensures (ap (λ (tables : Served). tables.latest) c.publish_full.ensures.tables ∙ c.in_ok-tables.ensures.latest)
+
+pub returns-clause-part : goal.returns-clause-part
+returns-clause-part c =
+    let log = map arc_value c.args.changes.now in
+    let shown = c.args.shown.now in
+    ended_full (state_of log shown) c.args.ticket c.max-published.result (option_map part_in shown.latest) _ c.requires.begun
+    (ap (λ (s : Shown). option_map part_in s.latest) c.publish_full.ensures.same
+    ∙ ap (λ (s : Shown). option_map part_in s.latest) c.tables_after_full.ensures.same)

@@ -2,7 +2,9 @@ use Rattle.std.proofs.Common.{◌+◌, length, map, refl, sym, ap, arith}
 use Rattle.std.specs.Arc.{arc_value}
 use Rattle.std.proofs.lemmas.List.{length-map}
 use Rattle.dh_base.specs.declared.plain.CutKind.TheVariants.{Full}
-use Rattle.engine.specs.Seen.{state_of}
+use Rattle.std.specs.Prelude.{option_map}
+use Rattle.engine.specs.declared.updates.Shown.{Shown}
+use Rattle.engine.specs.Seen.{state_of, part_in}
 use Rattle.engine.proofs.Orders.{begun_cuts}
 use Rattle.engine.proofs.SlotLemmas.{cut_given}
 use Rattle.engine.proofs.StandLemmas.{full_begun}
@@ -27,3 +29,6 @@ returns-clause-shows c =
     let below = c.requires.order.base_cut in
     full_begun c.args.meta.now (map arc_value c.args.changes.now) c.args.shown.now c.stage_full-ticket.new.shown (c.args.shown.now.ticket + 1)
     (length c.args.changes.now) _ c.stage_full-ticket.ensures.new (omega arith) all c.in-Ok-plan_for.ensures.slots c.requires.shows
+
+pub returns-clause-part : goal.returns-clause-part
+returns-clause-part c = ap (λ (s : Shown). option_map part_in s.latest) c.stage_full-ticket.ensures.new

@@ -2,13 +2,14 @@ use Rattle.std.proofs.Common.{◌∙◌, length, map, take, refl, sym, ap, subst
 use Rattle.std.specs.Arc.{arc_value}
 use Rattle.std.proofs.lemmas.List.{length-map}
 use Rattle.dh_base.specs.declared.plain.CutKind.TheVariants.{Latest}
+use Rattle.engine.specs.declared.updates.Shown.{Shown}
 use Rattle.engine.specs.Seen.{state_of}
 use Rattle.engine.specs.Stands.{GoesOn}
 use Rattle.engine.specs.Tables.{Served, tables_of}
 use Rattle.year_tables.specs.Parts.{YearParts, together}
 use Rattle.engine.proofs.Orders.{begun_cuts}
 use Rattle.engine.proofs.SlotLemmas.{cut_given}
-use Rattle.engine.proofs.StandLemmas.{latest_begun}
+use Rattle.engine.proofs.StandLemmas.{latest_begun, part-made}
 use Rattle.engine.proofs.updates.begin_latest.Goals as goal
 
 pub latest_part-requires-clause-within : goal.latest_part-requires-clause-within
@@ -45,5 +46,12 @@ returns-clause-shows c =
     let base = c.base.ensures ∙ ap (λ (tables : Served). tables.base) c.deref.ensures in
     let is = ap (λ (b : YearParts). b.base_cut) base ∙ c.requires.shows.stands.cut in
     latest_begun c.args.meta.now log c.args.shown.now c.stage_latest-ticket.new.shown _ c.stage_latest-ticket.ensures.new
-    (subst (λ b. GoesOn c.args.meta.now log b (length c.args.changes.now) (arc_value c.in-Ok-latest_part.part)) is c.in-Ok-latest_part.ensures)
+    (subst (λ b. GoesOn c.args.meta.now log b (length c.args.changes.now) (arc_value c.in-Ok-latest_part.part)) is c.in-Ok-latest_part.ensures.goes)
     c.requires.shows
+
+pub returns-clause-part : goal.returns-clause-part
+returns-clause-part c =
+    let base = c.base.ensures ∙ ap (λ (tables : Served). tables.base) c.deref.ensures in
+    let is = ap (λ (b : YearParts). b.base_cut) base ∙ c.requires.shows.stands.cut in
+    part-made c.stage_latest-ticket.new.shown.latest _ c.args.shown.now.base_cut (length c.args.changes.now)
+    (ap (λ (s : Shown). s.latest) c.stage_latest-ticket.ensures.new) (c.in-Ok-latest_part.ensures.from ∙ is) c.in-Ok-latest_part.ensures.goes.to

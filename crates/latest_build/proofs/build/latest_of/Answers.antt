@@ -13,6 +13,7 @@ of-requires c =
 
 pub returns-clause-leads : goal.returns-clause-leads
 returns-clause-leads c =
-    leads-held c.args.meta.now (writes_of (map arc_value c.args.changes.now)) (facts c.args.world.now) c.requires.held (c.units_stand.ensures.tree (facts c.args.world.now))
+    leads-held c.args.meta.now (writes_of (map arc_value c.args.changes.now)) (facts c.args.world.now) c.requires.held (c.units_stand.ensures.tree (facts
+    c.args.world.now))
     (c.units_stand.ensures.numbers (facts c.args.world.now)) c.args.keys.now.values.now c.args.keys.now.events.now c.args.keys.now.regs.now c.of.result
     (c.of.ensures.touched ∙ c.in_ok-touched.ensures) (c.of.ensures.holds ∙ c.in_ok-store.ensures)

@@ -6,6 +6,7 @@ use Rattle.latest_build.proofs.found.put_groups.Given as goal
 
 abbrev pub invariant-loop-group : goal.invariant-loop-group
 invariant-loop-group l =
-    l.fn.keys.items ++ gathered (in_group_reached l.search.meta.now (rows_together l.search.base.now.parts) l.search.approval.now l.search.reach l.kind) l.groups
+    l.fn.keys.items ++ gathered (in_group_reached l.search.meta.now (rows_together l.search.base.now.parts) l.search.approval.now l.search.reach l.kind)
+    l.groups
     ≡ l.keys.items ++ gathered (in_group_reached l.search.meta.now (rows_together l.search.base.now.parts) l.search.approval.now l.search.reach l.kind)
     (drop l.group-index l.groups)

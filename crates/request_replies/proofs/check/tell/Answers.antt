@@ -25,4 +25,5 @@ returns-in-Ok g c =
     (sym c.in-Ok.is)
     (check_told c.by_user.result c.args.engine.now.meta c.published_meta.result.now c.args.engine.now.state.log c.args.user c.in-Ok.view.published
     c.args.engine.now.state.published
-    c.args.place.now c.args.keep c.deref.result.now.all number c.published_meta.ensures.value (ap (λ (tables : Served). contents_in tables.all) c.deref.ensures ∙ same) c.by_user.ensures)
+    c.args.place.now c.args.keep c.deref.result.now.all number c.published_meta.ensures.value (ap (λ (tables : Served). contents_in tables.all)
+    c.deref.ensures ∙ same) c.by_user.ensures)

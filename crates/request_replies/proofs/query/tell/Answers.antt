@@ -25,4 +25,5 @@ returns-in-Ok g c =
     (sym c.in-Ok.is)
     (answer_told c.over_rows.result c.args.engine.now.meta c.published_meta.result.now c.args.engine.now.state.log c.args.user c.in-Ok.view.published
     c.args.engine.now.state.published
-    c.args.query.now c.args.keep c.deref.result.now.all number c.published_meta.ensures.value (ap (λ (tables : Served). contents_in tables.all) c.deref.ensures ∙ same) c.over_rows.ensures)
+    c.args.query.now c.args.keep c.deref.result.now.all number c.published_meta.ensures.value (ap (λ (tables : Served). contents_in tables.all)
+    c.deref.ensures ∙ same) c.over_rows.ensures)

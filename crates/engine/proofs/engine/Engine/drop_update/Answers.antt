@@ -1,6 +1,6 @@
 use Rattle.std.proofs.Common.{◌∙◌, ap}
 use Rattle.engine.specs.Machine.{after_drop}
-use Rattle.engine.specs.Seen.{Seen}
+use Rattle.engine.specs.Seen.{Seen, part_without}
 use Rattle.engine.proofs.engine.Engine.drop_update.Goals as goal
 
 pub invariant_of-self : goal.invariant_of-self
@@ -21,3 +21,7 @@ returns-clause-sound g c = record {
   order = c.drop_staged.ensures.order _ _ c.self.invariant.order;
   stands = (c.drop_staged.ensures.shows _ _ c.self.invariant.shows).stands;
 }
+
+pub returns-clause-part : goal.returns-clause-part
+returns-clause-part g c =
+    c.drop_staged.ensures.part c.self.inside.log.changes ∙ ap (λ (s : Seen). part_without s.state c.args.ticket s.part) c.self.view_is
