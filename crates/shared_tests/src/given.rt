@@ -122,3 +122,22 @@ pub(crate) fn import<J: Naming, R: Wait>(
         Err(_) => false,
     }
 }
+
+/// An engine without a change, which one caller has alone.
+pub(crate) fn alone(alloc: Global) -> Option<Engine<Unkept>> {
+    let meta = metadata(alloc)?;
+    engine_over(alloc, meta)
+}
+
+/// Whether the import was made in an engine that one caller has alone.
+pub(crate) fn import_into(alloc: Global, engine: &mut Engine<Unkept>) -> bool {
+    match request(alloc) {
+        Ok(request) => {
+            let found = engine.change(alloc, Who::Loader, 1_720_000_000, &request);
+            let made = found.is_ok();
+            drop(found);
+            made
+        }
+        Err(_) => false,
+    }
+}
