@@ -2,7 +2,7 @@
 -- data value set, a T code one object of a tracker bundle.
 use Rattle.std.specs.Prelude.{ℕ, List, codes}
 use Rattle.dh_base.specs.declared.codes.Code.{Code}
-use Rattle.dh_base.specs.declared.codes.Code.TheVariants.{F1, F2, F3, F4, F5, F6, F7, F8, F9, F10, F11, F12, F13, F14, F15, F16, F17, F18, F19, F20, F21}
+use Rattle.dh_base.specs.declared.codes.Code.TheVariants.{F1, F2, F3, F4, F5, F6, F7, F8, F10, F11, F12, F13, F14, F15, F16, F17, F18, F19, F20, F21}
 use Rattle.dh_base.specs.declared.codes.Code.TheVariants.{F22, F23, F30, F31, F32, F40, F41, F42, F43, F44, F45, C1, C2, C3, C4, C5, C6, C7, C8, C9, C10}
 use Rattle.dh_base.specs.declared.codes.Code.TheVariants.{C11, C12, C13, C14, C15, T1, T2, T3, T4, T5, T6, T7, T8, T9, T10, T11, T12, T13, T14}
 
@@ -24,7 +24,6 @@ row_of F5 = row (codes "F5") (codes "NotPlain") 415
 row_of F6 = row (codes "F6") (codes "NoRoute") 404
 row_of F7 = row (codes "F7") (codes "NoMethod") 405
 row_of F8 = row (codes "F8") (codes "NoUser") 401
-row_of F9 = row (codes "F9") (codes "NotBuilt") 501
 row_of F10 = row (codes "F10") (codes "BadDimension") 409
 row_of F11 = row (codes "F11") (codes "NoData") 409
 row_of F12 = row (codes "F12") (codes "NoPeriod") 409

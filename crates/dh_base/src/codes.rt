@@ -23,8 +23,6 @@ pub enum Code {
     F7,
     /// NoUser: the request names no user.
     F8,
-    /// NotBuilt: the server does not do this yet.
-    F9,
     /// BadDimension: a dimension is malformed; the detail is its text.
     F10,
     /// NoData: the query has no data dimension.
@@ -189,7 +187,6 @@ impl Code {
             Code::F6 => row("F6", "NoRoute", 404),
             Code::F7 => row("F7", "NoMethod", 405),
             Code::F8 => row("F8", "NoUser", 401),
-            Code::F9 => row("F9", "NotBuilt", 501),
             Code::F10 => row("F10", "BadDimension", 409),
             Code::F11 => row("F11", "NoData", 409),
             Code::F12 => row("F12", "NoPeriod", 409),

@@ -3,12 +3,13 @@ ghost use Rattle.std.specs.List.{list_all};
 ghost use Rattle.std.specs.Char.{is_ascii_alphanumeric};
 ghost use Rattle.dh_base.specs.Uid.{uid_of, is_uid};
 
+use std::hash::{Hash, Hasher};
 use std::marker::Model;
 
 /// An identifier as DHIS2 makes them: 11 ASCII letters and digits, a letter first.
 ///
 /// Identifiers are ordered by their bytes.
-#[derive(Clone, Copy, Debug, PartialEq, Eq, PartialOrd, Ord, Hash)]
+#[derive(Clone, Copy, Debug, PartialEq, Eq, PartialOrd, Ord)]
 pub struct Uid {
     text: [u8; 11],
 }
@@ -24,6 +25,19 @@ impl Model for Uid {
     ghost invariant = { λ uid. is_uid uid.text ≡ true };
 
     ghost inverse = { λ bytes. record { text = bytes } };
+}
+
+// One text for a hasher, where a derived hash would feed the bytes one by one.
+impl Hash for Uid {
+    ghost use Rattle.dh_base.specs.Uid.{uid_fed, same_uids};
+
+    ghost hash_input = { uid_fed };
+
+    ghost respects_eq = { same_uids.fed };
+
+    fn hash<H: Hasher>(&self, state: &mut H) {
+        state.write(&self.text);
+    }
 }
 
 impl Uid {

@@ -1,10 +1,11 @@
 -- Equality of keys, as the comparison of their fields computes it, and what a hasher gets of a key.
-use Rattle.std.specs.Prelude.{ℕ, Bool, List, [], ◌&&◌, ◌∷◌, ◌++◌, nat_eq}
+use Rattle.std.specs.Prelude.{Bool, ◌&&◌, ◌++◌, nat_eq}
 use Rattle.std.specs.Cmp.{signed_Decides}
-use Rattle.std.specs.Cmp.Lexicographic.{pointwise, bytes_decides}
+use Rattle.std.specs.Cmp.Lexicographic.{pointwise}
 use Rattle.std.specs.Ordering.{int_eq}
 use Rattle.std.specs.Hash as fed
 use Rattle.std.specs.Hash.{HashWrites, Alike, same_Alike, on_Alike, and-Alike, first_alike}
+use Rattle.dh_base.specs.Uid.{uid_fed, same_uids}
 use Rattle.dh_periods.specs.declared.name.PeriodName.{PeriodName}
 use Rattle.dh_periods.specs.Days.{first_day, last_day}
 use Rattle.dh_periods.specs.Keys.{same_name, same_period}
@@ -25,19 +26,12 @@ abbrev pub same_reg_key : RegKey → RegKey → Bool
 same_reg_key a b =
     pointwise nat_eq a.set b.set && (same_period a.period b.period && (pointwise nat_eq a.unit b.unit && pointwise nat_eq a.attribute b.attribute))
 
--- an identifier, as one text
-abbrev pub id_fed : List ℕ → HashWrites
-id_fed id = id ∷ []
-
 -- a period, by its last day
 abbrev pub period_fed : PeriodName → HashWrites
 period_fed period = fed.i32 (last_day period)
 
 abbrev pub value_key_fed : ValueKey → HashWrites
-value_key_fed key = id_fed key.element ++ (period_fed key.period ++ (id_fed key.unit ++ (id_fed key.combo ++ id_fed key.attribute)))
-
-same_ids : Alike (pointwise nat_eq) id_fed
-same_ids = same_Alike id_fed bytes_decides
+value_key_fed key = uid_fed key.element ++ (period_fed key.period ++ (uid_fed key.unit ++ (uid_fed key.combo ++ uid_fed key.attribute)))
 
 same_periods : Alike same_period period_fed
 same_periods = first_alike (λ a b. int_eq (first_day a) (first_day b) && same_name a b) (on_Alike last_day (same_Alike fed.i32 signed_Decides))
@@ -45,5 +39,5 @@ same_periods = first_alike (λ a b. int_eq (first_day a) (first_day b) && same_n
 -- Keys that are equal are fed to a hasher alike.
 pub same_value_keys : Alike same_value_key value_key_fed
 same_value_keys =
-    and-Alike (on_Alike (λ key. key.element) same_ids) (and-Alike (on_Alike (λ key. key.period) same_periods)
-    (and-Alike (on_Alike (λ key. key.unit) same_ids) (and-Alike (on_Alike (λ key. key.combo) same_ids) (on_Alike (λ key. key.attribute) same_ids))))
+    and-Alike (on_Alike (λ key. key.element) same_uids) (and-Alike (on_Alike (λ key. key.period) same_periods)
+    (and-Alike (on_Alike (λ key. key.unit) same_uids) (and-Alike (on_Alike (λ key. key.combo) same_uids) (on_Alike (λ key. key.attribute) same_uids))))

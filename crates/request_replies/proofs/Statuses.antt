@@ -15,7 +15,7 @@ use Rattle.engine.specs.declared.machine.Report.{Report}
 use Rattle.engine.specs.declared.machine.ChangeFault.{ChangeFault}
 use Rattle.dh_base.specs.Codes.{status_of}
 use Rattle.dh_base.specs.declared.codes.Code.{Code}
-use Rattle.dh_base.specs.declared.codes.Code.TheVariants.{F1, F2, F3, F4, F5, F6, F7, F8, F9, F10, F11, F12, F13, F14, F15, F16, F17, F18, F19, F20, F21}
+use Rattle.dh_base.specs.declared.codes.Code.TheVariants.{F1, F2, F3, F4, F5, F6, F7, F8, F10, F11, F12, F13, F14, F15, F16, F17, F18, F19, F20, F21}
 use Rattle.dh_base.specs.declared.codes.Code.TheVariants.{F22, F23, F30, F31, F32, F40, F41, F42, F43, F44, F45, C1, C2, C3, C4, C5, C6, C7, C8, C9, C10}
 use Rattle.dh_base.specs.declared.codes.Code.TheVariants.{C11, C12, C13, C14, C15, T1, T2, T3, T4, T5, T6, T7, T8, T9, T10, T11, T12, T13, T14}
 use Rattle.wire_replies.specs.Heads.{is_reply_status}
@@ -30,7 +30,6 @@ has_reply F5 = refl
 has_reply F6 = refl
 has_reply F7 = refl
 has_reply F8 = refl
-has_reply F9 = refl
 has_reply F10 = refl
 has_reply F11 = refl
 has_reply F12 = refl
