@@ -3,6 +3,7 @@ use dh_base::items::Items;
 use dh_base::uid::Uid;
 use dh_changes::change::{Change, Write};
 use dh_changes::keys::ValueKey;
+use dh_changes::text::Text;
 use dh_changes::tracker::Event;
 use dh_periods::Period;
 use record_index::world::World;
@@ -25,16 +26,15 @@ fn key(rt: &impl Abort) -> ValueKey {
 }
 
 fn set(rt: &impl Abort, alloc: Global, text: &[u8]) -> Write {
-    let value = text.to_vec(alloc).expect(rt, "memory");
     Write::ValueSet {
         key: key(rt),
-        value: Items::from(value),
+        value: Text::of(alloc, text).expect(rt, "memory"),
     }
 }
 
 fn event(rt: &impl Abort, alloc: Global, id: &[u8]) -> Write {
     let enrollment = uid(rt, b"EnrollmentA");
-    Write::EventWritten(Event {
+    let event = Event {
         id: uid(rt, id),
         enrollment: Some(enrollment),
         program: enrollment,
@@ -44,7 +44,8 @@ fn event(rt: &impl Abort, alloc: Global, id: &[u8]) -> Write {
         occurred: Some(19_800),
         scheduled: None,
         values: Items::new(alloc),
-    })
+    };
+    Write::event(alloc, event).expect(rt, "memory")
 }
 
 fn change(rt: &impl Abort, alloc: Global) -> Change {

@@ -10,7 +10,7 @@ use crate::decode_fields::{
 };
 use crate::fault::ReadFault;
 use crate::read_words::{
-    read_i64, read_id, read_optional_id, read_owned_text, read_u8, read_u32, read_u64,
+    read_i64, read_id, read_optional_id, read_u8, read_u32, read_u64, read_value_text,
 };
 use dh_base::items::Items;
 use dh_base::uid::Uid;
@@ -22,7 +22,7 @@ fn read_value_set(alloc: Global, rest: &mut &[u8]) -> Result<Write, ReadFault>
     ensures { Gives (value_set_at rest.old.now) result rest.new.now }
 {
     let key = read_value_key(rest)?;
-    let value = read_owned_text(alloc, rest)?;
+    let value = read_value_text(alloc, rest)?;
     Ok(Write::ValueSet { key, value })
 }
 
@@ -53,9 +53,18 @@ fn read_tracker_write(alloc: Global, kind: u8, rest: &mut &[u8]) -> Result<Write
     ensures { Gives (tracker_write_at kind rest.old.now) result rest.new.now }
 {
     match kind {
-        3 => Ok(Write::EventWritten(read_event(alloc, rest)?)),
-        5 => Ok(Write::EnrollmentWritten(read_enrollment(rest)?)),
-        7 => Ok(Write::EntityWritten(read_entity(alloc, rest)?)),
+        3 => {
+            let event = read_event(alloc, rest)?;
+            Ok(Write::event(alloc, event)?)
+        }
+        5 => {
+            let enrollment = read_enrollment(rest)?;
+            Ok(Write::enrollment(alloc, enrollment)?)
+        }
+        7 => {
+            let entity = read_entity(alloc, rest)?;
+            Ok(Write::entity(alloc, entity)?)
+        }
         _ => Err(ReadFault::Bad),
     }
 }

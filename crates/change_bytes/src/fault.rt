@@ -1,6 +1,7 @@
 ghost use Rattle.std.specs.Prelude.{◌≡◌};
 ghost use Rattle.change_bytes.specs.declared.fault.ReadFault.TheVariants.{Memory as OutOfMemory};
 
+use dh_base::memory::Memory;
 use std::alloc::{AllocError, AllocFailed};
 
 /// Why nothing was read.
@@ -16,6 +17,14 @@ impl From<AllocError> for ReadFault {
     ghost from_gives = { λ _ fault. fault ≡ OutOfMemory };
 
     fn from(_error: AllocError) -> ReadFault {
+        ReadFault::Memory
+    }
+}
+
+impl From<Memory> for ReadFault {
+    ghost from_gives = { λ _ fault. fault ≡ OutOfMemory };
+
+    fn from(_error: Memory) -> ReadFault {
         ReadFault::Memory
     }
 }

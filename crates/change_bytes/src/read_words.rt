@@ -6,6 +6,7 @@ ghost use Rattle.change_bytes.specs.Given.{GivesAs, Gives};
 use crate::fault::ReadFault;
 use dh_base::items::Items;
 use dh_base::uid::Uid;
+use dh_changes::text::Text;
 use std::alloc::{AllocError, Global};
 
 /// The next so many bytes, lent. Each reader takes what it reads from the front of `rest`.
@@ -118,6 +119,14 @@ pub fn read_owned_text(alloc: Global, rest: &mut &[u8]) -> Result<Items<u8>, Rea
 {
     let text = read_text(rest)?;
     Ok(owned(alloc, text)?)
+}
+
+/// A text after its length of two bytes, copied to where a short one stands in its owner.
+pub fn read_value_text(alloc: Global, rest: &mut &[u8]) -> Result<Text, ReadFault>
+    ensures { Gives (text_at w16 rest.old.now) result rest.new.now }
+{
+    let text = read_text(rest)?;
+    Ok(Text::of(alloc, text)?)
 }
 
 /// An identifier.

@@ -7,40 +7,42 @@ ghost use Rattle.import_forms.specs.Bodies.{body_of, Gives};
 ghost use Rattle.import_forms.specs.Completions.{completion_of, completions_of};
 
 use crate::body::{fault_of, no_document};
-use crate::text::{text_in, truth_in};
+use crate::text::{held_text_in, truth_in};
 use dh_base::items::Items;
+use dh_base::memory::Memory;
+use dh_changes::text::Text;
 use json::{Scratch, Value};
 use json_read::fault::FormFault;
 use json_read::form::{ReadJson, require_object, required_list};
 use json_read::read::read;
 use record_index::outcome::BodyFault;
-use std::alloc::{AllocError, Global};
+use std::alloc::Global;
 
 /// A complete data set registration, as it stands in the body.
 #[derive(Drop)]
 pub struct Completion {
-    pub data_set: Option<Items<u8>>,
-    pub period: Option<Items<u8>>,
+    pub data_set: Option<Text>,
+    pub period: Option<Text>,
     /// The organisation unit.
-    pub unit: Option<Items<u8>>,
+    pub unit: Option<Text>,
     /// The attribute option combination.
-    pub attribute: Option<Items<u8>>,
+    pub attribute: Option<Text>,
     /// The day of the registration, by default that of the request.
-    pub date: Option<Items<u8>>,
+    pub date: Option<Text>,
     /// Whether the set is completed; else the registration is taken away.
     pub done: bool,
 }
 
 #[tactic(auto, unfolding(crate::specs::Completions::completion_of))]
-fn completion_of(alloc: Global, value: &Value<'_>) -> Result<Completion, AllocError>
+fn completion_of(alloc: Global, value: &Value<'_>) -> Result<Completion, Memory>
     ensures { IfOk result (λ found. found ≡ completion_of (data_of value.now)) }
 {
     Ok(Completion {
-        data_set: text_in(alloc, value, "dataSet")?,
-        period: text_in(alloc, value, "period")?,
-        unit: text_in(alloc, value, "organisationUnit")?,
-        attribute: text_in(alloc, value, "attributeOptionCombo")?,
-        date: text_in(alloc, value, "date")?,
+        data_set: held_text_in(alloc, value, "dataSet")?,
+        period: held_text_in(alloc, value, "period")?,
+        unit: held_text_in(alloc, value, "organisationUnit")?,
+        attribute: held_text_in(alloc, value, "attributeOptionCombo")?,
+        date: held_text_in(alloc, value, "date")?,
         done: truth_in(value, "completed").unwrap_or(true),
     })
 }
@@ -52,7 +54,10 @@ impl ReadJson for Completion {
 
     fn read(alloc: Global, value: &Value<'_>) -> Result<Completion, FormFault> {
         require_object(alloc, value)?;
-        Ok(completion_of(alloc, value)?)
+        match completion_of(alloc, value) {
+            Ok(found) => Ok(found),
+            Err(_) => Err(FormFault::Memory),
+        }
     }
 }
 

@@ -7,15 +7,17 @@ ghost use Rattle.import_forms.specs.Bodies.{body_of, Gives};
 ghost use Rattle.import_forms.specs.Sets.{value_of, values_at, place_of, set_of};
 
 use crate::body::{fault_of, no_document};
-use crate::text::{text_at, text_in, truth_in, written_in};
+use crate::text::{held_text_in, held_written_in, text_at, truth_in};
 use dh_base::items::Items;
+use dh_base::memory::Memory;
+use dh_changes::text::Text;
 use json::{Scratch, Value};
 use json_read::fault::FormFault;
 use json_read::form::{ReadJson, field_or, read_list, require_object};
 use json_read::look::is_null;
 use json_read::read::read;
 use record_index::outcome::{BodyFault, ImportStrategy};
-use std::alloc::{AllocError, Global};
+use std::alloc::Global;
 
 /// How a set is to be imported.
 #[derive(Clone, Copy, PartialEq, Eq)]
@@ -29,15 +31,15 @@ pub struct SetParams {
 #[derive(Drop)]
 pub struct SetValue {
     /// The data element.
-    pub element: Option<Items<u8>>,
+    pub element: Option<Text>,
     /// The category option combination.
-    pub combo: Option<Items<u8>>,
+    pub combo: Option<Text>,
     /// The attribute option combination.
-    pub attribute: Option<Items<u8>>,
-    pub value: Option<Items<u8>>,
-    pub period: Option<Items<u8>>,
+    pub attribute: Option<Text>,
+    pub value: Option<Text>,
+    pub period: Option<Text>,
     /// The organisation unit.
-    pub unit: Option<Items<u8>>,
+    pub unit: Option<Text>,
     pub deleted: bool,
 }
 
@@ -50,8 +52,8 @@ pub struct SetValues {
 /// The organisation unit, the attribute option combination and the values of a set.
 #[derive(Drop)]
 pub struct SetPlace {
-    pub unit: Option<Items<u8>>,
-    pub attribute: Option<Items<u8>>,
+    pub unit: Option<Text>,
+    pub attribute: Option<Text>,
     pub values: Items<SetValue>,
 }
 
@@ -59,27 +61,27 @@ pub struct SetPlace {
 #[derive(Drop)]
 pub struct ValueSet {
     pub params: SetParams,
-    pub data_set: Option<Items<u8>>,
-    pub complete_date: Option<Items<u8>>,
-    pub period: Option<Items<u8>>,
+    pub data_set: Option<Text>,
+    pub complete_date: Option<Text>,
+    pub period: Option<Text>,
     /// The organisation unit.
-    pub unit: Option<Items<u8>>,
+    pub unit: Option<Text>,
     /// The attribute option combination.
-    pub attribute: Option<Items<u8>>,
+    pub attribute: Option<Text>,
     pub values: Items<SetValue>,
 }
 
 #[tactic(auto, unfolding(crate::specs::Sets::value_of))]
-fn value_of(alloc: Global, value: &Value<'_>) -> Result<SetValue, AllocError>
+fn value_of(alloc: Global, value: &Value<'_>) -> Result<SetValue, Memory>
     ensures { IfOk result (λ found. found ≡ value_of (data_of value.now)) }
 {
     Ok(SetValue {
-        element: text_in(alloc, value, "dataElement")?,
-        combo: text_in(alloc, value, "categoryOptionCombo")?,
-        attribute: text_in(alloc, value, "attributeOptionCombo")?,
-        value: written_in(alloc, value, "value")?,
-        period: text_in(alloc, value, "period")?,
-        unit: text_in(alloc, value, "orgUnit")?,
+        element: held_text_in(alloc, value, "dataElement")?,
+        combo: held_text_in(alloc, value, "categoryOptionCombo")?,
+        attribute: held_text_in(alloc, value, "attributeOptionCombo")?,
+        value: held_written_in(alloc, value, "value")?,
+        period: held_text_in(alloc, value, "period")?,
+        unit: held_text_in(alloc, value, "orgUnit")?,
         deleted: truth_in(value, "deleted").unwrap_or(false),
     })
 }
@@ -91,7 +93,10 @@ impl ReadJson for SetValue {
 
     fn read(alloc: Global, value: &Value<'_>) -> Result<SetValue, FormFault> {
         require_object(alloc, value)?;
-        Ok(value_of(alloc, value)?)
+        match value_of(alloc, value) {
+            Ok(found) => Ok(found),
+            Err(_) => Err(FormFault::Memory),
+        }
     }
 }
 

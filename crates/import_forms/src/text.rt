@@ -8,6 +8,8 @@ ghost use Rattle.json_read.specs.Given.{Gives};
 ghost use Rattle.import_forms.specs.Texts.{text_at, text_in, truth_in, truth_text, whole_text, written_of, written_in};
 
 use dh_base::items::Items;
+use dh_base::memory::Memory;
+use dh_changes::text::Text;
 use json::Value;
 use json_read::fault::FormFault;
 use json_read::form::{ReadJson, field_or};
@@ -17,7 +19,7 @@ use std::alloc::{AllocError, Global};
 /// A text that may be absent.
 #[derive(Drop)]
 pub struct TextOrNull {
-    pub text: Option<Items<u8>>,
+    pub text: Option<Text>,
 }
 
 impl ReadJson for TextOrNull {
@@ -31,7 +33,10 @@ impl ReadJson for TextOrNull {
             return Ok(TextOrNull { text: None });
         }
         let found: Items<u8> = ReadJson::read(alloc, value)?;
-        Ok(TextOrNull { text: Some(found) })
+        match Text::of(alloc, found.as_slice()) {
+            Ok(text) => Ok(TextOrNull { text: Some(text) }),
+            Err(_) => Err(FormFault::Memory),
+        }
     }
 }
 
@@ -41,7 +46,7 @@ pub(crate) fn text_at(
     alloc: Global,
     value: &Value<'_>,
     key: &str,
-) -> Result<Option<Items<u8>>, FormFault>
+) -> Result<Option<Text>, FormFault>
     ensures { Gives (text_at key.now (data_of value.now)) result }
 {
     let found: TextOrNull = field_or(alloc, value, key, TextOrNull { text: None })?;
@@ -64,6 +69,20 @@ pub(crate) fn text_in(
 {
     match member(value, key).and_then(text) {
         Some(found) => Ok(Some(copied(alloc, found)?)),
+        None => Ok(None),
+    }
+}
+
+/// The same text where a short one stands in its owner.
+pub(crate) fn held_text_in(
+    alloc: Global,
+    value: &Value<'_>,
+    key: &str,
+) -> Result<Option<Text>, Memory>
+    ensures { IfOk result (λ text. text ≡ text_in key.now (data_of value.now)) }
+{
+    match member(value, key).and_then(text) {
+        Some(found) => Ok(Some(Text::of(alloc, found.as_bytes())?)),
         None => Ok(None),
     }
 }
@@ -128,6 +147,32 @@ pub(crate) fn written_in(
 {
     match member(value, key) {
         Some(found) => written(alloc, found),
+        None => Ok(None),
+    }
+}
+
+fn held_written(alloc: Global, value: &Value<'_>) -> Result<Option<Text>, Memory>
+    ensures { IfOk result (λ text. text ≡ written_of (data_of value.now)) }
+{
+    if let Some(found) = text(value) {
+        return Ok(Some(Text::of(alloc, found.as_bytes())?));
+    }
+    match written(alloc, value)? {
+        Some(other) => Ok(Some(Text::of(alloc, other.as_slice())?)),
+        None => Ok(None),
+    }
+}
+
+/// The same text where a short one stands in its owner.
+pub(crate) fn held_written_in(
+    alloc: Global,
+    value: &Value<'_>,
+    key: &str,
+) -> Result<Option<Text>, Memory>
+    ensures { IfOk result (λ text. text ≡ written_in key.now (data_of value.now)) }
+{
+    match member(value, key) {
+        Some(found) => held_written(alloc, found),
         None => Ok(None),
     }
 }

@@ -63,11 +63,13 @@ fn put_write(alloc: Global, ids: &mut Vec<Uid>, world: &World, write: &Write) ->
     ensures { OnOk result (ids.new.items ≡ ids.old.items ++ known.events_by (facts world.now) write.now) }
 {
     match write {
-        Write::EventWritten(event) => put_id(ids, event.id),
+        Write::EventWritten(event) => put_id(ids, event.get().id),
         Write::EventDeleted(id) => put_id(ids, *id),
-        Write::EnrollmentWritten(enrollment) => put_of_enrollment(alloc, ids, world, enrollment.id),
+        Write::EnrollmentWritten(enrollment) => {
+            put_of_enrollment(alloc, ids, world, enrollment.get().id)
+        }
         Write::EnrollmentDeleted(id) => put_of_enrollment(alloc, ids, world, *id),
-        Write::EntityWritten(entity) => put_of_entity(alloc, ids, world, entity.id),
+        Write::EntityWritten(entity) => put_of_entity(alloc, ids, world, entity.get().id),
         Write::EntityDeleted(id) => put_of_entity(alloc, ids, world, *id),
         _ => Ok(()),
     }

@@ -17,9 +17,7 @@ pub fn enter<K: Eq + Hash + Copy, V: Drop>(
     ensures grows { Grows K.eq nothing map.old map.new }
     ensures there { OnOk result (is_some (get K.eq map.new key.now) ≡ true) }
 {
-    if !map.contains_key(key) {
-        map.insert(*key, nothing)?;
-    }
+    map.entry(*key)?.or_insert(nothing);
     Ok(())
 }
 

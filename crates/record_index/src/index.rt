@@ -10,11 +10,11 @@ ghost use Rattle.record_index.specs.Index.{is_linked, IsLinked, IsReady, Keeps, 
 use crate::children::note;
 use crate::held::{enter, look, put};
 use crate::said::{ApprovalState, Said};
-use crate::text::Text;
 use dh_base::items::Items;
 use dh_base::memory::Memory;
 use dh_base::uid::Uid;
 use dh_changes::keys::{ApprovalKey, RegKey, ValueKey};
+use dh_changes::text::Text;
 use dh_changes::tracker::{Enrollment, Entity, Event};
 use std::alloc::Global;
 use std::collections::HashMap;

@@ -7,5 +7,4 @@ mod held;
 pub mod index;
 pub mod outcome;
 pub mod said;
-pub mod text;
 pub mod world;

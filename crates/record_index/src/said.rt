@@ -2,12 +2,12 @@ ghost use Rattle.std.specs.Prelude.{◌≡◌, Some, IfOk};
 ghost use Rattle.record_index.specs.declared.said.Said.TheVariants as said;
 ghost use Rattle.record_index.specs.Said as holds;
 
-use crate::text::Text;
 use dh_base::items::Items;
 use dh_base::memory::Memory;
 use dh_base::uid::Uid;
 use dh_changes::change::Write;
 use dh_changes::keys::{ApprovalKey, RegKey, ValueKey};
+use dh_changes::text::Text;
 use dh_changes::tracker::{Enrollment, Entity, Event};
 use std::alloc::Global;
 
@@ -58,20 +58,17 @@ pub fn said_by(alloc: Global, write: &Write) -> Result<Said, Memory>
             key: *key,
             value: None,
         }),
-        Write::EventWritten(event) => said_of_event(alloc, event),
+        Write::EventWritten(event) => said_of_event(alloc, event.get()),
         Write::EventDeleted(id) => Ok(Said::Event {
             id: *id,
             event: None,
         }),
-        Write::EnrollmentWritten(enrollment) => Ok(Said::Enrollment {
-            id: enrollment.id,
-            enrollment: Some(copy_enrollment(enrollment)),
-        }),
+        Write::EnrollmentWritten(enrollment) => Ok(said_of_enrollment(enrollment.get())),
         Write::EnrollmentDeleted(id) => Ok(Said::Enrollment {
             id: *id,
             enrollment: None,
         }),
-        Write::EntityWritten(entity) => said_of_entity(alloc, entity),
+        Write::EntityWritten(entity) => said_of_entity(alloc, entity.get()),
         Write::EntityDeleted(id) => Ok(Said::Entity {
             id: *id,
             entity: None,
@@ -115,6 +112,15 @@ fn said_of_event(alloc: Global, event: &Event) -> Result<Said, Memory>
         id: event.id,
         event: Some(copy),
     })
+}
+
+fn said_of_enrollment(enrollment: &Enrollment) -> Said
+    ensures { result ≡ said.Enrollment enrollment.now.id (Some enrollment.now) }
+{
+    Said::Enrollment {
+        id: enrollment.id,
+        enrollment: Some(copy_enrollment(enrollment)),
+    }
 }
 
 fn said_of_entity(alloc: Global, entity: &Entity) -> Result<Said, Memory>

@@ -1,28 +1,44 @@
 //! Samples as data value sets.
 ghost use Rattle.std.specs.Prelude.{◌≡◌, IfOk, map};
 ghost use Rattle.std.specs.Fmt.{decimal};
-ghost use Rattle.sample_report.specs.Ids.{element_id};
+ghost use Rattle.sample_report.specs.Ids.{element_id, facility_id, month_text};
 ghost use Rattle.sample_report.specs.Sets.{value_of, set_of};
 
 use crate::draws::Sample;
 use crate::ids::{ELEMENT, facility_id, month_text};
 use dh_base::items::Items;
 use dh_base::memory::Memory;
+use dh_changes::text::Text;
 use import_forms::set::{SetParams, SetValue, ValueSet};
 use record_index::outcome::ImportStrategy;
 use std::alloc::Global;
 
 #[tactic(auto, unfolding(crate::specs::Ids::element_id))]
-fn element_text(alloc: Global) -> Result<Items<u8>, Memory>
+fn element_text(alloc: Global) -> Result<Text, Memory>
     ensures { IfOk result (λ text. text ≡ element_id) }
 {
-    Ok(Items::from(ELEMENT.to_vec(alloc)?))
+    Text::of(alloc, ELEMENT.as_slice())
 }
 
-fn amount_text(alloc: Global, amount: u32) -> Result<Items<u8>, Memory>
+fn amount_text(alloc: Global, amount: u32) -> Result<Text, Memory>
     ensures { IfOk result (λ text. text ≡ decimal amount) }
 {
-    Ok(Items::from(format!(in alloc; "{amount}")?.into_bytes()))
+    let digits = format!(in alloc; "{amount}")?.into_bytes();
+    Text::of(alloc, digits.as_slice())
+}
+
+fn period_text(alloc: Global, month: u32) -> Result<Text, Memory>
+    ensures { IfOk result (λ text. text ≡ month_text month) }
+{
+    let month = month_text(alloc, month)?;
+    Text::of(alloc, month.as_slice())
+}
+
+fn unit_text(alloc: Global, facility: u32) -> Result<Text, Memory>
+    ensures { IfOk result (λ text. text ≡ facility_id facility) }
+{
+    let id = facility_id(alloc, facility)?;
+    Text::of(alloc, id.as_slice())
 }
 
 #[tactic(auto, unfolding(crate::specs::Sets::value_of))]
@@ -34,8 +50,8 @@ fn value_of(alloc: Global, sample: &Sample) -> Result<SetValue, Memory>
         combo: None,
         attribute: None,
         value: Some(amount_text(alloc, sample.amount)?),
-        period: Some(month_text(alloc, sample.month)?),
-        unit: Some(facility_id(alloc, sample.facility)?),
+        period: Some(period_text(alloc, sample.month)?),
+        unit: Some(unit_text(alloc, sample.facility)?),
         deleted: false,
     })
 }

@@ -8,6 +8,7 @@ use change_requests::ChangeRequest;
 use dh_base::items::Items;
 use dh_base::limits::{MOST_LOG_BYTES, MOST_RECORDS, MOST_UPDATES};
 use dh_base::memory::Memory;
+use dh_changes::text::Text;
 use dh_metadata::metadata::Metadata;
 use engine::{Engine, Unkept};
 use import_forms::set::{SetParams, SetValue, ValueSet};
@@ -67,8 +68,8 @@ pub(crate) fn opened(alloc: Global) -> Option<Opened<Unkept>> {
     open_over(alloc, engine, meta)
 }
 
-fn text(alloc: Global, bytes: &[u8]) -> Result<Option<Items<u8>>, Memory> {
-    Ok(Some(Items::from(bytes.to_vec(alloc)?)))
+fn text(alloc: Global, bytes: &[u8]) -> Result<Option<Text>, Memory> {
+    Ok(Some(Text::of(alloc, bytes)?))
 }
 
 fn value(alloc: Global, month: &[u8]) -> Result<SetValue, Memory> {

@@ -69,7 +69,7 @@ fn write_year(meta: &Metadata, world: &World, write: &Write) -> Option<i32>
         Write::ValueCleared { key } => value_year(meta, world, key),
         Write::Complete { key, .. } => reg_year(meta, world, key),
         Write::Uncomplete { key } => reg_year(meta, world, key),
-        Write::EventWritten(event) => event_year(meta, world, event.id),
+        Write::EventWritten(event) => event_year(meta, world, event.get().id),
         Write::EventDeleted(id) => event_year(meta, world, *id),
         _ => None,
     }

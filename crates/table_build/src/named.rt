@@ -24,7 +24,7 @@ fn event_named(write: &Write) -> Option<Uid>
     ensures { result ≡ event_named write.now }
 {
     match write {
-        Write::EventWritten(event) => Some(event.id),
+        Write::EventWritten(event) => Some(event.get().id),
         Write::EventDeleted(id) => Some(*id),
         _ => None,
     }

@@ -1,6 +1,6 @@
 //! `BODY`, for value sets and completions: the texts that are read of the body of a request, those of the
 //! set and then those of each object, or `at` and the path of the first fault. `-` stands for no text.
-use dh_base::items::Items;
+use dh_changes::text::Text;
 use import_forms::completion::{Completion, read_completions};
 use import_forms::set::{SetParams, SetValue, ValueSet, read_set};
 use record_index::outcome::{BodyFault, ImportStrategy};
@@ -11,7 +11,7 @@ const PARAMS: SetParams = SetParams {
     dry: false,
 };
 
-fn put_text(out: &mut Vec<u8>, text: &Option<Items<u8>>) -> Option<()> {
+fn put_text(out: &mut Vec<u8>, text: &Option<Text>) -> Option<()> {
     match text {
         Some(text) => out.extend_from_slice(text.as_slice()).ok()?,
         None => out.push(b'-').ok()?,

@@ -177,8 +177,9 @@ fn note_entity(
         Write::EnrollmentWritten(_) => {}
         Write::EnrollmentDeleted(_) => {}
         Write::EntityWritten(entity) => {
-            let copy = copied_entity(alloc, entity)?;
-            entities.insert(entity.id, Some(copy))?;
+            let written = entity.get();
+            let copy = copied_entity(alloc, written)?;
+            entities.insert(written.id, Some(copy))?;
         }
         Write::EntityDeleted(id) => {
             entities.insert(*id, None)?;
@@ -205,7 +206,8 @@ fn note_enrollment(
         Write::EventWritten(_) => {}
         Write::EventDeleted(_) => {}
         Write::EnrollmentWritten(enrollment) => {
-            enrollments.insert(enrollment.id, enrollment_place(Some(enrollment)))?;
+            let written = enrollment.get();
+            enrollments.insert(written.id, enrollment_place(Some(written)))?;
         }
         Write::EnrollmentDeleted(id) => {
             enrollments.insert(*id, None)?;
@@ -229,7 +231,8 @@ fn note_event(events: &mut HashMap<Uid, Option<EventPlace>>, write: &Write) -> R
         Write::ValueSet { .. } => {}
         Write::ValueCleared { .. } => {}
         Write::EventWritten(event) => {
-            events.insert(event.id, event_place(Some(event)))?;
+            let written = event.get();
+            events.insert(written.id, event_place(Some(written)))?;
         }
         Write::EventDeleted(id) => {
             events.insert(*id, None)?;

@@ -260,7 +260,8 @@ fn put_entity(
     match parent {
         Some(entity) => {
             let after = with_attributes(alloc, meta, entity, pairs)?;
-            writes.push(Write::EntityWritten(after))?;
+            let written = Write::entity(alloc, after)?;
+            writes.push(written)?;
             Ok(())
         }
         None => Ok(()),
@@ -280,7 +281,8 @@ fn accepted(
 {
     match after {
         Some(own) => {
-            let mut writes = only(alloc, Write::EnrollmentWritten(own))?;
+            let written = Write::enrollment(alloc, own)?;
+            let mut writes = only(alloc, written)?;
             put_entity(alloc, &mut writes, meta, parent, pairs)?;
             Ok(put(live, writes))
         }

@@ -189,7 +189,8 @@ fn accepted(
 {
     match entity_after(alloc, meta, before, names, pairs)? {
         Some(after) => {
-            let writes = only(alloc, Write::EntityWritten(after))?;
+            let written = Write::entity(alloc, after)?;
+            let writes = only(alloc, written)?;
             Ok(put(before.is_some(), writes))
         }
         None => Ok(Judged::Nothing),

@@ -304,7 +304,8 @@ fn accepted(alloc: Global, live: bool, after: Option<Event>) -> Result<Judged, M
 {
     match after {
         Some(own) => {
-            let writes = only(alloc, Write::EventWritten(own))?;
+            let written = Write::event(alloc, own)?;
+            let writes = only(alloc, written)?;
             Ok(put(live, writes))
         }
         None => Ok(Judged::Nothing),

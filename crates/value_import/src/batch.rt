@@ -1,6 +1,6 @@
 //! The verdict so far, and what its writes say.
 
-ghost use Rattle.std.specs.Prelude.{◌≡◌, ◌+◌, ◌<◌, ◌^◌, ℕ, ◌++◌, ◌∷◌, [], OnOk, is_some};
+ghost use Rattle.std.specs.Prelude.{◌≡◌, ◌+◌, ◌<◌, ◌^◌, ℕ, ◌++◌, ◌∷◌, [], IfOk, OnOk, is_some};
 ghost use Rattle.record_index.specs.World.{facts};
 ghost use Rattle.value_import.specs.Outcomes.{nothing, taken, AreAtMost};
 ghost use Rattle.value_import.specs.Said as says;
@@ -25,15 +25,30 @@ pub struct Batch {
     pub registrations: HashMap<RegKey, bool>,
 }
 
-/// Nothing is accepted.
-pub fn empty_batch(alloc: Global) -> Batch
+/// No writes, with room for so many.
+pub fn room_for(alloc: Global, count: usize) -> Result<Items<Write>, Memory>
+    ensures { IfOk result (λ writes. writes ≡ []) }
+{
+    Ok(Items::from(Vec::with_capacity(alloc, count)?))
+}
+
+/// Gives back the room that is left over. A log keeps the writes as long as it stands.
+pub fn trim(writes: &mut Items<Write>)
+    ensures { writes.new ≡ writes.old }
+{
+    writes.items.shrink_to_fit();
+}
+
+/// Nothing is accepted. What will be accepted comes to these writes, of which there are none.
+pub fn empty_batch(alloc: Global, writes: Items<Write>) -> Batch
+    requires { writes ≡ [] }
     ensures verdict { result.verdict ≡ nothing }
     ensures said { AreSaid result.values result.registrations result.verdict.writes }
     ensures counts { AreAtMost 0 result.verdict }
 {
     Batch {
         verdict: Verdict {
-            writes: Items::new(alloc),
+            writes,
             conflicts: Items::new(alloc),
             imported: 0,
             updated: 0,

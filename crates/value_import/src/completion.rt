@@ -22,10 +22,10 @@ use crate::place::{Place, RegNames};
 use crate::rules::place_condition;
 use crate::value::attribute_of;
 use dh_base::codes::Code;
-use dh_base::items::Items;
 use dh_base::memory::Memory;
 use dh_changes::change::Write;
 use dh_changes::keys::RegKey;
+use dh_changes::text::Text;
 use dh_metadata::metadata::Metadata;
 use dh_periods::Period;
 use import_forms::completion::Completion;
@@ -244,11 +244,11 @@ pub fn uncounted(judged: Judged) -> Judged
     }
 }
 
-fn copied(alloc: Global, text: &Option<Items<u8>>) -> Result<Option<Items<u8>>, Memory>
+fn copied(alloc: Global, text: &Option<Text>) -> Result<Option<Text>, Memory>
     ensures { IfOk result (λ copy. copy ≡ text.now) }
 {
     match text {
-        Some(text) => Ok(Some(Items::from(Vec::from_slice(alloc, text.as_slice())?))),
+        Some(text) => Ok(Some(Text::of(alloc, text.as_slice())?)),
         None => Ok(None),
     }
 }
@@ -258,8 +258,8 @@ fn copied(alloc: Global, text: &Option<Items<u8>>) -> Result<Option<Items<u8>>, 
 fn copied_beside<A: Drop>(
     first: A,
     alloc: Global,
-    text: &Option<Items<u8>>,
-) -> Result<(A, Option<Items<u8>>), Memory>
+    text: &Option<Text>,
+) -> Result<(A, Option<Text>), Memory>
     ensures first { IfOk result (λ pair. pair.0 ≡ first) }
     ensures copy { IfOk result (λ pair. pair.1 ≡ text.now) }
 {

@@ -3,7 +3,7 @@
 ghost use Rattle.std.specs.Prelude.{◌≡◌};
 ghost use Rattle.value_import.specs.Dates.{is_time, dated, day_told};
 
-use dh_base::items::Items;
+use dh_changes::text::Text;
 use dh_periods::civil;
 
 /// The length of a date's text.
@@ -32,7 +32,7 @@ fn dated(text: &[u8]) -> Option<i32>
 /// The day that a text tells, or today where there is none. `None` where the first ten bytes aren't a
 /// date, or what follows them doesn't begin with `T`.
 #[tactic(auto, unfolding(crate::specs::Dates::day_told))]
-pub fn day_told(today: i32, text: &Option<Items<u8>>) -> Option<i32>
+pub fn day_told(today: i32, text: &Option<Text>) -> Option<i32>
     ensures { result ≡ day_told today text.now }
 {
     match text {

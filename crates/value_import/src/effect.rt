@@ -13,11 +13,11 @@ use crate::judged::Judged;
 use crate::place::ValuePlace;
 use crate::rules::{is_too_early, is_too_late};
 use dh_base::codes::Code;
-use dh_base::items::Items;
 use dh_base::memory::Memory;
 use dh_base::plain::AggType;
 use dh_changes::change::Write;
 use dh_changes::keys::ValueKey;
+use dh_changes::text::Text;
 use dh_metadata::metadata::Metadata;
 use dh_records::approved::approved_position_of;
 use dh_records::number::{is_numeric, number_of};
@@ -77,7 +77,7 @@ pub fn is_delete(strategy: ImportStrategy, value: &SetValue) -> bool
 }
 
 #[tactic(auto, unfolding(crate::specs::Values::has_value))]
-fn has_value(meta: &Metadata, element: u32, text: &Option<Items<u8>>) -> bool
+fn has_value(meta: &Metadata, element: u32, text: &Option<Text>) -> bool
     requires { element < length meta.now.data_elements }
     ensures { result ≡ has_value meta.now element text.now }
 {
@@ -191,7 +191,7 @@ pub fn value_condition(
     None
 }
 
-fn text_of(text: &Option<Items<u8>>) -> &[u8]
+fn text_of(text: &Option<Text>) -> &[u8]
     ensures { result.now ≡ unwrap_or text.now [] }
 {
     match text {
@@ -203,7 +203,7 @@ fn text_of(text: &Option<Items<u8>>) -> &[u8]
 fn stored(alloc: Global, key: ValueKey, held: bool, text: &[u8]) -> Result<Judged, Memory>
     ensures { IfOk result (λ judged. judged ≡ stored key held text.now) }
 {
-    let value = Items::from(Vec::from_slice(alloc, text)?);
+    let value = Text::of(alloc, text)?;
     let write = Write::ValueSet { key, value };
     if held {
         Ok(Judged::Updated(write))

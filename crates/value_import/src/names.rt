@@ -10,14 +10,14 @@ ghost use Rattle.dh_metadata.specs.Sets as sets;
 ghost use Rattle.value_import.specs.Names.{object_named, period_named, if_so, has_type, candidates, chosen_set, is_of, chosen_combo};
 ghost use Rattle.value_import.specs.Values.{has_candidate};
 
-use dh_base::items::Items;
 use dh_base::uid::Uid;
+use dh_changes::text::Text;
 use dh_metadata::metadata::Metadata;
 use dh_periods::{Period, PeriodType};
 use meta_parts::kind::Kind;
 
 /// The text of its own, or else the other.
-pub fn either<'a>(own: &'a Option<Items<u8>>, other: &'a Option<Items<u8>>) -> &'a Option<Items<u8>>
+pub fn either<'a>(own: &'a Option<Text>, other: &'a Option<Text>) -> &'a Option<Text>
     ensures { result.now ≡ option_or own.now other.now }
 {
     match own {
@@ -26,7 +26,7 @@ pub fn either<'a>(own: &'a Option<Items<u8>>, other: &'a Option<Items<u8>>) -> &
     }
 }
 
-fn id_in(text: &Option<Items<u8>>) -> Option<Uid>
+fn id_in(text: &Option<Text>) -> Option<Uid>
     ensures { result ≡ option_and_then uid_of text.now }
 {
     match text {
@@ -37,7 +37,7 @@ fn id_in(text: &Option<Items<u8>>) -> Option<Uid>
 
 /// The object of a kind that a text names.
 #[tactic(auto, unfolding(crate::specs::Names::object_named))]
-pub fn object_named(meta: &Metadata, kind: Kind, text: &Option<Items<u8>>) -> Option<u32>
+pub fn object_named(meta: &Metadata, kind: Kind, text: &Option<Text>) -> Option<u32>
     ensures value { result ≡ object_named meta.now kind text.now }
     ensures in_range { IsBelow (count_of meta.now kind) result }
 {
@@ -49,7 +49,7 @@ pub fn object_named(meta: &Metadata, kind: Kind, text: &Option<Items<u8>>) -> Op
 
 /// The period that a text names.
 #[tactic(auto, unfolding(crate::specs::Names::period_named))]
-pub fn period_named(text: &Option<Items<u8>>) -> Option<Period>
+pub fn period_named(text: &Option<Text>) -> Option<Period>
     ensures { result ≡ period_named text.now }
 {
     match text {
@@ -80,7 +80,7 @@ fn first_typed(meta: &Metadata, kind: PeriodType, sets: &[u32]) -> Option<u32>
     None
 }
 
-fn named_candidate(meta: &Metadata, name: &Option<Items<u8>>, element: u32) -> Option<u32>
+fn named_candidate(meta: &Metadata, name: &Option<Text>, element: u32) -> Option<u32>
     ensures value { result ≡ if_so (λ set. sets.has_element meta.now set element) (object_named meta.now DataSet name.now) }
     ensures in_range { IsBelow (length meta.now.data_sets) result }
 {
@@ -117,12 +117,7 @@ pub fn typed(meta: &Metadata, kind: PeriodType, found: Option<u32>) -> Option<u3
 
 /// The data set of a value: the first of the candidates for periods of the type.
 #[tactic(auto, unfolding(crate::specs::Names::chosen_set, crate::specs::Names::candidates))]
-pub fn chosen_set(
-    meta: &Metadata,
-    name: &Option<Items<u8>>,
-    element: u32,
-    period: Period,
-) -> Option<u32>
+pub fn chosen_set(meta: &Metadata, name: &Option<Text>, element: u32, period: Period) -> Option<u32>
     requires { element < length meta.now.data_elements }
     ensures value { result ≡ chosen_set meta.now name.now element period }
     ensures in_range { IsBelow (length meta.now.data_sets) result }
@@ -135,7 +130,7 @@ pub fn chosen_set(
 
 /// Whether there is a data set to which a value of the element may belong.
 #[tactic(auto, unfolding(crate::specs::Values::has_candidate, crate::specs::Names::candidates))]
-pub fn has_candidate(meta: &Metadata, name: &Option<Items<u8>>, element: u32) -> bool
+pub fn has_candidate(meta: &Metadata, name: &Option<Text>, element: u32) -> bool
     requires { element < length meta.now.data_elements }
     ensures { result ≡ has_candidate meta.now name.now element }
 {
@@ -173,7 +168,7 @@ fn named_combo(meta: &Metadata, combo: u32, found: Option<u32>) -> Option<u32>
 /// The option combination of a category combination: the named one, if it is of it, or without a name
 /// the only one.
 #[tactic(auto, unfolding(crate::specs::Names::chosen_combo), using(crate::proofs::NameLemmas::only_below))]
-pub fn chosen_combo(meta: &Metadata, name: &Option<Items<u8>>, combo: u32) -> Option<u32>
+pub fn chosen_combo(meta: &Metadata, name: &Option<Text>, combo: u32) -> Option<u32>
     ensures value { result ≡ chosen_combo meta.now name.now combo }
     ensures in_range { IsBelow (length meta.now.category_option_combos) result }
 {

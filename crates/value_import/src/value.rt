@@ -11,8 +11,8 @@ ghost use Rattle.value_import.specs.Values.{key_of, set_combo, element_combo};
 use crate::names::{chosen_combo, chosen_set, either, has_candidate, object_named, period_named};
 use crate::place::{Place, ValueNames, ValuePlace};
 use dh_base::codes::Code;
-use dh_base::items::Items;
 use dh_changes::keys::ValueKey;
+use dh_changes::text::Text;
 use dh_metadata::metadata::Metadata;
 use dh_periods::Period;
 use import_forms::set::{SetValue, ValueSet};
@@ -21,7 +21,7 @@ use meta_parts::kind::Kind;
 #[tactic(auto, unfolding(crate::specs::Values::set_of))]
 fn set_of(
     meta: &Metadata,
-    name: &Option<Items<u8>>,
+    name: &Option<Text>,
     element: Option<u32>,
     period: &Option<Period>,
 ) -> Option<u32>
@@ -38,7 +38,7 @@ fn set_of(
     }
 }
 
-fn is_candidate(meta: &Metadata, name: &Option<Items<u8>>, element: Option<u32>) -> bool
+fn is_candidate(meta: &Metadata, name: &Option<Text>, element: Option<u32>) -> bool
     requires { IsBelow (length meta.now.data_elements) element }
     ensures { result ≡ option_map_or (values.has_candidate meta.now name.now) element false }
 {
@@ -49,7 +49,7 @@ fn is_candidate(meta: &Metadata, name: &Option<Items<u8>>, element: Option<u32>)
 }
 
 #[tactic(auto, unfolding(crate::specs::Values::combo_of, crate::specs::Values::element_combo))]
-fn combo_of(meta: &Metadata, name: &Option<Items<u8>>, element: Option<u32>) -> Option<u32>
+fn combo_of(meta: &Metadata, name: &Option<Text>, element: Option<u32>) -> Option<u32>
     requires { IsBelow (length meta.now.data_elements) element }
     ensures value { result ≡ combo_of meta.now name.now element }
     ensures in_range { IsBelow (length meta.now.category_option_combos) result }
@@ -63,7 +63,7 @@ fn combo_of(meta: &Metadata, name: &Option<Items<u8>>, element: Option<u32>) -> 
 /// The attribute option combination: the named one, if it is of the set's category combination, or
 /// without a name the only one.
 #[tactic(auto, unfolding(crate::specs::Values::attribute_of, crate::specs::Values::set_combo))]
-pub fn attribute_of(meta: &Metadata, name: &Option<Items<u8>>, set: Option<u32>) -> Option<u32>
+pub fn attribute_of(meta: &Metadata, name: &Option<Text>, set: Option<u32>) -> Option<u32>
     requires { IsBelow (length meta.now.data_sets) set }
     ensures value { result ≡ attribute_of meta.now name.now set }
     ensures in_range { IsBelow (length meta.now.category_option_combos) result }

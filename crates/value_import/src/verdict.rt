@@ -11,7 +11,7 @@ ghost use Rattle.value_import.specs.Sizes.{IsValueWrite};
 ghost use Rattle.value_import.specs.Verdicts.{with_value, with_values, with_date, verdict_of, with_completion, with_completions, completions_verdict_of};
 
 use crate::asking::Asking;
-use crate::batch::{Batch, empty_batch, take_in};
+use crate::batch::{Batch, empty_batch, room_for, take_in, trim};
 use crate::completion::{completion_in, judge_completion, uncounted};
 use crate::judge::judge_value;
 use dh_base::items::Items;
@@ -97,6 +97,7 @@ fn finished(alloc: Global, dry: bool, mut verdict: Verdict) -> Verdict
     if dry {
         verdict.writes = Items::new(alloc);
     }
+    trim(&mut verdict.writes);
     verdict
 }
 
@@ -135,7 +136,8 @@ fn judged_set(
         who,
         today: day_of(moment),
     };
-    let mut batch = empty_batch(alloc);
+    let writes = room_for(alloc, set.values.len())?;
+    let mut batch = empty_batch(alloc, writes);
     with_set(alloc, &asking, set, &mut batch)?;
     Ok(finished(alloc, set.params.dry, batch.verdict))
 }
@@ -217,7 +219,7 @@ fn judged_list(
         who,
         today: day_of(moment),
     };
-    let mut batch = empty_batch(alloc);
+    let mut batch = empty_batch(alloc, Items::new(alloc));
     with_completions(&asking, list, &mut batch)?;
     Ok(batch.verdict)
 }

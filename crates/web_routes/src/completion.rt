@@ -11,6 +11,7 @@ use dh_base::codes::Code;
 use dh_base::items::Items;
 use dh_base::memory::Memory;
 use dh_base::uid::Uid;
+use dh_changes::text::Text;
 use dh_metadata::metadata::Metadata;
 use dh_periods::Period;
 use import_forms::completion::Completion;
@@ -34,10 +35,10 @@ fn is_period(text: &[u8]) -> bool
     Period::parse(text).is_some()
 }
 
-fn copied(alloc: Global, text: &[u8]) -> Result<Items<u8>, Memory>
+fn copied(alloc: Global, text: &[u8]) -> Result<Text, Memory>
     ensures { IfOk result (λ copy. copy ≡ text.now) }
 {
-    Ok(Items::from(Vec::from_slice(alloc, text)?))
+    Text::of(alloc, text)
 }
 
 /// The parameter that has to name an object of a kind.
@@ -47,7 +48,7 @@ fn object_in(
     kind: Kind,
     pairs: &[(Items<u8>, Items<u8>)],
     name: &[u8],
-) -> Result<Items<u8>, RouteFault>
+) -> Result<Text, RouteFault>
     ensures { Answers cause_of (needed name.now (is_name meta.now kind) (value_of name.now pairs.now)) result }
 {
     let Some(text) = value_of(pairs, name) else {
@@ -60,7 +61,7 @@ fn object_in(
     }
 }
 
-fn period_in(alloc: Global, pairs: &[(Items<u8>, Items<u8>)]) -> Result<Items<u8>, RouteFault>
+fn period_in(alloc: Global, pairs: &[(Items<u8>, Items<u8>)]) -> Result<Text, RouteFault>
     ensures { Answers cause_of (needed (codes "pe") is_period (value_of (codes "pe") pairs.now)) result }
 {
     let Some(text) = value_of(pairs, b"pe") else {

@@ -1,13 +1,14 @@
-use Rattle.std.proofs.Common.{Some, None, refl, ap}
+use Rattle.std.proofs.Common.{◌∙◌, Some, None, refl, sym, ap}
+use Rattle.record_index.specs.declared.said.Said.TheVariants as said
 use Rattle.record_index.specs.Said.{said_by}
 use Rattle.tracker_import.proofs.SaidLemmas.{noted-enrollment}
 use Rattle.tracker_import.proofs.batch.note_enrollment.Goals as goal
 
 pub returns-in_ok-insert-in-EnrollmentWritten : goal.returns-in_ok-insert-in-EnrollmentWritten
 returns-in_ok-insert-in-EnrollmentWritten c =
-    noted-enrollment c.args.write.now c.in-EnrollmentWritten.enrollment.id (Some c.in-EnrollmentWritten.enrollment)
+    noted-enrollment c.args.write.now c.get-written.result.now.id (Some c.get-written.result.now)
     c.enrollment_place.result c.args.enrollments.now c.insert.new.self
-    (ap said_by c.in-EnrollmentWritten.is) c.enrollment_place.ensures c.in_ok-insert-in-EnrollmentWritten.ensures.updates.0
+    (ap said_by c.in-EnrollmentWritten.is ∙ ap (λ one. said.Enrollment one.id (Some one)) (sym c.get-written.ensures)) c.enrollment_place.ensures c.in_ok-insert-in-EnrollmentWritten.ensures.updates.0
 
 pub returns-in_ok-insert-in-EnrollmentDeleted : goal.returns-in_ok-insert-in-EnrollmentDeleted
 returns-in_ok-insert-in-EnrollmentDeleted c =

@@ -1,13 +1,14 @@
-use Rattle.std.proofs.Common.{Some, None, refl, ap}
+use Rattle.std.proofs.Common.{◌∙◌, Some, None, refl, sym, ap}
+use Rattle.record_index.specs.declared.said.Said.TheVariants as said
 use Rattle.record_index.specs.Said.{said_by}
 use Rattle.tracker_import.proofs.SaidLemmas.{noted-entity}
 use Rattle.tracker_import.proofs.batch.note_entity.Goals as goal
 
 pub returns-in_ok-insert-in-EntityWritten : goal.returns-in_ok-insert-in-EntityWritten
 returns-in_ok-insert-in-EntityWritten c =
-    noted-entity c.args.write.now c.in-EntityWritten.entity.id (Some c.in-EntityWritten.entity) (Some c.in_ok-copy-in-EntityWritten.copy)
+    noted-entity c.args.write.now c.get-written.result.now.id (Some c.get-written.result.now) (Some c.in_ok-copy-in-EntityWritten.copy)
     c.args.entities.now c.insert.new.self
-    (ap said_by c.in-EntityWritten.is) (ap Some c.in_ok-copy-in-EntityWritten.ensures) c.in_ok-insert-in-EntityWritten.ensures.updates.0
+    (ap said_by c.in-EntityWritten.is ∙ ap (λ one. said.Entity one.id (Some one)) (sym c.get-written.ensures)) (ap Some c.in_ok-copy-in-EntityWritten.ensures) c.in_ok-insert-in-EntityWritten.ensures.updates.0
 
 pub returns-in_ok-insert-in-EntityDeleted : goal.returns-in_ok-insert-in-EntityDeleted
 returns-in_ok-insert-in-EntityDeleted c =

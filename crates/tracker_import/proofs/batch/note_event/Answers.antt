@@ -1,12 +1,13 @@
-use Rattle.std.proofs.Common.{Some, None, refl, ap}
+use Rattle.std.proofs.Common.{◌∙◌, Some, None, refl, sym, ap}
+use Rattle.record_index.specs.declared.said.Said.TheVariants as said
 use Rattle.record_index.specs.Said.{said_by}
 use Rattle.tracker_import.proofs.SaidLemmas.{noted-event}
 use Rattle.tracker_import.proofs.batch.note_event.Goals as goal
 
 pub returns-in_ok-insert-in-EventWritten : goal.returns-in_ok-insert-in-EventWritten
 returns-in_ok-insert-in-EventWritten c =
-    noted-event c.args.write.now c.in-EventWritten.event.id (Some c.in-EventWritten.event) c.event_place.result c.args.events.now c.insert.new.self
-    (ap said_by c.in-EventWritten.is) c.event_place.ensures c.in_ok-insert-in-EventWritten.ensures.updates.0
+    noted-event c.args.write.now c.get-written.result.now.id (Some c.get-written.result.now) c.event_place.result c.args.events.now c.insert.new.self
+    (ap said_by c.in-EventWritten.is ∙ ap (λ one. said.Event one.id (Some one)) (sym c.get-written.ensures)) c.event_place.ensures c.in_ok-insert-in-EventWritten.ensures.updates.0
 
 pub returns-in_ok-insert-in-EventDeleted : goal.returns-in_ok-insert-in-EventDeleted
 returns-in_ok-insert-in-EventDeleted c =

@@ -1,7 +1,7 @@
 //! Texts of values. Most are a few digits, so those stand where their owner stands.
 
 ghost use Rattle.std.specs.Prelude.{◌≡◌, ◌≤◌, length, take, min, IfOk};
-ghost use Rattle.record_index.specs.Text.{bytes_of};
+ghost use Rattle.dh_changes.specs.Text.{bytes_of};
 
 use dh_base::items::Items;
 use dh_base::memory::Memory;
@@ -27,7 +27,7 @@ pub struct Text {
 
 impl Model for Text {
     ghost use Rattle.std.specs.Prelude.{ℕ, List};
-    ghost use Rattle.record_index.specs.Text.{bytes_of, Fits};
+    ghost use Rattle.dh_changes.specs.Text.{bytes_of, Fits};
 
     ghost Value = { List ℕ };
 

@@ -1,7 +1,7 @@
 -- The bytes of a text that stands inside of its owner or apart.
 use Rattle.std.specs.Prelude.{◌≤◌, ℕ, List, take, ⊤}
-use Rattle.record_index.specs.declared.text.Kept.{Kept}
-use Rattle.record_index.specs.declared.text.Kept.TheVariants as kept
+use Rattle.dh_changes.specs.declared.text.Kept.{Kept}
+use Rattle.dh_changes.specs.declared.text.Kept.TheVariants as kept
 
 -- of those inside the first, as many as the length says
 abbrev pub bytes_of : Kept → List ℕ
