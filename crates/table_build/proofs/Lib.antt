@@ -1,6 +1,7 @@
 pub mod OrderedLemmas
 pub mod MemberLemmas
 pub mod PlaceLemmas
+pub mod LastLemmas
 pub mod OrderLemmas
 pub mod NamedLemmas
 pub mod EachLemmas

@@ -1,13 +1,13 @@
 -- The rows that writes put at their places, one over the other, are the rows of what each key holds at last.
 use Rattle.std.proofs.Common.{◌≡◌, ◌∙◌, ℕ, ◌+◌, ◌<◌, ℤ, Bool, true, false, cond, List, [], ◌∷◌, ◌++◌, inl, inr, Option, Some, None, length, map, drop, get_or}
-use Rattle.std.proofs.Common.{refl, sym, ap, subst, add-one, drop-cons, Ordering}
+use Rattle.std.proofs.Common.{refl, sym, ap, subst, add-one, append_assoc, drop-cons}
 use Rattle.std.specs.Prelude.{option_map, option_and_then}
 use Rattle.std.specs.List.{filter, filter_map, cons_option}
 use Rattle.std.specs.Option.{option_or, unwrap_or}
 use Rattle.std.specs.Cmp.{tied_itself}
-use Rattle.std.specs.List.Sorted.{IsStrictlySortedBy}
+use Rattle.std.specs.List.Sorted.{IsSortedByKey, IsStableByKey, IsStrictlySortedBy}
 use Rattle.std.specs.Ordering.{is_eq}
-use Rattle.std.specs.BTreeMap.{insert_entry, is_at}
+use Rattle.std.specs.BTreeMap.{is_at}
 use Rattle.std.specs.Map.{keys_of, values_of, lookup}
 use Rattle.std.proofs.lemmas.Bool.{false≢true}
 use Rattle.std.proofs.lemmas.List.Elements.{filter_map-append}
@@ -29,14 +29,14 @@ use Rattle.table_rows.specs.Rows.{key_of}
 use Rattle.table_rows.specs.Order.{key_cmp}
 use Rattle.table_rows.specs.Store.{have_own_places}
 use Rattle.table_rows.proofs.OrderLemmas.{key_total}
-use Rattle.table_build.specs.declared.placed.Placed.{Placed}
 use Rattle.table_build.specs.declared.values.ValueObjects.{ValueObjects}
+use Rattle.table_build.specs.Last.{is_again, last_of_each}
 use Rattle.table_build.specs.Log.{writes_of, value_named, values_named}
-use Rattle.table_build.specs.Ordered.{put_each}
-use Rattle.table_build.specs.Placed.{is_wanted, placed_with, placed_at, placed_by, put_placed, rows_placed}
+use Rattle.table_build.specs.Placed.{Placed, is_wanted, placed_with, placed_at, placed_by, put_placed, rows_last, rows_placed}
 use Rattle.table_build.specs.Values as values
 use Rattle.table_build.proofs.EachLemmas.{filter_map-each, every}
 use Rattle.table_build.proofs.KeyLemmas.{StandsTree, place-key, given-in, rows-are, rows-own}
+use Rattle.table_build.proofs.LastLemmas.{put-last}
 use Rattle.table_build.proofs.LeftLemmas.{Gives, in-given}
 use Rattle.table_build.proofs.MemberLemmas.{IsIn}
 use Rattle.table_build.proofs.OrderLemmas.{same-key}
@@ -384,29 +384,44 @@ module _ (r : Records) (facts : Facts) (stands : StandsTree r facts) (year : Opt
 
 -- ---- change by change
 
-put_each_append : {K X V : Type 0} (cmp : K → K → Ordering) (key : X → K) (value : X → V) (es : List (K × V)) (xs ys : List X)
-    → put_each cmp key value es (xs ++ ys) ≡ put_each cmp key value (put_each cmp key value es xs) ys
-put_each_append cmp key value es [] ys = refl
-put_each_append cmp key value es (x ∷ xs) ys = put_each_append cmp key value (insert_entry cmp es (key x) (value x)) xs ys
-
-put_placed_append : (es : List (RowKey × Option Row)) (xs ys : List Placed) → put_placed es (xs ++ ys) ≡ put_placed (put_placed es xs) ys
-put_placed_append es xs ys = put_each_append key_cmp (λ (p : Placed). p.place) (λ (p : Placed). p.row) es xs ys
-
 module _ {A : Type 0} (of : A → Change) (named : Write → Option Placed) where
-  pub put-step : (changes : List A) (i : ℕ) (a : A) (change : Change) (old new : List (RowKey × Option Row)) → i < length changes → a ≡ get_or changes i a
+  pub placed-step : (changes : List A) (i : ℕ) (a : A) (change : Change) (old new : List Placed) → i < length changes → a ≡ get_or changes i a
       → change ≡ of a
-      → new ≡ put_placed old (filter_map named change.writes)
-      → put_placed old (filter_map named (writes_of (map of (drop i changes))))
-      ≡ put_placed new (filter_map named (writes_of (map of (drop (i + 1) changes))))
-  put-step changes i a change old new within is seen next =
+      → new ≡ old ++ filter_map named change.writes
+      → old ++ filter_map named (writes_of (map of (drop i changes)))
+      ≡ new ++ filter_map named (writes_of (map of (drop (i + 1) changes)))
+  placed-step changes i a change old new within is seen next =
       let rest : List Write = writes_of (map of (drop (i + 1) changes)) in
       let here : drop i changes ≡ get_or changes i a ∷ drop (i + 1) changes = rw add-one (drop-cons changes i a within) in
-      ap (λ l. put_placed old (filter_map named (writes_of (map of l)))) here
-      ∙ ap (λ x. put_placed old (filter_map named ((of x).writes ++ rest))) (sym is)
-      ∙ ap (λ x. put_placed old (filter_map named (x.writes ++ rest))) (sym seen)
-      ∙ ap (put_placed old) (filter_map-append named change.writes rest)
-      ∙ put_placed_append old (filter_map named change.writes) (filter_map named rest)
-      ∙ ap (λ es. put_placed es (filter_map named rest)) (sym next)
+      ap (λ l. old ++ filter_map named (writes_of (map of l))) here
+      ∙ ap (λ x. old ++ filter_map named ((of x).writes ++ rest)) (sym is)
+      ∙ ap (λ x. old ++ filter_map named (x.writes ++ rest)) (sym seen)
+      ∙ ap (λ l. old ++ l) (filter_map-append named change.writes rest)
+      ∙ sym (append_assoc old (filter_map named change.writes) (filter_map named rest))
+      ∙ ap (λ l. l ++ filter_map named rest) (sym next)
+
+-- ---- what is put is told by a list in the order of the places
+
+abbrev place-of : Placed → RowKey
+place-of placed = placed.place
+
+abbrev row-of : Placed → Option Row
+row-of placed = placed.row
+
+lasts-rows : (placed : List Placed) → filter_map (λ row. row) (values_of (last_of_each key_cmp place-of row-of placed)) ≡ rows_last placed
+lasts-rows [] = refl
+lasts-rows (p ∷ ps) = by_next (is_again key_cmp place-of p ps) (lasts-rows ps)
+  where
+    by_next : (b : Bool) → filter_map (λ row. row) (values_of (last_of_each key_cmp place-of row-of ps)) ≡ rows_last ps
+        → filter_map (λ row. row) (values_of (cond b (last_of_each key_cmp place-of row-of ps) ((p.place, p.row) ∷ last_of_each key_cmp place-of row-of ps)))
+        ≡ cons_option (cond b None p.row) (rows_last ps)
+    by_next true rest = rest
+    by_next false rest = ap (cons_option p.row) rest
+
+pub sorted-rows : (put placed : List Placed) → IsSortedByKey place-of key_cmp placed → IsStableByKey place-of key_cmp put placed
+    → filter_map (λ row. row) (values_of (put_placed [] put)) ≡ rows_last placed
+sorted-rows put placed sorted stable =
+    ap (λ es. filter_map (λ row. row) (values_of es)) (put-last key_cmp key_total same-key place-of row-of put placed sorted stable) ∙ lasts-rows placed
 
 -- ---- of what a world holds that has the approvals of the log
 

@@ -1,4 +1,5 @@
 pub mod Ordered
+pub mod Last
 pub mod Log
 pub mod Values
 pub mod Regs

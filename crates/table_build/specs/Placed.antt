@@ -1,6 +1,6 @@
 -- What writes put at the places of values' rows, the later ones over those before.
-use Rattle.std.specs.Prelude.{ℕ, ℤ, Bool, true, cond, List, [], Option, None, Some, option_map}
-use Rattle.std.specs.List.{filter_map}
+use Rattle.std.specs.Prelude.{ℕ, ℤ, Bool, true, cond, List, [], ◌∷◌, Option, None, Some, option_map}
+use Rattle.std.specs.List.{filter_map, cons_option}
 use Rattle.std.specs.Map.{values_of}
 use Rattle.dh_changes.specs.declared.change.Write.{Write}
 use Rattle.dh_changes.specs.declared.change.Write.TheVariants as write
@@ -11,11 +11,16 @@ use Rattle.table_rows.specs.declared.row.Row.{Row}
 use Rattle.table_rows.specs.declared.row.RowKey.{RowKey}
 use Rattle.table_rows.specs.Rows.{key_of}
 use Rattle.table_rows.specs.Order.{key_cmp}
-use Rattle.table_build.specs.declared.placed.Placed.{Placed}
 use Rattle.table_build.specs.declared.values.ValueObjects.{ValueObjects}
 use Rattle.table_build.specs.InYear.{is_value_key_in}
+use Rattle.table_build.specs.Last.{is_again}
 use Rattle.table_build.specs.Ordered.{put_each}
 use Rattle.table_build.specs.Values.{objects_of, row_with}
+
+-- what a write puts at a place: a row, or none where the value is cleared
+pub record Placed : Type 0 where
+  pub place : RowKey
+  pub row : Option Row
 
 -- a key is of the year that is asked for, or all are
 abbrev pub is_wanted : Option ℤ → ValueKey → Bool
@@ -41,6 +46,15 @@ placed_by r facts year _ = None
 
 abbrev pub put_placed : List (RowKey × Option Row) → List Placed → List (RowKey × Option Row)
 put_placed entries placed = put_each key_cmp (λ (p : Placed). p.place) (λ (p : Placed). p.row) entries placed
+
+-- the row that stands at the place of the first of a list in the order of its places, after all of the list
+abbrev pub row_left : Placed → List Placed → Option Row
+row_left placed later = cond (is_again key_cmp (λ (p : Placed). p.place) placed later) None placed.row
+
+-- the rows that a list in the order of its places leaves
+abbrev pub rows_last : List Placed → List Row
+rows_last [] = []
+rows_last (placed ∷ later) = cons_option (row_left placed later) (rows_last later)
 
 -- the rows that stand at their places after the writes
 unfoldable pub rows_placed : Records → Facts → Option ℤ → List Write → List Row

@@ -1,12 +1,14 @@
-//! The rows of the values that changes leave: each write puts its row at the row's place, over what was put there before.
-ghost use Rattle.std.specs.Prelude.{◌≡◌, ◌<◌, [], true, length, map, Some, None, OnOk, IfOk};
+//! The rows of the values that changes leave: each write puts its row at the row's place, over what was put there before. So the rows
+//! are put in the order of their places, and of each place the last is kept.
+ghost use Rattle.std.specs.Prelude.{◌≡◌, ◌<◌, ◌++◌, true, length, map, Some, None, OnOk, IfOk};
 ghost use Rattle.std.specs.Arc.{arc_value};
-ghost use Rattle.std.specs.BTreeMap.{insert_entry};
 ghost use Rattle.std.specs.List.{filter, filter_map};
+ghost use Rattle.std.specs.Ordering.{is_eq};
 ghost use Rattle.record_index.specs.Facts.{facts_in};
 ghost use Rattle.record_index.specs.World.{facts};
 ghost use Rattle.table_rows.specs.Order.{key_cmp};
 ghost use Rattle.table_rows.specs.Store.{have_own_places};
+ghost use Rattle.table_build.specs.Last.{is_again};
 ghost use Rattle.table_build.specs.Log.{writes_of, values_named};
 ghost use Rattle.table_build.specs.Placed as known;
 ghost use Rattle.table_build.specs.Values as values;
@@ -20,15 +22,25 @@ use dh_metadata::metadata::Metadata;
 use dh_records::access::tree_of;
 use record_index::world::World;
 use std::alloc::Global;
-use std::collections::BTreeMap;
+use std::marker::Model;
 use std::sync::Arc;
 use table_rows::{Row, RowKey};
 
-/// What a write puts at the place of a value's row: a row, or none where the value is cleared.
-#[derive(Clone, Copy)]
-pub struct Placed {
-    pub place: RowKey,
-    pub row: Option<Row>,
+/// What a write puts at the place of a value's row: the row, or none where the value is cleared. The place is that of the row.
+#[derive(Drop)]
+pub(crate) struct PlacedRow {
+    row: Row,
+    is_there: bool,
+}
+
+impl Model for PlacedRow {
+    ghost use Rattle.std.specs.Prelude.{cond, Some, None};
+    ghost use Rattle.table_rows.specs.Rows.{key_of};
+    ghost use Rattle.table_build.specs.Placed.{Placed};
+
+    ghost Value = { Placed };
+
+    ghost view = { λ placed. record { place = key_of placed.row; row = cond placed.is_there (Some placed.row) None } };
 }
 
 fn is_wanted(key: &ValueKey, year: &Option<i32>) -> bool
@@ -47,30 +59,30 @@ fn set_with(
     key: &ValueKey,
     text: &[u8],
     objects: ValueObjects,
-) -> Placed
+) -> PlacedRow
     requires of { values.objects_of meta.now key.now ≡ Some objects }
     requires element { objects.element < length meta.now.data_elements }
     requires unit { objects.unit < length meta.now.organisation_units }
     ensures { result ≡ known.placed_with meta.now (facts world.now) key.now (Some text.now) objects }
 {
     let row = row_with(meta, world, key, text, objects);
-    Placed {
-        place: row.key(),
-        row: Some(row),
+    PlacedRow {
+        row,
+        is_there: true,
     }
 }
 
 #[tactic(auto, unfolding(crate::specs::Placed::placed_with))]
-fn cleared_with(meta: &Metadata, world: &World, key: &ValueKey, objects: ValueObjects) -> Placed
+fn cleared_with(meta: &Metadata, world: &World, key: &ValueKey, objects: ValueObjects) -> PlacedRow
     requires of { values.objects_of meta.now key.now ≡ Some objects }
     requires element { objects.element < length meta.now.data_elements }
     requires unit { objects.unit < length meta.now.organisation_units }
     ensures { result ≡ known.placed_with meta.now (facts world.now) key.now None objects }
 {
     let row = row_with(meta, world, key, &[], objects);
-    Placed {
-        place: row.key(),
-        row: None,
+    PlacedRow {
+        row,
+        is_there: false,
     }
 }
 
@@ -81,7 +93,7 @@ fn placed_set(
     key: &ValueKey,
     text: &[u8],
     year: &Option<i32>,
-) -> Option<Placed>
+) -> Option<PlacedRow>
     ensures { result ≡ known.placed_at meta.now (facts world.now) year.now key.now (Some text.now) }
 {
     if !is_wanted(key, year) {
@@ -97,7 +109,7 @@ fn placed_cleared(
     world: &World,
     key: &ValueKey,
     year: &Option<i32>,
-) -> Option<Placed>
+) -> Option<PlacedRow>
     ensures { result ≡ known.placed_at meta.now (facts world.now) year.now key.now None }
 {
     if !is_wanted(key, year) {
@@ -108,7 +120,7 @@ fn placed_cleared(
 }
 
 #[tactic(auto, unfolding(crate::specs::Placed::placed_by))]
-fn placed_by(meta: &Metadata, world: &World, write: &Write, year: &Option<i32>) -> Option<Placed>
+fn placed_by(meta: &Metadata, world: &World, write: &Write, year: &Option<i32>) -> Option<PlacedRow>
     ensures { result ≡ known.placed_by meta.now (facts world.now) year.now write.now }
 {
     match write {
@@ -118,68 +130,132 @@ fn placed_by(meta: &Metadata, world: &World, write: &Write, year: &Option<i32>) 
     }
 }
 
-fn put(rows: &mut BTreeMap<RowKey, Option<Row>>, placed: Placed) -> Result<(), Memory>
-    ensures { OnOk result (rows.new.entries ≡ insert_entry key_cmp rows.old.entries placed.place placed.row) }
-{
-    rows.insert(placed.place, placed.row)?;
-    Ok(())
+fn is_wanted_by(write: &Write, year: &Option<i32>) -> bool {
+    match write {
+        Write::ValueSet { key, .. } => is_wanted(key, year),
+        Write::ValueCleared { key } => is_wanted(key, year),
+        _ => false,
+    }
 }
 
-fn put_writes(
-    rows: &mut BTreeMap<RowKey, Option<Row>>,
+fn count_writes(writes: &[Write], year: &Option<i32>) -> usize {
+    let mut count: usize = 0;
+    for write in writes {
+        if is_wanted_by(write, year) {
+            count = count.saturating_add(1);
+        }
+    }
+    count
+}
+
+// For how many rows room is taken at once, so that the list doesn't move while it grows.
+fn count_placed(changes: &[Arc<Change>], year: &Option<i32>) -> usize {
+    let mut count: usize = 0;
+    for change in changes {
+        count = count.saturating_add(count_writes(change.writes.as_slice(), year));
+    }
+    count
+}
+
+fn place_writes(
+    placed: &mut Vec<PlacedRow>,
     meta: &Metadata,
     world: &World,
     writes: &[Write],
     year: &Option<i32>,
 ) -> Result<(), Memory>
-    ensures { OnOk result (rows.new.entries
-        ≡ known.put_placed rows.old.entries (filter_map (known.placed_by meta.now (facts world.now) year.now) writes.now)) }
+    ensures { OnOk result (placed.new.items
+        ≡ placed.old.items ++ filter_map (known.placed_by meta.now (facts world.now) year.now) writes.now) }
 {
     for write in writes {
-        if let Some(placed) = placed_by(meta, world, write, year) {
-            put(rows, placed)?;
+        if let Some(row) = placed_by(meta, world, write, year) {
+            placed.push(row)?;
         }
     }
     Ok(())
 }
 
-fn put_change(
-    rows: &mut BTreeMap<RowKey, Option<Row>>,
+fn place_change(
+    placed: &mut Vec<PlacedRow>,
     meta: &Metadata,
     world: &World,
     change: &Change,
     year: &Option<i32>,
 ) -> Result<(), Memory>
-    ensures { OnOk result (rows.new.entries
-        ≡ known.put_placed rows.old.entries (filter_map (known.placed_by meta.now (facts world.now) year.now) change.now.writes)) }
+    ensures { OnOk result (placed.new.items
+        ≡ placed.old.items ++ filter_map (known.placed_by meta.now (facts world.now) year.now) change.now.writes) }
 {
-    put_writes(rows, meta, world, change.writes.as_slice(), year)
+    place_writes(placed, meta, world, change.writes.as_slice(), year)
 }
 
-fn row_map(
+// What the writes put at places, in the order of the writes.
+fn place_changes(
     alloc: Global,
     meta: &Metadata,
     world: &World,
     changes: &[Arc<Change>],
     year: &Option<i32>,
-) -> Result<BTreeMap<RowKey, Option<Row>>, Memory>
-    ensures { IfOk result (λ rows. rows.entries
-        ≡ known.put_placed [] (filter_map (known.placed_by meta.now (facts world.now) year.now) (writes_of (map arc_value changes.now)))) }
+) -> Result<Vec<PlacedRow>, Memory>
+    ensures { IfOk result (λ placed. placed.items
+        ≡ filter_map (known.placed_by meta.now (facts world.now) year.now) (writes_of (map arc_value changes.now))) }
 {
-    let mut rows = BTreeMap::new(alloc);
+    let mut placed = Vec::new(alloc);
+    placed.reserve(count_placed(changes, year))?;
     for change in changes {
-        put_change(&mut rows, meta, world, &**change, year)?;
+        place_change(&mut placed, meta, world, &**change, year)?;
     }
-    Ok(rows)
+    Ok(placed)
 }
 
-// The rows that are there.
-fn present(alloc: Global, places: &[Option<Row>]) -> Result<Vec<Row>, Memory>
-    ensures { IfOk result (λ rows. rows.items ≡ filter_map (λ row. row) places.now) }
+fn place_of(placed: &PlacedRow) -> RowKey
+    ensures { result ≡ placed.now.place }
+{
+    placed.row.key()
+}
+
+fn row_at(placed: &PlacedRow) -> Option<Row>
+    ensures { result ≡ placed.now.row }
+{
+    if placed.is_there {
+        Some(placed.row)
+    } else {
+        None
+    }
+}
+
+fn has_place_of(placed: &PlacedRow, other: &PlacedRow) -> bool
+    ensures { result ≡ is_eq (key_cmp placed.now.place other.now.place) }
+{
+    place_of(placed).compare(&place_of(other)).is_eq()
+}
+
+fn is_again(placed: &PlacedRow, later: &[PlacedRow]) -> bool
+    ensures { result ≡ is_again key_cmp (λ (p : known.Placed). p.place) placed.now later.now }
+{
+    match later.first() {
+        Some(next) => has_place_of(placed, next),
+        None => false,
+    }
+}
+
+fn row_left(placed: &PlacedRow, later: &[PlacedRow]) -> Option<Row>
+    ensures { result ≡ known.row_left placed.now later.now }
+{
+    if is_again(placed, later) {
+        None
+    } else {
+        row_at(placed)
+    }
+}
+
+// The rows that a list in the order of its places leaves.
+fn rows_last(alloc: Global, placed: &[PlacedRow]) -> Result<Vec<Row>, Memory>
+    ensures { IfOk result (λ rows. rows.items ≡ known.rows_last placed.now) }
 {
     let mut rows = Vec::new(alloc);
-    for place in places {
-        if let Some(row) = *place {
+    rows.reserve(placed.len())?;
+    for i in 0..placed.len() {
+        if let Some(row) = row_left(&placed[i], &placed[i + 1..]) {
             rows.push(row)?;
         }
     }
@@ -196,9 +272,11 @@ fn rows_placed(
 ) -> Result<Vec<Row>, Memory>
     ensures { IfOk result (λ rows. rows.items ≡ known.rows_placed meta.now (facts world.now) year.now (writes_of (map arc_value changes.now))) }
 {
-    let rows = row_map(alloc, meta, world, changes, year)?;
-    let places: Vec<Option<Row>> = rows.into_values().collect(alloc)?;
-    present(alloc, &places)
+    let mut placed = place_changes(alloc, meta, world, changes, year)?;
+    // a stable sort, so that the last write of a place stays the last
+    placed.sort_by_key(|row| place_of(row))?;
+    let rows = rows_last(alloc, &placed)?;
+    Ok(rows)
 }
 
 /// The rows of the values that the changes leave, of one year or of all, in row order. Of what is held it needs the approvals

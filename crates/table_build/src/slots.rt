@@ -249,8 +249,17 @@ fn have_part(slots: &[Slot]) -> bool
     false
 }
 
+// Up to so many years their parts are made one after the other, so that the rows of one year alone stand in memory beside the parts.
+// For more, reading the log for each would cost more time.
+const FEW_YEARS: usize = 8;
+
+// Whether the parts are made year by year, and not all at once.
+fn goes_by_year(slots: &[Slot]) -> bool {
+    slots.len() <= FEW_YEARS || have_part(slots)
+}
+
 /// The tables that the changes leave, of the parts in these slots and of parts that are made for the others. Where no slot
-/// has a part, the log is read once for all years.
+/// has a part and there are more than a few years, the log is read once for all of them.
 pub fn build_with(
     alloc: Global,
     meta: &Metadata,
@@ -264,7 +273,7 @@ pub fn build_with(
     ensures years { IfOk result (λ tables. years_in tables.parts ≡ (listed_in meta.now (writes_of (map arc_value changes.now))).years) }
     ensures base_cut { IfOk result (λ tables. tables.base_cut ≡ length changes.now) }
 {
-    if have_part(&slots) {
+    if goes_by_year(&slots) {
         build_of_parts(alloc, meta, changes, slots)
     } else {
         drop(slots);
