@@ -1,5 +1,5 @@
 -- Two lists in one order, of which the second is taken in from its end.
-use Rattle.std.proofs.Common.{◌≡◌, ◌∙◌, Bool, true, false, cond, List, [], ◌∷◌, ◌++◌}
+use Rattle.std.proofs.Common.{◌≡◌, ◌∙◌, ℕ, zero, suc, ◌-◌, Bool, true, false, cond, List, [], ◌∷◌, ◌++◌, length, slice_get, Option, Some, None, arith}
 use Rattle.std.proofs.Common.{reverse, refl, sym, ap, subst, append_assoc, Ordering, Less, Equal, Greater}
 use Rattle.std.specs.Cmp.{IsTotalOrder}
 use Rattle.std.specs.List.{AllByRecursion}
@@ -28,6 +28,13 @@ not-gt : (o : Ordering) → is_lt (ordering_reverse o) ≡ false → is_gt o ≡
 not-gt Less e = refl
 not-gt Equal e = refl
 not-gt Greater e = absurd (cc)
+
+same-member : {X : Type 0} (x a : X) → Some x ≡ Some a → x ≡ a
+same-member {X = X} x a e = ap (either x) e
+  where
+    either : X → Option X → X
+    either d None = d
+    either d (Some y) = y
 
 module _ {X : Type 0} (cmp : X → X → Ordering) where
   pub sorted-front : (xs : List X) (y : X) → IsStrictlySortedBy cmp (xs ++ y ∷ []) → IsStrictlySortedBy cmp xs
@@ -177,3 +184,39 @@ module _ {X : Type 0} (cmp : X → X → Ordering) where
         ∙ ap (λ v. v ++ reverse back) (sym (ascending-sorted cmp list before.list_order))
         ∙ ap (λ v. ascending cmp v ++ reverse back) (sym (append-nil list) ∙ ap (λ v. list ++ v) (sym none))
         ∙ before.held
+
+    -- ---- one list after the other
+
+    sorted-append : (xs ys : List X) → IsStrictlySortedBy cmp xs → IsStrictlySortedBy cmp ys
+        → AllByRecursion (λ x. AllByRecursion (λ y. cmp x y ≡ Less) ys) xs → IsStrictlySortedBy cmp (xs ++ ys)
+    unfolding IsStrictlySortedBy
+    sorted-append [] ys up over all = over
+    sorted-append (x ∷ xs) ys up over all = (every-append (λ y. cmp x y ≡ Less) xs ys up.0 all.0, sorted-append xs ys up.1 over all.1)
+
+    -- what stands after the last of a list stands after all of it
+    every-upto-last : (xs : List X) (a b : X) → IsStrictlySortedBy cmp xs → slice_get xs (length xs - 1) ≡ Some a → cmp a b ≡ Less
+        → AllByRecursion (λ x. cmp x b ≡ Less) xs
+    unfolding IsStrictlySortedBy
+    every-upto-last [] a b sorted last less = tt
+    every-upto-last (x ∷ []) a b sorted last less = (subst (λ v. cmp v b ≡ Less) (sym (same-member x a last)) less, tt)
+    every-upto-last (x ∷ y ∷ ys) a b sorted last less =
+        let n : ℕ = length (y ∷ ys) - 1 in
+        let at : length (x ∷ y ∷ ys) - 1 ≡ suc n = omega arith in
+        let rest = every-upto-last (y ∷ ys) a b sorted.1 (ap (slice_get (x ∷ y ∷ ys)) (sym at) ∙ last) less in
+        (total.trans x y b sorted.0.0 rest.0, rest)
+
+    every-from-first : (x b : X) (ys : List X) → IsStrictlySortedBy cmp ys → slice_get ys 0 ≡ Some b → cmp x b ≡ Less → AllByRecursion (λ y. cmp x y ≡ Less) ys
+    unfolding IsStrictlySortedBy
+    every-from-first x b [] sorted at less = tt
+    every-from-first x b (y ∷ ys) sorted at less =
+        let here : cmp x y ≡ Less = subst (λ v. cmp x v ≡ Less) (sym (same-member y b at)) less in
+        (here, every-to (λ z. cmp y z ≡ Less) (λ z. cmp x z ≡ Less) ys (λ z over. total.trans x y z here over) sorted.0)
+
+    -- where the last of one stands before the first of the other
+    pub in-order : (xs ys : List X) (a b : X) → IsStrictlySortedBy cmp xs → IsStrictlySortedBy cmp ys → slice_get xs (length xs - 1) ≡ Some a
+        → slice_get ys 0 ≡ Some b → is_lt (cmp a b) ≡ true → ascending cmp (xs ++ ys) ≡ xs ++ ys
+    in-order xs ys a b up over last first before =
+        ascending-sorted cmp (xs ++ ys)
+        (sorted-append xs ys up over
+        (every-to (λ x. cmp x b ≡ Less) (λ x. AllByRecursion (λ y. cmp x y ≡ Less) ys) xs (λ x less. every-from-first x b ys over first less)
+        (every-upto-last xs a b up last (less-is (cmp a b) before))))

@@ -1,5 +1,5 @@
 //! A list without what is touched, and two lists in one order made one. No member is copied.
-ghost use Rattle.std.specs.Prelude.{◌≡◌, ◌++◌, OnOk, IfOk};
+ghost use Rattle.std.specs.Prelude.{◌≡◌, ◌++◌, true, OnOk, IfOk};
 ghost use Rattle.std.specs.Cmp.{IsTotalOrder};
 ghost use Rattle.std.specs.List.Sorted.{IsStrictlySortedBy};
 ghost use Rattle.year_tables.specs.Ascending.{ascending};
@@ -44,8 +44,24 @@ fn take_above<T: Drop + Ranked>(first: &mut Vec<T>, x: &T, back: &mut Vec<T>) ->
     Ok(())
 }
 
-/// The members of both lists in their order. Of the first only those move that stand after one of the second.
-pub(crate) fn merged<T: Drop + Ranked>(
+// Whether all of the first list stand before all of the second, which the last of the one and the first of the other tell.
+fn stand_apart<T: Ranked>(first: &[T], more: &[T]) -> bool
+    requires total { IsTotalOrder T.rank }
+    requires first { IsStrictlySortedBy T.rank first.now }
+    requires more { IsStrictlySortedBy T.rank more.now }
+    ensures { result ≡ true → ascending T.rank (first.now ++ more.now) ≡ first.now ++ more.now }
+{
+    match first.last() {
+        Some(last) => match more.first() {
+            Some(next) => last.stands_before(next),
+            None => false,
+        },
+        None => false,
+    }
+}
+
+// The members of both lists in their order, whatever that is.
+fn interleaved<T: Drop + Ranked>(
     alloc: Global,
     first: Vec<T>,
     more: Vec<T>,
@@ -64,5 +80,25 @@ pub(crate) fn merged<T: Drop + Ranked>(
     }
     back.reverse();
     list.append(&mut back)?;
+    Ok(list)
+}
+
+/// The members of both lists in their order. Of the first only those move that stand after one of the second.
+pub(crate) fn merged<T: Drop + Ranked>(
+    alloc: Global,
+    first: Vec<T>,
+    more: Vec<T>,
+) -> Result<Vec<T>, Memory>
+    requires total { IsTotalOrder T.rank }
+    requires first { IsStrictlySortedBy T.rank first.items }
+    requires more { IsStrictlySortedBy T.rank more.items }
+    ensures { IfOk result (λ list. list.items ≡ ascending T.rank (first.items ++ more.items)) }
+{
+    let mut list = first;
+    let mut more = more;
+    if !stand_apart(list.as_slice(), more.as_slice()) {
+        return interleaved(alloc, list, more);
+    }
+    list.append(&mut more)?;
     Ok(list)
 }

@@ -17,7 +17,9 @@ use Rattle.table_rows.proofs.OrderLemmas.{row_total, key_total, group_total, gro
 use Rattle.table_rows.proofs.RiseLemmas.{sorted_from_rises, sorted-far}
 use Rattle.table_sums.specs.declared.search.Bound.{Bound}
 use Rattle.table_sums.specs.declared.search.Bound.TheVariants as bound
-use Rattle.table_sums.specs.Bounds.{is_before, IsCut}
+use Rattle.table_sums.specs.declared.rows.Head.{Head}
+use Rattle.table_sums.specs.Bounds.{is_before, is_head_before, IsCut}
+use Rattle.table_sums.specs.Columns.{head_of}
 
 -- ---- steps
 
@@ -83,30 +85,40 @@ before-down (bound.UptoElement element) x y less before = let upto = element-upt
 before-down (bound.UptoGroup group) x y less before =
     ap not (upto-trans group_total (group_of x) (group_of y) group (group_upto x y less) (not_true _ before))
 
+-- whether a row stands before a bound is seen without its number
+pub head-before : (b : Bound) (row : Row) → is_head_before b (head_of row) ≡ is_before b row
+head-before (bound.Key key) row = refl
+head-before (bound.Element element) row = refl
+head-before (bound.UptoElement element) row = refl
+head-before (bound.UptoGroup group) row = refl
+
 -- ---- steps of a search
 
-pub before-more : (b : Bound) (rows : List Row) (middle : ℕ) (row : Row) → rises row_cmp rows ≡ true → middle < length rows → ((d : Row)
-    → row ≡ get_or rows middle d)
-    → is_before b row ≡ true → (k : ℕ) (d : Row) → k < middle + 1 → is_before b (get_or rows k d) ≡ true
-before-more b rows middle row up within at is k d below =
+pub before-more : (b : Bound) (rows : List Row) (middle : ℕ) (head : Head) → rises row_cmp rows ≡ true → middle < length rows → ((d : Row)
+    → head ≡ head_of (get_or rows middle d))
+    → is_head_before b head ≡ true → (k : ℕ) (d : Row) → k < middle + 1 → is_before b (get_or rows k d) ≡ true
+before-more b rows middle head up within at is k d below =
+    let here : is_before b (get_or rows middle d) ≡ true = sym (head-before b (get_or rows middle d)) ∙ ap (is_head_before b) (sym (at d)) ∙ is in
     elim (lt_or_eq k middle (omega arith)) [
       | inl less ↦
           before-down b (get_or rows k d) (get_or rows middle d)
-          (sorted-far row_cmp rows k middle d d (sorted_from_rises row_cmp row_total rows up) less within) (ap (is_before b) (sym (at d)) ∙ is)
-      | inr same ↦ ap (λ n. is_before b (get_or rows n d)) same ∙ ap (is_before b) (sym (at d)) ∙ is
+          (sorted-far row_cmp rows k middle d d (sorted_from_rises row_cmp row_total rows up) less within) here
+      | inr same ↦ ap (λ n. is_before b (get_or rows n d)) same ∙ here
     ]
 
-pub after-more : (b : Bound) (rows : List Row) (middle : ℕ) (row : Row) → rises row_cmp rows ≡ true → ((d : Row) → row ≡ get_or rows middle d)
-    → is_before b row ≡ false → (k : ℕ) (d : Row) → middle ≤ k → k < length rows → is_before b (get_or rows k d) ≡ false
-after-more b rows middle row up at is k d from within =
+pub after-more : (b : Bound) (rows : List Row) (middle : ℕ) (head : Head) → rises row_cmp rows ≡ true → ((d : Row)
+    → head ≡ head_of (get_or rows middle d))
+    → is_head_before b head ≡ false → (k : ℕ) (d : Row) → middle ≤ k → k < length rows → is_before b (get_or rows k d) ≡ false
+after-more b rows middle head up at is k d from within =
+    let here : is_before b (get_or rows middle d) ≡ false = sym (head-before b (get_or rows middle d)) ∙ ap (is_head_before b) (sym (at d)) ∙ is in
     elim (lt_or_eq middle k from) [
       | inl less ↦
           elim (cases_Bool (is_before b (get_or rows k d))) [
             | inl before ↦
-                absurd (false≢true (sym is ∙ ap (is_before b) (at d) ∙
+                absurd (false≢true (sym here ∙
                 before-down b (get_or rows middle d) (get_or rows k d)
                 (sorted-far row_cmp rows middle k d d (sorted_from_rises row_cmp row_total rows up) less within) before))
             | inr after ↦ after
           ]
-      | inr same ↦ ap (λ n. is_before b (get_or rows n d)) (sym same) ∙ ap (is_before b) (sym (at d)) ∙ is
+      | inr same ↦ ap (λ n. is_before b (get_or rows n d)) (sym same) ∙ here
     ]

@@ -1,5 +1,5 @@
 -- Rows in two columns are those that they were made of.
-use Rattle.std.proofs.Common.{◌≡◌, ◌∙◌, ℕ, zero, suc, ◌+◌, ◌<◌, true, false, cond, List, [], ◌∷◌, length, map, get_or, ℤ, pos, Option, Some, None, refl, sym}
+use Rattle.std.proofs.Common.{◌≡◌, ◌∙◌, ℕ, zero, suc, ◌+◌, ◌<◌, Bool, true, false, cond, List, [], ◌∷◌, length, map, get_or, ℤ, pos, Option, Some, None, refl, sym}
 use Rattle.std.proofs.Common.{ap, arith}
 use Rattle.table_rows.specs.declared.row.Row.{Row}
 use Rattle.table_sums.specs.declared.rows.Head.{Head}
@@ -48,5 +48,30 @@ pub row-here : (heads : List Head) (numbers : List ℤ) (rows : List Row) (i : �
     → rows ≡ rows_from heads numbers → h ≡ get_or heads i h → n ≡ get_or numbers i n → r ≡ row_from h n → (d : Row) → r ≡ get_or rows i d
 row-here heads numbers rows i h n r same within are at_h at_n is d =
     is ∙ ap (λ v. row_from v n) at_h ∙ ap (row_from (get_or heads i h)) at_n ∙ rows-at heads numbers i h n d same within ∙ ap (λ rs. get_or rs i d) (sym are)
+
+plain-again : (b : Bool) (n : ℤ) → is_some (cond b (Some n) None) ≡ b
+plain-again true n = refl
+plain-again false n = refl
+
+with_plain : Head → Bool → Head
+with_plain head b = record {
+  element = head.element;
+  combo = head.combo;
+  attribute = head.attribute;
+  period = head.period;
+  order = head.order;
+  approved = head.approved;
+  is_plain = b;
+}
+
+head_again : (head : Head) (n : ℤ) → head_of (row_from head n) ≡ head
+unfolding with_plain
+head_again head n = ap (with_plain head) (plain-again head.is_plain n)
+
+pub head-here : (heads : List Head) (numbers : List ℤ) (rows : List Row) (i : ℕ) (h : Head) → length heads ≡ length numbers → i < length heads
+    → rows ≡ rows_from heads numbers → h ≡ get_or heads i h → (d : Row) → h ≡ head_of (get_or rows i d)
+head-here heads numbers rows i h same within are at d =
+    at ∙ sym (head_again (get_or heads i h) (get_or numbers i (pos 0))) ∙ ap head_of (rows-at heads numbers i h (pos 0) d same within)
+    ∙ ap (λ rs. head_of (get_or rs i d)) (sym are)
 
 pub ruleset columns = (rows_again, rows-length, rows-at)

@@ -5,3 +5,4 @@ pub mod PartLemmas
 pub mod JumpLemmas
 pub mod StoreLemmas
 pub mod DayLemmas
+pub mod WidthLemmas

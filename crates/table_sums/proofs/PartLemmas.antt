@@ -152,7 +152,7 @@ and-false true = refl
 and-false false = refl
 
 -- a row before the first bound of a position is before the second
-before-both : (part : Part) (p : ℕ) (row : Row) → is_before (bound.Key (key_at part p part.from)) row ≡ true
+pub before-both : (part : Part) (p : ℕ) (row : Row) → is_before (bound.Key (key_at part p part.from)) row ≡ true
     → is_before (bound.Key (key_at part p (max part.to part.from))) row ≡ true
 before-both part p row = by (group_cmp (group_of row) part.group)
   where

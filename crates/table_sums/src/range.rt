@@ -1,5 +1,5 @@
 //! The rows of a group between two orders, one approved position after the other.
-ghost use Rattle.std.specs.Prelude.{◌≡◌, ◌+◌, ◌*◌, ◌≤◌, ◌<◌, ◌^◌, ◌++◌, ◌∷◌, [], ℕ, true, All, max, length, take, drop, get_or, OnOk, IfOk};
+ghost use Rattle.std.specs.Prelude.{◌≡◌, ◌+◌, ◌-◌, ◌*◌, ◌≤◌, ◌<◌, ◌^◌, ◌++◌, ◌∷◌, [], ℕ, true, All, max, min, length, take, drop, get_or, OnOk, IfOk};
 ghost use Rattle.std.specs.List.{filter};
 ghost use Rattle.dh_base.specs.declared.plain.Need.TheVariants as need;
 ghost use Rattle.table_rows.specs.declared.row.Row.{Row};
@@ -14,7 +14,7 @@ ghost use Rattle.table_sums.specs.Running.{IsPlaced};
 
 use crate::rows::Rows;
 use crate::running::RunningRows;
-use crate::search::{Bound, place_of};
+use crate::search::{Bound, place_between, place_of};
 use crate::steps::Steps;
 use dh_base::items::Items;
 use dh_base::memory::Memory;
@@ -41,6 +41,15 @@ fn bound_of(part: &Part, position: u16, order: u32) -> Bound
     })
 }
 
+// Where the rows of the part at a position have ended that begin at a place: no two of them have one order.
+fn end_of(rows: &Rows, part: &Part, low: usize) -> usize
+    requires { low ≤ length rows.now }
+    ensures { result ≡ low + min (length rows.now - low) (max part.now.to part.now.from - part.now.from) }
+{
+    let width = part.to.max(part.from) - part.from;
+    low + (rows.len() - low).min(width as usize)
+}
+
 // Where the rows of the part at a position begin and end.
 fn run_of<L: Ledger>(
     rows: &Rows,
@@ -54,9 +63,11 @@ fn run_of<L: Ledger>(
     ensures cost { (d : ℕ) → length rows.now < 2 ^ d → steps.new ≤ steps.old + 2 * d }
 {
     let low = place_of(rows, &bound_of(part, position, part.from), steps);
-    let high = place_of(
+    let high = place_between(
         rows,
         &bound_of(part, position, part.to.max(part.from)),
+        low,
+        end_of(rows, part, low),
         steps,
     );
     (low, high)

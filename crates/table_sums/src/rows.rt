@@ -1,5 +1,8 @@
 //! Rows in columns, of which a row is read at the cost of a step.
 ghost use Rattle.std.specs.Prelude.{◌≡◌, ◌+◌, ◌<◌, map, length, IfOk, get_or};
+ghost use Rattle.table_rows.specs.declared.row.Row.{Row};
+ghost use Rattle.table_rows.specs.Rows.{position_of};
+ghost use Rattle.table_sums.specs.Bounds.{head_group, head_key};
 ghost use Rattle.table_sums.specs.Columns.{head_of, number_of, row_from};
 
 use crate::steps::Steps;
@@ -8,7 +11,7 @@ use dh_periods::Period;
 use std::alloc::Global;
 use std::marker::Model;
 use std::sync::ledger::Ledger;
-use table_rows::Row;
+use table_rows::{Group, Row, RowKey};
 
 /// A row without its number: 36 bytes.
 #[derive(Clone, Copy)]
@@ -21,6 +24,40 @@ pub struct Head {
     pub approved: Option<u8>,
     /// Whether it has a number.
     pub is_plain: bool,
+}
+
+fn position_of(approved: Option<u8>) -> u16
+    ensures { result ≡ position_of approved }
+{
+    match approved {
+        Some(position) => u16::from(position),
+        None => 256,
+    }
+}
+
+impl Head {
+    /// The group of the row.
+    pub fn group(&self) -> Group
+        ensures { result ≡ head_group self.now }
+    {
+        Group {
+            element: self.element,
+            combo: self.combo,
+            attribute: self.attribute,
+            period: self.period,
+        }
+    }
+
+    /// What the row is ordered by.
+    pub fn key(&self) -> RowKey
+        ensures { result ≡ head_key self.now }
+    {
+        RowKey {
+            group: self.group(),
+            position: position_of(self.approved),
+            order: self.order,
+        }
+    }
 }
 
 /// A list of rows, each without its number and beside it the number, or 0 where it has none: 44 bytes a row.
@@ -107,7 +144,18 @@ impl Rows {
         self.heads.len()
     }
 
-    /// The row in a place. No other call reads one.
+    /// The row in a place without its number, at the cost of a step too.
+    #[tactic(auto, using(crate::proofs::ColumnLemmas::columns))]
+    pub fn head<L: Ledger>(&self, place: usize, steps: &mut Steps<L>) -> &Head
+        requires { place < length self.now }
+        ensures head { (d : Row) → result.now ≡ head_of (get_or self.now place d) }
+        ensures cost { steps.new ≡ steps.old + 1 }
+    {
+        steps.tick();
+        &self.heads[place]
+    }
+
+    /// The row in a place. No other call reads one but `head`.
     #[tactic(auto, using(crate::proofs::ColumnLemmas::columns))]
     pub fn row<L: Ledger>(&self, place: usize, steps: &mut Steps<L>) -> Row
         requires { place < length self.now }

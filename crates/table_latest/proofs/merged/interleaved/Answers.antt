@@ -1,6 +1,6 @@
 use Rattle.std.proofs.Common.{◌≡◌, ◌∙◌, ◌++◌, [], ap, rules}
 use Rattle.table_latest.proofs.MergeLemmas.{merging-done, merging-more}
-use Rattle.table_latest.proofs.merged.merged.Goals as goal
+use Rattle.table_latest.proofs.merged.interleaved.Goals as goal
 
 pub loop-last-preserved : goal.loop-last-preserved
 loop-last-preserved g c =

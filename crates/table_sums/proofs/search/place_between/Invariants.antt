@@ -2,7 +2,7 @@ use Rattle.std.proofs.Common.{◌≡◌, ℕ, ◌<◌, ◌≤◌, ◌-◌, ◌^�
 use Rattle.table_rows.specs.declared.row.Row.{Row}
 use Rattle.table_sums.specs.Bounds.{is_before}
 use Rattle.table_sums.proofs.BoundLemmas.{Left}
-use Rattle.table_sums.proofs.search.place_of.Given as goal
+use Rattle.table_sums.proofs.search.place_between.Given as goal
 
 abbrev pub invariant-loop-low : goal.invariant-loop-low
 invariant-loop-low g l = record {
@@ -10,7 +10,7 @@ invariant-loop-low g l = record {
   most : l.high ≤ length l.rows;
   before : (k : ℕ) (d : Row) → k < l.low → is_before l.bound (get_or l.rows k d) ≡ true;
   after : (k : ℕ) (d : Row) → l.high ≤ k → k < length l.rows → is_before l.bound (get_or l.rows k d) ≡ false;
-  cost : (d : ℕ) → length l.rows < 2 ^ d → Left l.initial.steps l.steps d (l.high - l.low);
+  cost : (d : ℕ) → l.end - l.first < 2 ^ d → Left l.initial.steps l.steps d (l.high - l.low);
 }
 
 abbrev pub decreases-loop-low : goal.decreases-loop-low
