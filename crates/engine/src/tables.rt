@@ -99,16 +99,16 @@ impl RowStore for Tables {
         }
     }
 
-    fn events_of(
+    fn lend_events(
         &self,
         alloc: Global,
         program: u32,
         from_day: i32,
         to_day: i32,
-    ) -> Result<Items<EventRow>, Memory> {
+    ) -> Result<Vec<&EventRow>, Memory> {
         match &self.over {
-            Some(over) => over.events_of(alloc, program, from_day, to_day),
-            None => self.base.events_of(alloc, program, from_day, to_day),
+            Some(over) => over.lend_events(alloc, program, from_day, to_day),
+            None => self.base.lend_events(alloc, program, from_day, to_day),
         }
     }
 

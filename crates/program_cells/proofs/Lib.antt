@@ -7,3 +7,4 @@ pub mod SortLemmas
 pub mod GroupLemmas
 pub mod PlaceLemmas
 pub mod SumLemmas
+pub mod JoinLemmas

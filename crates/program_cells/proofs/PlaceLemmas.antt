@@ -1,12 +1,12 @@
 -- Where members of a list stand, by a number that each has.
-use Rattle.std.proofs.Common.{◌≡◌, ◌∙◌, ℕ, zero, suc, ◌+◌, ◌<◌, ◌≤◌, ◌⊎◌, inl, inr, Bool, true, false, cond, ◌&&◌, ◌||◌, nat_eq, List, [], ◌∷◌, ◌++◌, length, map, take}
-use Rattle.std.proofs.Common.{get_or, set, Option, Some, None, slice_get, refl, sym, ap, subst, append_assoc, arith, add-one}
+use Rattle.std.proofs.Common.{◌≡◌, ◌∙◌, ℕ, zero, suc, ◌+◌, ◌<◌, ◌≤◌, inl, inr, Bool, true, false, cond, ◌&&◌, ◌||◌, nat_eq, List, [], ◌∷◌, ◌++◌, length, map, take}
+use Rattle.std.proofs.Common.{get_or, set, Option, Some, None, slice_get, refl, sym, ap, append_assoc, arith}
 use Rattle.std.specs.Prelude.{nat_lt, nat_le, OnOk, Result, Ok, Err}
 use Rattle.std.specs.Option.{option_to_list}
 use Rattle.std.specs.List.{filter, filter_map, cons_option, list_all, list_any}
 use Rattle.std.proofs.lemmas.Bool.{and_parts, cases_Bool}
 use Rattle.std.proofs.lemmas.Bool.Decides.{nat_tests}
-use Rattle.std.proofs.lemmas.List.{append-nil, map-append, length_push, length-set, get_or-set_same, get_or-set_other, get_or_default, get_or_append_left, get_or_at, take_more}
+use Rattle.std.proofs.lemmas.List.{append-nil, map-append, length_push, length-set, get_or-set_same, get_or-set_other, get_or_append_left, get_or_at, take_more}
 use Rattle.std.proofs.lemmas.List.Elements.{filter_map-append}
 use Rattle.program_cells.specs.Places.{places_from, ArePlaces}
 
@@ -170,28 +170,29 @@ pub along_own : {X : Type 0} (xs : List X) (test : X → Bool) (places list : Li
     → filter_map (slice_get xs) places ≡ filter test xs
 along_own xs test places list same is = ap (filter_map (slice_get xs)) same ∙ is
 
-slice-at : {X : Type 0} (xs : List X) (i : ℕ) (x : X) → i < length xs → x ≡ get_or xs i x → slice_get xs i ≡ Some x
-slice-at [] i x within at = absurd (omega (arith, within))
-slice-at (y ∷ ys) zero x within at = ap Some (sym at)
-slice-at (y ∷ ys) (suc i) x within at = slice-at ys i x (omega (arith, within)) at
+-- the member at a place among lent ones
+lent-at : {L X : Type 0} (seen : L → X) (xs : List L) (i : ℕ) (x : L) → i < length xs → x ≡ get_or xs i x → slice_get (map seen xs) i ≡ Some (seen x)
+lent-at seen [] i x within at = absurd (omega (arith, within))
+lent-at seen (y ∷ ys) zero x within at = ap (λ z. Some (seen z)) (sym at)
+lent-at seen (y ∷ ys) (suc i) x within at = lent-at seen ys i x (omega (arith, within)) at
 
-slice-past : {X : Type 0} (xs : List X) (i : ℕ) → length xs ≤ i → slice_get xs i ≡ None
-slice-past [] i past = refl
-slice-past (y ∷ ys) zero past = absurd (omega (arith, past))
-slice-past (y ∷ ys) (suc i) past = slice-past ys i (omega (arith, past))
+lent-past : {L X : Type 0} (seen : L → X) (xs : List L) (i : ℕ) → length xs ≤ i → slice_get (map seen xs) i ≡ None
+lent-past seen [] i past = refl
+lent-past seen (y ∷ ys) zero past = absurd (omega (arith, past))
+lent-past seen (y ∷ ys) (suc i) past = lent-past seen ys i (omega (arith, past))
 
 -- the member at a place, if there is one
-pub put-there : {X S : Type 0} (view : S → List X) (xs : List X) (place : ℕ) (x : X) (s : S) (old new : List S) → place < length xs → x ≡ get_or xs place x
-    → view s ≡ x ∷ [] → new ≡ old ++ s ∷ []
-    → map view new ≡ map view old ++ map (λ y. y ∷ []) (option_to_list (slice_get xs place))
-put-there view xs place x s old new within at alone is =
+pub put-there : {L X S : Type 0} (seen : L → X) (view : S → List X) (xs : List L) (place : ℕ) (x : L) (s : S) (old new : List S) → place < length xs
+    → x ≡ get_or xs place x → view s ≡ seen x ∷ [] → new ≡ old ++ s ∷ []
+    → map view new ≡ map view old ++ map (λ y. y ∷ []) (option_to_list (slice_get (map seen xs) place))
+put-there seen view xs place x s old new within at alone is =
     ap (map view) is ∙ map-append view old (s ∷ []) ∙ ap (λ l. map view old ++ l ∷ []) alone
-    ∙ ap (λ o. map view old ++ map (λ y. y ∷ []) (option_to_list o)) (sym (slice-at xs place x within at))
+    ∙ ap (λ o. map view old ++ map (λ y. y ∷ []) (option_to_list o)) (sym (lent-at seen xs place x within at))
 
-pub put-past : {X S : Type 0} (view : S → List X) (xs : List X) (place : ℕ) (old : List S) → length xs ≤ place
-    → map view old ≡ map view old ++ map (λ y. y ∷ []) (option_to_list (slice_get xs place))
-put-past view xs place old past =
-    sym (ap (λ o. map view old ++ map (λ y. y ∷ []) (option_to_list o)) (slice-past xs place past) ∙ append-nil (map view old))
+pub put-past : {L X S : Type 0} (seen : L → X) (view : S → List X) (xs : List L) (place : ℕ) (old : List S) → length xs ≤ place
+    → map view old ≡ map view old ++ map (λ y. y ∷ []) (option_to_list (slice_get (map seen xs) place))
+put-past seen view xs place old past =
+    sym (ap (λ o. map view old ++ map (λ y. y ∷ []) (option_to_list o)) (lent-past seen xs place past) ∙ append-nil (map view old))
 
 -- ---- all members
 
@@ -201,3 +202,15 @@ all-kept test [] all = refl
 all-kept test (x ∷ xs) all =
     let parts = and_parts (test x) (list_all test xs) all in
     ap (λ ys. x ∷ ys) (all-kept test xs parts.1) ∙ sym (ap (λ b. cond b (x ∷ filter test xs) (filter test xs)) parts.0)
+
+and_none : (b : Bool) → (b && false) ≡ false
+and_none true = refl
+and_none false = refl
+
+-- where one of lent members doesn't pass, not all pass
+pub some-not : {L X : Type 0} (test : X → Bool) (seen : L → X) (xs : List L) (i : ℕ) (x : L) → i < length xs → x ≡ get_or xs i x
+    → test (seen x) ≡ false → false ≡ list_all test (map seen xs)
+some-not test seen [] i x within at not = absurd (omega (arith, within))
+some-not test seen (y ∷ ys) zero x within at not = sym (ap (λ b. b && list_all test (map seen ys)) (ap (λ z. test (seen z)) (sym at) ∙ not))
+some-not test seen (y ∷ ys) (suc i) x within at not =
+    sym (ap (λ b. test (seen y) && b) (sym (some-not test seen ys i x (omega (arith, within)) at not)) ∙ and_none (test (seen y)))

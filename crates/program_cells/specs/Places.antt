@@ -1,5 +1,6 @@
 -- Where the events of a unit stand among others.
-use Rattle.std.specs.Prelude.{◌≡◌, ℕ, ◌<◌, suc, Bool, nat_eq, if◌then◌else◌, List, [], ◌∷◌, length, get_or}
+use Rattle.std.specs.Prelude.{◌≡◌, ℕ, ◌<◌, suc, Bool, false, ◌&&◌, nat_eq, nat_le, nat_lt, if◌then◌else◌, List, [], ◌∷◌, length, get_or, slice_get}
+use Rattle.std.specs.Option.{option_map_or}
 use Rattle.table_rows.specs.declared.event.EventRow.{EventRow}
 
 -- the places of those that pass, of which the first in the list is at n
@@ -13,3 +14,11 @@ pub record ArePlaces {X : Type 0} (number : X → ℕ) (xs : List X) (places : L
 
 abbrev pub order_of : EventRow → ℕ
 order_of event = event.order
+
+-- the place is that of a member that passes
+abbrev pub passes_at : {X : Type 0} → (X → Bool) → List X → ℕ → Bool
+passes_at test xs place = option_map_or test (slice_get xs place) false
+
+-- the number lies from the one up to below the other
+abbrev pub is_between : ℕ → ℕ → ℕ → Bool
+is_between from to n = nat_le from n && nat_lt n to

@@ -33,21 +33,21 @@ fn is_seen_enrolled(meta: &Metadata, seer: &Seer, program: u32, event: &EventRow
     is_enrolled_in(program, event) && seer.sees_event(meta, event)
 }
 
-/// Those of the events that tell an enrollment in the program, and are seen.
+/// Copies of those of the events that tell an enrollment in the program, and are seen.
 fn kept_enrolled(
     alloc: Global,
     meta: &Metadata,
     seer: &Seer,
     program: u32,
-    events: Items<EventRow>,
+    events: &[&EventRow],
 ) -> Result<Vec<EventRow>, Memory>
     requires { IsSeer meta.now seer.now }
-    ensures { IfOk result (λ kept. kept.items ≡ seen_enrolled meta.now seer.now.user program events) }
+    ensures { IfOk result (λ kept. kept.items ≡ seen_enrolled meta.now seer.now.user program (map (λ event. event.now) events.now)) }
 {
-    let mut kept = Vec::new(alloc);
-    for event in events.items {
-        if is_seen_enrolled(meta, seer, program, &event) {
-            kept.push(event)?;
+    let mut kept: Vec<EventRow> = Vec::new(alloc);
+    for event in events {
+        if is_seen_enrolled(meta, seer, program, event) {
+            kept.push(event.copy(alloc)?)?;
         }
     }
     Ok(kept)
@@ -63,8 +63,10 @@ pub(crate) fn enrollments<S: RowStore>(
     ensures { IfOk result (λ found. found
         ≡ enrollments program (seen_events source.now.meta.now source.now.seer.now.user (S.events source.now.store.now))) }
 {
-    let all = source.store.events_of(alloc, program, FIRST_DAY, LAST_DAY)?;
-    let kept = kept_enrolled(alloc, source.meta, source.seer, program, all)?;
+    let all = source
+        .store
+        .lend_events(alloc, program, FIRST_DAY, LAST_DAY)?;
+    let kept = kept_enrolled(alloc, source.meta, source.seer, program, &all)?;
     let sorted = by_enrollment(kept)?;
     together(alloc, sorted)
 }

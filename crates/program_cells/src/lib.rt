@@ -9,6 +9,7 @@ mod enrolled;
 mod evaluation;
 mod grouping;
 mod items;
+mod joined;
 mod measure;
 mod placed;
 mod plan;

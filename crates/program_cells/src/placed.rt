@@ -8,6 +8,7 @@ ghost use Rattle.program_cells.specs.Cells.{alone};
 ghost use Rattle.program_cells.specs.Kept.{is_placed_in};
 ghost use Rattle.program_cells.specs.Places.{ArePlaces, order_of};
 
+use crate::joined::joined_places;
 use crate::under::events_in;
 use dh_base::items::Items;
 use dh_base::memory::Memory;
@@ -19,22 +20,22 @@ use table_rows::EventRow;
 
 /// Events in an order of their own. Those of one unit are found without a look at the others. Contracts see the list of them.
 #[derive(Drop)]
-pub struct PlacedEvents {
-    events: Vec<EventRow>,
+pub struct PlacedEvents<'a> {
+    events: Vec<&'a EventRow>,
     // for each of the first units in the order of the tree, where its events stand
     places: Vec<Items<usize>>,
 }
 
-impl Model for PlacedEvents {
-    ghost use Rattle.std.specs.Prelude.{List};
+impl<'a> Model for PlacedEvents<'a> {
+    ghost use Rattle.std.specs.Prelude.{List, map};
     ghost use Rattle.table_rows.specs.declared.event.EventRow.{EventRow};
     ghost use Rattle.program_cells.specs.Places.{ArePlaces, order_of};
 
     ghost Value = { List EventRow };
 
-    ghost view = { λ placed. placed.events.items };
+    ghost view = { λ placed. map (λ event. event.now) placed.events.items };
 
-    ghost invariant = { λ placed. ArePlaces order_of placed.events.items placed.places.items };
+    ghost invariant = { λ placed. ArePlaces order_of (map (λ event. event.now) placed.events.items) placed.places.items };
 }
 
 fn empty_lists(alloc: Global, count: u32) -> Result<Vec<Items<usize>>, Memory>
@@ -68,12 +69,12 @@ fn put(lists: &mut Vec<Items<usize>>, event: &EventRow, at: usize) -> Result<(),
 }
 
 /// The places of the events of each of so many units.
-fn places_of(alloc: Global, events: &[EventRow], count: u32) -> Result<Vec<Items<usize>>, Memory>
-    ensures { IfOk result (λ places. ArePlaces order_of events.now places.items) }
+fn places_of(alloc: Global, events: &[&EventRow], count: u32) -> Result<Vec<Items<usize>>, Memory>
+    ensures { IfOk result (λ places. ArePlaces order_of (map (λ event. event.now) events.now) places.items) }
 {
     let mut places = empty_lists(alloc, count)?;
     for at in 0..events.len() {
-        put(&mut places, &events[at], at)?;
+        put(&mut places, events[at], at)?;
     }
     Ok(places)
 }
@@ -108,14 +109,14 @@ fn own_places<'a>(places: &'a [Items<usize>], parts: &[(u32, u32)]) -> Option<&'
 
 fn put_at<'a>(
     kept: &mut Vec<&'a [EventRow]>,
-    events: &'a [EventRow],
+    events: &[&'a EventRow],
     place: usize,
 ) -> Result<(), Memory>
     ensures { OnOk result (map (λ subject. subject.now) kept.new.items
-        ≡ map (λ subject. subject.now) kept.old.items ++ map alone (option_to_list (slice_get events.now place))) }
+        ≡ map (λ subject. subject.now) kept.old.items ++ map alone (option_to_list (slice_get (map (λ event. event.now) events.now) place))) }
 {
     if place < events.len() {
-        kept.push(from_ref(&events[place]))?;
+        kept.push(from_ref(events[place]))?;
     }
     Ok(())
 }
@@ -123,10 +124,11 @@ fn put_at<'a>(
 /// The events at these places, each alone.
 fn events_at<'a>(
     alloc: Global,
-    events: &'a [EventRow],
+    events: &[&'a EventRow],
     places: &[usize],
 ) -> Result<Vec<&'a [EventRow]>, Memory>
-    ensures { IfOk result (λ kept. map (λ subject. subject.now) kept.items ≡ map alone (filter_map (slice_get events.now) places.now)) }
+    ensures { IfOk result (λ kept. map (λ subject. subject.now) kept.items
+        ≡ map alone (filter_map (slice_get (map (λ event. event.now) events.now)) places.now)) }
 {
     let mut kept = Vec::new(alloc);
     for place in places {
@@ -135,29 +137,50 @@ fn events_at<'a>(
     Ok(kept)
 }
 
-fn events_within<'a>(
+// A cell of several units has its events by their places where these are at most one in so many of all.
+const FEW: usize = 8;
+
+/// The events whose units lie in the ranges, each alone.
+fn events_of_several<'a>(
     alloc: Global,
-    events: &'a [EventRow],
+    events: &[&'a EventRow],
     places: &[Items<usize>],
     ranges: &ViewRanges,
 ) -> Result<Vec<&'a [EventRow]>, Memory>
-    requires { ArePlaces order_of events.now places.now }
-    ensures { IfOk result (λ kept. map (λ subject. subject.now) kept.items ≡ map alone (filter (is_placed_in ranges.now) events.now)) }
+    requires { ArePlaces order_of (map (λ event. event.now) events.now) places.now }
+    ensures { IfOk result (λ kept. map (λ subject. subject.now) kept.items
+        ≡ map alone (filter (is_placed_in ranges.now) (map (λ event. event.now) events.now))) }
 {
-    match own_places(places, ranges.parts()) {
-        Some(own) => events_at(alloc, events, own),
+    match joined_places(alloc, places, ranges.parts(), events.len() / FEW)? {
+        Some(own) => events_at(alloc, events, &own),
         None => events_in(alloc, ranges, events),
     }
 }
 
-impl PlacedEvents {
+fn events_within<'a>(
+    alloc: Global,
+    events: &[&'a EventRow],
+    places: &[Items<usize>],
+    ranges: &ViewRanges,
+) -> Result<Vec<&'a [EventRow]>, Memory>
+    requires { ArePlaces order_of (map (λ event. event.now) events.now) places.now }
+    ensures { IfOk result (λ kept. map (λ subject. subject.now) kept.items
+        ≡ map alone (filter (is_placed_in ranges.now) (map (λ event. event.now) events.now))) }
+{
+    match own_places(places, ranges.parts()) {
+        Some(own) => events_at(alloc, events, own),
+        None => events_of_several(alloc, events, places, ranges),
+    }
+}
+
+impl<'a> PlacedEvents<'a> {
     ghost use Rattle.std.specs.Prelude.{◌≡◌, [], map, IfOk};
     ghost use Rattle.std.specs.List.{filter};
     ghost use Rattle.program_cells.specs.Cells.{alone};
     ghost use Rattle.program_cells.specs.Kept.{is_placed_in};
 
     /// No events.
-    pub fn none(alloc: Global) -> PlacedEvents
+    pub fn none(alloc: Global) -> PlacedEvents<'a>
         ensures { result ≡ [] }
     {
         PlacedEvents {
@@ -169,12 +192,11 @@ impl PlacedEvents {
     /// These events. Those of each of the first `count` units in the order of the tree are found at once.
     pub(crate) fn of(
         alloc: Global,
-        events: Items<EventRow>,
+        events: Vec<&'a EventRow>,
         count: u32,
-    ) -> Result<PlacedEvents, Memory>
-        ensures { IfOk result (λ placed. placed ≡ events) }
+    ) -> Result<PlacedEvents<'a>, Memory>
+        ensures { IfOk result (λ placed. placed ≡ map (λ event. event.now) events.entry.items) }
     {
-        let events = events.items;
         let places = places_of(alloc, &events, count)?;
         Ok(PlacedEvents { events, places })
     }
@@ -184,7 +206,7 @@ impl PlacedEvents {
         &self,
         alloc: Global,
         ranges: &ViewRanges,
-    ) -> Result<Vec<&[EventRow]>, Memory>
+    ) -> Result<Vec<&'a [EventRow]>, Memory>
         ensures { IfOk result (λ kept. map (λ subject. subject.now) kept.items ≡ map alone (filter (is_placed_in ranges.now) self.now)) }
     {
         events_within(alloc, &self.events, &self.places, ranges)

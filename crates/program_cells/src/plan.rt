@@ -42,7 +42,7 @@ pub struct ProgramPlan {
 #[derive(Drop)]
 pub enum Subjects<'a> {
     /// Each event alone, by day and identifier.
-    Events(PlacedEvents),
+    Events(PlacedEvents<'a>),
     /// The events of each enrollment, by the day on which it began and its identifier.
     Enrollments(Vec<&'a [EventRow]>),
 }
@@ -94,12 +94,12 @@ pub fn program_plan<S: RowStore>(
     plan_of(alloc, source, source.meta.program_indicator(number))
 }
 
-fn placed_during<S: RowStore>(
+fn placed_during<'a, S: RowStore>(
     alloc: Global,
-    source: &Source<'_, S>,
+    source: &Source<'a, S>,
     program: u32,
     periods: &CellPeriods,
-) -> Result<PlacedEvents, Memory>
+) -> Result<PlacedEvents<'a>, Memory>
     requires { IsSeer source.now.meta.now source.now.seer.now }
     ensures { IfOk result (λ found. AreDuring source.now.meta.now source.now.seer.now.user program periods.now (S.events source.now.store.now) found) }
 {
@@ -110,7 +110,7 @@ fn placed_during<S: RowStore>(
 /// The subjects of a plan in some periods that the user sees.
 pub fn subjects_during<'a, S: RowStore>(
     alloc: Global,
-    source: &Source<'_, S>,
+    source: &Source<'a, S>,
     plan: &'a ProgramPlan,
     periods: &CellPeriods,
 ) -> Result<Subjects<'a>, Memory>

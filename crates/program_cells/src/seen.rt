@@ -1,12 +1,11 @@
 //! The events that a user sees.
-ghost use Rattle.std.specs.Prelude.{◌≡◌, IfOk};
+ghost use Rattle.std.specs.Prelude.{◌≡◌, map, IfOk};
 ghost use Rattle.std.specs.List.{list_all};
 ghost use Rattle.cell_values.specs.Held.{IsSeer};
 ghost use Rattle.program_cells.specs.Kept.{is_seen_during, seen_during, AreDuring};
 
 use crate::days::{days_of, is_on_some};
 use cell_values::{CellPeriods, Seer, Source};
-use dh_base::items::Items;
 use dh_base::memory::Memory;
 use dh_metadata::metadata::Metadata;
 use dh_periods::Period;
@@ -33,10 +32,10 @@ fn are_seen(
     seer: &Seer,
     program: u32,
     periods: &[Period],
-    events: &[EventRow],
+    events: &[&EventRow],
 ) -> bool
     requires { IsSeer meta.now seer.now }
-    ensures { result ≡ list_all (is_seen_during meta.now seer.now.user program periods.now) events.now }
+    ensures { result ≡ list_all (is_seen_during meta.now seer.now.user program periods.now) (map (λ event. event.now) events.now) }
 {
     for event in events {
         if !is_seen_during(meta, seer, program, periods, event) {
@@ -46,57 +45,62 @@ fn are_seen(
     true
 }
 
-fn picked(
+fn picked<'a>(
     alloc: Global,
     meta: &Metadata,
     seer: &Seer,
     program: u32,
     periods: &[Period],
-    events: Items<EventRow>,
-) -> Result<Items<EventRow>, Memory>
+    events: &[&'a EventRow],
+) -> Result<Vec<&'a EventRow>, Memory>
     requires { IsSeer meta.now seer.now }
-    ensures { IfOk result (λ kept. kept ≡ seen_during meta.now seer.now.user program periods.now events) }
+    ensures { IfOk result (λ kept. map (λ event. event.now) kept.items
+        ≡ seen_during meta.now seer.now.user program periods.now (map (λ event. event.now) events.now)) }
 {
-    let mut kept = Vec::new(alloc);
-    for event in events.items {
-        if is_seen_during(meta, seer, program, periods, &event) {
-            kept.push(event)?;
+    let mut kept: Vec<&'a EventRow> = Vec::new(alloc);
+    for event in events {
+        if is_seen_during(meta, seer, program, periods, event) {
+            kept.push(*event)?;
         }
     }
-    Ok(Items::from(kept))
+    Ok(kept)
 }
 
 /// Those of the events that are of the program, on days of the periods, and seen. Mostly these are all, and then none is moved.
-fn kept(
+fn kept<'a>(
     alloc: Global,
     meta: &Metadata,
     seer: &Seer,
     program: u32,
     periods: &[Period],
-    events: Items<EventRow>,
-) -> Result<Items<EventRow>, Memory>
+    events: Vec<&'a EventRow>,
+) -> Result<Vec<&'a EventRow>, Memory>
     requires { IsSeer meta.now seer.now }
-    ensures { IfOk result (λ kept. kept ≡ seen_during meta.now seer.now.user program periods.now events) }
+    ensures { IfOk result (λ kept. map (λ event. event.now) kept.items
+        ≡ seen_during meta.now seer.now.user program periods.now (map (λ event. event.now) events.entry.items)) }
 {
-    if are_seen(meta, seer, program, periods, events.as_slice()) {
+    if are_seen(meta, seer, program, periods, &events) {
         Ok(events)
     } else {
-        picked(alloc, meta, seer, program, periods, events)
+        picked(alloc, meta, seer, program, periods, &events)
     }
 }
 
 /// The events of the program on days of the periods that the user sees, by day and identifier: they serve for the cells of all units.
-pub(crate) fn events_during<S: RowStore>(
+pub(crate) fn events_during<'a, S: RowStore>(
     alloc: Global,
-    source: &Source<'_, S>,
+    source: &Source<'a, S>,
     program: u32,
     periods: &CellPeriods,
-) -> Result<Items<EventRow>, Memory>
+) -> Result<Vec<&'a EventRow>, Memory>
     requires { IsSeer source.now.meta.now source.now.seer.now }
-    ensures { IfOk result (λ found. AreDuring source.now.meta.now source.now.seer.now.user program periods.now (S.events source.now.store.now) found) }
+    ensures { IfOk result (λ found. AreDuring source.now.meta.now source.now.seer.now.user program periods.now (S.events source.now.store.now)
+        (map (λ event. event.now) found.items)) }
 {
     let asked = periods.periods();
     let days = days_of(asked);
-    let all = source.store.events_of(alloc, program, days.from, days.to)?;
+    let all = source
+        .store
+        .lend_events(alloc, program, days.from, days.to)?;
     kept(alloc, source.meta, source.seer, program, asked, all)
 }

@@ -16,14 +16,15 @@ use table_rows::EventRow;
 pub(crate) fn events_in<'a>(
     alloc: Global,
     ranges: &ViewRanges,
-    events: &'a [EventRow],
+    events: &[&'a EventRow],
 ) -> Result<Vec<&'a [EventRow]>, Memory>
-    ensures { IfOk result (λ kept. map (λ subject. subject.now) kept.items ≡ map alone (filter (is_placed_in ranges.now) events.now)) }
+    ensures { IfOk result (λ kept. map (λ subject. subject.now) kept.items
+        ≡ map alone (filter (is_placed_in ranges.now) (map (λ event. event.now) events.now))) }
 {
-    let mut kept = Vec::new(alloc);
+    let mut kept: Vec<&'a [EventRow]> = Vec::new(alloc);
     for event in events {
         if ranges.holds(event.order) {
-            kept.push(from_ref(event))?;
+            kept.push(from_ref(*event))?;
         }
     }
     Ok(kept)

@@ -152,7 +152,7 @@ fn no_subjects<'a>(alloc: Global) -> Subjects<'a> {
 /// What is made of a plan once for some periods.
 pub fn plan_groups<'a, S: RowStore>(
     alloc: Global,
-    source: &Source<'_, S>,
+    source: &Source<'a, S>,
     plan: &'a Plan,
     periods: &CellPeriods,
 ) -> Result<PlanGroups<'a>, Memory>

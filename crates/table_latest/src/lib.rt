@@ -7,6 +7,7 @@ mod groups;
 mod held;
 mod kept;
 mod latest;
+mod lent;
 mod merged;
 mod overlay;
 mod places;

@@ -1,5 +1,5 @@
 //! Tables under a latest part, as one store.
-ghost use Rattle.std.specs.Prelude.{◌≡◌, IfOk};
+ghost use Rattle.std.specs.Prelude.{◌≡◌, map, IfOk};
 ghost use Rattle.std.specs.Arc.{arc_value};
 ghost use Rattle.table_rows.specs.Events.{events_of, regs_of};
 ghost use Rattle.table_rows.specs.Rows.{wanted_rows};
@@ -11,6 +11,7 @@ ghost use Rattle.table_latest.specs.Later.{Bridges};
 use crate::groups::groups_over;
 use crate::kept::{Asked, kept_sum};
 use crate::latest::Latest;
+use crate::lent::{lent_events, lent_of, lent_untouched};
 use crate::merged::{merged, untouched};
 use crate::replaced::store_at;
 use dh_base::items::Items;
@@ -102,27 +103,28 @@ struct AskedEvents {
     to_day: i32,
 }
 
-fn events_in<S: RowStore>(
+fn events_in<'a, S: RowStore>(
     alloc: Global,
-    base: &S,
-    latest: &Latest,
+    base: &'a S,
+    latest: &'a Latest,
     asked: &AskedEvents,
-) -> Result<Items<EventRow>, Memory>
+) -> Result<Vec<&'a EventRow>, Memory>
     requires { IsOverlay (listed_from (S.rows base.now) (S.events base.now) (S.regs base.now) (S.built base.now)) latest.now }
-    ensures { IfOk result (λ found. found ≡ events_of asked.now.program asked.now.from_day asked.now.to_day (events_over (contents_in (listed_from
-        (S.rows base.now) (S.events base.now) (S.regs base.now) (S.built base.now))) latest.now)) }
+    ensures { IfOk result (λ found. map (λ event. event.now) found.items ≡ events_of asked.now.program asked.now.from_day asked.now.to_day
+        (events_over (contents_in (listed_from (S.rows base.now) (S.events base.now) (S.regs base.now) (S.built base.now))) latest.now)) }
 {
-    let Items { items: all } = base.events_of(alloc, asked.program, asked.from_day, asked.to_day)?;
-    let Items { items: now } = RowStore::events_of(
+    let all = base.lend_events(alloc, asked.program, asked.from_day, asked.to_day)?;
+    let now = RowStore::lend_events(
         latest.store(),
         alloc,
         asked.program,
         asked.from_day,
         asked.to_day,
     )?;
-    let kept = untouched(alloc, all, latest)?;
-    let events = merged(alloc, kept, now)?;
-    Ok(Items::from(events))
+    let kept = lent_untouched(alloc, &all, latest)?;
+    let more = lent_of(alloc, &now)?;
+    let events = merged(alloc, kept, more)?;
+    lent_events(alloc, &events)
 }
 
 fn regs_in<S: RowStore>(
@@ -208,13 +210,13 @@ impl<S: RowStore> RowStore for Overlay<S> {
         rows_in(alloc, &*self.base, &self.latest, &group, need, from, to)
     }
 
-    fn events_of(
+    fn lend_events(
         &self,
         alloc: Global,
         program: u32,
         from_day: i32,
         to_day: i32,
-    ) -> Result<Items<EventRow>, Memory> {
+    ) -> Result<Vec<&EventRow>, Memory> {
         let asked = AskedEvents {
             program,
             from_day,

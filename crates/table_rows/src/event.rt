@@ -1,5 +1,5 @@
 //! Rows of events and of registrations.
-ghost use Rattle.std.specs.Prelude.{◌≡◌, IfOk};
+ghost use Rattle.std.specs.Prelude.{◌≡◌, map, IfOk};
 ghost use Rattle.std.specs.Ordering.{is_lt};
 ghost use Rattle.table_rows.specs.Events.{event_cmp, reg_cmp, is_event_of, is_reg_of};
 
@@ -115,6 +115,17 @@ impl EventRow {
             attributes,
         })
     }
+}
+
+/// Copies of lent events.
+pub(crate) fn copies(alloc: Global, lent: &[&EventRow]) -> Result<Items<EventRow>, Memory>
+    ensures { IfOk result (λ copies. copies ≡ map (λ event. event.now) lent.now) }
+{
+    let mut found: Vec<EventRow> = Vec::new(alloc);
+    for event in lent {
+        found.push(event.copy(alloc)?)?;
+    }
+    Ok(Items::from(found))
 }
 
 impl RegRow {

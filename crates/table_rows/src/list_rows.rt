@@ -81,13 +81,13 @@ impl RowStore for ListRows {
         plain::rows_of(alloc, &self.rows, &group, need, from, to)
     }
 
-    fn events_of(
+    fn lend_events(
         &self,
         alloc: Global,
         program: u32,
         from_day: i32,
         to_day: i32,
-    ) -> Result<Items<EventRow>, Memory> {
+    ) -> Result<Vec<&EventRow>, Memory> {
         plain::events_of(alloc, &self.events, program, from_day, to_day)
     }
 

@@ -1,5 +1,5 @@
 //! What a store answers, from the lists that it stands for.
-ghost use Rattle.std.specs.Prelude.{◌≡◌, ◌≤◌, ◌<◌, ◌+◌, ◌*◌, ◌^◌, ◌∷◌, [], true, cond, length, unsigned_abs, IfOk, OnOk};
+ghost use Rattle.std.specs.Prelude.{◌≡◌, ◌≤◌, ◌<◌, ◌+◌, ◌*◌, ◌^◌, ◌∷◌, [], true, cond, length, map, unsigned_abs, IfOk, OnOk};
 ghost use Rattle.table_rows.specs.Events.{events_of, regs_of};
 ghost use Rattle.table_rows.specs.Groups.{groups_of, differs_from_last, with_group};
 ghost use Rattle.table_rows.specs.Rows.{group_of, wanted_rows};
@@ -99,22 +99,22 @@ pub(crate) fn rows_of(
     Ok(Items::from(found))
 }
 
-pub(crate) fn events_of(
+pub(crate) fn events_of<'a>(
     alloc: Global,
-    events: &[EventRow],
+    events: &'a [EventRow],
     program: u32,
     from_day: i32,
     to_day: i32,
-) -> Result<Items<EventRow>, Memory>
-    ensures { IfOk result (λ found. found ≡ events_of program from_day to_day events.now) }
+) -> Result<Vec<&'a EventRow>, Memory>
+    ensures { IfOk result (λ found. map (λ event. event.now) found.items ≡ events_of program from_day to_day events.now) }
 {
-    let mut found: Vec<EventRow> = Vec::new(alloc);
+    let mut found: Vec<&'a EventRow> = Vec::new(alloc);
     for event in events {
         if event.is_of(program, from_day, to_day) {
-            found.push(event.copy(alloc)?)?;
+            found.push(event)?;
         }
     }
-    Ok(Items::from(found))
+    Ok(found)
 }
 
 pub(crate) fn regs_of(alloc: Global, regs: &[RegRow], set: u32) -> Result<Items<RegRow>, Memory>

@@ -1,5 +1,5 @@
 //! What a store of rows promises.
-ghost use Rattle.std.specs.Prelude.{◌≡◌, ◌≤◌, ◌*◌, ◌^◌, List, ℤ, IsTrue, IfOk, unsigned_abs};
+ghost use Rattle.std.specs.Prelude.{◌≡◌, ◌≤◌, ◌*◌, ◌^◌, List, ℤ, IsTrue, IfOk, map, unsigned_abs};
 ghost use Rattle.table_rows.specs.declared.event.EventRow.{EventRow};
 ghost use Rattle.table_rows.specs.declared.event.RegRow.{RegRow};
 ghost use Rattle.table_rows.specs.declared.row.Row.{Row};
@@ -9,7 +9,7 @@ ghost use Rattle.table_rows.specs.Rows.{wanted_rows};
 ghost use Rattle.table_rows.specs.Store.{is_store};
 ghost use Rattle.table_rows.specs.Sums.{sum_of_rows, IsSized};
 
-use crate::event::{EventRow, RegRow};
+use crate::event::{EventRow, RegRow, copies};
 use crate::row::{Group, Row};
 use crate::sum::Sum;
 use dh_base::items::Items;
@@ -58,7 +58,20 @@ pub trait RowStore {
         ensures store { IsTrue
             (is_store (rows self.now) (events self.now) (regs self.now) (built self.now)) };
 
-    /// The events of the program from the one day to the other, both counted, by day and identifier.
+    /// The events of the program from the one day to the other, both counted, by day and identifier. The store lends them.
+    fn lend_events(
+        &self,
+        alloc: Global,
+        program: u32,
+        from_day: i32,
+        to_day: i32,
+    ) -> Result<Vec<&EventRow>, Memory>
+        ensures events { IfOk result
+            (λ found. map (λ event. event.now) found.items ≡ events_of program from_day to_day (events self.now)) }
+        ensures store { IsTrue
+            (is_store (rows self.now) (events self.now) (regs self.now) (built self.now)) };
+
+    /// Copies of the events of the program from the one day to the other, both counted, by day and identifier.
     fn events_of(
         &self,
         alloc: Global,
@@ -69,7 +82,11 @@ pub trait RowStore {
         ensures events { IfOk result
             (λ found. found ≡ events_of program from_day to_day (events self.now)) }
         ensures store { IsTrue
-            (is_store (rows self.now) (events self.now) (regs self.now) (built self.now)) };
+            (is_store (rows self.now) (events self.now) (regs self.now) (built self.now)) }
+    {
+        let lent = self.lend_events(alloc, program, from_day, to_day)?;
+        copies(alloc, &lent)
+    }
 
     /// The registrations of the data set, by period, unit and attribute combination.
     fn regs_of(&self, alloc: Global, set: u32) -> Result<Items<RegRow>, Memory>

@@ -1,10 +1,9 @@
 //! The events of some days, among events by day and identifier.
-ghost use Rattle.std.specs.Prelude.{◌≡◌, ◌++◌, ◌∷◌, [], ◌<◌, ◌≤◌, ℕ, true, false, int_lt, int_le, length, get_or, IfOk, OnOk};
+ghost use Rattle.std.specs.Prelude.{◌≡◌, ◌++◌, ◌∷◌, [], ◌<◌, ◌≤◌, ℕ, true, false, int_lt, int_le, length, map, get_or, IfOk, OnOk};
 ghost use Rattle.table_rows.specs.declared.event.EventRow.{EventRow};
 ghost use Rattle.table_rows.specs.Events.{event_cmp, events_of};
 ghost use Rattle.table_rows.specs.Store.{rises};
 
-use dh_base::items::Items;
 use dh_base::memory::Memory;
 use std::alloc::Global;
 use table_rows::EventRow;
@@ -35,35 +34,30 @@ fn count_upto(events: &[EventRow], asked: &Asked) -> usize
     events.partition_point(|event| event.day <= asked.to_day)
 }
 
-fn put(
-    alloc: Global,
-    found: &mut Vec<EventRow>,
-    event: &EventRow,
-    asked: &Asked,
-) -> Result<(), Memory>
-    ensures { OnOk result (found.new.items ≡ found.old.items ++ events_of asked.now.program asked.now.from_day asked.now.to_day (event.now ∷ [])) }
+fn put<'a>(found: &mut Vec<&'a EventRow>, event: &'a EventRow, asked: &Asked) -> Result<(), Memory>
+    ensures { OnOk result (map (λ event. event.now) found.new.items
+        ≡ map (λ event. event.now) found.old.items ++ events_of asked.now.program asked.now.from_day asked.now.to_day (event.now ∷ [])) }
 {
     if event.is_of(asked.program, asked.from_day, asked.to_day) {
-        let copy = event.copy(alloc)?;
-        found.push(copy)?;
+        found.push(event)?;
     }
     Ok(())
 }
 
 /// The events that are asked for. No other event is looked at but those of these days, and a few by which these are found.
-pub(crate) fn events_between(
+pub(crate) fn events_between<'a>(
     alloc: Global,
-    events: &[EventRow],
+    events: &'a [EventRow],
     asked: &Asked,
-) -> Result<Items<EventRow>, Memory>
+) -> Result<Vec<&'a EventRow>, Memory>
     requires { rises event_cmp events.now ≡ true }
-    ensures { IfOk result (λ found. found ≡ events_of asked.now.program asked.now.from_day asked.now.to_day events.now) }
+    ensures { IfOk result (λ found. map (λ event. event.now) found.items ≡ events_of asked.now.program asked.now.from_day asked.now.to_day events.now) }
 {
     let first = count_before(events, asked);
     let end = count_upto(events, asked);
     let mut found = Vec::new(alloc);
     for place in first..end {
-        put(alloc, &mut found, &events[place], asked)?;
+        put(&mut found, &events[place], asked)?;
     }
-    Ok(Items::from(found))
+    Ok(found)
 }

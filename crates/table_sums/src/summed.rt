@@ -167,13 +167,13 @@ impl RowStore for SummedRows {
     }
 
     #[tactic(auto, using(crate::proofs::DayLemmas::events_up))]
-    fn events_of(
+    fn lend_events(
         &self,
         alloc: Global,
         program: u32,
         from_day: i32,
         to_day: i32,
-    ) -> Result<Items<EventRow>, Memory> {
+    ) -> Result<Vec<&EventRow>, Memory> {
         let asked = Asked {
             program,
             from_day,

@@ -1,5 +1,5 @@
 //! Answers from the parts of all years.
-ghost use Rattle.std.specs.Prelude.{◌≡◌, ◌++◌, IfOk, OnOk};
+ghost use Rattle.std.specs.Prelude.{◌≡◌, ◌++◌, map, IfOk, OnOk};
 ghost use Rattle.std.specs.List.Sorted.{IsStrictlySortedBy};
 ghost use Rattle.table_rows.specs.Events.{events_of, regs_of, reg_cmp};
 ghost use Rattle.table_rows.specs.Groups.{groups_of};
@@ -79,41 +79,38 @@ pub(crate) struct Asked {
     pub to_day: i32,
 }
 
-fn add_events(
+fn add_events<'a>(
     alloc: Global,
-    events: &mut Vec<EventRow>,
-    part: &Partition,
+    events: &mut Vec<&'a EventRow>,
+    part: &'a Partition,
     asked: &Asked,
 ) -> Result<(), Memory>
-    ensures { OnOk result (events.new.items ≡ events.old.items ++ events_of asked.now.program asked.now.from_day asked.now.to_day part.now.contents.events) }
+    ensures { OnOk result (map (λ event. event.now) events.new.items
+        ≡ map (λ event. event.now) events.old.items ++ events_of asked.now.program asked.now.from_day asked.now.to_day part.now.contents.events) }
 {
-    let Items { items: mut more } = part.events_of(
-        alloc,
-        asked.program,
-        asked.from_day,
-        asked.to_day,
-    )?;
+    let mut more = part.lend_events(alloc, asked.program, asked.from_day, asked.to_day)?;
     events.append(&mut more)?;
     Ok(())
 }
 
-/// The events of a program from the one day to the other, by day and identifier. Only the years from
-/// that of the first day to that of the last one are asked.
-pub(crate) fn events_in(
+/// The events of a program from the one day to the other, by day and identifier, lent by their parts. Only the years from that of the
+/// first day to that of the last one are asked.
+pub(crate) fn events_in<'a>(
     alloc: Global,
-    parts: &[Partition],
+    parts: &'a [Partition],
     years: &[i32],
     asked: &Asked,
-) -> Result<Items<EventRow>, Memory>
+) -> Result<Vec<&'a EventRow>, Memory>
     requires parts { ArePartitions parts.now }
     requires years { years.now ≡ years_in parts.now }
-    ensures { IfOk result (λ found. found ≡ events_of asked.now.program asked.now.from_day asked.now.to_day (events_together parts.now)) }
+    ensures { IfOk result (λ found. map (λ event. event.now) found.items
+        ≡ events_of asked.now.program asked.now.from_day asked.now.to_day (events_together parts.now)) }
 {
     let first = first_place(years, &asked.from_day);
     let end = end_place(years, &asked.to_day);
-    let mut events: Vec<EventRow> = Vec::new(alloc);
+    let mut events: Vec<&'a EventRow> = Vec::new(alloc);
     for place in first..end {
         add_events(alloc, &mut events, &parts[place], asked)?;
     }
-    Ok(Items::from(events))
+    Ok(events)
 }

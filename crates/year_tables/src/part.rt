@@ -1,5 +1,5 @@
 //! The part of a year.
-ghost use Rattle.std.specs.Prelude.{◌≡◌, IfOk};
+ghost use Rattle.std.specs.Prelude.{◌≡◌, map, IfOk};
 ghost use Rattle.table_rows.specs.Events.{events_of, regs_of};
 ghost use Rattle.table_rows.specs.Groups.{groups_of};
 ghost use Rattle.table_rows.specs.Rows.{wanted_rows};
@@ -72,16 +72,16 @@ impl Partition {
         RowStore::rows_of(&self.store, alloc, *group, need, from, to)
     }
 
-    pub(crate) fn events_of(
+    pub(crate) fn lend_events(
         &self,
         alloc: Global,
         program: u32,
         from_day: i32,
         to_day: i32,
-    ) -> Result<Items<EventRow>, Memory>
-        ensures { IfOk result (λ found. found ≡ events_of program from_day to_day self.now.contents.events) }
+    ) -> Result<Vec<&EventRow>, Memory>
+        ensures { IfOk result (λ found. map (λ event. event.now) found.items ≡ events_of program from_day to_day self.now.contents.events) }
     {
-        RowStore::events_of(&self.store, alloc, program, from_day, to_day)
+        RowStore::lend_events(&self.store, alloc, program, from_day, to_day)
     }
 
     pub(crate) fn regs_of(&self, alloc: Global, set: u32) -> Result<Items<RegRow>, Memory>

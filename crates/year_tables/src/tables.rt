@@ -92,13 +92,13 @@ impl RowStore for Tables {
         rows_in(alloc, &self.parts, &self.years, &group, need, from, to)
     }
 
-    fn events_of(
+    fn lend_events(
         &self,
         alloc: Global,
         program: u32,
         from_day: i32,
         to_day: i32,
-    ) -> Result<Items<EventRow>, Memory> {
+    ) -> Result<Vec<&EventRow>, Memory> {
         let asked = Asked {
             program,
             from_day,

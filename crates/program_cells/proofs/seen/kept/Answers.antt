@@ -1,4 +1,4 @@
-use Rattle.std.proofs.Common.{◌∙◌, sym, ap}
+use Rattle.std.proofs.Common.{◌≡◌, true, map, rules}
 use Rattle.std.specs.List.{list_all}
 use Rattle.program_cells.specs.Kept.{is_seen_during}
 use Rattle.program_cells.proofs.PlaceLemmas.{all-kept}
@@ -7,4 +7,5 @@ use Rattle.program_cells.proofs.seen.kept.Goals as goal
 pub returns-then-are_seen : goal.returns-then-are_seen
 returns-then-are_seen c =
     let test = is_seen_during c.args.meta.now c.args.seer.now.user c.args.program c.args.periods.now in
-    all-kept test c.args.events (ap (list_all test) (sym c.as_slice.ensures) ∙ sym c.are_seen.ensures ∙ c.if-are_seen.true)
+    let all : list_all test (map (λ event. event.now) c.args.events.items) ≡ true = search rules in
+    all-kept test (map (λ event. event.now) c.args.events.items) all

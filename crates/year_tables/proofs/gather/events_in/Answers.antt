@@ -1,4 +1,4 @@
-use Rattle.std.proofs.Common.{◌∙◌}
+use Rattle.std.proofs.Common.{◌∙◌, ap, map}
 use Rattle.year_tables.proofs.EventLemmas.{events-start, events-done}
 use Rattle.year_tables.proofs.PartLemmas.{years-rise-in}
 use Rattle.year_tables.proofs.gather.events_in.Goals as goal
@@ -11,13 +11,12 @@ end_place-end-requires c = years-rise-in c.args.parts.now c.args.years.now c.req
 
 pub loop-place-init : goal.loop-place-init
 loop-place-init c =
-    c.new-events.ensures.items
+    ap (map (λ event. event.now)) c.new-events.ensures.items
     ∙ events-start c.args.parts.now c.args.years.now c.first_place-first.result c.args.asked.now.program c.args.asked.now.from_day c.args.asked.now.to_day
     c.requires.parts c.requires.years c.first_place-first.ensures
 
 pub returns : goal.returns
 returns c =
-    c.from.ensures
-    ∙ events-done c.args.parts.now c.args.years.now c.loop-place.place c.end_place-end.result c.args.asked.now.program c.args.asked.now.from_day
-    c.args.asked.now.to_day c.loop-place.events.items c.requires.parts c.requires.years c.loop-place-test.false c.end_place-end.ensures.later
+    events-done c.args.parts.now c.args.years.now c.loop-place.place c.end_place-end.result c.args.asked.now.program c.args.asked.now.from_day
+    c.args.asked.now.to_day (map (λ event. event.now) c.loop-place.events.items) c.requires.parts c.requires.years c.loop-place-test.false c.end_place-end.ensures.later
     c.loop-place.invariant

@@ -1,4 +1,4 @@
-use Rattle.std.proofs.Common.{◌≡◌, take}
+use Rattle.std.proofs.Common.{◌≡◌, map, take}
 use Rattle.table_rows.specs.Cells.{gathered}
 use Rattle.table_rows.specs.Events.{events_of}
 use Rattle.year_tables.specs.Parts.{YearPart}
@@ -6,4 +6,5 @@ use Rattle.year_tables.proofs.gather.events_in.Given as goal
 
 abbrev pub invariant-loop-place : goal.invariant-loop-place
 invariant-loop-place l =
-    l.events.items ≡ gathered (λ (part : YearPart). events_of l.asked.program l.asked.from_day l.asked.to_day part.contents.events) (take l.place l.parts)
+    map (λ event. event.now) l.events.items
+    ≡ gathered (λ (part : YearPart). events_of l.asked.program l.asked.from_day l.asked.to_day part.contents.events) (take l.place l.parts)
