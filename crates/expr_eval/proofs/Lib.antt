@@ -1,3 +1,5 @@
 pub mod Running
 pub mod Patch
+pub mod Stored
+pub mod Agreed
 pub mod Meanings

@@ -1,7 +1,7 @@
 -- The postfix form gives the meaning of the tree.
-use Rattle.std.proofs.Common.{◌≡◌, ℕ, zero, suc, ◌+◌, ◌-◌, ◌<◌, ◌≤◌, Bool, true, false, cond, not, List, [], ◌∷◌, ◌++◌, length, take, drop, reverse, map}
-use Rattle.std.proofs.Common.{Option, Some, None, Result, Ok, Err, refl, sym, ap, subst, ◌∙◌, add-one, append_assoc, arith}
-use Rattle.std.specs.Prelude.{is_some, is_none, unwrap_or, nat_lt, ◌&&◌, ◌||◌}
+use Rattle.std.proofs.Common.{◌≡◌, ℕ, suc, ◌+◌, ◌-◌, Bool, true, false, cond, not, List, [], ◌∷◌, ◌++◌, length, take, drop, reverse, map}
+use Rattle.std.proofs.Common.{Option, Some, None, Result, Ok, Err, refl, sym, ap, ◌∙◌, append_assoc, arith}
+use Rattle.std.specs.Prelude.{is_none, unwrap_or, nat_lt, ◌&&◌, ◌||◌}
 use Rattle.std.specs.Option.{option_or}
 use Rattle.std.specs.List.{list_any, list_all}
 use Rattle.std.proofs.lemmas.List.{append-nil, take_at, drop_at, length-reverse, reverse-reverse, length-append, reverse-append}
@@ -23,12 +23,15 @@ use Rattle.expr_eval.specs.declared.value.Cell.TheVariants as cell
 use Rattle.expr_eval.specs.declared.code.Instr.{Instr}
 use Rattle.expr_eval.specs.declared.code.Instr.TheVariants as instr
 use Rattle.expr_eval.specs.declared.code.Postfix.{Postfix}
-use Rattle.expr_eval.specs.Meaning.{zero_fraction, literal_of, number_of, truth_of, then_with, applied_one, applied_two, best_of, day_value, leaf_value}
-use Rattle.expr_eval.specs.Meaning.{asked, first_present, Values, alone, valued_one, valued_two, joined, chosen_value, valued_pair, values_of, plain_items}
-use Rattle.expr_eval.specs.Meaning.{skips, value_of_cell, meaning}
+use Rattle.expr_eval.specs.Applied.{applied_one, applied_two, plain_items}
+use Rattle.expr_eval.specs.Meaning.{zero_fraction, number_of, truth_of, then_with, best_of, day_value, leaf_value, chosen_value, skips, value_of_cell}
+use Rattle.expr_eval.specs.Meaning.{meaning, value_of}
+use Rattle.expr_eval.proofs.Agreed.{value_agrees, plain_agrees}
+use Rattle.expr_eval.proofs.Stored.{asked, first_present, Values, alone, valued_one, valued_two, valued_pair, values_of}
+use Rattle.expr_lang.specs.Stored.{syntax_of}
 use Rattle.expr_eval.specs.Given.{index_in, entry_at, given_by}
-use Rattle.expr_eval.specs.Code.{asked_instr, leaf_code, asked_code, first_code, argument_count, Codes, same_code, unary_code, binary_code, if_code}
-use Rattle.expr_eval.specs.Code.{codes_of, Step, Go, Stop, top_cell, under, put_on, put_day, act, go_to, run, top_value, outcome}
+use Rattle.expr_eval.specs.Code.{leaf_code, asked_code, first_code, argument_count, Codes, same_code, unary_code, binary_code, if_code}
+use Rattle.expr_eval.specs.Code.{codes_of, Go, put_on, put_day, act, go_to, run, top_value, outcome}
 use Rattle.expr_eval.specs.Correct.{Means}
 
 bind_same : {A B : Type 0} (v : Result A Value) (f g : A → Result B Value) → ((x : A) → f x ≡ g x) → then_with v f ≡ then_with v g
@@ -339,5 +342,7 @@ means items shape form code plain = record {
       ∙ ap (λ (b : Bool). cond b value.Missing (value_of_cell (top_value (run entries form.code.items 0 []))))
       (skips_map s (index_in items) (λ n. is_none (entry_at entries n)) (plain_items shape))
       ∙ ap (λ (v : Result Cell Value). cond (skips s (λ i. is_none (given i)) (plain_items shape)) value.Missing (value_of_cell v)) (ap top_value runs
-      ∙ top_is (values_of given shape).one);
+      ∙ top_is (values_of given shape).one ∙ sym (value_agrees given shape))
+      ∙ ap (λ (p : List Item). cond (skips s (λ i. is_none (given i)) p) value.Missing (value_of_cell (value_of given (syntax_of shape))))
+      (sym (plain_agrees shape));
 }

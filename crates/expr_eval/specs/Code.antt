@@ -19,8 +19,8 @@ use Rattle.expr_eval.specs.declared.evaluation.Answer.{Answer}
 use Rattle.expr_eval.specs.declared.evaluation.Answer.TheVariants as answer
 use Rattle.expr_eval.specs.declared.code.Instr.{Instr}
 use Rattle.expr_eval.specs.declared.code.Instr.TheVariants as instr
-use Rattle.expr_eval.specs.Meaning.{zero_fraction, literal_of, number_of, truth_of, then_with, applied_one, applied_two, chosen_of, best_of, skips}
-use Rattle.expr_eval.specs.Meaning.{value_of_cell}
+use Rattle.expr_eval.specs.Applied.{applied_one, applied_two}
+use Rattle.expr_eval.specs.Meaning.{zero_fraction, literal_of, number_of, truth_of, chosen_of, best_of, skips, value_of_cell}
 use Rattle.expr_eval.specs.Given.{entry_at}
 
 -- ---- the form

@@ -1,4 +1,5 @@
 pub mod Meaning
+pub mod Applied
 pub mod Given
 pub mod Code
 pub mod Correct

@@ -2,7 +2,7 @@
 --
 -- An item is given as a number, or as nothing where it is missing; a day is given as the number of the day.
 use Rattle.std.specs.Prelude.{◌≡◌, ℕ, ◌+◌, Bool, true, false, not, ◌&&◌, List, [], ◌∷◌, ◌++◌, Option, Some, None, Result, Ok, Err, ℤ, pos, int_lt, is_some}
-use Rattle.std.specs.Prelude.{is_none, unwrap_or, option_map, nat_lt, nat_le, length, if◌then◌else◌}
+use Rattle.std.specs.Prelude.{is_none, unwrap_or, nat_lt, nat_le, length, if◌then◌else◌}
 use Rattle.std.specs.Option.{option_or}
 use Rattle.std.specs.List.{list_any, list_all}
 use Rattle.std.specs.declared.cmp.Ordering.{Ordering}
@@ -16,11 +16,10 @@ use Rattle.expr_lang.specs.declared.tree.Item.{Item}
 use Rattle.expr_lang.specs.declared.tree.Item.TheVariants as item
 use Rattle.expr_lang.specs.declared.tree.Leaf.{Leaf}
 use Rattle.expr_lang.specs.declared.tree.Leaf.TheVariants as leaf
-use Rattle.expr_lang.specs.declared.tree.Unary.{Unary}
-use Rattle.expr_lang.specs.declared.tree.Unary.TheVariants as unary
-use Rattle.expr_lang.specs.declared.tree.Binary.{Binary}
-use Rattle.expr_lang.specs.declared.tree.Binary.TheVariants as binary
-use Rattle.expr_lang.specs.Shape.{Shape, Operand, One, Two, Choice}
+use Rattle.expr_lang.specs.Shape.{Shape}
+use Rattle.expr_lang.specs.Stored.{syntax_of}
+use Rattle.expr_lang.specs.Syntax as syntax
+use Rattle.expr_lang.specs.Syntax.{Syntax, Arguments, End, Argument, Operand, Signed, Power, Between, Call}
 use Rattle.expr_eval.specs.declared.value.Value.{Value}
 use Rattle.expr_eval.specs.declared.value.Value.TheVariants as value
 use Rattle.expr_eval.specs.declared.value.Cell.{Cell}
@@ -66,15 +65,6 @@ is_less_than_zero f = int_lt f.num (pos 0)
 abbrev pub capped : ℕ → ℕ
 capped n = if nat_le n 64 then n else 64
 
--- the signs, the power and the calls of one number
-abbrev pub applied_one : Unary → Cell → Result Cell Value
-applied_one unary.Negate x = number_cell (sub_of zero_fraction (number_of x))
-applied_one unary.Not x = Ok (cell.Truth (not (truth_of x)))
-applied_one (unary.Power n) x = number_cell (pow_of (number_of x) (capped n))
-applied_one unary.Zing x = Ok (cell.Number (if is_less_than_zero (number_of x) then zero_fraction else number_of x))
-applied_one unary.Oizp x = Ok (cell.Number (if is_less_than_zero (number_of x) then zero_fraction else one_fraction))
-applied_one _ x = Ok x
-
 abbrev pub is_less : Ordering → Bool
 is_less ordering.Less = true
 is_less _ = false
@@ -90,33 +80,6 @@ is_greater _ = false
 abbrev pub truth_cell : (Ordering → Bool) → Result Ordering NumFault → Result Cell Value
 truth_cell test (Ok o) = Ok (cell.Truth (test o))
 truth_cell test (Err e) = Err (value_of_fault e)
-
-abbrev pub comparison_test : Binary → Ordering → Bool
-comparison_test binary.Equal o = is_equal o
-comparison_test binary.NotEqual o = not (is_equal o)
-comparison_test binary.Less o = is_less o
-comparison_test binary.AtMost o = not (is_greater o)
-comparison_test binary.Greater o = is_greater o
-comparison_test _ o = not (is_less o)
-
-abbrev pub compared : Binary → Fraction → Fraction → Result Cell Value
-compared operator x y = truth_cell (comparison_test operator) (cmp_of x y)
-
--- an operator of two numbers
-abbrev pub applied_two : Binary → Fraction → Fraction → Result Cell Value
-applied_two binary.Equal x y = compared binary.Equal x y
-applied_two binary.NotEqual x y = compared binary.NotEqual x y
-applied_two binary.Less x y = compared binary.Less x y
-applied_two binary.AtMost x y = compared binary.AtMost x y
-applied_two binary.Greater x y = compared binary.Greater x y
-applied_two binary.AtLeast x y = compared binary.AtLeast x y
-applied_two binary.Add x y = number_cell (add_of x y)
-applied_two binary.Subtract x y = number_cell (sub_of x y)
-applied_two binary.Multiply x y = number_cell (mul_of x y)
-applied_two binary.Divide x y = number_cell (div_of x y)
-applied_two binary.Remainder x y = number_cell (rem_of x y)
-applied_two binary.DaysBetween x y = number_cell (sub_of y x)
-applied_two _ x y = Ok (cell.Number y)
 
 -- the one of two numbers that is taken by how they compare, the first where they are equal
 abbrev pub takes_next : Bool → Ordering → Bool
@@ -149,65 +112,97 @@ leaf_value given (leaf.Number n) = Ok (cell.Number (literal_of n))
 leaf_value given (leaf.Item i) = Ok (cell.Number (unwrap_or (given i) zero_fraction))
 leaf_value given (leaf.Day i) = day_value (given i)
 
--- an item that is asked for, whether it is missing or not
-abbrev pub asked : (Item → Option Fraction) → Shape → Bool
-asked given (Operand (leaf.Item i)) = is_some (given i)
-asked given (Operand (leaf.Day i)) = is_some (given i)
-asked given _ = true
+-- ---- operators
 
--- the first of a list of items and numbers that isn't missing
-abbrev pub first_present : (Item → Option Fraction) → Shape → Option Fraction
-first_present given (Two binary.Comma left right) = option_or (first_present given left) (first_present given right)
-first_present given (Operand (leaf.Number n)) = Some (literal_of n)
-first_present given (Operand (leaf.Item i)) = given i
-first_present given _ = None
+abbrev pub signed : syntax.Sign → Cell → Result Cell Value
+signed syntax.Minus x = number_cell (sub_of zero_fraction (number_of x))
+signed syntax.Not x = Ok (cell.Truth (not (truth_of x)))
 
--- ---- trees
+-- two values, of which the first that isn't one stops the evaluation
+abbrev pub calculated : (Fraction → Fraction → Result Fraction NumFault) → Result Cell Value → Result Cell Value → Result Cell Value
+calculated f x y = then_with x (λ a. then_with y (λ b. number_cell (f (number_of a) (number_of b))))
 
--- the value of an expression, and the values of a list of arguments
-pub record Values : Type 0 where
-  pub one : Result Cell Value
-  pub all : Result (List Cell) Value
-
-abbrev pub alone : Result Cell Value → Values
-alone v = record { one = v; all = then_with v (λ c. Ok (c ∷ [])) }
-
-abbrev pub valued_one : (Item → Option Fraction) → Unary → Shape → Values → Result Cell Value
-valued_one given unary.IsNull operand v = Ok (cell.Truth (not (asked given operand)))
-valued_one given unary.IsNotNull operand v = Ok (cell.Truth (asked given operand))
-valued_one given unary.HasValue operand v = Ok (cell.Truth (asked given operand))
-valued_one given unary.FirstNonNull operand v = Ok (cell.Number (unwrap_or (first_present given operand) zero_fraction))
-valued_one given unary.Greatest operand v = then_with v.all (best_of true)
-valued_one given unary.Least operand v = then_with v.all (best_of false)
-valued_one given operator operand v = then_with v.one (applied_one operator)
+abbrev pub compared_by : (Ordering → Bool) → Result Cell Value → Result Cell Value → Result Cell Value
+compared_by test x y = then_with x (λ a. then_with y (λ b. truth_cell test (cmp_of (number_of a) (number_of b))))
 
 -- `&&` and `||` stop early
-abbrev pub valued_two : Binary → Result Cell Value → Result Cell Value → Result Cell Value
-valued_two binary.And x y = then_with x (λ a. if truth_of a then y else Ok (cell.Truth false))
-valued_two binary.Or x y = then_with x (λ a. if truth_of a then Ok (cell.Truth true) else y)
-valued_two operator x y = then_with x (λ a. then_with y (λ b. applied_two operator (number_of a) (number_of b)))
+abbrev pub value_between : syntax.Operator → Result Cell Value → Result Cell Value → Result Cell Value
+value_between syntax.Or x y = then_with x (λ a. if truth_of a then Ok (cell.Truth true) else y)
+value_between syntax.And x y = then_with x (λ a. if truth_of a then y else Ok (cell.Truth false))
+value_between syntax.Equal x y = compared_by is_equal x y
+value_between syntax.NotEqual x y = compared_by (λ o. not (is_equal o)) x y
+value_between syntax.Less x y = compared_by is_less x y
+value_between syntax.AtMost x y = compared_by (λ o. not (is_greater o)) x y
+value_between syntax.Greater x y = compared_by is_greater x y
+value_between syntax.AtLeast x y = compared_by (λ o. not (is_less o)) x y
+value_between syntax.Add x y = calculated add_of x y
+value_between syntax.Subtract x y = calculated sub_of x y
+value_between syntax.Multiply x y = calculated mul_of x y
+value_between syntax.Divide x y = calculated div_of x y
+value_between syntax.Remainder x y = calculated rem_of x y
 
--- a list of arguments has no value of its own
-abbrev pub joined : Values → Values → Values
-joined left right = record {
-  one = Ok (cell.Number zero_fraction);
-  all = then_with left.all (λ cs. then_with right.one (λ c. Ok (cs ++ c ∷ [])));
-}
+-- ---- calls
+
+-- only an item can be missing
+abbrev pub is_there : (Item → Option Fraction) → Syntax → Bool
+is_there given (Operand (leaf.Item i)) = is_some (given i)
+is_there given (Operand (leaf.Day i)) = is_some (given i)
+is_there given _ = true
+
+-- the number of an item that isn't missing, or a number as it stands
+abbrev pub present : (Item → Option Fraction) → Syntax → Option Fraction
+present given (Operand (leaf.Number n)) = Some (literal_of n)
+present given (Operand (leaf.Item i)) = given i
+present given _ = None
+
+abbrev pub first_present : (Item → Option Fraction) → Arguments → Option Fraction
+first_present given End = None
+first_present given (Argument x xs) = option_or (present given x) (first_present given xs)
+
+-- all values, or the first that isn't one
+abbrev pub in_order : List (Result Cell Value) → Result (List Cell) Value
+in_order [] = Ok []
+in_order (v ∷ vs) = then_with v (λ c. then_with (in_order vs) (λ cs. Ok (c ∷ cs)))
+
+abbrev pub zing : Fraction → Fraction
+zing f = if is_less_than_zero f then zero_fraction else f
+
+abbrev pub oizp : Fraction → Fraction
+oizp f = if is_less_than_zero f then zero_fraction else one_fraction
 
 -- `if` takes the value of the chosen branch alone
 abbrev pub chosen_value : Result Cell Value → Result Cell Value → Result Cell Value → Result Cell Value
 chosen_value test one other = then_with test (λ t. if truth_of t then one else other)
 
-abbrev pub valued_pair : Binary → Values → Values → Values
-valued_pair binary.Comma left right = joined left right
-valued_pair operator left right = alone (valued_two operator left.one right.one)
+-- The value of a call with these arguments, whose values are these. One with another number of arguments, which no text has,
+-- counts as 0.
+abbrev pub called : (Item → Option Fraction) → syntax.Function → Arguments → List (Result Cell Value) → Result Cell Value
+called given syntax.IsNull (Argument x End) vs = Ok (cell.Truth (not (is_there given x)))
+called given syntax.IsNotNull (Argument x End) vs = Ok (cell.Truth (is_there given x))
+called given syntax.HasValue (Argument x End) vs = Ok (cell.Truth (is_there given x))
+called given syntax.FirstNonNull xs vs = Ok (cell.Number (unwrap_or (first_present given xs) zero_fraction))
+called given syntax.Greatest xs vs = then_with (in_order vs) (best_of true)
+called given syntax.Least xs vs = then_with (in_order vs) (best_of false)
+called given syntax.Zing xs (v ∷ []) = then_with v (λ c. Ok (cell.Number (zing (number_of c))))
+called given syntax.Oizp xs (v ∷ []) = then_with v (λ c. Ok (cell.Number (oizp (number_of c))))
+called given syntax.DaysBetween xs (v ∷ w ∷ []) = calculated (λ from to. sub_of to from) v w
+called given syntax.If xs (v ∷ w ∷ u ∷ []) = chosen_value v w u
+called given _ xs vs = Ok (cell.Number zero_fraction)
 
-abbrev pub values_of : (Item → Option Fraction) → Shape → Values
-values_of given (Operand it) = alone (leaf_value given it)
-values_of given (One operator operand) = alone (valued_one given operator operand (values_of given operand))
-values_of given (Two operator left right) = valued_pair operator (values_of given left) (values_of given right)
-values_of given (Choice test one other) =
-    alone (chosen_value (values_of given test).one (values_of given one).one (values_of given other).one)
+-- ---- expressions
+
+abbrev mutual
+  -- its value
+  pub value_of : (Item → Option Fraction) → Syntax → Result Cell Value
+  value_of given (Operand it) = leaf_value given it
+  value_of given (Signed sign x) = then_with (value_of given x) (signed sign)
+  value_of given (Power x n) = then_with (value_of given x) (λ c. number_cell (pow_of (number_of c) (capped n)))
+  value_of given (Between operator x y) = value_between operator (value_of given x) (value_of given y)
+  value_of given (Call function xs) = called given function xs (values_of given xs)
+
+  pub values_of : (Item → Option Fraction) → Arguments → List (Result Cell Value)
+  values_of given End = []
+  values_of given (Argument x xs) = value_of given x ∷ values_of given xs
 
 -- ---- missing values
 
@@ -221,19 +216,25 @@ abbrev pub plain_leaf : Leaf → List Item
 plain_leaf (leaf.Item i) = if can_miss i then i ∷ [] else []
 plain_leaf _ = []
 
-abbrev pub hides_items : Unary → Bool
-hides_items unary.IsNull = true
-hides_items unary.IsNotNull = true
-hides_items unary.FirstNonNull = true
-hides_items unary.HasValue = true
-hides_items _ = false
+abbrev pub hides : syntax.Function → Bool
+hides syntax.IsNull = true
+hides syntax.IsNotNull = true
+hides syntax.FirstNonNull = true
+hides syntax.HasValue = true
+hides _ = false
 
--- the plain items: those that can be missing, outside of `isNull`, `isNotNull` and `firstNonNull`
-abbrev pub plain_items : Shape → List Item
-plain_items (Operand it) = plain_leaf it
-plain_items (One operator operand) = if hides_items operator then [] else plain_items operand
-plain_items (Two operator left right) = plain_items left ++ plain_items right
-plain_items (Choice test one other) = plain_items test ++ (plain_items one ++ plain_items other)
+abbrev mutual
+  -- the plain items: those that can be missing, outside of `isNull`, `isNotNull`, `firstNonNull` and `d2:hasValue`
+  pub plain_of : Syntax → List Item
+  plain_of (Operand it) = plain_leaf it
+  plain_of (Signed sign x) = plain_of x
+  plain_of (Power x n) = plain_of x
+  plain_of (Between operator x y) = plain_of x ++ plain_of y
+  plain_of (Call function xs) = if hides function then [] else plain_of_all xs
+
+  pub plain_of_all : Arguments → List Item
+  plain_of_all End = []
+  plain_of_all (Argument x xs) = plain_of x ++ plain_of_all xs
 
 -- whether the value is Missing for those of the plain items that are
 abbrev pub skips : {A : Type 0} → Strategy → (A → Bool) → List A → Bool
@@ -246,7 +247,11 @@ value_of_cell (Ok (cell.Number f)) = value.Number f
 value_of_cell (Ok (cell.Truth b)) = value.Truth b
 value_of_cell (Err v) = v
 
--- the value of an expression under a missing-value strategy
+-- the value of a tree under a missing-value strategy
+abbrev pub value_under : Strategy → (Item → Option Fraction) → Syntax → Value
+value_under s given tree =
+    if skips s (λ i. is_none (given i)) (plain_of tree) then value.Missing else value_of_cell (value_of given tree)
+
+-- the value of an expression, which has a tree in memory
 unfoldable pub meaning : Strategy → (Item → Option Fraction) → Shape → Value
-meaning s given shape =
-    if skips s (λ i. is_none (given i)) (plain_items shape) then value.Missing else value_of_cell (values_of given shape).one
+meaning s given shape = value_under s given (syntax_of shape)

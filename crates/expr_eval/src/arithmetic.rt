@@ -2,7 +2,8 @@
 
 ghost use Rattle.std.specs.Prelude.{◌≡◌, ◌≤◌};
 ghost use Rattle.expr_eval.specs.Meaning.{zero_fraction, one_fraction, literal_of, number_of, truth_of, value_of_fault, number_cell, is_less_than_zero};
-ghost use Rattle.expr_eval.specs.Meaning.{applied_one, is_less, is_equal, is_greater, capped, compared, applied_two, chosen_of};
+ghost use Rattle.expr_eval.specs.Meaning.{is_less, is_equal, is_greater, capped, chosen_of};
+ghost use Rattle.expr_eval.specs.Applied.{applied_one, compared, applied_two};
 
 use crate::value::{Cell, Value};
 use dh_base::frac::Frac;

@@ -3,7 +3,8 @@
 ghost use Rattle.std.specs.Prelude.{◌≡◌, ◌∷◌, [], ◌++◌, map, OnOk, IfOk};
 ghost use Rattle.expr_lang.specs.Expr.{items_in};
 ghost use Rattle.expr_lang.specs.Shape.{shape_of};
-ghost use Rattle.expr_eval.specs.Meaning.{can_miss, plain_leaf, hides_items, plain_items};
+ghost use Rattle.expr_eval.specs.Applied.{hides_items, plain_items};
+ghost use Rattle.expr_eval.specs.Meaning.{can_miss, plain_leaf};
 ghost use Rattle.expr_eval.specs.Given.{same_uid, same_option, same_item, rate_number, index_in};
 ghost use Rattle.expr_eval.specs.Code.{leaf_code, asked_instr, asked_code, first_code, argument_count, code_in, codes_of};
 ghost use Rattle.expr_eval.specs.Correct.{Means};

@@ -19,11 +19,12 @@ use Rattle.expr_lang.specs.Survey.{survey_of, misfit_of}
 use Rattle.expr_lang.specs.Build.{shapes_behind}
 use Rattle.expr_lang.specs.Expr.{items_in, places_in}
 use Rattle.expr_lang.specs.Items.{Occurrence, occurrences, Lists}
-use Rattle.expr_grammar.specs.Items.{items_of, Different, ListsItems}
-use Rattle.expr_grammar.specs.Grammar.{tree_of}
-use Rattle.expr_grammar.specs.Laws.{OneTree}
+use Rattle.expr_grammar.specs.Items.{Different, ListsItems}
+use Rattle.expr_grammar.proofs.Stored.{items_of}
+use Rattle.expr_grammar.proofs.Stored.{tree_of}
+use Rattle.expr_grammar.proofs.Stored.{OneTree}
 use Rattle.expr_grammar.proofs.Listed.{items_at, items_so, different_so}
-use Rattle.expr_grammar.specs.Limits.{AnswersBy}
+use Rattle.expr_grammar.proofs.Stored.{AnswersBy}
 use Rattle.expr_grammar.proofs.Limits.{meant_by, none_of}
 use Rattle.expr_grammar.proofs.Faulted.{goes_on}
 use Rattle.expr_grammar.specs.Continues.{GoesOnAt, EndsAt}

@@ -18,7 +18,8 @@ use Rattle.expr_lang.specs.Reading.{least_arguments, most_arguments, nodes_reduc
 use Rattle.expr_lang.specs.Reading.{is_list_of, first_argument}
 use Rattle.expr_lang.specs.Words.{text_of}
 use Rattle.expr_grammar.specs.Grammar.{Form, Number, Item, Arguments, Apply, IsBlank, IsCall, IsForm, is_plain, all_plain, symbol_text, number_value}
-use Rattle.expr_grammar.specs.Grammar.{spelled, applied}
+use Rattle.expr_grammar.specs.Grammar.{spelled}
+use Rattle.expr_grammar.proofs.Stored.{applied}
 use Rattle.expr_grammar.proofs.Words.{both}
 use Rattle.expr_grammar.proofs.Steps.{At, Goes, at_past}
 use Rattle.expr_grammar.proofs.Moves.{rd, IsOpen, Comes, name_move, close_move, more_move, plain_number, plain_item}

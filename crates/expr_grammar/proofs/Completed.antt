@@ -32,7 +32,7 @@ use Rattle.expr_lang.specs.Items.{Occurrence, item_of_leaf_of, with_occurrence, 
 use Rattle.expr_lang.specs.Leaves.{leaf_of_node}
 use Rattle.expr_lang.specs.declared.survey.Known.{Known}
 use Rattle.expr_lang.specs.Survey.{leaf_known_of, unary_known_of, binary_known_of, if_known_of, known_after, known_behind}
-use Rattle.expr_grammar.specs.Grammar.{tree_of}
+use Rattle.expr_grammar.proofs.Stored.{tree_of}
 use Rattle.expr_grammar.specs.Items.{occurrences_of}
 use Rattle.expr_grammar.proofs.Operands.{known_of}
 use Rattle.expr_grammar.specs.Grammar.{Form, Number, Item, Bracket, Power, Sign, Chain, Arguments, If, Condition, DaysBetween, Apply, IsBlank, IsDigits}

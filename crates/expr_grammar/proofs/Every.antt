@@ -14,7 +14,8 @@ use Rattle.expr_lang.specs.declared.reading.Reader.{Reader}
 use Rattle.expr_lang.specs.Reading.{spot_of, call_frame, joined, node_of_call, is_list_of, first_argument}
 use Rattle.expr_lang.specs.Words.{text_of}
 use Rattle.expr_grammar.specs.Grammar.{Form, Number, Item, Bracket, Power, Sign, Chain, Arguments, If, Condition, DaysBetween, Apply, IsBlank, IsCall}
-use Rattle.expr_grammar.specs.Grammar.{IsForm, is_item, all_plain, after_blanks, symbol_text, spelled, applied}
+use Rattle.expr_grammar.specs.Grammar.{IsForm, is_item, all_plain, after_blanks, symbol_text, spelled}
+use Rattle.expr_grammar.proofs.Stored.{applied}
 use Rattle.expr_grammar.proofs.Steps.{At, Goes}
 use Rattle.expr_grammar.proofs.Moves.{rd, IsOpen, name_move, last_move, lone_move, lone_item}
 use Rattle.expr_grammar.proofs.Completed.{told_in, told_of, calm_follows, close_calm, evals_item}

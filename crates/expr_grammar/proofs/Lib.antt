@@ -1,3 +1,6 @@
+pub mod Stored
+pub mod Back
+pub mod Bridge
 pub mod Words
 pub mod PrintedNumbers
 pub mod PrintedItems
@@ -30,3 +33,4 @@ pub mod Continued
 pub mod Faulted
 pub mod Misfitting
 pub mod Crowded
+pub mod Restated

@@ -16,11 +16,13 @@ use Rattle.expr_lang.specs.Reading.{read_text}
 use Rattle.expr_lang.specs.Survey.{survey_of, misfit_of}
 use Rattle.expr_lang.specs.declared.survey.Known.{Known}
 use Rattle.expr_grammar.specs.Brackets.{crowded_bracket}
-use Rattle.expr_grammar.specs.Limits.{IsWritten, IsFlat, is_sorted, AnswersBy}
-use Rattle.expr_grammar.specs.Misfits.{first_misfit}
-use Rattle.expr_grammar.specs.Sorts.{depth_of}
+use Rattle.expr_grammar.specs.Limits.{IsWritten}
+use Rattle.expr_grammar.proofs.Stored.{IsFlat, is_sorted, AnswersBy}
+use Rattle.expr_grammar.proofs.Stored.{first_misfit}
+use Rattle.expr_grammar.proofs.Stored.{depth_of}
 use Rattle.expr_grammar.specs.Fewest.{open_of}
-use Rattle.expr_grammar.specs.Grammar.{Form, IsTextOf, tree_of}
+use Rattle.expr_grammar.specs.Grammar.{Form, IsTextOf}
+use Rattle.expr_grammar.proofs.Stored.{tree_of}
 use Rattle.expr_grammar.proofs.PrintedOpen.{crowded_is}
 use Rattle.expr_grammar.proofs.PrintedSurvey.{IsKnown, survey_is, misfit_is}
 use Rattle.expr_grammar.proofs.Crowded.{crowded_at}

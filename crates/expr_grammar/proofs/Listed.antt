@@ -10,7 +10,8 @@ use Rattle.expr_lang.specs.Build.{shapes_after, shapes_behind, top_shape, under_
 use Rattle.expr_lang.specs.Items.{Occurrence, item_of_leaf_of, with_occurrence, occurrences, ListsFrom}
 use Rattle.expr_lang.specs.Leaves.{leaf_of_node}
 use Rattle.expr_lang.specs.Shape.{Shape, Operand}
-use Rattle.expr_grammar.specs.Items.{items_of_leaf, items_of, Different}
+use Rattle.expr_grammar.specs.Items.{items_of_leaf, Different}
+use Rattle.expr_grammar.proofs.Stored.{items_of}
 
 -- the items on a stack, from its bottom up
 abbrev on_stack : List Shape → List Item

@@ -22,9 +22,11 @@ use Rattle.expr_lang.specs.Shape.{Shape, Operand}
 use Rattle.expr_lang.specs.Survey.{same_sort, is_literal_of, taken_by_of, taken_by_two, first_of_two, edge_of, edge_if_taken, leaf_known_of, unary_known_of}
 use Rattle.expr_lang.specs.Survey.{binary_known_of, if_known_of, misfit_of}
 use Rattle.expr_grammar.specs.Grammar.{Form, Number, Item, Bracket, Power, Sign, Chain, Arguments, If, Condition, DaysBetween, Apply, IsForm, IsWhole}
-use Rattle.expr_grammar.specs.Grammar.{arguments_level, after_blanks, symbol_text, spelled, applied, number_value, tree_of}
-use Rattle.expr_grammar.specs.Misfits.{place_of, is_number, clash_of, misfits_of, least_of}
-use Rattle.expr_grammar.specs.Sorts.{sort_of}
+use Rattle.expr_grammar.specs.Grammar.{arguments_level, after_blanks, symbol_text, spelled, number_value}
+use Rattle.expr_grammar.proofs.Stored.{applied, tree_of}
+use Rattle.expr_grammar.specs.Misfits.{place_of, least_of}
+use Rattle.expr_grammar.proofs.Stored.{is_number, clash_of, misfits_of}
+use Rattle.expr_grammar.proofs.Stored.{sort_of}
 use Rattle.expr_grammar.proofs.Completed.{levels}
 use Rattle.expr_grammar.proofs.Operands.{known_of, known_any}
 

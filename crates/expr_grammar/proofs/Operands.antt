@@ -11,7 +11,8 @@ use Rattle.expr_lang.specs.Leaves.{item_leaf}
 use Rattle.expr_lang.specs.Survey.{leaf_known_of, unary_known_of, binary_known_of, if_known_of}
 use Rattle.std.specs.Str.Parse.{digits_value}
 use Rattle.expr_grammar.specs.Grammar.{Form, Number, Item, Bracket, Power, Sign, Chain, Arguments, If, Condition, DaysBetween, Apply, IsForm, after_blanks}
-use Rattle.expr_grammar.specs.Grammar.{symbol_text, spelled, applied, number_value}
+use Rattle.expr_grammar.specs.Grammar.{symbol_text, spelled, number_value}
+use Rattle.expr_grammar.proofs.Stored.{applied}
 use Rattle.expr_grammar.specs.Misfits.{place_of}
 
 -- A list of arguments stands where its call does, at `k`.

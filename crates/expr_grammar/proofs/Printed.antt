@@ -22,7 +22,7 @@ use Rattle.expr_lang.specs.Shape.{Shape, Operand, One, Two, Choice}
 use Rattle.expr_lang.specs.Words.{text_of, operands_of, items_of_place, start_of, operator_text_of, call_text_of}
 use Rattle.expr_grammar.specs.Grammar.{Form, Number, Item, Bracket, Power, Sign, Chain, Arguments, If, Condition, DaysBetween, Apply, spelled, IsSign}
 use Rattle.expr_grammar.specs.Grammar.{IsAmong, IsCall, is_item, is_plain, all_plain, arguments_level, Takes, IsForm, IsWhole, IsTextOf, number_value}
-use Rattle.expr_grammar.specs.Grammar.{applied, tree_of}
+use Rattle.expr_grammar.proofs.Stored.{applied, tree_of}
 use Rattle.expr_grammar.proofs.PrintedNumbers.{whole_digits, part_digits, number_is, value_below, number_written, number_again, exponent_is}
 use Rattle.expr_grammar.proofs.PrintedItems.{item_written}
 

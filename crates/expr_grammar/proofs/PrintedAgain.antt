@@ -15,8 +15,10 @@ use Rattle.expr_lang.specs.Print.{text_from}
 use Rattle.expr_lang.specs.Reading.{read_text}
 use Rattle.expr_lang.specs.Shape.{Shape}
 use Rattle.expr_lang.specs.Survey.{survey_of}
-use Rattle.expr_grammar.specs.Fewest.{open_of, IsReadAgain}
-use Rattle.expr_grammar.specs.Grammar.{Form, IsTextOf, tree_of}
+use Rattle.expr_grammar.specs.Fewest.{open_of}
+use Rattle.expr_grammar.proofs.Stored.{IsReadAgain}
+use Rattle.expr_grammar.specs.Grammar.{Form, IsTextOf}
+use Rattle.expr_grammar.proofs.Stored.{tree_of}
 use Rattle.expr_grammar.proofs.PrintedFewest.{printed_again}
 use Rattle.expr_grammar.proofs.PrintedOpen.{crowded_is}
 use Rattle.expr_grammar.proofs.PrintedSurvey.{survey_is, IsKnown, IsGood, good_judged, judged_good}

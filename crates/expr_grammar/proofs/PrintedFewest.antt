@@ -12,9 +12,11 @@ use Rattle.expr_lang.specs.declared.words.Call.TheVariants as call
 use Rattle.expr_lang.specs.Print.{exponent_text, text_from, unary_level_of, binary_level_of, left_level_of, right_level_of}
 use Rattle.expr_lang.specs.Reading.{level_of}
 use Rattle.expr_lang.specs.Shape.{Shape, Operand, One, Two, Choice}
-use Rattle.expr_grammar.specs.Fewest.{brackets_by, IsPrinted, IsPrintedAgain}
+use Rattle.expr_grammar.specs.Fewest.{brackets_by}
+use Rattle.expr_grammar.proofs.Stored.{IsPrinted, IsPrintedAgain}
 use Rattle.expr_grammar.specs.Grammar.{Form, Number, Item, Bracket, Power, Sign, Chain, Arguments, If, Condition, DaysBetween, Apply, IsSign}
-use Rattle.expr_grammar.specs.Grammar.{arguments_level, IsForm, IsWhole, IsTextOf, applied, tree_of}
+use Rattle.expr_grammar.specs.Grammar.{arguments_level, IsForm, IsWhole, IsTextOf}
+use Rattle.expr_grammar.proofs.Stored.{applied, tree_of}
 use Rattle.expr_grammar.proofs.Printed.{bracketed, shown, chain_level, call_level, sign_level, not_below, left_small, right_small, arguments_small}
 use Rattle.expr_grammar.proofs.Printed.{printed_whole}
 use Rattle.expr_grammar.proofs.PrintedShortest.{shortest_whole}

@@ -22,7 +22,7 @@ use Rattle.expr_lang.specs.Shape.{Shape, Operand, One, Two, Choice}
 use Rattle.expr_lang.specs.Words.{text_of, operator_text_of, call_text_of}
 use Rattle.expr_grammar.specs.Grammar.{Form, Number, Item, Bracket, Power, Sign, Chain, Arguments, If, Condition, DaysBetween, Apply, spelled, symbol_text}
 use Rattle.expr_grammar.specs.Grammar.{after_blanks, behind_point, IsDigits, IsNumber, IsExponent, IsSign, arguments_level, IsForm, IsWhole, number_value}
-use Rattle.expr_grammar.specs.Grammar.{applied, tree_of}
+use Rattle.expr_grammar.proofs.Stored.{applied, tree_of}
 use Rattle.expr_grammar.proofs.PrintedNumbers.{all_digits, tens_apart, value_behind, no_place, one_place, whole_digits, part_digits, number_is, whole_below}
 use Rattle.expr_grammar.proofs.PrintedNumbers.{part_small}
 use Rattle.expr_grammar.proofs.PrintedItems.{item_written}

@@ -19,7 +19,7 @@ use Rattle.expr_lang.specs.Build.{shapes_after, shapes_behind, under_shape}
 use Rattle.expr_lang.specs.Leaves.{leaf_of_node}
 use Rattle.expr_lang.specs.Parse.{judged, brackets_judged}
 use Rattle.expr_lang.specs.Shape.{Shape, Operand, One, Two, Choice}
-use Rattle.expr_grammar.specs.Sorts.{above_two, depth_of, sort_of, has_sort, sorts_fit}
+use Rattle.expr_grammar.proofs.Stored.{above_two, depth_of, sort_of, has_sort, sorts_fit}
 use Rattle.expr_lang.specs.Survey.{same_sort, taken_by_of, taken_by_two, first_of_two, edge_of, edge_if_taken, one_deeper, deeper_of, unary_known_of}
 use Rattle.expr_lang.specs.Survey.{binary_known_of, if_known_of, leaf_known_of, known_after, known_behind, survey_of, misfit_of, topmost}
 

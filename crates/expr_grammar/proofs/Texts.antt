@@ -15,7 +15,8 @@ use Rattle.expr_lang.specs.Shape.{Shape}
 use Rattle.expr_lang.specs.Items.{occurrences}
 use Rattle.expr_lang.specs.Survey.{survey_of, topmost}
 use Rattle.expr_grammar.specs.Grammar.{Form, Number, Item, Bracket, Power, Sign, Chain, Arguments, If, Condition, DaysBetween, Apply, IsBlank, IsForm}
-use Rattle.expr_grammar.specs.Grammar.{spelled, tree_of}
+use Rattle.expr_grammar.specs.Grammar.{spelled}
+use Rattle.expr_grammar.proofs.Stored.{tree_of}
 use Rattle.expr_grammar.proofs.Steps.{At, Goes}
 use Rattle.expr_grammar.proofs.Moves.{rd}
 use Rattle.expr_grammar.proofs.Completed.{Told, told_of, Tells, Follows, Evals, evals_item}

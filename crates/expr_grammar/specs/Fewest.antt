@@ -5,7 +5,8 @@ use Rattle.expr_lang.specs.declared.tree.Place.{Place}
 use Rattle.expr_lang.specs.declared.tree.Sort.{Sort}
 use Rattle.expr_lang.specs.Expr.{parse_of}
 use Rattle.expr_lang.specs.Expression.{Expression}
-use Rattle.expr_lang.specs.Shape.{Shape}
+use Rattle.expr_lang.specs.Stored.{syntax_of}
+use Rattle.expr_lang.specs.Syntax.{Syntax}
 use Rattle.expr_grammar.specs.Grammar.{Form, Number, Item, Bracket, Power, Sign, Chain, Arguments, If, Condition, DaysBetween, Apply, IsWhole, IsTextOf}
 use Rattle.expr_grammar.specs.Grammar.{tree_of}
 
@@ -34,7 +35,7 @@ abbrev pub open_of : Form → ℕ
 open_of form = brackets_by (λ m n. max m n) 1 form
 
 -- a text is a shortest one with this tree, with the fewest brackets
-pub record IsPrinted (place : Place) (days : List (List ℕ)) (tree : Shape) (text : List ℕ) : Type 0 where
+pub record IsPrinted (place : Place) (days : List (List ℕ)) (tree : Syntax) (text : List ℕ) : Type 0 where
   pub form : Form
   pub again : IsTextOf place text form
   pub same : tree_of days form ≡ tree
@@ -43,12 +44,12 @@ pub record IsPrinted (place : Place) (days : List (List ℕ)) (tree : Shape) (te
   pub shortest : (other : Form) (others : List ℕ) → IsTextOf place others other → tree_of days other ≡ tree → length text ≤ length others
 
 -- It is so in each place, and for each reading of which items are days, where the grammar has a text with this tree.
-abbrev pub IsPrintedAgain : Shape → List ℕ → Type 0
+abbrev pub IsPrintedAgain : Syntax → List ℕ → Type 0
 IsPrintedAgain tree text =
     (place : Place) (days : List (List ℕ)) (form : Form) → IsWhole place form → tree_of days form ≡ tree → IsPrinted place days tree text
 
 -- A text means an expression with this tree where any text does.
-pub record IsReadAgain (tree : Shape) (text : List ℕ) : Type 0 where
+pub record IsReadAgain (tree : Syntax) (text : List ℕ) : Type 0 where
   pub read : (place : Place) (days : List (List ℕ)) (wanted : Option Sort) (other : List ℕ) (expr : Expression)
-      → parse_of place days wanted other ≡ Ok expr → expr.tree ≡ tree
-      → (again : Expression) × (parse_of place days wanted text ≡ Ok again) × (again.tree ≡ tree)
+      → parse_of place days wanted other ≡ Ok expr → syntax_of expr.tree ≡ tree
+      → (again : Expression) × (parse_of place days wanted text ≡ Ok again) × (syntax_of again.tree ≡ tree)

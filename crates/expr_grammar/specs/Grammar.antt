@@ -35,7 +35,8 @@ use Rattle.expr_lang.specs.Item.{item_from}
 use Rattle.expr_lang.specs.Leaves.{item_leaf}
 use Rattle.expr_lang.specs.Print.{left_level_of, right_level_of}
 use Rattle.expr_lang.specs.Reading.{level_of, is_blank_of}
-use Rattle.expr_lang.specs.Shape.{Shape, Operand, One, Two, Choice}
+use Rattle.expr_lang.specs.Syntax as syntax
+use Rattle.expr_lang.specs.Syntax.{Syntax, Arguments as Trees, Argument, alone, and_more, single}
 use Rattle.expr_lang.specs.Token.{fits_of}
 use Rattle.expr_lang.specs.Words.{text_of, operands_of, items_of_place, start_of}
 
@@ -203,26 +204,58 @@ IsTextOf place text form = IsWhole place form × (blanks : List ℕ) × IsBlank 
 abbrev pub number_value : List ℕ → List ℕ → ℕ
 number_value digits decimals = digits_value 10 digits * 1000000 + digits_value 10 decimals * 10 ^ (6 - length decimals)
 
-abbrev pub applied : Call → Unary
-applied call.IsNull = unary.IsNull
-applied call.IsNotNull = unary.IsNotNull
-applied call.FirstNonNull = unary.FirstNonNull
-applied call.Greatest = unary.Greatest
-applied call.Least = unary.Least
-applied call.HasValue = unary.HasValue
-applied call.Zing = unary.Zing
-applied _ = unary.Oizp
+abbrev pub sign_of : Unary → syntax.Sign
+sign_of unary.Not = syntax.Not
+sign_of _ = syntax.Minus
 
--- the tree of a form; `days` has the elements and attributes whose values are days
-abbrev pub tree_of : List (List ℕ) → Form → Shape
-tree_of days (Number b digits decimals) = Operand (leaf.Number (number_value digits decimals))
-tree_of days (Item b form word) = Operand (item_leaf days (item_from form word))
-tree_of days (Bracket b inner c) = tree_of days inner
-tree_of days (Power atom b c digits) = One (unary.Power (digits_value 10 digits)) (tree_of days atom)
-tree_of days (Sign b sign operand) = One sign (tree_of days operand)
-tree_of days (Chain left b operator right) = Two operator (tree_of days left) (tree_of days right)
-tree_of days (Arguments first b last) = Two binary.Comma (tree_of days first) (tree_of days last)
-tree_of days (If b c test d one e other f) = Choice (tree_of days test) (tree_of days one) (tree_of days other)
-tree_of days (Condition b c d test e f one g other h) = Choice (tree_of days test) (tree_of days one) (tree_of days other)
-tree_of days (DaysBetween b c one d other e) = Two binary.DaysBetween (tree_of days one) (tree_of days other)
-tree_of days (Apply b name c arguments d) = One (applied name) (tree_of days arguments)
+abbrev pub operator_of : Binary → syntax.Operator
+operator_of binary.Or = syntax.Or
+operator_of binary.And = syntax.And
+operator_of binary.Equal = syntax.Equal
+operator_of binary.NotEqual = syntax.NotEqual
+operator_of binary.Less = syntax.Less
+operator_of binary.AtMost = syntax.AtMost
+operator_of binary.Greater = syntax.Greater
+operator_of binary.AtLeast = syntax.AtLeast
+operator_of binary.Add = syntax.Add
+operator_of binary.Subtract = syntax.Subtract
+operator_of binary.Multiply = syntax.Multiply
+operator_of binary.Divide = syntax.Divide
+operator_of _ = syntax.Remainder
+
+abbrev pub function_of : Call → syntax.Function
+function_of call.IsNull = syntax.IsNull
+function_of call.IsNotNull = syntax.IsNotNull
+function_of call.FirstNonNull = syntax.FirstNonNull
+function_of call.Greatest = syntax.Greatest
+function_of call.Least = syntax.Least
+function_of call.HasValue = syntax.HasValue
+function_of call.Zing = syntax.Zing
+function_of call.Oizp = syntax.Oizp
+function_of call.DaysBetween = syntax.DaysBetween
+function_of _ = syntax.If
+
+-- the calls with a number of arguments of their own
+abbrev pub call_of_two : syntax.Function → Trees → Trees → Trees
+call_of_two function xs ys = alone (syntax.Call function (Argument (single xs) (alone (single ys))))
+
+abbrev pub call_of_three : syntax.Function → Trees → Trees → Trees → Trees
+call_of_three function xs ys zs = alone (syntax.Call function (Argument (single xs) (Argument (single ys) (alone (single zs)))))
+
+-- The tree of a form, or those of a list of arguments; `days` has the elements and attributes whose values are days.
+abbrev pub trees_of : List (List ℕ) → Form → Trees
+trees_of days (Number b digits decimals) = alone (syntax.Operand (leaf.Number (number_value digits decimals)))
+trees_of days (Item b form word) = alone (syntax.Operand (item_leaf days (item_from form word)))
+trees_of days (Bracket b inner c) = trees_of days inner
+trees_of days (Power atom b c digits) = alone (syntax.Power (single (trees_of days atom)) (digits_value 10 digits))
+trees_of days (Sign b sign operand) = alone (syntax.Signed (sign_of sign) (single (trees_of days operand)))
+trees_of days (Chain left b operator right) =
+    alone (syntax.Between (operator_of operator) (single (trees_of days left)) (single (trees_of days right)))
+trees_of days (Arguments first b last) = and_more (trees_of days first) (alone (single (trees_of days last)))
+trees_of days (If b c test d one e other f) = call_of_three syntax.If (trees_of days test) (trees_of days one) (trees_of days other)
+trees_of days (Condition b c d test e f one g other h) = call_of_three syntax.If (trees_of days test) (trees_of days one) (trees_of days other)
+trees_of days (DaysBetween b c one d other e) = call_of_two syntax.DaysBetween (trees_of days one) (trees_of days other)
+trees_of days (Apply b name c arguments d) = alone (syntax.Call (function_of name) (trees_of days arguments))
+
+abbrev pub tree_of : List (List ℕ) → Form → Syntax
+tree_of days form = single (trees_of days form)

@@ -12,7 +12,8 @@ use Rattle.expr_lang.specs.Items.{Occurrence, item_of_leaf_of, with_occurrence, 
 use Rattle.expr_lang.specs.Leaves.{item_leaf}
 use Rattle.expr_grammar.specs.Grammar.{Form, Number, Item as Named, Bracket, Power, Sign, Chain, Arguments, If, Condition, DaysBetween, Apply, IsTextOf}
 use Rattle.expr_grammar.specs.Grammar.{spelled, symbol_text, after_blanks}
-use Rattle.expr_lang.specs.Shape.{Shape, Operand, One, Two, Choice}
+use Rattle.expr_lang.specs.Syntax as syntax
+use Rattle.expr_lang.specs.Syntax.{Syntax}
 
 abbrev pub items_of_leaf : Leaf → List Item
 items_of_leaf (leaf.Number n) = []
@@ -20,11 +21,17 @@ items_of_leaf (leaf.Item i) = i ∷ []
 items_of_leaf (leaf.Day i) = i ∷ []
 
 -- each occurrence of an item, from left to right
-abbrev pub items_of : Shape → List Item
-items_of (Operand it) = items_of_leaf it
-items_of (One operator operand) = items_of operand
-items_of (Two operator left right) = items_of left ++ items_of right
-items_of (Choice test one other) = (items_of test ++ items_of one) ++ items_of other
+abbrev mutual
+  pub items_of : Syntax → List Item
+  items_of (syntax.Operand it) = items_of_leaf it
+  items_of (syntax.Signed sign x) = items_of x
+  items_of (syntax.Power x n) = items_of x
+  items_of (syntax.Between operator x y) = items_of x ++ items_of y
+  items_of (syntax.Call function xs) = items_of_all xs
+
+  pub items_of_all : syntax.Arguments → List Item
+  items_of_all syntax.End = []
+  items_of_all (syntax.Argument x xs) = items_of x ++ items_of_all xs
 
 -- these and those that are different from them, in order of their first occurrence
 abbrev pub Different : List Item → List Item → List Item → Type 0

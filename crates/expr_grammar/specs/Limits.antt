@@ -5,7 +5,8 @@ use Rattle.expr_lang.specs.declared.tree.Sort.{Sort}
 use Rattle.expr_lang.specs.Expression.{Expression}
 use Rattle.expr_lang.specs.declared.fault.ExprFault.{ExprFault}
 use Rattle.expr_lang.specs.declared.fault.ExprFault.TheVariants as fault
-use Rattle.expr_lang.specs.Shape.{Shape}
+use Rattle.expr_lang.specs.Stored.{syntax_of}
+use Rattle.expr_lang.specs.Syntax.{Syntax}
 use Rattle.expr_grammar.specs.Brackets.{crowded_bracket}
 use Rattle.expr_grammar.specs.Fewest.{open_of}
 use Rattle.expr_grammar.specs.Grammar.{Form, IsTextOf, tree_of}
@@ -24,14 +25,14 @@ IsFlat days form = (open_of form ≤ 64) × (depth_of (tree_of days form) ≤ 51
 abbrev pub deep_place : List (List ℕ) → List ℕ → Form → Option ℕ
 deep_place days text form = if nat_lt 512 (depth_of (tree_of days form)) then Some 0 else crowded_bracket text
 
-abbrev pub is_sorted : Option Sort → Shape → Bool
+abbrev pub is_sorted : Option Sort → Syntax → Bool
 is_sorted wanted tree = has_sort wanted tree && sorts_fit tree
 
 -- An answer is the tree of a form of the text that is flat and whose sorts fit. A fault of syntax says that the text has no
 -- form, one of depth or of sorts that it has a form, which is the first of these that fails, and where.
 abbrev pub AnswersBy : Place → List (List ℕ) → Option Sort → List ℕ → Result Expression ExprFault → Type 0
 AnswersBy place days wanted text (Ok expr) =
-    (form : Form) × IsWritten place text form × IsFlat days form × (is_sorted wanted (tree_of days form) ≡ true) × (tree_of days form ≡ expr.tree)
+    (form : Form) × IsWritten place text form × IsFlat days form × (is_sorted wanted (tree_of days form) ≡ true) × (tree_of days form ≡ syntax_of expr.tree)
 AnswersBy place days wanted text (Err (fault.Syntax at)) = (form : Form) → ¬ (IsWritten place text form)
 AnswersBy place days wanted text (Err (fault.TooDeep at)) =
     (form : Form) × IsWritten place text form × (¬ (IsFlat days form)) × (deep_place days text form ≡ Some at)

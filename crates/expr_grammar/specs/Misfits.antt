@@ -4,11 +4,12 @@ use Rattle.expr_lang.specs.declared.tree.Leaf.TheVariants as leaf
 use Rattle.expr_lang.specs.declared.tree.Sort.{Sort}
 use Rattle.expr_lang.specs.declared.tree.Sort.TheVariants as sort
 use Rattle.expr_lang.specs.declared.words.Symbol.TheVariants as symbol
-use Rattle.expr_lang.specs.Shape.{Shape, Operand}
-use Rattle.expr_lang.specs.Survey.{taken_by_of, taken_by_two, first_of_two}
+use Rattle.expr_lang.specs.Survey.{first_of_two}
+use Rattle.expr_lang.specs.Syntax as syntax
+use Rattle.expr_lang.specs.Syntax.{Syntax}
 use Rattle.expr_grammar.specs.Grammar.{Form, Number, Item, Bracket, Power, Sign, Chain, Arguments, If, Condition, DaysBetween, Apply, after_blanks}
-use Rattle.expr_grammar.specs.Grammar.{symbol_text, spelled, applied, tree_of}
-use Rattle.expr_grammar.specs.Sorts.{has_sort}
+use Rattle.expr_grammar.specs.Grammar.{symbol_text, spelled, sign_of, operator_of, function_of, tree_of}
+use Rattle.expr_grammar.specs.Sorts.{taken_signed, taken_between, taken_called, has_sort}
 
 -- The place of a word in a text of so many bytes, from the word and all that is left after it.
 abbrev pub place_from : ℕ → List ℕ → ℕ
@@ -28,12 +29,12 @@ place_of total (Condition b c d test e f one g other h) rest = place_from total 
 place_of total (DaysBetween b c one d other e) rest = place_from total (spelled (DaysBetween [] c one d other e) rest)
 place_of total (Apply b name c arguments d) rest = place_from total (spelled (Apply [] name c arguments d) rest)
 
-abbrev pub is_number : Shape → Bool
-is_number (Operand (leaf.Number n)) = true
+abbrev pub is_number : Syntax → Bool
+is_number (syntax.Operand (leaf.Number n)) = true
 is_number _ = false
 
 -- Where an operand has another sort than is taken, neither what takes it fits nor, unless it is a number, the operand.
-abbrev pub clash_of : ℕ → ℕ → Option Sort → Shape → List ℕ
+abbrev pub clash_of : ℕ → ℕ → Option Sort → Syntax → List ℕ
 clash_of taker place taken tree = if has_sort taken tree then [] else (if is_number tree then taker ∷ [] else taker ∷ place ∷ [])
 
 -- The places that don't fit in an operand, in a text of so many bytes and with a rest after it: what stands at `taker` takes it
@@ -50,12 +51,12 @@ misfits_of days total taker taken (Power atom b c digits) rest =
     ++ misfits_of days total at (Some sort.Number) atom (symbol_text b symbol.Caret (after_blanks c digits rest))
 misfits_of days total taker taken (Sign b sign operand) rest =
     let at = place_of total (Sign b sign operand) rest in
-    clash_of taker at taken (tree_of days (Sign b sign operand)) ++ misfits_of days total at (taken_by_of sign) operand rest
+    clash_of taker at taken (tree_of days (Sign b sign operand)) ++ misfits_of days total at (Some (taken_signed (sign_of sign))) operand rest
 misfits_of days total taker taken (Chain left b operator right) rest =
     let at = place_of total (Chain left b operator right) rest in
     clash_of taker at taken (tree_of days (Chain left b operator right))
-    ++ (misfits_of days total at (Some (taken_by_two operator)) left (symbol_text b (symbol.Operator operator) (spelled right rest))
-    ++ misfits_of days total at (Some (taken_by_two operator)) right rest)
+    ++ (misfits_of days total at (Some (taken_between (operator_of operator))) left (symbol_text b (symbol.Operator operator) (spelled right rest))
+    ++ misfits_of days total at (Some (taken_between (operator_of operator))) right rest)
 misfits_of days total taker taken (Arguments first b last) rest =
     misfits_of days total taker (Some sort.Number) first (symbol_text b symbol.Comma (spelled last rest))
     ++ misfits_of days total taker (Some sort.Number) last rest
@@ -82,7 +83,7 @@ misfits_of days total taker taken (DaysBetween b c one d other e) rest =
 misfits_of days total taker taken (Apply b name c arguments d) rest =
     let at = place_of total (Apply b name c arguments d) rest in
     clash_of taker at taken (tree_of days (Apply b name c arguments d))
-    ++ misfits_of days total at (taken_by_of (applied name)) arguments (symbol_text d symbol.Close rest)
+    ++ misfits_of days total at (taken_called (function_of name)) arguments (symbol_text d symbol.Close rest)
 
 -- the least of places
 abbrev pub least_of : List ℕ → Option ℕ

@@ -9,6 +9,7 @@ ghost use Rattle.dh_base.specs.Memory.{Answers};
 ghost use Rattle.expr_lang.specs.Causes.{cause_of};
 ghost use Rattle.expr_lang.specs.Expr.{parse_of};
 ghost use Rattle.expr_lang.specs.Faults.{IfSyntax};
+ghost use Rattle.expr_lang.specs.Stored.{syntax_of};
 
 use dh_base::uid::Uid;
 use expr_lang::{Expr, ExprFault, Place, Sort};
@@ -25,9 +26,9 @@ pub fn parse(alloc: Global, text: &[u8], place: Place, days: &[Uid]) -> Result<E
     ensures before { IfErr (parse_of place days.now None text.now) (λ fault. IfSyntax fault (GoesOnAt place text.now)) }
     ensures ends { IfErr (parse_of place days.now None text.now) (λ fault. IfSyntax fault (EndsAt place text.now)) }
     // All forms that the text is have one tree.
-    ensures one { IfOk (parse_of place days.now None text.now) (λ expr. OneTree place days.now text.now expr.tree) }
+    ensures one { IfOk (parse_of place days.now None text.now) (λ expr. OneTree place days.now text.now (syntax_of expr.tree)) }
     // Its items are those of the tree, in order of their first occurrence.
-    ensures items { IfOk (parse_of place days.now None text.now) (λ expr. Different (items_of expr.tree) [] expr.items) }
+    ensures items { IfOk (parse_of place days.now None text.now) (λ expr. Different (items_of (syntax_of expr.tree)) [] expr.items) }
     // The place of an item is where its first occurrence stands in the form.
     ensures places { IfOk (parse_of place days.now None text.now) (λ expr. ListsItems place days.now text.now expr) }
 {
@@ -46,8 +47,8 @@ pub fn parse_sorted(
     ensures read { AnswersBy place days.now (Some wanted) text.now (parse_of place days.now (Some wanted) text.now) }
     ensures before { IfErr (parse_of place days.now (Some wanted) text.now) (λ fault. IfSyntax fault (GoesOnAt place text.now)) }
     ensures ends { IfErr (parse_of place days.now (Some wanted) text.now) (λ fault. IfSyntax fault (EndsAt place text.now)) }
-    ensures one { IfOk (parse_of place days.now (Some wanted) text.now) (λ expr. OneTree place days.now text.now expr.tree) }
-    ensures items { IfOk (parse_of place days.now (Some wanted) text.now) (λ expr. Different (items_of expr.tree) [] expr.items) }
+    ensures one { IfOk (parse_of place days.now (Some wanted) text.now) (λ expr. OneTree place days.now text.now (syntax_of expr.tree)) }
+    ensures items { IfOk (parse_of place days.now (Some wanted) text.now) (λ expr. Different (items_of (syntax_of expr.tree)) [] expr.items) }
     ensures places { IfOk (parse_of place days.now (Some wanted) text.now) (λ expr. ListsItems place days.now text.now expr) }
 {
     expr_lang::parse_sorted(alloc, text, place, days, wanted)

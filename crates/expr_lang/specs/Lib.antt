@@ -7,6 +7,8 @@ pub mod Reading
 pub mod Leaves
 pub mod Survey
 pub mod Shape
+pub mod Syntax
+pub mod Stored
 pub mod Expression
 pub mod Build
 pub mod Items

@@ -1,4 +1,4 @@
--- Trees as plain data.
+-- Trees as they lie in memory, as plain data. `Stored.antt` says which tree such a one is.
 use Rattle.std.specs.Prelude.{ℕ, ◌+◌, max, List, [], ◌∷◌, ◌++◌}
 use Rattle.expr_lang.specs.declared.tree.Leaf.{Leaf}
 use Rattle.expr_lang.specs.declared.tree.Unary.{Unary}

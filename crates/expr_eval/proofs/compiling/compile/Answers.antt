@@ -3,7 +3,7 @@ use Rattle.expr_lang.specs.declared.tree.Item.{Item}
 use Rattle.expr_lang.specs.Expr.{items_in}
 use Rattle.expr_lang.specs.Shape.{Shape, shape_of}
 use Rattle.expr_eval.specs.declared.code.Instr.{Instr}
-use Rattle.expr_eval.specs.Meaning.{plain_items}
+use Rattle.expr_eval.specs.Applied.{plain_items}
 use Rattle.expr_eval.specs.Given.{index_in}
 use Rattle.expr_eval.specs.Code.{codes_of}
 use Rattle.expr_eval.proofs.Meanings.{means}
