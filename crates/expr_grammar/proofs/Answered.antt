@@ -1,5 +1,5 @@
 -- What an answer says by the grammar.
-use Rattle.std.proofs.Common.{◌≡◌, [], ◌∷◌, ◌++◌, subst, ℕ, ◌+◌, ◌≤◌, Bool, true, false, cond, List, length, take, Option, Some, None, Result, Ok, Err, refl}
+use Rattle.std.proofs.Common.{◌≡◌, [], ◌∷◌, subst, ℕ, ◌≤◌, Bool, true, false, cond, List, length, take, Option, Some, None, Result, Ok, Err, refl}
 use Rattle.std.proofs.Common.{sym, ap, ◌∙◌, arith}
 use Rattle.std.specs.Prelude.{nat_le, nat_lt, IfOk, IfErr}
 use Rattle.std.proofs.lemmas.Bool.Decides.{nat_tests}
@@ -25,12 +25,13 @@ use Rattle.expr_grammar.proofs.Stored.{tree_of}
 use Rattle.expr_grammar.proofs.Stored.{OneTree}
 use Rattle.expr_grammar.proofs.Listed.{items_at, items_so, different_so}
 use Rattle.expr_grammar.proofs.Stored.{AnswersBy}
-use Rattle.expr_grammar.proofs.Limits.{meant_by, none_of}
+use Rattle.expr_grammar.proofs.Limits.{meant_by}
 use Rattle.expr_grammar.proofs.Faulted.{goes_on}
-use Rattle.expr_grammar.specs.Continues.{GoesOnAt, EndsAt}
-use Rattle.expr_lang.proofs.Local.{first_fault}
+use Rattle.expr_grammar.specs.Continues.{GoesOnAt, EndsAt, OnlyAt}
+use Rattle.expr_grammar.proofs.Ended.{ends_so}
+use Rattle.expr_grammar.proofs.OnlyPlace.{only_so}
 use Rattle.expr_lang.proofs.ExprLemmas.{IsOf-expression_of}
-use Rattle.expr_lang.specs.Faults.{FaultsAtOnce, IfSyntax}
+use Rattle.expr_lang.specs.Faults.{IfSyntax}
 use Rattle.expr_grammar.proofs.Sound.{text_sound}
 use Rattle.expr_grammar.proofs.Texts.{text_read, text_told}
 
@@ -146,15 +147,8 @@ module _ (p : Place) (days : List (List ℕ)) (wanted : Option Sort) (text : Lis
   pub before_fault : IfErr (parse_of p days wanted text) (λ f. IfSyntax f (GoesOnAt p text))
   before_fault = goes_on p text days wanted (parse_of p days wanted text) meant
 
-  ends : (at : ℕ) → FaultsAtOnce p days wanted text at → EndsAt p text at
-  ends at h less more form = none_of p days wanted (take (at + 1) text ++ more) (text_sound p (take (at + 1) text ++ more)) at (h less more) form
-
-  ends_from : (r : Result Expr ExprFault) → IfErr r (λ f. IfSyntax f (FaultsAtOnce p days wanted text)) → IfErr r (λ f. IfSyntax f (EndsAt p text))
-  ends_from (Ok expr) h = tt
-  ends_from (Err fault.Memory) h = tt
-  ends_from (Err (fault.Syntax at)) h = ends at h
-  ends_from (Err (fault.TooDeep at)) h = tt
-  ends_from (Err (fault.Sort at)) h = tt
-
   pub ends_at : IfErr (parse_of p days wanted text) (λ f. IfSyntax f (EndsAt p text))
-  ends_at = ends_from (parse_of p days wanted text) (first_fault (IsOf text days) p days wanted text (parse_of p days wanted text) meant)
+  ends_at = ends_so p text days wanted (parse_of p days wanted text) meant
+
+  pub only_at : IfErr (parse_of p days wanted text) (λ f. IfSyntax f (OnlyAt p text))
+  only_at = only_so p text (parse_of p days wanted text) before_fault ends_at

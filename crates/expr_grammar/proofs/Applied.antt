@@ -251,4 +251,4 @@ module _ (p : Place) (days : List (List ℕ)) (text : List ℕ) where
       one.first w.1.1 in
       close_list b name d F g one L e fs ns o c q at rest k r w.1.0 blank'' there
       (ih name k fs ns (o + 1) w.0 q w.1.0 (symbol_text g symbol.Close rest) one.list one.later one.most form
-      (named_far text at w.1.0 b name d more here there.stands) (calm_follows g (text_of symbol.Close) rest blank'' close_calm) there.stands) refl here
+      (named_far text at w.1.0 b name d more here there.stands) (calm_follows g (text_of symbol.Close) rest blank'' close_calm) there.stands).0 refl here

@@ -1,6 +1,6 @@
 -- Each call of the grammar is read, and with that each form.
 use Rattle.std.proofs.Common.{◌≡◌, ℕ, ◌+◌, ◌-◌, ◌<◌, ◌≤◌, Bool, true, false, cond, List, [], ◌∷◌, ◌++◌, length, Option, Some, refl, ap, subst, ◌∙◌}
-use Rattle.std.proofs.Common.{append_assoc, arith}
+use Rattle.std.proofs.Common.{append_assoc, arith, ◌⊎◌, inl, inr}
 use Rattle.std.specs.Prelude.{◌&&◌, nat_lt}
 use Rattle.std.proofs.lemmas.Bool.Decides.{nat_tests}
 use Rattle.expr_lang.specs.declared.tree.Place.{Place}
@@ -20,6 +20,7 @@ use Rattle.expr_lang.specs.Reading.{enclosing_of, least_arguments, most_argument
 use Rattle.expr_lang.specs.Reading.{counted_of, later_argument, is_list_of}
 use Rattle.expr_lang.specs.Words.{text_of}
 use Rattle.expr_grammar.specs.Grammar.{Form, Arguments, If, Condition, DaysBetween, IsBlank, IsForm, symbol_text, spelled}
+use Rattle.expr_grammar.proofs.Few.{argument_count, count_some}
 use Rattle.expr_grammar.proofs.Steps.{At, Goes, then_goes, at_past}
 use Rattle.expr_grammar.proofs.Moves.{rd, Comes, name_move, comma_move, close_move, unquote_move, quote_move, behind_quote_move}
 use Rattle.expr_grammar.proofs.Completed.{Told, told_in, told_of, Tells, tells_known, Follows, calm_follows, close_calm, comma_calm, quote_calm, place_past}
@@ -222,83 +223,91 @@ module _ (p : Place) (days : List (List ℕ)) (text : List ℕ) where
   Lists F = (name : Call) (k : ℕ) (fs : List Frame) (ns : List Spot) (o : ℕ) (c : Option ℕ) (q : Bool) (at : ℕ) (rest : List ℕ)
       → is_list_of name ≡ true → later_argument name ≡ expect.Operand → most_arguments name ≡ 4096 → IsForm p q 0 F → 2 ≤ at → Follows rest
       → At text at (spelled F rest)
-      → Listing (call_frame k name 0) fs ns q (rd expect.Operand (frame.Call (call_frame k name 0) ∷ fs) ns o c q) at (spelled F rest) rest
-      (told_in k days (length text) F rest)
+      → (one : Listing (call_frame k name 0) fs ns q (rd expect.Operand (frame.Call (call_frame k name 0) ∷ fs) ns o c q) at (spelled F rest) rest
+      (told_in k days (length text) F rest)) × (one.last.count + 1 ≤ argument_count F)
 
   -- one argument
   pub lists_one : (F : Form) → Reads p days text F → ((q : Bool) → IsForm p q 0 F → IsForm p q 1 F) → Lists F
   lists_one F ih up name k fs ns o c q at rest list later most is two follows here =
       let cf = call_frame k name 0 in
-      let one = argument F ih cf fs ns o c q at rest (up q is) follows here in
-      record {
-        power = one.power;
-        frames = one.frames;
-        nodes = one.nodes;
-        opened = one.opened;
-        crowded = one.crowded;
-        past = one.past;
-        own = one.own;
-        last = cf;
-        goes = one.goes;
-        call = refl;
-        place = refl;
-        few = omega (arith, one.goes.far);
-        outer = one.after.outer;
-        reduced = one.after.reduced 1 (omega arith);
-        list = one.after.whole 1 (omega arith);
-        tree =
-            tells_known text days one.own (told_of days (length text) F rest) (known_of days (length text) k F rest)
-            (known_any p q 1 F (omega arith) (up q is) days (length text) k rest) one.tree;
-      }
+      let one = argument F ih cf fs ns o c q at rest (up q is) follows here in (
+        record {
+          power = one.power;
+          frames = one.frames;
+          nodes = one.nodes;
+          opened = one.opened;
+          crowded = one.crowded;
+          past = one.past;
+          own = one.own;
+          last = cf;
+          goes = one.goes;
+          call = refl;
+          place = refl;
+          few = omega (arith, one.goes.far);
+          outer = one.after.outer;
+          reduced = one.after.reduced 1 (omega arith);
+          list = one.after.whole 1 (omega arith);
+          tree =
+              tells_known text days one.own (told_of days (length text) F rest) (known_of days (length text) k F rest)
+              (known_any p q 1 F (omega arith) (up q is) days (length text) k rest) one.tree;
+        },
+        omega (arith, count_some F),
+      )
 
-  module _ (short : length text ≤ 4096) where
-    at_within : (at : ℕ) (bytes : List ℕ) → At text at bytes → at + length bytes ≤ 4096
-    at_within at bytes here = omega (arith, here.all)
+  -- where a text or its lists aren't long
+  abbrev pub Short : Type 0 → Type 0
+  Short few = (length text ≤ 4096) ⊎ few
 
-    -- the comma after arguments
-    more_argument : (name : Call) (k : ℕ) (fs : List Frame) (ns : List Spot) (q : Bool) (r : Reader) (at : ℕ) (bytes b beyond : List ℕ) (shape : Told)
-        → later_argument name ≡ expect.Operand → most_arguments name ≡ 4096 → IsBlank b
-        → (one : Listing (call_frame k name 0) fs ns q r at bytes (symbol_text b symbol.Comma beyond) shape)
-        → (past : ℕ) × Goes p text (rd (expect.Operator one.power) one.frames one.nodes one.opened one.crowded q) one.past (symbol_text b symbol.Comma beyond)
-        (rd expect.Operand (frame.Call (counted_of one.last) ∷ fs) (ns ++ one.own) one.opened one.crowded q) past beyond × (one.past + 1 ≤ past)
-    unfolding text_of
-    more_argument name k fs ns q r at bytes b beyond shape later most blank one =
-        let same : most_arguments one.last.call ≡ 4096 = ap most_arguments one.call ∙ most in
-        let few : one.last.count + 1 < most_arguments one.last.call =
-        omega (arith, same, one.few, at_within one.past (symbol_text b symbol.Comma beyond) one.goes.stands) in
-        let move =
-        comma_move p text one.power one.frames one.nodes one.opened one.crowded q one.past b beyond blank one.last fs (nodes_reduced 1 one.frames one.nodes)
-        one.outer one.reduced refl few one.goes.stands in
-        let next : later_argument one.last.call ≡ expect.Operand = ap later_argument one.call ∙ later in
-        let comma = at_past text one.past b (text_of symbol.Comma ++ beyond) one.goes.stands in (
-          move.0,
-          subst (λ (x : List Spot). Goes p text (rd (expect.Operator one.power) one.frames one.nodes one.opened one.crowded q) one.past
-              (symbol_text b symbol.Comma beyond) (rd expect.Operand (frame.Call (counted_of one.last) ∷ fs) x one.opened one.crowded q) move.0 beyond) one.list
-              (subst (λ (x : Expect). Goes p text (rd (expect.Operator one.power) one.frames one.nodes one.opened one.crowded q) one.past
-              (symbol_text b symbol.Comma beyond)
-              (rd x (frame.Call (counted_of one.last) ∷ fs) (joined one.last (nodes_reduced 1 one.frames one.nodes)) one.opened one.crowded q) move.0
-              beyond) next move.1),
-          omega (arith, comma.all, move.1.stands.all),
-        )
+  short_list : (F : Form) (cf : CallFrame) (at : ℕ) (bytes : List ℕ) → Short (argument_count F + 1 ≤ 4096) → At text at bytes → cf.count + 2 ≤ at
+      → cf.count + 1 ≤ argument_count F → cf.count + 1 < 4096
+  short_list F cf at bytes (inl short) here few many = omega (arith, here.all, few, short)
+  short_list F cf at bytes (inr most) here few many = omega (arith, many, most)
 
-    list_joined : (cf : CallFrame) (ns xs ys nodes : List Spot) → 1 ≤ cf.count → is_list_of cf.call ≡ true → nodes ≡ (ns ++ xs) ++ ys
-        → joined cf nodes ≡ ns ++ ((xs ++ ys) ++ spot_of cf.at (node.Binary binary.Comma) ∷ [])
-    list_joined cf ns xs ys nodes some list e = joins cf nodes some list ∙ ap (λ (l : List Spot). l ++ spot_of cf.at (node.Binary binary.Comma) ∷ []) e
-        ∙ simp append_assoc
+  -- the comma after arguments
+  more_argument : (name : Call) (k : ℕ) (fs : List Frame) (ns : List Spot) (q : Bool) (r : Reader) (at : ℕ) (bytes b beyond : List ℕ) (shape : Told)
+      → later_argument name ≡ expect.Operand → most_arguments name ≡ 4096 → IsBlank b
+      → (one : Listing (call_frame k name 0) fs ns q r at bytes (symbol_text b symbol.Comma beyond) shape) → one.last.count + 1 < 4096
+      → (past : ℕ) × Goes p text (rd (expect.Operator one.power) one.frames one.nodes one.opened one.crowded q) one.past (symbol_text b symbol.Comma beyond)
+      (rd expect.Operand (frame.Call (counted_of one.last) ∷ fs) (ns ++ one.own) one.opened one.crowded q) past beyond × (one.past + 1 ≤ past)
+  unfolding text_of
+  more_argument name k fs ns q r at bytes b beyond shape later most blank one room =
+      let same : most_arguments one.last.call ≡ 4096 = ap most_arguments one.call ∙ most in
+      let few : one.last.count + 1 < most_arguments one.last.call = omega (arith, same, room) in
+      let move =
+      comma_move p text one.power one.frames one.nodes one.opened one.crowded q one.past b beyond blank one.last fs (nodes_reduced 1 one.frames one.nodes)
+      one.outer one.reduced refl few one.goes.stands in
+      let next : later_argument one.last.call ≡ expect.Operand = ap later_argument one.call ∙ later in
+      let comma = at_past text one.past b (text_of symbol.Comma ++ beyond) one.goes.stands in (
+        move.0,
+        subst (λ (x : List Spot). Goes p text (rd (expect.Operator one.power) one.frames one.nodes one.opened one.crowded q) one.past
+            (symbol_text b symbol.Comma beyond) (rd expect.Operand (frame.Call (counted_of one.last) ∷ fs) x one.opened one.crowded q) move.0 beyond) one.list
+            (subst (λ (x : Expect). Goes p text (rd (expect.Operator one.power) one.frames one.nodes one.opened one.crowded q) one.past
+            (symbol_text b symbol.Comma beyond)
+            (rd x (frame.Call (counted_of one.last) ∷ fs) (joined one.last (nodes_reduced 1 one.frames one.nodes)) one.opened one.crowded q) move.0
+            beyond) next move.1),
+        omega (arith, comma.all, move.1.stands.all),
+      )
 
-    list_on : (first : Form) (b : List ℕ) (last : Form) (name : Call) (k : ℕ) (fs : List Frame) (ns : List Spot) (q : Bool) (r : Reader) (at : ℕ)
-        (bytes rest : List ℕ) → is_list_of name ≡ true
-        → (one : Listing (call_frame k name 0) fs ns q r at bytes (symbol_text b symbol.Comma (spelled last rest))
-        (told_in k days (length text) first (symbol_text b symbol.Comma (spelled last rest)))) (past : ℕ)
-        → Goes p text (rd (expect.Operator one.power) one.frames one.nodes one.opened one.crowded q) one.past (symbol_text b symbol.Comma (spelled last rest))
-        (rd expect.Operand (frame.Call (counted_of one.last) ∷ fs) (ns ++ one.own) one.opened one.crowded q) past (spelled last rest)
-        → one.past + 1 ≤ past
-        → Reading p days text 1 (frame.Call (counted_of one.last) ∷ fs) (ns ++ one.own) q
-        (rd expect.Operand (frame.Call (counted_of one.last) ∷ fs) (ns ++ one.own) one.opened one.crowded q) past (spelled last rest) rest
-        (told_of days (length text) last rest)
-        → Listing (call_frame k name 0) fs ns q r at bytes rest (told_in k days (length text) (Arguments first b last) rest)
-    list_on first b last name k fs ns q r at bytes rest list one past move passed three =
-        let some = counted_some one.last in
+  list_joined : (cf : CallFrame) (ns xs ys nodes : List Spot) → 1 ≤ cf.count → is_list_of cf.call ≡ true → nodes ≡ (ns ++ xs) ++ ys
+      → joined cf nodes ≡ ns ++ ((xs ++ ys) ++ spot_of cf.at (node.Binary binary.Comma) ∷ [])
+  list_joined cf ns xs ys nodes some list e = joins cf nodes some list ∙ ap (λ (l : List Spot). l ++ spot_of cf.at (node.Binary binary.Comma) ∷ []) e
+      ∙ simp append_assoc
+
+  list_on : (first : Form) (b : List ℕ) (last : Form) (name : Call) (k : ℕ) (fs : List Frame) (ns : List Spot) (q : Bool) (r : Reader) (at : ℕ)
+      (bytes rest : List ℕ) → is_list_of name ≡ true
+      → (one : Listing (call_frame k name 0) fs ns q r at bytes (symbol_text b symbol.Comma (spelled last rest))
+      (told_in k days (length text) first (symbol_text b symbol.Comma (spelled last rest)))) (past : ℕ)
+      → Goes p text (rd (expect.Operator one.power) one.frames one.nodes one.opened one.crowded q) one.past (symbol_text b symbol.Comma (spelled last rest))
+      (rd expect.Operand (frame.Call (counted_of one.last) ∷ fs) (ns ++ one.own) one.opened one.crowded q) past (spelled last rest)
+      → one.past + 1 ≤ past
+      → Reading p days text 1 (frame.Call (counted_of one.last) ∷ fs) (ns ++ one.own) q
+      (rd expect.Operand (frame.Call (counted_of one.last) ∷ fs) (ns ++ one.own) one.opened one.crowded q) past (spelled last rest) rest
+      (told_of days (length text) last rest)
+      → one.last.count + 1 ≤ argument_count first
+      → (all : Listing (call_frame k name 0) fs ns q r at bytes rest (told_in k days (length text) (Arguments first b last) rest))
+      × (all.last.count + 1 ≤ argument_count first + 1)
+  list_on first b last name k fs ns q r at bytes rest list one past move passed three many =
+      let some = counted_some one.last in (
         record {
           power = three.power;
           frames = three.frames;
@@ -328,27 +337,33 @@ module _ (p : Place) (days : List (List ℕ)) (text : List ℕ) where
               evals_two text days one.own three.own one.last.at k binary.Comma
               (told_in k days (length text) first (symbol_text b symbol.Comma (spelled last rest))) (told_of days (length text) last rest) one.place one.tree
               three.tree;
-        }
+        },
+        omega (arith, some.1, many),
+      )
 
-    pub lists_more : (first : Form) (b : List ℕ) (last : Form) → Lists first → Reads p days text last → Lists (Arguments first b last)
-    lists_more first b last ihf ihl name k fs ns o c q at rest list later most is two follows here =
-        let one =
-        ihf name k fs ns o c q at (symbol_text b symbol.Comma (spelled last rest)) list later most is.1 two
-        (calm_follows b (text_of symbol.Comma) (spelled last rest) is.2 comma_calm) here in
-        then_list one (more_argument name k fs ns q (rd expect.Operand (frame.Call (call_frame k name 0) ∷ fs) ns o c q) at
-        (spelled first (symbol_text b symbol.Comma (spelled last rest))) b (spelled last rest)
-        (told_in k days (length text) first (symbol_text b symbol.Comma (spelled last rest))) later most is.2 one)
-      where
-        then_list : (one : Listing (call_frame k name 0) fs ns q (rd expect.Operand (frame.Call (call_frame k name 0) ∷ fs) ns o c q) at
-            (spelled first (symbol_text b symbol.Comma (spelled last rest))) (symbol_text b symbol.Comma (spelled last rest))
-            (told_in k days (length text) first (symbol_text b symbol.Comma (spelled last rest))))
-            → (past : ℕ) × Goes p text (rd (expect.Operator one.power) one.frames one.nodes one.opened one.crowded q) one.past
-            (symbol_text b symbol.Comma (spelled last rest))
-            (rd expect.Operand (frame.Call (counted_of one.last) ∷ fs) (ns ++ one.own) one.opened one.crowded q) past (spelled last rest)
-            × (one.past + 1 ≤ past)
-            → Listing (call_frame k name 0) fs ns q (rd expect.Operand (frame.Call (call_frame k name 0) ∷ fs) ns o c q) at
-            (spelled (Arguments first b last) rest) rest (told_in k days (length text) (Arguments first b last) rest)
-        then_list one move =
-            list_on first b last name k fs ns q (rd expect.Operand (frame.Call (call_frame k name 0) ∷ fs) ns o c q) at (spelled (Arguments first b last) rest)
-            rest list one move.0 move.1 move.2
-            (argument last ihl (counted_of one.last) fs (ns ++ one.own) one.opened one.crowded q move.0 rest is.3 follows move.1.stands)
+  pub lists_more : (first : Form) (b : List ℕ) (last : Form) → Short (argument_count first + 1 ≤ 4096) → Lists first → Reads p days text last
+      → Lists (Arguments first b last)
+  lists_more first b last short ihf ihl name k fs ns o c q at rest list later most is two follows here =
+      let one =
+      ihf name k fs ns o c q at (symbol_text b symbol.Comma (spelled last rest)) list later most is.1 two
+      (calm_follows b (text_of symbol.Comma) (spelled last rest) is.2 comma_calm) here in
+      then_list one.0 one.1 (more_argument name k fs ns q (rd expect.Operand (frame.Call (call_frame k name 0) ∷ fs) ns o c q) at
+      (spelled first (symbol_text b symbol.Comma (spelled last rest))) b (spelled last rest)
+      (told_in k days (length text) first (symbol_text b symbol.Comma (spelled last rest))) later most is.2 one.0
+      (short_list first one.0.last one.0.past (symbol_text b symbol.Comma (spelled last rest)) short one.0.goes.stands one.0.few one.1))
+    where
+      then_list : (one : Listing (call_frame k name 0) fs ns q (rd expect.Operand (frame.Call (call_frame k name 0) ∷ fs) ns o c q) at
+          (spelled first (symbol_text b symbol.Comma (spelled last rest))) (symbol_text b symbol.Comma (spelled last rest))
+          (told_in k days (length text) first (symbol_text b symbol.Comma (spelled last rest))))
+          → one.last.count + 1 ≤ argument_count first
+          → (past : ℕ) × Goes p text (rd (expect.Operator one.power) one.frames one.nodes one.opened one.crowded q) one.past
+          (symbol_text b symbol.Comma (spelled last rest))
+          (rd expect.Operand (frame.Call (counted_of one.last) ∷ fs) (ns ++ one.own) one.opened one.crowded q) past (spelled last rest)
+          × (one.past + 1 ≤ past)
+          → (all : Listing (call_frame k name 0) fs ns q (rd expect.Operand (frame.Call (call_frame k name 0) ∷ fs) ns o c q) at
+          (spelled (Arguments first b last) rest) rest (told_in k days (length text) (Arguments first b last) rest))
+          × (all.last.count + 1 ≤ argument_count first + 1)
+      then_list one many move =
+          list_on first b last name k fs ns q (rd expect.Operand (frame.Call (call_frame k name 0) ∷ fs) ns o c q) at (spelled (Arguments first b last) rest)
+          rest list one move.0 move.1 move.2
+          (argument last ihl (counted_of one.last) fs (ns ++ one.own) one.opened one.crowded q move.0 rest is.3 follows move.1.stands) many

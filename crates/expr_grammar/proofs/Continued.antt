@@ -30,7 +30,8 @@ use Rattle.expr_grammar.proofs.Moves.{rd}
 use Rattle.expr_grammar.proofs.Sound.{token_next}
 use Rattle.expr_grammar.proofs.Steps.{read_is, read_none}
 use Rattle.expr_grammar.proofs.Tokens.{IsLexeme, May, token_sound, digits_split}
-use Rattle.expr_grammar.proofs.Words.{both, blanks_split, drop_front, take_front, IsRaised, token_by, token_is}
+use Rattle.std.proofs.lemmas.List.{length-take}
+use Rattle.expr_grammar.proofs.Words.{both, blanks_split, drop_front, take_front, IsRaised, token_by, token_is, word_long}
 
 -- ---- a word of which the front is there
 
@@ -121,12 +122,13 @@ longest_fronts all allowed bytes (v ∷ vs) best sub h =
 
 -- ---- a token of which the front is there
 
-record Begun (e : Expect) (frames : List Frame) (quoted : Bool) (p : Place) (bytes : List ℕ) (n : ℕ) : Type 0 where
-  begun : Token
-  tail : List ℕ
-  within : n ≤ length bytes
-  may : May e frames quoted p begun
-  is : IsLexeme begun (take n bytes ++ tail)
+pub record Begun (e : Expect) (frames : List Frame) (quoted : Bool) (p : Place) (bytes : List ℕ) (n : ℕ) : Type 0 where
+  pub begun : Token
+  pub tail : List ℕ
+  pub within : n ≤ length bytes
+  pub may : May e frames quoted p begun
+  pub is : IsLexeme begun (take n bytes ++ tail)
+  pub more : 1 ≤ length tail
 
 exponent_err : (bytes : List ℕ) (n : ℕ) → exponent_of bytes ≡ Err n → n ≡ 0
 unfolding exponent_of
@@ -217,6 +219,7 @@ number_begun e frames quoted p bytes n takes plain h =
         record { some = h.some; few = h.few; whole = h.are; short = omega arith; part = (refl, tt) },
         refl,
       );
+      more = omega arith;
     }
 
 word_err : (o : Option Symbol) (len n : ℕ) → word_found o len ≡ Err n → (o ≡ None) × (len ≡ n)
@@ -235,7 +238,15 @@ word_begun : (e : Expect) (frames : List Frame) (quoted : Bool) (p : Place) (byt
     → Longer (words_for e p) (allowed_for e frames quoted) bytes n → 1 ≤ n → Begun e frames quoted p bytes n
 word_begun e frames quoted p bytes n h some =
     let r = subst (Fills (text_of h.word) bytes) h.front (fills (text_of h.word) bytes) in
-    record { begun = token.Word h.word; tail = r.tail; within = r.within; may = (h.among, h.may); is = r.is }
+    let long = word_long (text_of h.word) (take n bytes ++ r.tail) r.is in
+    record {
+      begun = token.Word h.word;
+      tail = r.tail;
+      within = r.within;
+      may = (h.among, h.may);
+      is = r.is;
+      more = omega (arith, long, h.more, length-append (take n bytes) r.tail, length-take n bytes);
+    }
 
 none_or : (n : ℕ) → (n ≡ 0) ⊎ (1 ≤ n)
 none_or zero = inl refl
@@ -274,7 +285,7 @@ plain_err e frames quoted p bytes n plain false f h =
       ]
     ]
 
-token_begun : (e : Expect) (frames : List Frame) (quoted : Bool) (p : Place) (bytes : List ℕ) (n : ℕ) → token_from e frames quoted p bytes ≡ Err n
+pub token_begun : (e : Expect) (frames : List Frame) (quoted : Bool) (p : Place) (bytes : List ℕ) (n : ℕ) → token_from e frames quoted p bytes ≡ Err n
     → (n ≡ 0) ⊎ Begun e frames quoted p bytes n
 token_begun e frames quoted p bytes n h =
     elim (raised_or e) [
@@ -285,7 +296,7 @@ token_begun e frames quoted p bytes n h =
 
 -- ---- the reader
 
-next_of : (p : Place) (s : Stage) (r : Reader) (at : ℕ) (b : List ℕ) (t : Token) (lexeme : List ℕ) → Like s r → Valid p s → IsBlank b
+pub next_of : (p : Place) (s : Stage) (r : Reader) (at : ℕ) (b : List ℕ) (t : Token) (lexeme : List ℕ) → Like s r → Valid p s → IsBlank b
     → May r.expect r.frames r.quoted p t → IsLexeme t lexeme → Next p s (with_token r at t) b lexeme
 next_of p s r at b t lexeme like v blank may is =
     let e : r ≡ rd (expect_of s) (stage_frames s) r.nodes r.opened r.crowded (stage_quoted s) =
@@ -297,7 +308,7 @@ next_of p s r at b t lexeme like v blank may is =
 
 module _ (p : Place) where
   -- what was read is spelled so
-  abbrev Spelled : Stage → List ℕ → Type 0
+  abbrev pub Spelled : Stage → List ℕ → Type 0
   Spelled s before = (rest : List ℕ) → before ++ rest ≡ spelled_stage s rest
 
   -- these bytes begin a text, or end in a quoted one

@@ -1,5 +1,6 @@
 -- Each form of the grammar is read, and each text.
-use Rattle.std.proofs.Common.{◌≡◌, ℕ, ◌+◌, ◌-◌, ◌≤◌, Bool, true, false, List, [], ◌∷◌, ◌++◌, length, Option, refl, ap, subst, arith}
+use Rattle.std.proofs.Common.{◌≡◌, ℕ, ◌+◌, ◌-◌, Bool, true, false, List, [], ◌∷◌, ◌++◌, length, Option, refl, ap, subst, arith}
+use Rattle.std.proofs.Common.{inl, inr}
 use Rattle.expr_lang.specs.declared.tree.Place.{Place}
 use Rattle.expr_lang.specs.declared.words.Symbol.TheVariants as symbol
 use Rattle.expr_lang.specs.declared.words.Call.{Call}
@@ -20,7 +21,8 @@ use Rattle.expr_grammar.proofs.Steps.{At, Goes}
 use Rattle.expr_grammar.proofs.Moves.{rd, IsOpen, name_move, last_move, lone_move, lone_item}
 use Rattle.expr_grammar.proofs.Completed.{told_in, told_of, calm_follows, close_calm, evals_item}
 use Rattle.expr_grammar.proofs.Productions.{Reading, Reads, both_come, reads_number, reads_item, reads_bracket, reads_power, reads_sign, reads_chain}
-use Rattle.expr_grammar.proofs.Calls.{reads_if, reads_between, reads_condition, Lists, lists_one, lists_more}
+use Rattle.expr_grammar.proofs.Few.{Few}
+use Rattle.expr_grammar.proofs.Calls.{reads_if, reads_between, reads_condition, Lists, lists_one, lists_more, Short}
 use Rattle.expr_grammar.proofs.Applied.{Plains, plains, called, apply_one, apply_list}
 
 module _ (p : Place) (days : List (List ℕ)) (text : List ℕ) where
@@ -103,47 +105,57 @@ module _ (p : Place) (days : List (List ℕ)) (text : List ℕ) where
       is.5 here
   reads_apply b name d F g ih il L e fs ns o c q at rest h some is loose single follows here = absurd is.4
 
-  module _ (short : length text ≤ 4096) where
-    pub reads : (F : Form) → Reads p days text F × Lists p days text F
-    reads (Number b digits decimals) =
-        (let one = reads_number p days text b digits decimals in (one, lists_one p days text (Number b digits decimals) one (λ q is. is)))
-    reads (Item b f word) = (let one = reads_item p days text b f word in (one, lists_one p days text (Item b f word) one (λ q is. is)))
-    reads (Bracket b inner d) =
-        (let one = reads_bracket p days text b inner d (reads inner).0 in (one, lists_one p days text (Bracket b inner d) one (λ q is. is)))
-    reads (Power atom b d digits) =
-        (let one =
-        reads_power p days text atom b d digits (reads atom).0 in (
-          one,
-          lists_one p days text (Power atom b d digits) one (λ q is. (omega arith, is.1, is.2, is.3, is.4)),
-        ))
-    reads (Sign b sign operand) =
-        (let one =
-        reads_sign p days text b sign operand (reads operand).0 in (
-          one,
-          lists_one p days text (Sign b sign operand) one (λ q is. (omega arith, is.1, is.2, is.3)),
-        ))
-    reads (Chain left b op right) =
-        (let one =
-        reads_chain p days text left b op right (reads left).0 (reads right).0 in (
-          one,
-          lists_one p days text (Chain left b op right) one (λ q is. (is.0, is.0, is.2, is.3, is.4)),
-        ))
-    reads (Arguments first b last) =
-        (λ L e fs ns o c q at rest h some is. absurd (omega (arith, is.0)), lists_more p days text short first b last (reads first).1 (reads last).0)
-    reads (If b d test f one g other i) =
-        (let r =
-        reads_if p days text b d test f one g other i (reads test).0 (reads one).0 (reads other).0 in (
-          r,
-          lists_one p days text (If b d test f one g other i) r (λ q is. is),
-        ))
-    reads (Condition b d f test g i one j other l) =
-        (let r =
-        reads_condition p days text b d f test g i one j other l (reads test).0 (reads one).0 (reads other).0 in (
-          r,
-          lists_one p days text (Condition b d f test g i one j other l) r (λ q is. is),
-        ))
-    reads (DaysBetween b d one f other g) =
-        (let r =
-        reads_between p days text b d one f other g (reads one).0 (reads other).0 in (r, lists_one p days text (DaysBetween b d one f other g) r (λ q is. is)))
-    reads (Apply b name d arguments g) =
-        (let h = reads arguments in let r = reads_apply b name d arguments g h.0 h.1 in (r, lists_one p days text (Apply b name d arguments g) r (λ q is. is)))
+  sub : {A B : Type 0} → (A → B) → Short p days text A → Short p days text B
+  sub f (inl short) = inl short
+  sub f (inr few) = inr (f few)
+
+  -- in a text of at most 4,096 bytes, or where no list is longer
+  pub reads : (F : Form) → Short p days text (Few F) → Reads p days text F × Lists p days text F
+  reads (Number b digits decimals) short =
+      (let one = reads_number p days text b digits decimals in (one, lists_one p days text (Number b digits decimals) one (λ q is. is)))
+  reads (Item b f word) short = (let one = reads_item p days text b f word in (one, lists_one p days text (Item b f word) one (λ q is. is)))
+  reads (Bracket b inner d) short =
+      (let one = reads_bracket p days text b inner d (reads inner short).0 in (one, lists_one p days text (Bracket b inner d) one (λ q is. is)))
+  reads (Power atom b d digits) short =
+      (let one =
+      reads_power p days text atom b d digits (reads atom short).0 in (
+        one,
+        lists_one p days text (Power atom b d digits) one (λ q is. (omega arith, is.1, is.2, is.3, is.4)),
+      ))
+  reads (Sign b sign operand) short =
+      (let one =
+      reads_sign p days text b sign operand (reads operand short).0 in (
+        one,
+        lists_one p days text (Sign b sign operand) one (λ q is. (omega arith, is.1, is.2, is.3)),
+      ))
+  reads (Chain left b op right) short =
+      (let one =
+      reads_chain p days text left b op right (reads left (sub (λ h. h.0) short)).0 (reads right (sub (λ h. h.1) short)).0 in (
+        one,
+        lists_one p days text (Chain left b op right) one (λ q is. (is.0, is.0, is.2, is.3, is.4)),
+      ))
+  reads (Arguments first b last) short = (
+    λ L e fs ns o c q at rest h some is. absurd (omega (arith, is.0)),
+    lists_more p days text first b last (sub (λ h. h.0) short) (reads first (sub (λ h. h.1) short)).1 (reads last (sub (λ h. h.2) short)).0,
+  )
+  reads (If b d test f one g other i) short =
+      (let r =
+      reads_if p days text b d test f one g other i (reads test (sub (λ h. h.0) short)).0 (reads one (sub (λ h. h.1) short)).0
+      (reads other (sub (λ h. h.2) short)).0 in (
+        r,
+        lists_one p days text (If b d test f one g other i) r (λ q is. is),
+      ))
+  reads (Condition b d f test g i one j other l) short =
+      (let r =
+      reads_condition p days text b d f test g i one j other l (reads test (sub (λ h. h.0) short)).0 (reads one (sub (λ h. h.1) short)).0
+      (reads other (sub (λ h. h.2) short)).0 in (
+        r,
+        lists_one p days text (Condition b d f test g i one j other l) r (λ q is. is),
+      ))
+  reads (DaysBetween b d one f other g) short =
+      (let r =
+      reads_between p days text b d one f other g (reads one (sub (λ h. h.0) short)).0 (reads other (sub (λ h. h.1) short)).0 in
+      (r, lists_one p days text (DaysBetween b d one f other g) r (λ q is. is)))
+  reads (Apply b name d arguments g) short =
+      (let h = reads arguments short in
+      let r = reads_apply b name d arguments g h.0 h.1 in (r, lists_one p days text (Apply b name d arguments g) r (λ q is. is)))

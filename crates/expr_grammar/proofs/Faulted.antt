@@ -1,6 +1,6 @@
 -- Where an answer is a fault of syntax, the bytes before it begin a text of the grammar, or so inside a quoted text.
 use Rattle.std.proofs.Common.{◌≡◌, ℕ, ◌<◌, ◌≤◌, zero, suc, Bool, true, false, cond, List, [], ◌∷◌, ◌++◌, length, take, Option, Some, None, Result, Ok, Err}
-use Rattle.std.proofs.Common.{refl, ap, subst, ◌⊎◌, ◌∙◌, inl, inr, arith}
+use Rattle.std.proofs.Common.{refl, ap, subst, ◌⊎◌, ◌∙◌, inl, arith}
 use Rattle.std.specs.Prelude.{IfErr, nat_le, nat_lt}
 use Rattle.std.proofs.lemmas.Bool.Decides.{nat_tests}
 use Rattle.expr_lang.specs.declared.tree.Place.{Place}

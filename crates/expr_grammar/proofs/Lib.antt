@@ -1,6 +1,7 @@
 pub mod Stored
 pub mod Back
 pub mod Bridge
+pub mod Local
 pub mod Words
 pub mod PrintedNumbers
 pub mod PrintedItems
@@ -34,3 +35,12 @@ pub mod Faulted
 pub mod Misfitting
 pub mod Crowded
 pub mod Restated
+pub mod Alone
+pub mod Fuel
+pub mod Locked
+pub mod Opening
+pub mod Opened
+pub mod Few
+pub mod Trim
+pub mod Ended
+pub mod OnlyPlace

@@ -22,7 +22,7 @@ use Rattle.expr_lang.specs.Token.{fits_of}
 use Rattle.expr_lang.specs.Words.{text_of}
 use Rattle.expr_grammar.specs.Continues.{GoesOn, HasNoQuote, OpensQuote, EndsInQuote}
 use Rattle.expr_grammar.specs.Grammar.{Form, Number, Item, Bracket, Power, Sign, Chain, Arguments, If, Condition, DaysBetween, Apply, IsBlank, IsDigits}
-use Rattle.expr_grammar.specs.Grammar.{IsNumber, IsWord, IsForm, arguments_level, sign_text, after_blanks, symbol_text, behind_point, spelled}
+use Rattle.expr_grammar.specs.Grammar.{IsWord, IsForm, arguments_level, sign_text, after_blanks, symbol_text, behind_point, spelled}
 use Rattle.expr_grammar.proofs.Words.{both}
 use Rattle.expr_grammar.proofs.Completed.{not_true}
 use Rattle.expr_grammar.proofs.Parts.{Part, InChain, InSign, InBracket, InQuote, InIf, InThen, InElse, InYes, InNo, InFirst, InSecond, InOne, InMore}
@@ -33,36 +33,36 @@ use Rattle.expr_grammar.proofs.Finished.{Ends, finish_stage, stage_text}
 
 -- ---- bytes without a quote
 
-plain_both : (xs ys : List ℕ) → HasNoQuote xs → HasNoQuote ys → HasNoQuote (xs ++ ys)
+pub plain_both : (xs ys : List ℕ) → HasNoQuote xs → HasNoQuote ys → HasNoQuote (xs ++ ys)
 plain_both [] ys h g = g
 plain_both (x ∷ xs) ys h g = (h.0, plain_both xs ys h.1 g)
 
-plain_front : (xs ys : List ℕ) → HasNoQuote (xs ++ ys) → HasNoQuote xs
+pub plain_front : (xs ys : List ℕ) → HasNoQuote (xs ++ ys) → HasNoQuote xs
 plain_front [] ys h = tt
 plain_front (x ∷ xs) ys h = (h.0, plain_front xs ys h.1)
 
 plain_digit : (b : ℕ) → is_ascii_digit b ≡ true → nat_eq b 39 ≡ false
 plain_digit b h = grind (arith, nat_tests)
 
-plain_digits : (ds : List ℕ) → IsDigits ds → HasNoQuote ds
+pub plain_digits : (ds : List ℕ) → IsDigits ds → HasNoQuote ds
 plain_digits [] h = tt
 plain_digits (d ∷ ds) h = (plain_digit d h.0, plain_digits ds h.1)
 
-plain_point : (ds : List ℕ) → HasNoQuote ds → HasNoQuote (behind_point ds)
+pub plain_point : (ds : List ℕ) → HasNoQuote ds → HasNoQuote (behind_point ds)
 plain_point [] h = tt
 plain_point (d ∷ ds) h = (refl, h)
 
 plain_blank : (b : ℕ) → is_blank_of b ≡ true → nat_eq b 39 ≡ false
 plain_blank b h = grind (arith, nat_tests)
 
-plain_blanks : (bs : List ℕ) → IsBlank bs → HasNoQuote bs
+pub plain_blanks : (bs : List ℕ) → IsBlank bs → HasNoQuote bs
 plain_blanks [] h = tt
 plain_blanks (b ∷ bs) h = (plain_blank b h.0, plain_blanks bs h.1)
 
 plain_fit : (c b : ℕ) → nat_eq c 39 ≡ false → fits_of c b ≡ true → nat_eq b 39 ≡ false
 plain_fit c b g f = grind (arith, nat_tests)
 
-plain_word : (t word : List ℕ) → HasNoQuote t → IsWord t word → HasNoQuote word
+pub plain_word : (t word : List ℕ) → HasNoQuote t → IsWord t word → HasNoQuote word
 plain_word [] [] q h = tt
 plain_word [] (b ∷ bs) q h = absurd h
 plain_word (c ∷ cs) [] q h = absurd h
@@ -76,7 +76,7 @@ plain_from : (bs : List ℕ) → has_none bs ≡ true → HasNoQuote bs
 plain_from [] e = tt
 plain_from (b ∷ bs) e = let k = both (not (nat_eq b 39)) (has_none bs) e in (not_true (nat_eq b 39) k.0, plain_from bs k.1)
 
-plain_operator : (o : Binary) → HasNoQuote (text_of (symbol.Operator o))
+pub plain_operator : (o : Binary) → HasNoQuote (text_of (symbol.Operator o))
 unfolding text_of
 plain_operator binary.Or = plain_from (text_of (symbol.Operator binary.Or)) refl
 plain_operator binary.And = plain_from (text_of (symbol.Operator binary.And)) refl
@@ -94,7 +94,7 @@ plain_operator binary.Remainder = plain_from (text_of (symbol.Operator binary.Re
 plain_operator binary.DaysBetween = plain_from (text_of (symbol.Operator binary.DaysBetween)) refl
 plain_operator binary.Comma = plain_from (text_of (symbol.Operator binary.Comma)) refl
 
-plain_call : (c : Call) → HasNoQuote (text_of (symbol.Call c))
+pub plain_call : (c : Call) → HasNoQuote (text_of (symbol.Call c))
 unfolding text_of
 plain_call call.If = plain_from (text_of (symbol.Call call.If)) refl
 plain_call call.Condition = plain_from (text_of (symbol.Call call.Condition)) refl
@@ -108,7 +108,7 @@ plain_call call.HasValue = plain_from (text_of (symbol.Call call.HasValue)) refl
 plain_call call.Zing = plain_from (text_of (symbol.Call call.Zing)) refl
 plain_call call.Oizp = plain_from (text_of (symbol.Call call.Oizp)) refl
 
-plain_item : (f : ItemForm) → HasNoQuote (text_of (symbol.Item f))
+pub plain_item : (f : ItemForm) → HasNoQuote (text_of (symbol.Item f))
 unfolding text_of
 plain_item form.Element = plain_from (text_of (symbol.Item form.Element)) refl
 plain_item form.ElementCombo = plain_from (text_of (symbol.Item form.ElementCombo)) refl
@@ -189,21 +189,21 @@ clean_form p L (Apply b name c arguments d) is h =
 -- ---- what is read of a text that goes on
 
 module _ (ys : List ℕ) where
-  record Longer (zs xs : List ℕ) : Type 0 where
-    is : zs ≡ xs ++ ys
+  pub record Longer (zs xs : List ℕ) : Type 0 where
+    pub is : zs ≡ xs ++ ys
 
-  long_word : {zs xs : List ℕ} (b word : List ℕ) → Longer zs xs → Longer (after_blanks b word zs) (after_blanks b word xs)
+  pub long_word : {zs xs : List ℕ} (b word : List ℕ) → Longer zs xs → Longer (after_blanks b word zs) (after_blanks b word xs)
   long_word {zs = zs} {xs = xs} b word h = record {
     is = ap (λ (l : List ℕ). b ++ (word ++ l)) h.is ∙ ap (λ (l : List ℕ). b ++ l) (sym (append_assoc word xs ys)) ∙ sym (append_assoc b (word ++ xs) ys);
   }
 
-  long_symbol : {zs xs : List ℕ} (b : List ℕ) (w : Symbol) → Longer zs xs → Longer (symbol_text b w zs) (symbol_text b w xs)
+  pub long_symbol : {zs xs : List ℕ} (b : List ℕ) (w : Symbol) → Longer zs xs → Longer (symbol_text b w zs) (symbol_text b w xs)
   long_symbol b w h = long_word b (text_of w) h
 
-  long_call : {zs xs : List ℕ} (b : List ℕ) (name : Call) (c : List ℕ) → Longer zs xs → Longer (named b name c zs) (named b name c xs)
+  pub long_call : {zs xs : List ℕ} (b : List ℕ) (name : Call) (c : List ℕ) → Longer zs xs → Longer (named b name c zs) (named b name c xs)
   long_call b name c h = long_symbol b (symbol.Call name) (long_symbol c symbol.Open h)
 
-  long_form : (F : Form) {zs xs : List ℕ} → Longer zs xs → Longer (spelled F zs) (spelled F xs)
+  pub long_form : (F : Form) {zs xs : List ℕ} → Longer zs xs → Longer (spelled F zs) (spelled F xs)
   long_form (Number b digits decimals) h = long_word b (digits ++ behind_point decimals) h
   long_form (Item b f word) h = long_word b word h
   long_form (Bracket b inner c) h = long_symbol b symbol.Open (long_form inner (long_symbol c symbol.Close h))
@@ -221,7 +221,7 @@ module _ (ys : List ℕ) where
       long_call b call.DaysBetween c (long_form one (long_symbol d symbol.Comma (long_form other (long_symbol e symbol.Close h))))
   long_form (Apply b name c arguments d) h = long_call b name c (long_form arguments (long_symbol d symbol.Close h))
 
-  long_part : {zs xs : List ℕ} (x : Part) → Longer zs xs → Longer (spelled_part x zs) (spelled_part x xs)
+  pub long_part : {zs xs : List ℕ} (x : Part) → Longer zs xs → Longer (spelled_part x zs) (spelled_part x xs)
   long_part (InChain left b op k) h = long_form left (long_symbol b (symbol.Operator op) h)
   long_part (InSign b sign k) h = long_word b (sign_text sign) h
   long_part (InBracket b) h = long_symbol b symbol.Open h
@@ -240,7 +240,7 @@ module _ (ys : List ℕ) where
   long_part (InOne b name c k) h = long_call b name c h
   long_part (InMore b name c first d k n) h = long_call b name c (long_form first (long_symbol d symbol.Comma h))
 
-  long_parts : (ps : List Part) {zs xs : List ℕ} → Longer zs xs → Longer (spelled_parts ps zs) (spelled_parts ps xs)
+  pub long_parts : (ps : List Part) {zs xs : List ℕ} → Longer zs xs → Longer (spelled_parts ps zs) (spelled_parts ps xs)
   long_parts [] h = h
   long_parts (x ∷ ps) h = long_parts ps (long_part x h)
 

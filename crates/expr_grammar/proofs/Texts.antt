@@ -1,6 +1,6 @@
 -- Each text of the grammar is read, and as the tree of its form.
 use Rattle.std.proofs.Common.{◌≡◌, ℕ, suc, ◌+◌, ◌-◌, ◌≤◌, Bool, true, false, cond, List, [], ◌∷◌, ◌++◌, length, drop, Option, None, Ok, Err, refl, sym, ap}
-use Rattle.std.proofs.Common.{subst, ◌∙◌, arith}
+use Rattle.std.proofs.Common.{subst, ◌∙◌, inl, arith}
 use Rattle.std.specs.Prelude.{nat_eq}
 use Rattle.expr_lang.specs.declared.tree.Place.{Place}
 use Rattle.expr_lang.specs.declared.words.Symbol.TheVariants as symbol
@@ -52,7 +52,7 @@ words_limit : most_words ≡ 4097
 unfolding most_words
 words_limit = refl
 
-no_follow : (b : List ℕ) → IsBlank b → Follows b
+pub no_follow : (b : List ℕ) → IsBlank b → Follows b
 no_follow [] h = (refl, refl)
 no_follow (x ∷ xs) h = let k = blank_calm x h.0 in (k.0, k.1)
 
@@ -109,7 +109,7 @@ module _ (p : Place) (days : List (List ℕ)) (text : List ℕ) (short : length 
       → ReadTold p days text (told_of days (length text) F blanks)
   expression F blanks is blank same =
       let one =
-      (reads p days text short F).0 1 expect.Start [] [] 0 None false 0 blanks tt (omega arith) is (λ le. tt) (λ le. refl) (no_follow blanks blank)
+      (reads p days text F (inl short)).0 1 expect.Start [] [] 0 None false 0 blanks tt (omega arith) is (λ le. tt) (λ le. refl) (no_follow blanks blank)
       (subst (At text 0) same start_at) in
       ends (rd (expect.Operator one.power) one.frames one.nodes one.opened one.crowded false) one.past blanks
       (record { nodes = one.own; crowded = one.crowded }) (told_of days (length text) F blanks) blank

@@ -4,7 +4,6 @@ use Rattle.expr_lang.specs.declared.tree.Place.{Place}
 use Rattle.expr_lang.specs.declared.words.Symbol.TheVariants as symbol
 use Rattle.expr_lang.specs.declared.words.Call.TheVariants as call
 use Rattle.expr_grammar.specs.Grammar.{Form, IsBlank, IsForm, IsTextOf, spelled, symbol_text}
-use Rattle.expr_grammar.specs.Limits.{IsWritten}
 
 -- these bytes begin a text of the grammar
 abbrev pub GoesOn : Place → List ℕ → Type 0
@@ -40,10 +39,18 @@ pub record EndsInQuote (place : Place) (before : List ℕ) : Type 0 where
   pub begins : BeginsExpression place inner
   pub plain : HasNoQuote inner
 
--- the bytes before a place of a text begin one, or so inside a quoted text
-abbrev pub GoesOnAt : Place → List ℕ → ℕ → Type 0
-GoesOnAt place text at = (at ≤ length text) × (GoesOn place (take at text) ⊎ EndsInQuote place (take at text))
+-- these bytes begin a text, or so inside a quoted text
+abbrev pub Begins : Place → List ℕ → Type 0
+Begins place before = GoesOn place before ⊎ EndsInQuote place before
 
--- With the byte at a place of a text no text of at most 4,096 bytes is of the grammar, however it goes on.
+-- the bytes before a place of a text do
+abbrev pub GoesOnAt : Place → List ℕ → ℕ → Type 0
+GoesOnAt place text at = (at ≤ length text) × Begins place (take at text)
+
+-- With the byte at a place of a text they don't, unless the text ends there. A text is too long at byte 4096.
 abbrev pub EndsAt : Place → List ℕ → ℕ → Type 0
-EndsAt place text at = at < length text → (more : List ℕ) (form : Form) → ¬ (IsWritten place (take (at + 1) text ++ more) form)
+EndsAt place text at = (at ≤ 4096) × (at < length text → at < 4096 → ¬ (Begins place (take (at + 1) text)))
+
+-- no other place of a text is like this
+abbrev pub OnlyAt : Place → List ℕ → ℕ → Type 0
+OnlyAt place text at = (other : ℕ) → GoesOnAt place text other → EndsAt place text other → at ≡ other

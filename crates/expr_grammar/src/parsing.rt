@@ -1,7 +1,7 @@
 //! Reading expressions.
 
 ghost use Rattle.std.specs.Prelude.{◌≡◌, [], Some, None, IfOk, IfErr};
-ghost use Rattle.expr_grammar.specs.Continues.{GoesOnAt, EndsAt};
+ghost use Rattle.expr_grammar.specs.Continues.{GoesOnAt, EndsAt, OnlyAt};
 ghost use Rattle.expr_grammar.specs.Items.{items_of, Different, ListsItems};
 ghost use Rattle.expr_grammar.specs.Laws.{OneTree};
 ghost use Rattle.expr_grammar.specs.Limits.{AnswersBy};
@@ -22,9 +22,11 @@ pub fn parse(alloc: Global, text: &[u8], place: Place, days: &[Uid]) -> Result<E
     ensures value { Answers cause_of (parse_of place days.now None text.now) result }
     // What it means is the tree of a form of the grammar, or why no form is accepted, and where.
     ensures read { AnswersBy place days.now None text.now (parse_of place days.now None text.now) }
-    // The bytes before a fault of syntax begin a text of the grammar, or so inside a quoted text; with the byte there none does.
+    // The bytes before a fault of syntax begin a text of the grammar, or so inside a quoted text; with the byte there they don't.
     ensures before { IfErr (parse_of place days.now None text.now) (λ fault. IfSyntax fault (GoesOnAt place text.now)) }
     ensures ends { IfErr (parse_of place days.now None text.now) (λ fault. IfSyntax fault (EndsAt place text.now)) }
+    // No other place is like this.
+    ensures only { IfErr (parse_of place days.now None text.now) (λ fault. IfSyntax fault (OnlyAt place text.now)) }
     // All forms that the text is have one tree.
     ensures one { IfOk (parse_of place days.now None text.now) (λ expr. OneTree place days.now text.now (syntax_of expr.tree)) }
     // Its items are those of the tree, in order of their first occurrence.
@@ -47,6 +49,7 @@ pub fn parse_sorted(
     ensures read { AnswersBy place days.now (Some wanted) text.now (parse_of place days.now (Some wanted) text.now) }
     ensures before { IfErr (parse_of place days.now (Some wanted) text.now) (λ fault. IfSyntax fault (GoesOnAt place text.now)) }
     ensures ends { IfErr (parse_of place days.now (Some wanted) text.now) (λ fault. IfSyntax fault (EndsAt place text.now)) }
+    ensures only { IfErr (parse_of place days.now (Some wanted) text.now) (λ fault. IfSyntax fault (OnlyAt place text.now)) }
     ensures one { IfOk (parse_of place days.now (Some wanted) text.now) (λ expr. OneTree place days.now text.now (syntax_of expr.tree)) }
     ensures items { IfOk (parse_of place days.now (Some wanted) text.now) (λ expr. Different (items_of (syntax_of expr.tree)) [] expr.items) }
     ensures places { IfOk (parse_of place days.now (Some wanted) text.now) (λ expr. ListsItems place days.now text.now expr) }

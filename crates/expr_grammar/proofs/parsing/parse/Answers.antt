@@ -1,5 +1,5 @@
 use Rattle.std.proofs.Common.{None}
-use Rattle.expr_grammar.proofs.Answered.{places_are, before_fault, ends_at}
+use Rattle.expr_grammar.proofs.Answered.{places_are, before_fault, ends_at, only_at}
 use Rattle.expr_grammar.proofs.Restated.{read_so, one_so, items_so}
 use Rattle.expr_grammar.proofs.parsing.parse.Goals as goal
 
@@ -20,3 +20,6 @@ returns-clause-items c = items_so c.args.place c.args.days.now None c.args.text.
 
 pub returns-clause-places : goal.returns-clause-places
 returns-clause-places c = places_are c.args.place c.args.days.now None c.args.text.now
+
+pub returns-clause-only : goal.returns-clause-only
+returns-clause-only c = only_at c.args.place c.args.days.now None c.args.text.now
