@@ -2,6 +2,7 @@ pub mod Stack
 pub mod Causes
 pub mod Words
 pub mod Token
+pub mod Short
 pub mod Item
 pub mod Reading
 pub mod Leaves

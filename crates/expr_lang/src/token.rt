@@ -1,7 +1,8 @@
 //! The next word of a text.
 
 ghost use Rattle.std.specs.Prelude.{◌≡◌, ◌≤◌, ◌<◌, ◌^◌, ◌-◌, length, map, slice_index, MatchResult, if◌then◌else◌};
-ghost use Rattle.expr_lang.specs.Words.{letter_of};
+ghost use Rattle.expr_lang.specs.Short.{falls_short_of};
+ghost use Rattle.expr_lang.specs.Words.{letter_of, text_of};
 ghost use Rattle.expr_lang.specs.Token.{is_comparison_of, is_allowed_of, fits_of, front_of, better_of, longest_of, digit_count, digits_of_front, number_of};
 ghost use Rattle.expr_lang.specs.Token.{exponent_of};
 
@@ -91,12 +92,34 @@ fn better(best: Front, symbol: Symbol, bytes: &[u8]) -> Front
     }
 }
 
+/// Whether the last byte of the best front so far isn't one of the word's, which then has less of the text.
+#[tactic(auto, unfolding(crate::specs::Short::falls_short_of))]
+fn falls_short(len: usize, symbol: Symbol, bytes: &[u8]) -> bool
+    ensures { result ≡ falls_short_of len (text_of symbol) bytes.now }
+{
+    let word = words::text(symbol);
+    len > 0 && len <= word.len() && len <= bytes.len() && !fits(word[len - 1], bytes[len - 1])
+}
+
+/// The same as `better`, but by one byte where that decides.
+#[tactic(auto, using(crate::proofs::Shorter::short_stays))]
+fn better_sooner(best: Front, symbol: Symbol, bytes: &[u8]) -> Front
+    ensures value { result ≡ better_of best symbol bytes.now }
+    ensures within { best.len ≤ length bytes.now → result.len ≤ length bytes.now }
+{
+    if falls_short(best.len, symbol, bytes) {
+        best
+    } else {
+        better(best, symbol, bytes)
+    }
+}
+
 fn better_if_allowed(best: Front, allowed: Allowed, symbol: Symbol, bytes: &[u8]) -> Front
     ensures value { result ≡ (if is_allowed_of allowed symbol then better_of best symbol bytes.now else best) }
     ensures within { best.len ≤ length bytes.now → result.len ≤ length bytes.now }
 {
     if is_allowed(allowed, symbol) {
-        better(best, symbol, bytes)
+        better_sooner(best, symbol, bytes)
     } else {
         best
     }
