@@ -423,7 +423,8 @@ go_same place n reader at xs ys p (Ok f) same e le lt h =
     same (with_token reader at f.token) (at + f.len) (drop f.len xs) (drop f.len ys) e le (omega (arith, length-drop f.len xs))
     (agrees_drop f.len (suc (p - (at + f.len))) xs ys (subst (λ (k : ℕ). Agrees k xs ys) sum h))
 
-pub same_fault : (place : Place) (n : ℕ) (reader : Reader) (at : ℕ) (xs ys : List ℕ) (p : ℕ) → read_rest place n reader at xs ≡ Err p → at ≤ p → p < at + length xs
+pub same_fault : (place : Place) (n : ℕ) (reader : Reader) (at : ℕ) (xs ys : List ℕ) (p : ℕ)
+    → read_rest place n reader at xs ≡ Err p → at ≤ p → p < at + length xs
     → Agrees (suc (p - at)) xs ys → read_rest place n reader at ys ≡ Err p
 same_fault place zero reader at xs ys p e le lt h = read_none place reader at ys ∙ sym (read_none place reader at xs) ∙ e
 same_fault place (suc n) reader at xs ys p e le lt h =

@@ -192,7 +192,8 @@ module _ (p : Place) (k : ℕ) (few : k ≤ 4096) where
 
   call_same : (name : Call) (b c xs ys : List ℕ) → Same xs ys
       → Same (symbol_text b (symbol.Call name) (symbol_text c symbol.Open xs)) (symbol_text b (symbol.Call name) (symbol_text c symbol.Open ys))
-  call_same name b c xs ys h = symbol_same b (symbol.Call name) (symbol_text c symbol.Open xs) (symbol_text c symbol.Open ys) (symbol_same c symbol.Open xs ys h)
+  call_same name b c xs ys h =
+      symbol_same b (symbol.Call name) (symbol_text c symbol.Open xs) (symbol_text c symbol.Open ys) (symbol_same c symbol.Open xs ys h)
 
   -- beyond so many arguments
   cut_off : (q : Bool) (F : Form) → IsForm p q 0 F → 2050 ≤ argument_count F → (xs ys : List ℕ) → Same (spelled F xs) (spelled F ys)
@@ -212,7 +213,8 @@ module _ (p : Place) (k : ℕ) (few : k ≤ 4096) where
   keeps q L (Sign b sign operand) is xs ys h =
       word_same b (sign_text sign) (spelled operand xs) (spelled (trim operand) ys) (keeps q 6 operand is.3 xs ys h)
   keeps q L (Chain left b op right) is xs ys h =
-      keeps q (left_level_of op) left is.2 (symbol_text b (symbol.Operator op) (spelled right xs)) (symbol_text b (symbol.Operator op) (spelled (trim right) ys))
+      keeps q (left_level_of op) left is.2 (symbol_text b (symbol.Operator op) (spelled right xs))
+      (symbol_text b (symbol.Operator op) (spelled (trim right) ys))
       (symbol_same b (symbol.Operator op) (spelled right xs) (spelled (trim right) ys) (keeps q (right_level_of op) right is.4 xs ys h))
   keeps q L (Arguments first b last) is xs ys h =
       let u = symbol_text b symbol.Comma (spelled last xs) in

@@ -3,7 +3,6 @@ pub mod Stacks
 pub mod Readings
 pub mod Decimals
 pub mod Listing
-pub mod Local
 pub mod ExprLemmas
 pub mod Letters
 pub mod Shorter

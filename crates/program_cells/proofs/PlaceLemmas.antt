@@ -1,5 +1,6 @@
 -- Where members of a list stand, by a number that each has.
-use Rattle.std.proofs.Common.{◌≡◌, ◌∙◌, ℕ, zero, suc, ◌+◌, ◌<◌, ◌≤◌, inl, inr, Bool, true, false, cond, ◌&&◌, ◌||◌, nat_eq, List, [], ◌∷◌, ◌++◌, length, map, take}
+use Rattle.std.proofs.Common.{◌≡◌, ◌∙◌, ℕ, zero, suc, ◌+◌, ◌<◌, ◌≤◌, inl, inr, Bool, true, false, cond, ◌&&◌, ◌||◌, nat_eq, List, [], ◌∷◌}
+use Rattle.std.proofs.Common.{◌++◌, length, map, take}
 use Rattle.std.proofs.Common.{get_or, set, Option, Some, None, slice_get, refl, sym, ap, append_assoc, arith}
 use Rattle.std.specs.Prelude.{nat_lt, nat_le, OnOk, Result, Ok, Err}
 use Rattle.std.specs.Option.{option_to_list}

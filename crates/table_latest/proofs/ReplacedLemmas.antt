@@ -224,7 +224,8 @@ module _ (places : List RowPlace) (g : Group) (need : Need) (from to : ℕ) (row
   both-summed =
       let t : Row → Bool = λ row. is_among place_cmp places (place_of row) in
       let p = is_wanted g need from to in
-      sym (sum_over-split sum_of_row p (λ row. not (t row) && p row) (λ row. t row && p row) rows (λ k d within. one-of-both (t (get_or rows k d)) (p (get_or rows k d)))
+      sym (sum_over-split sum_of_row p (λ row. not (t row) && p row) (λ row. t row && p row) rows
+      (λ k d within. one-of-both (t (get_or rows k d)) (p (get_or rows k d)))
       ∙ (λ i. joined (sum_over sum_of_row (sym (filter-both p (λ row. not (t row)) rows) i)) (sum_over sum_of_row (sym (filter-both p t rows) i))))
 
   module _ (all part : Sum) (touched : List Row) (of_all : all ≡ sum_of_rows (wanted_rows g need from to rows)) (is : touched ≡ touched_rows places rows)

@@ -1,5 +1,6 @@
 -- Rows in two columns are those that they were made of.
-use Rattle.std.proofs.Common.{◌≡◌, ◌∙◌, ℕ, zero, suc, ◌+◌, ◌<◌, Bool, true, false, cond, List, [], ◌∷◌, length, map, get_or, ℤ, pos, Option, Some, None, refl, sym}
+use Rattle.std.proofs.Common.{◌≡◌, ◌∙◌, ℕ, zero, suc, ◌+◌, ◌<◌, Bool, true, false, cond, List, [], ◌∷◌, length, map, get_or, ℤ, pos}
+use Rattle.std.proofs.Common.{Option, Some, None, refl, sym}
 use Rattle.std.proofs.Common.{ap, arith}
 use Rattle.table_rows.specs.declared.row.Row.{Row}
 use Rattle.table_sums.specs.declared.rows.Head.{Head}

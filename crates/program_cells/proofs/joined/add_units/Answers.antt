@@ -11,6 +11,7 @@ loop-unit-preserved c =
       omega (arith, known.0),
       omega (arith, less),
       λ events are.
-          units-more order_of events c.args.places.now c.args.from c.loop-unit.unit c.args.found.now.items c.loop-unit.found.items c.add_unit.new.found.items are
+          units-more order_of events c.args.places.now c.args.from c.loop-unit.unit c.args.found.now.items c.loop-unit.found.items
+          c.add_unit.new.found.items are
           known.0 within c.in_ok-add_unit.ensures (known.2 events are),
     )

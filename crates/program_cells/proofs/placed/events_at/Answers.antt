@@ -9,5 +9,6 @@ loop-place-preserved c =
     let places = c.args.places.now in
     let at = c.loop-place.place-index in
     let place : ℕ = get_or places at 0 in
-    picked-more (λ subject. subject.now) alone (map (λ event. event.now) c.args.events.now) places at place c.loop-place.kept.items c.put_at.new.kept.items c.loop-place-test.true
+    picked-more (λ subject. subject.now) alone (map (λ event. event.now) c.args.events.now) places at place c.loop-place.kept.items
+    c.put_at.new.kept.items c.loop-place-test.true
     (get_or_default places at 0 place c.loop-place-test.true) c.loop-place.invariant c.in_ok-put_at.ensures

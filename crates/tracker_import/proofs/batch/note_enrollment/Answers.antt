@@ -8,7 +8,8 @@ pub returns-in_ok-insert-in-EnrollmentWritten : goal.returns-in_ok-insert-in-Enr
 returns-in_ok-insert-in-EnrollmentWritten c =
     noted-enrollment c.args.write.now c.get-written.result.now.id (Some c.get-written.result.now)
     c.enrollment_place.result c.args.enrollments.now c.insert.new.self
-    (ap said_by c.in-EnrollmentWritten.is ∙ ap (λ one. said.Enrollment one.id (Some one)) (sym c.get-written.ensures)) c.enrollment_place.ensures c.in_ok-insert-in-EnrollmentWritten.ensures.updates.0
+    (ap said_by c.in-EnrollmentWritten.is ∙ ap (λ one. said.Enrollment one.id (Some one)) (sym c.get-written.ensures))
+    c.enrollment_place.ensures c.in_ok-insert-in-EnrollmentWritten.ensures.updates.0
 
 pub returns-in_ok-insert-in-EnrollmentDeleted : goal.returns-in_ok-insert-in-EnrollmentDeleted
 returns-in_ok-insert-in-EnrollmentDeleted c =

@@ -8,7 +8,8 @@ pub returns-in_ok-insert-in-EntityWritten : goal.returns-in_ok-insert-in-EntityW
 returns-in_ok-insert-in-EntityWritten c =
     noted-entity c.args.write.now c.get-written.result.now.id (Some c.get-written.result.now) (Some c.in_ok-copy-in-EntityWritten.copy)
     c.args.entities.now c.insert.new.self
-    (ap said_by c.in-EntityWritten.is ∙ ap (λ one. said.Entity one.id (Some one)) (sym c.get-written.ensures)) (ap Some c.in_ok-copy-in-EntityWritten.ensures) c.in_ok-insert-in-EntityWritten.ensures.updates.0
+    (ap said_by c.in-EntityWritten.is ∙ ap (λ one. said.Entity one.id (Some one)) (sym c.get-written.ensures))
+    (ap Some c.in_ok-copy-in-EntityWritten.ensures) c.in_ok-insert-in-EntityWritten.ensures.updates.0
 
 pub returns-in_ok-insert-in-EntityDeleted : goal.returns-in_ok-insert-in-EntityDeleted
 returns-in_ok-insert-in-EntityDeleted c =

@@ -7,7 +7,8 @@ use Rattle.tracker_import.proofs.batch.note_event.Goals as goal
 pub returns-in_ok-insert-in-EventWritten : goal.returns-in_ok-insert-in-EventWritten
 returns-in_ok-insert-in-EventWritten c =
     noted-event c.args.write.now c.get-written.result.now.id (Some c.get-written.result.now) c.event_place.result c.args.events.now c.insert.new.self
-    (ap said_by c.in-EventWritten.is ∙ ap (λ one. said.Event one.id (Some one)) (sym c.get-written.ensures)) c.event_place.ensures c.in_ok-insert-in-EventWritten.ensures.updates.0
+    (ap said_by c.in-EventWritten.is ∙ ap (λ one. said.Event one.id (Some one)) (sym c.get-written.ensures))
+    c.event_place.ensures c.in_ok-insert-in-EventWritten.ensures.updates.0
 
 pub returns-in_ok-insert-in-EventDeleted : goal.returns-in_ok-insert-in-EventDeleted
 returns-in_ok-insert-in-EventDeleted c =

@@ -18,5 +18,6 @@ loop-place-init c =
 pub returns : goal.returns
 returns c =
     events-done c.args.parts.now c.args.years.now c.loop-place.place c.end_place-end.result c.args.asked.now.program c.args.asked.now.from_day
-    c.args.asked.now.to_day (map (λ event. event.now) c.loop-place.events.items) c.requires.parts c.requires.years c.loop-place-test.false c.end_place-end.ensures.later
+    c.args.asked.now.to_day (map (λ event. event.now) c.loop-place.events.items) c.requires.parts c.requires.years c.loop-place-test.false
+    c.end_place-end.ensures.later
     c.loop-place.invariant
