@@ -1,2 +1,6 @@
+pub mod Replies
+pub mod Views
+pub mod Steps
+pub mod Serving
 pub mod Links
 pub mod OverFile

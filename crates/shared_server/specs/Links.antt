@@ -14,8 +14,8 @@ use Rattle.request_session.specs.declared.ended.Ended.{Ended}
 use Rattle.request_session.specs.declared.ended.Ended.TheVariants as ended
 use Rattle.shared_engine.specs.Entries.{Entry, caller_of}
 use Rattle.shared_engine.specs.Histories.{Made, IsLegal}
-use Rattle.shared_replies.specs.Serving.{most_requests}
-use Rattle.shared_replies.specs.Steps.{SharedReply}
+use Rattle.shared_server.specs.Serving.{most_requests}
+use Rattle.shared_server.specs.Steps.{SharedReply}
 
 -- the system has this metadata, the largest limits, and a keeper without a fault
 pub record IsMadeFor (meta : Records) (made : Made) : Type 0 where

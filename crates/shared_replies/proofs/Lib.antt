@@ -1,6 +1,0 @@
-pub mod ViewLemmas
-pub mod StatusLemmas
-pub mod ReplyLemmas
-pub mod TextLemmas
-pub mod StepLemmas
-pub mod AlongLemmas

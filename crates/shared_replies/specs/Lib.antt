@@ -1,4 +1,0 @@
-pub mod Replies
-pub mod Views
-pub mod Steps
-pub mod Serving

@@ -1,0 +1,18 @@
+use Rattle.std.proofs.Common.{ap, sym, subst}
+use Rattle.std.specs.Prelude.{Result}
+use Rattle.std.specs.Arc.{arc_value}
+use Rattle.engine.specs.declared.machine.LookFault.{LookFault}
+use Rattle.engine.specs.declared.machine.View.{View}
+use Rattle.engine.specs.Tables.{Served}
+use Rattle.request_replies.specs.Texts.{told, IsTold}
+use Rattle.shared_server.specs.Views.{viewed_check}
+use Rattle.shared_server.proofs.ViewLemmas.{check_viewed}
+use Rattle.shared_server.proofs.look.tell_check.Goals as goal
+
+pub returns-in-Ok : goal.returns-in-Ok
+returns-in-Ok c =
+    subst
+    (λ (f : Result View LookFault). IsTold (told c.by_user.result) (viewed_check c.args.meta.now c.args.user c.args.place.now c.args.keep f))
+    (sym c.in-Ok.is)
+    (check_viewed c.by_user.result c.args.meta.now c.args.user c.in-Ok.view.published c.args.place.now c.args.keep c.deref.result.now.all
+    (arc_value c.in-Ok.view.tables).all (ap (λ (tables : Served). tables.all) c.deref.ensures) c.by_user.ensures)
