@@ -1,4 +1,4 @@
-use Rattle.shared_tests.proofs.updates.two_years_are_built_at_the_same_time.Given as goal
+use Rattle.server_tests.proofs.updates.two_years_are_built_at_the_same_time.Given as goal
 
 abbrev pub ghosts-passes : goal.ghosts-passes
 ghosts-passes g a = record { made = a.opened }

@@ -3,8 +3,8 @@ use Rattle.std.proofs.Crossing.{crosses, sync}
 use Rattle.engine.proofs.in_memory.Unkept.TheSendSync as unkept
 use Rattle.shared_engine.proofs.shared.Pass.TheSendSync as pass
 use Rattle.shared_server.proofs.ShareLemmas.{shared_sync}
-use Rattle.shared_tests.proofs.updates.Held.TheSendSync as held
-use Rattle.shared_tests.proofs.updates.both.Goals as goal
+use Rattle.server_tests.proofs.updates.Held.TheSendSync as held
+use Rattle.server_tests.proofs.updates.overtaken.Goals as goal
 
 -- The closure holds the allocator by a `&`, since it may be copied: hence `sync`.
 pub join-updated-requires-send-F : goal.join-updated-requires-send-F
