@@ -6,9 +6,9 @@ use Rattle.std.specs.Io.KnownBytes.{Consumes, IsAtEnd, Appends}
 use Rattle.dh_base.specs.declared.memory.Memory.{Memory}
 use Rattle.dh_outside.specs.Talk.{Talk, Says}
 use Rattle.meta_reader.specs.File.{most_bytes}
-use Rattle.bundle_reply.specs.Bytes.{asked, reply_to}
-use Rattle.bundle_reply.specs.declared.reply.Ending.{Ending}
-use Rattle.bundle_reply.specs.declared.reply.Ending.TheVariants as ending
+use Rattle.offline_replies.specs.Bytes.{asked, reply_to}
+use Rattle.offline_replies.specs.declared.bundle.reply.Ending.{Ending}
+use Rattle.offline_replies.specs.declared.bundle.reply.Ending.TheVariants as ending
 use Rattle.request_session.specs.declared.ended.Ended.{Ended}
 use Rattle.request_session.specs.declared.ended.Ended.TheVariants as ended
 use Rattle.request_replies.specs.declared.over_file.SessionEnd.{SessionEnd}

@@ -1,11 +1,11 @@
 -- What the program answers: its outcome, and the text that it writes.
 use Rattle.std.specs.Prelude.{◌≡◌, ℕ, ℤ, List, [], ◌∷◌, ◌++◌, zero, suc, codes}
 use Rattle.std.specs.Fmt.{decimal}
-use Rattle.bundle_reply.specs.Bytes.{asked, reply_to}
-use Rattle.bundle_reply.specs.declared.reply.Ending.{Ending}
-use Rattle.bundle_reply.specs.declared.reply.Ending.TheVariants as ending
-use Rattle.bundle_reply.specs.declared.reply.Reply as bundle
-use Rattle.sample_report.specs.Generated.{IsGenerated}
+use Rattle.offline_replies.specs.Bytes.{asked, reply_to}
+use Rattle.offline_replies.specs.declared.bundle.reply.Ending.{Ending}
+use Rattle.offline_replies.specs.declared.bundle.reply.Ending.TheVariants as ending
+use Rattle.offline_replies.specs.declared.bundle.reply.Reply as bundle
+use Rattle.offline_replies.specs.Generated.{IsGenerated}
 use Rattle.dhis_main.specs.declared.words.Command.{Command}
 use Rattle.dhis_main.specs.declared.words.Command.TheVariants as command
 use Rattle.dhis_main.specs.declared.status.Outcome.{Outcome}

@@ -6,13 +6,11 @@ ghost use Rattle.dhis_main.specs.Run.{RepliesToInput};
 ghost use Rattle.dhis_main.specs.declared.reply.Fault.TheVariants.{Memory as OutOfMemory};
 
 use crate::status::Outcome;
-use bundle_reply::bytes::{reply_to_bytes, reply_to_long};
-use bundle_reply::reply::{Ending, Reply as BundleReply};
 use dh_base::items::Items;
 use dh_base::limits::MOST_INPUT_BYTES;
 use dh_base::memory::Memory;
 use dh_outside::{Clock, FileFault, Source, read_all};
-use sample_report::generated;
+use offline_replies::{Ending, Reply as BundleReply, generated, reply_to_bytes, reply_to_long};
 use std::alloc::{AllocError, AllocFailed, Global};
 
 /// What the program writes, and what it came to.

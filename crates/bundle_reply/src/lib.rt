@@ -1,7 +1,0 @@
-//! The reply to a query over a bundle: a metadata file with data values.
-#![tactic(auto)]
-
-pub mod bytes;
-mod load;
-mod over;
-pub mod reply;

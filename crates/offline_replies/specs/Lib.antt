@@ -1,0 +1,14 @@
+pub mod Reply
+pub mod Load
+pub mod Answer
+pub mod Bytes
+pub mod Steps
+pub mod Unseen
+pub mod Draws
+pub mod Ids
+pub mod File
+pub mod Sets
+pub mod Loaded
+pub mod Counts
+pub mod Report
+pub mod Generated
