@@ -2,10 +2,10 @@
 use dh_base::memory::Memory;
 use dh_base::plain::CutKind;
 use dh_outside::{MemLink, MemSink, MemSource};
+use http_wire::Request;
 use request_session::{Ended, Machine, Reply, serve_link, serve_requests, whole_reply};
 use std::alloc::Global;
 use std::test::Fail;
-use wire_head::Request;
 use wire_replies::update_body;
 
 // Answers each request with its path.

@@ -17,7 +17,7 @@ use Rattle.http_wire.specs.Fed.{FedTo}
 use Rattle.http_wire.specs.declared.chunks.Fed.{Fed}
 use Rattle.http_wire.specs.declared.chunks.Fed.TheVariants as feeding
 use Rattle.http_wire.proofs.ChunkLemmas.{run_append}
-use Rattle.wire_head.specs.declared.plan.Plan.TheVariants.{Sized, Chunked}
+use Rattle.http_wire.specs.declared.plan.Plan.TheVariants.{Sized, Chunked}
 use Rattle.dh_base.specs.declared.codes.Code.TheVariants.{F3}
 use Rattle.http_wire.specs.Next.{waiting, complete, by_chunks, body_of}
 use Rattle.http_wire.specs.Reads.{Gathers, GivesBody, ReadsBody, GivesChunks, IsShort, IsWaiting, is_stop}

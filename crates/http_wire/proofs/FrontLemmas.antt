@@ -5,8 +5,8 @@ use Rattle.std.proofs.KnownBytes.{Consumes-nil, Consumes-trans}
 use Rattle.dh_outside.specs.Pieces.{Gains}
 use Rattle.dh_outside.specs.Talk.{Talk}
 use Rattle.dh_outside.proofs.TalkLemmas.{paced_none, paced_on, paced_one}
-use Rattle.wire_head.specs.Lines.{blank_length, opening_of, IsPassed}
-use Rattle.wire_head.specs.declared.lines.Opening.TheVariants.{Nothing, Unfinished}
+use Rattle.http_wire.specs.Lines.{blank_length, opening_of, IsPassed}
+use Rattle.http_wire.specs.declared.lines.Opening.TheVariants.{Nothing, Unfinished}
 use Rattle.http_wire.specs.Next.{Found, ended, cut, beyond, IsFoundBy, IsFirst, skipped, IsNext, IsOpen}
 use Rattle.http_wire.specs.Reads.{Gathers, Skims}
 use Rattle.http_wire.proofs.OpeningLaws.{skip_on, skip_twice, blank_skipped, opening_nothing, passed_more, passed_none}

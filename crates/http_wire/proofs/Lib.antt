@@ -1,3 +1,6 @@
+pub mod HeadLaws
+pub mod HeadLemmas
+pub mod LineLemmas
 pub mod ChunkLemmas
 pub mod SizeLemmas
 pub mod BodyLemmas

@@ -9,14 +9,14 @@ use Rattle.dh_base.specs.declared.codes.Code.{Code}
 use Rattle.http_wire.specs.Chunks.{Outcome, open_at, and_on, run, at_first, chunked}
 use Rattle.http_wire.specs.Chunks as body
 use Rattle.http_wire.proofs.ChunkLemmas.{run_append}
-use Rattle.wire_head.specs.Lines.{blank_length, opening_of}
-use Rattle.wire_head.specs.Head.{Says}
-use Rattle.wire_head.specs.declared.head.Head.{Head}
-use Rattle.wire_head.specs.declared.lines.Opening.{Opening}
-use Rattle.wire_head.specs.declared.lines.Opening.TheVariants.{Nothing, Unfinished, TooLong, Whole}
-use Rattle.wire_head.specs.declared.plan.Plan.{Plan}
-use Rattle.wire_head.specs.declared.plan.Plan.TheVariants.{Sized, Chunked}
-use Rattle.wire_head.proofs.HeadLaws.{says_unique}
+use Rattle.http_wire.specs.Lines.{blank_length, opening_of}
+use Rattle.http_wire.specs.Head.{Says}
+use Rattle.http_wire.specs.declared.head.Head.{Head}
+use Rattle.http_wire.specs.declared.lines.Opening.{Opening}
+use Rattle.http_wire.specs.declared.lines.Opening.TheVariants.{Nothing, Unfinished, TooLong, Whole}
+use Rattle.http_wire.specs.declared.plan.Plan.{Plan}
+use Rattle.http_wire.specs.declared.plan.Plan.TheVariants.{Sized, Chunked}
+use Rattle.http_wire.proofs.HeadLaws.{says_unique}
 use Rattle.http_wire.specs.Next.{Found, ended, cut, refused, whole, beyond, waiting, complete, by_chunks, body_of, with_body, behind_head, IsFoundBy}
 use Rattle.http_wire.specs.Next.{IsFirst, skipped, IsNext}
 use Rattle.http_wire.proofs.OpeningLaws.{skip_still, blank_within, opening_head, opening_more, opening_long}

@@ -4,8 +4,8 @@ use Rattle.std.proofs.Common.{None, refl, sym, ap, arith, append-nil, zero, leng
 use Rattle.std.proofs.lemmas.List.{drop-drop, drop-append-le, take-append-le, length-take, take_all}
 use Rattle.std.proofs.Math.Seq.{take-append-add}
 use Rattle.std.proofs.lemmas.Bool.Decides.{nat_tests}
-use Rattle.wire_head.specs.Lines.{empty_line, blank_length, shifted, head_length, head_limit, opening_by, opening_of, IsPassed}
-use Rattle.wire_head.specs.declared.lines.Opening.TheVariants.{Nothing, Unfinished, TooLong, Whole}
+use Rattle.http_wire.specs.Lines.{empty_line, blank_length, shifted, head_length, head_limit, opening_by, opening_of, IsPassed}
+use Rattle.http_wire.specs.declared.lines.Opening.TheVariants.{Nothing, Unfinished, TooLong, Whole}
 use Rattle.http_wire.specs.Next.{skipped}
 
 -- ---- empty lines

@@ -8,16 +8,16 @@ use Rattle.dh_base.specs.declared.codes.Code.TheVariants.{F2}
 use Rattle.dh_outside.specs.Pieces.{IsSpent}
 use Rattle.dh_outside.specs.Talk.{Talk, Paced}
 use Rattle.dh_outside.proofs.TalkLemmas.{paced_none, paced_on, paced_rebase, paced_shut}
-use Rattle.wire_head.specs.Lines.{blank_length, opening_of}
-use Rattle.wire_head.specs.Head.{Says, Tells}
-use Rattle.wire_head.specs.declared.head.Head.{Head}
-use Rattle.wire_head.specs.declared.head.HeadFault.{HeadFault}
-use Rattle.wire_head.specs.declared.head.HeadFault.TheVariants as head_fault
-use Rattle.wire_head.specs.declared.lines.Opening.TheVariants.{Nothing, Whole}
+use Rattle.http_wire.specs.Lines.{blank_length, opening_of}
+use Rattle.http_wire.specs.Head.{Says, Tells}
+use Rattle.http_wire.specs.declared.head.Head.{Head}
+use Rattle.http_wire.specs.declared.head.HeadFault.{HeadFault}
+use Rattle.http_wire.specs.declared.head.HeadFault.TheVariants as head_fault
+use Rattle.http_wire.specs.declared.lines.Opening.TheVariants.{Nothing, Whole}
 use Rattle.http_wire.specs.Faults.{comes_from}
 use Rattle.http_wire.specs.Next.{Found, ended, cut, refused, whole, beyond, with_body, request_of, IsFoundBy, skipped, IsNext, IsOpen}
 use Rattle.http_wire.specs.Reads.{RestSeen, seen, IsCutBehind, IsWaiting, Gives, Reads, Opens, Skims, IsBehind, GivesBehind, ReadsBehind, GivesBody, ReadsBody}
-use Rattle.wire_head.specs.declared.request.Request.{Request}
+use Rattle.http_wire.specs.declared.request.Request.{Request}
 use Rattle.http_wire.specs.declared.fault.WireFault.{WireFault}
 use Rattle.http_wire.specs.declared.fault.WireFault.TheVariants as fault
 use Rattle.http_wire.proofs.FrontLemmas.{skip_zero, next_by}

@@ -3,10 +3,10 @@
 use Rattle.std.specs.Prelude.{ℕ, ◌+◌, ◌-◌, Bool, false, List, [], ◌∷◌, ◌++◌, cond, length, nat_eq, nat_lt, nat_le, ⊤}
 use Rattle.dh_base.specs.declared.codes.Code.{Code}
 use Rattle.dh_base.specs.declared.codes.Code.TheVariants.{F3, F4}
-use Rattle.http_wire.specs.Line.{size_step, IsSized}
-use Rattle.http_wire.specs.declared.line.SizeStep.{SizeStep}
-use Rattle.http_wire.specs.declared.line.SizeStep.TheVariants as line
-use Rattle.http_wire.specs.declared.line.SizePlace.TheVariants.{Digits}
+use Rattle.http_wire.specs.Size.{size_step, IsSized}
+use Rattle.http_wire.specs.declared.size.SizeStep.{SizeStep}
+use Rattle.http_wire.specs.declared.size.SizeStep.TheVariants as line
+use Rattle.http_wire.specs.declared.size.SizePlace.TheVariants.{Digits}
 use Rattle.http_wire.specs.declared.chunks.Place.{Place}
 use Rattle.http_wire.specs.declared.chunks.Place.TheVariants.{Size, Content, Feed, Start, Trailer, TrailerEnd, LastEnd}
 use Rattle.http_wire.specs.declared.chunks.Step.{Step}

@@ -1,6 +1,6 @@
 -- The fault of a request whose head is at fault.
-use Rattle.wire_head.specs.declared.head.HeadFault.{HeadFault}
-use Rattle.wire_head.specs.declared.head.HeadFault.TheVariants as head
+use Rattle.http_wire.specs.declared.head.HeadFault.{HeadFault}
+use Rattle.http_wire.specs.declared.head.HeadFault.TheVariants as head
 use Rattle.http_wire.specs.declared.fault.WireFault.{WireFault}
 use Rattle.http_wire.specs.declared.fault.WireFault.TheVariants.{Refused, Memory}
 

@@ -1,6 +1,10 @@
+pub mod Fields
+pub mod Head
+pub mod Lines
+pub mod Plan
 pub mod Chunks
 pub mod Fed
-pub mod Line
+pub mod Size
 pub mod Faults
 pub mod Next
 pub mod Reads

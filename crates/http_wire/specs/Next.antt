@@ -2,16 +2,16 @@
 use Rattle.std.specs.Prelude.{◌≡◌, ◌⊎◌, ℕ, ◌+◌, List, Result, Ok, Err, cond, length, take, drop, nat_le}
 use Rattle.dh_base.specs.declared.codes.Code.{Code}
 use Rattle.dh_base.specs.declared.codes.Code.TheVariants.{F2}
-use Rattle.wire_head.specs.Lines.{blank_length, opening_of}
-use Rattle.wire_head.specs.Head.{Says}
-use Rattle.wire_head.specs.declared.head.Head.{Head}
-use Rattle.wire_head.specs.declared.lines.Opening.{Opening}
-use Rattle.wire_head.specs.declared.lines.Opening.TheVariants.{Nothing, Unfinished, TooLong, Whole}
-use Rattle.wire_head.specs.declared.plan.Plan.{Plan}
-use Rattle.wire_head.specs.declared.plan.Plan.TheVariants.{Sized, Chunked}
+use Rattle.http_wire.specs.Lines.{blank_length, opening_of}
+use Rattle.http_wire.specs.Head.{Says}
+use Rattle.http_wire.specs.declared.head.Head.{Head}
+use Rattle.http_wire.specs.declared.lines.Opening.{Opening}
+use Rattle.http_wire.specs.declared.lines.Opening.TheVariants.{Nothing, Unfinished, TooLong, Whole}
+use Rattle.http_wire.specs.declared.plan.Plan.{Plan}
+use Rattle.http_wire.specs.declared.plan.Plan.TheVariants.{Sized, Chunked}
 use Rattle.http_wire.specs.Chunks.{Outcome, open_at, chunked}
 use Rattle.http_wire.specs.Chunks as body
-use Rattle.wire_head.specs.declared.request.Request.{Request}
+use Rattle.http_wire.specs.declared.request.Request.{Request}
 
 -- a request of this head and body
 abbrev pub request_of : Head → List ℕ → Request

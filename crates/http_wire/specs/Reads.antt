@@ -5,16 +5,16 @@ use Rattle.dh_base.specs.declared.codes.Code.{Code}
 use Rattle.dh_base.specs.declared.codes.Code.TheVariants.{F2}
 use Rattle.dh_outside.specs.Pieces.{IsSpent}
 use Rattle.dh_outside.specs.Talk.{Talk, Paced}
-use Rattle.wire_head.specs.Lines.{opening_of}
-use Rattle.wire_head.specs.Head.{Says}
-use Rattle.wire_head.specs.declared.head.Head.{Head}
-use Rattle.wire_head.specs.declared.lines.Opening.TheVariants.{Nothing, Unfinished, TooLong, Whole}
-use Rattle.wire_head.specs.declared.plan.Plan.{Plan}
+use Rattle.http_wire.specs.Lines.{opening_of}
+use Rattle.http_wire.specs.Head.{Says}
+use Rattle.http_wire.specs.declared.head.Head.{Head}
+use Rattle.http_wire.specs.declared.lines.Opening.TheVariants.{Nothing, Unfinished, TooLong, Whole}
+use Rattle.http_wire.specs.declared.plan.Plan.{Plan}
 use Rattle.http_wire.specs.Chunks.{chunked}
 use Rattle.http_wire.specs.Chunks as body
 use Rattle.http_wire.specs.declared.chunks.Chunks.{Chunks}
 use Rattle.http_wire.specs.Next.{Found, ended, cut, refused, whole, complete, waiting, wrong, by_chunks, body_of, behind_head, skipped, IsNext, IsOpen}
-use Rattle.wire_head.specs.declared.request.Request.{Request}
+use Rattle.http_wire.specs.declared.request.Request.{Request}
 use Rattle.http_wire.specs.declared.fault.WireFault.{WireFault}
 use Rattle.http_wire.specs.declared.fault.WireFault.TheVariants as fault
 

@@ -2,17 +2,17 @@
 ghost use Rattle.std.specs.Prelude.{◌≡◌, ◌≤◌, ◌<◌, ◌+◌, ◌-◌, ◌^◌, Err, IfOk, IfErr, OnOk, OnErr, true, length, drop, take};
 ghost use Rattle.dh_outside.specs.Faults.{Rose};
 ghost use Rattle.dh_outside.specs.Pieces.{IsSpent};
-ghost use Rattle.wire_head.specs.declared.plan.Plan.TheVariants.{Sized, Chunked};
+ghost use Rattle.http_wire.specs.declared.plan.Plan.TheVariants.{Sized, Chunked};
 ghost use Rattle.http_wire.specs.Reads.{Gathers, GivesChunks, ReadsBody, IsShort, IsWaiting, is_stop};
 ghost use Rattle.http_wire.specs.declared.fault.WireFault.TheVariants.{ReadFault, Truncated};
 
 use crate::chunks::{Chunks, Fed, feed, start};
 use crate::fault::WireFault;
 use crate::front::{drop_front, take_more};
+use crate::plan::Plan;
 use dh_base::items::Items;
 use dh_outside::Source;
 use std::alloc::{AllocError, Global};
-use wire_head::plan::Plan;
 
 // Reads on until so many bytes are held after a place.
 fn wait_for<S: Source>(

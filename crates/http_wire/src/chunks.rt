@@ -6,7 +6,7 @@ ghost use Rattle.http_wire.specs.declared.chunks.Place.TheVariants as at;
 ghost use Rattle.http_wire.specs.declared.chunks.Step.TheVariants.{Goes, Ends, Fails};
 ghost use Rattle.dh_base.specs.declared.codes.Code.TheVariants.{F4};
 
-use crate::line::{SizePlace, SizeStep, size_step};
+use crate::size::{SizePlace, SizeStep, size_step};
 use dh_base::codes::Code;
 use dh_base::items::Items;
 use std::alloc::{AllocError, Global};

@@ -3,9 +3,9 @@ ghost use Rattle.std.specs.Prelude.{◌≡◌};
 ghost use Rattle.http_wire.specs.Faults.{comes_from};
 ghost use Rattle.http_wire.specs.declared.fault.WireFault.TheVariants.{Memory};
 
+use crate::head::HeadFault;
 use dh_base::codes::Code;
 use std::alloc::AllocError;
-use wire_head::head::HeadFault;
 
 /// Why no request is given.
 #[derive(Clone, Copy, Debug, Drop, PartialEq, Eq, thiserror::Error)]

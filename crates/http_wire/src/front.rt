@@ -2,15 +2,15 @@
 ghost use Rattle.std.specs.Prelude.{◌≡◌, ◌⊎◌, ◌≤◌, ◌<◌, ◌-◌, ◌^◌, Ok, Err, IfErr, OnErr, true, false, length, drop, take};
 ghost use Rattle.dh_outside.specs.Faults.{Rose};
 ghost use Rattle.dh_outside.specs.Pieces.{Gains, IsSpent};
-ghost use Rattle.wire_head.specs.Lines.{blank_length, opening_of, IsPassed};
+ghost use Rattle.http_wire.specs.Lines.{blank_length, opening_of, IsPassed};
 ghost use Rattle.http_wire.specs.Next.{skipped};
 ghost use Rattle.http_wire.specs.Reads.{Skims, Opens};
 ghost use Rattle.http_wire.specs.declared.fault.WireFault.TheVariants.{ReadFault, Memory};
 
 use crate::fault::WireFault;
+use crate::lines::{Opening, blank_length, find_opening};
 use dh_base::codes::Code;
 use dh_outside::{Piece, Source, take_piece};
-use wire_head::lines::{Opening, blank_length, find_opening};
 
 // Moves the bytes from a place on to the front. What stands after them is left over.
 fn move_down(bytes: &mut [u8], from: usize)

@@ -3,20 +3,20 @@ ghost use Rattle.std.specs.Prelude.{◌≡◌, ◌≤◌, ◌^◌, ℕ, Ok, Err,
 ghost use Rattle.dh_base.specs.declared.codes.Code.{Code};
 ghost use Rattle.dh_outside.specs.Faults.{Rose};
 ghost use Rattle.http_wire.specs.Next.{request_of, whole, refused, IsNext};
-ghost use Rattle.wire_head.specs.declared.request.Request.{Request as Asked};
+ghost use Rattle.http_wire.specs.declared.request.Request.{Request as Asked};
 ghost use Rattle.http_wire.specs.Reads.{Reads, ReadsBehind, seen};
-ghost use Rattle.wire_head.specs.Head.{Says, Tells};
+ghost use Rattle.http_wire.specs.Head.{Says, Tells};
 ghost use Rattle.http_wire.specs.declared.fault.WireFault.TheVariants.{ReadFault};
 
+use crate::Request;
 use crate::body::read_body;
 use crate::fault::{WireFault, fault_of};
 use crate::front::find_head;
+use crate::head::{Head, HeadFault, read_head};
 use dh_base::items::Items;
 use dh_outside::Source;
 use std::alloc::Global;
 use std::marker::Model;
-use wire_head::Request;
-use wire_head::head::{Head, HeadFault, read_head};
 
 /// The bytes that were read of one source and not yet used.
 #[derive(Drop)]

@@ -10,7 +10,7 @@ use Rattle.std.proofs.lemmas.List.Folds.{list_all-append}
 use Rattle.std.specs.Io.KnownBytes.{Appends}
 use Rattle.change_log.specs.declared.limits.Limits.{Limits}
 use Rattle.http_wire.specs.Next.{Found, ended, cut, refused, whole, IsNext}
-use Rattle.wire_head.specs.declared.request.Request.{Request}
+use Rattle.http_wire.specs.declared.request.Request.{Request}
 use Rattle.http_wire.proofs.NextLaws.{next_unique}
 use Rattle.meta_parts.specs.declared.held.Records.{Records}
 use Rattle.meta_reader.specs.declared.fault.MetaFault.{MetaFault}

@@ -4,7 +4,7 @@ use Rattle.dh_base.specs.Codes.{status_of}
 use Rattle.dh_base.specs.declared.codes.Code.TheVariants.{F18}
 use Rattle.dh_base.specs.declared.codes.Refusal.{Refusal}
 use Rattle.dh_base.specs.declared.memory.Memory.{Memory}
-use Rattle.wire_head.specs.declared.request.Request.{Request}
+use Rattle.http_wire.specs.declared.request.Request.{Request}
 use Rattle.dh_periods.specs.Moment.{day_of}
 use Rattle.query_answer.specs.Answer.{answer_of}
 use Rattle.query_answer.proofs.UnseenLemmas.{answer_of-same}

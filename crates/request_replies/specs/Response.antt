@@ -4,7 +4,7 @@ use Rattle.dh_base.specs.declared.codes.Code.TheVariants.{F30, F32}
 use Rattle.dh_base.specs.declared.codes.Refusal.{Refusal}
 use Rattle.dh_base.specs.declared.plain.CutKind.{CutKind}
 use Rattle.dh_periods.specs.Moment.{day_of}
-use Rattle.wire_head.specs.declared.request.Request.{Request}
+use Rattle.http_wire.specs.declared.request.Request.{Request}
 use Rattle.meta_parts.specs.declared.held.Records.{Records}
 use Rattle.change_log.specs.declared.limits.Limits.{Limits}
 use Rattle.change_requests.specs.Requests.{Asked}

@@ -7,7 +7,7 @@ use Rattle.meta_parts.specs.declared.held.Records.{Records}
 use Rattle.meta_reader.specs.declared.fault.MetaFault.{MetaFault}
 use Rattle.meta_reader.specs.Read.{metadata_of_bytes}
 use Rattle.http_wire.specs.Next.{Found, ended, cut, refused, whole, IsNext}
-use Rattle.wire_head.specs.declared.request.Request.{Request}
+use Rattle.http_wire.specs.declared.request.Request.{Request}
 use Rattle.request_session.specs.Replies.{memory_reply, refused_text}
 use Rattle.request_session.specs.Session.{Requests, keeps, counting, is_decided}
 use Rattle.engine.specs.Machine.{State, start}

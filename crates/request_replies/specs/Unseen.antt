@@ -1,6 +1,6 @@
 -- What a user doesn't see of the published changes leaves the user's replies, and so does the order of what the user sees.
 use Rattle.std.specs.Prelude.{◌≡◌, ◌≤◌, ℕ, ℤ, Bool, List, take, None, Some, IfSome, Ok}
-use Rattle.wire_head.specs.declared.request.Request.{Request}
+use Rattle.http_wire.specs.declared.request.Request.{Request}
 use Rattle.dh_periods.specs.Moment.{day_of}
 use Rattle.query_forms.specs.declared.plain.Query.{Query}
 use Rattle.cell_values.specs.Seen.{SeenRecords, SameSeen, seen_of}

@@ -1,6 +1,6 @@
 //! What follows from the definition of replies alone.
 ghost use Rattle.std.specs.Prelude.{ℕ, ℤ, Bool, List, Option};
-ghost use Rattle.wire_head.specs.declared.request.Request.{Request};
+ghost use Rattle.http_wire.specs.declared.request.Request.{Request};
 ghost use Rattle.engine.specs.Seen.{Seen};
 ghost use Rattle.request_replies.specs.Steps.{ReplyAt, Keeps};
 

@@ -18,12 +18,12 @@ use dh_base::memory::Memory;
 use dh_outside::{Clock, Keeper};
 use dh_periods::day_of;
 use engine::Engine;
+use http_wire::Request;
 use request_session::{Machine, Reply};
 use std::alloc::Global;
 use web_routes::RouteFault;
 use web_routes::call::Call;
 use web_routes::routing::route;
-use wire_head::Request;
 
 // The reply to a call at a moment.
 #[tactic(auto, using(engine::proofs::AfterLemmas::user_before))]

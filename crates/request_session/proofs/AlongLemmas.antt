@@ -1,6 +1,6 @@
 -- A run of one machine told as a run of another, along a function of its states.
 use Rattle.std.proofs.Common.{◌+◌, ℕ, Bool, List, [], ◌∷◌, Option, sym, ap, subst}
-use Rattle.wire_head.specs.declared.request.Request.{Request}
+use Rattle.http_wire.specs.declared.request.Request.{Request}
 use Rattle.request_session.specs.Along.{Carries}
 use Rattle.request_session.specs.Session.{Replies, Session, Ran, RanOver, keeps}
 use Rattle.request_session.specs.declared.ended.Ended.{Ended}

@@ -4,22 +4,22 @@ use Rattle.std.proofs.Common.{nat_eq, nat_lt, nat_le}
 use Rattle.std.specs.Prelude.{⊤}
 use Rattle.dh_base.specs.declared.codes.Code.{Code}
 use Rattle.dh_base.specs.declared.codes.Code.TheVariants.{F3, F4, F5}
-use Rattle.wire_head.specs.Fields.{Field}
-use Rattle.wire_head.specs.Lines.{blank_length, opening_of, field_lines}
-use Rattle.wire_head.specs.Head.{Parts, planned, said_by, meant_by, IsMeantBy}
-use Rattle.wire_head.specs.Plan.{announced, is_badly_framed, is_not_plain, is_too_long, plan_of}
-use Rattle.wire_head.specs.declared.head.Head.{Head}
-use Rattle.wire_head.specs.declared.lines.Opening.{Opening}
-use Rattle.wire_head.specs.declared.lines.Opening.TheVariants.{Nothing, Unfinished, TooLong, Whole}
-use Rattle.wire_head.specs.declared.plan.Plan.{Plan}
-use Rattle.wire_head.specs.declared.plan.Plan.TheVariants.{Sized, Chunked}
-use Rattle.http_wire.specs.Line.{size_step}
+use Rattle.http_wire.specs.Fields.{Field}
+use Rattle.http_wire.specs.Lines.{blank_length, opening_of, field_lines}
+use Rattle.http_wire.specs.Head.{Parts, planned, said_by, meant_by, IsMeantBy}
+use Rattle.http_wire.specs.Plan.{announced, is_badly_framed, is_not_plain, is_too_long, plan_of}
+use Rattle.http_wire.specs.declared.head.Head.{Head}
+use Rattle.http_wire.specs.declared.lines.Opening.{Opening}
+use Rattle.http_wire.specs.declared.lines.Opening.TheVariants.{Nothing, Unfinished, TooLong, Whole}
+use Rattle.http_wire.specs.declared.plan.Plan.{Plan}
+use Rattle.http_wire.specs.declared.plan.Plan.TheVariants.{Sized, Chunked}
+use Rattle.http_wire.specs.Size.{size_step}
 use Rattle.http_wire.specs.Chunks.{content_limit, frame_limit, sized, behind_size, expect, step, Outcome, open_at, stepped, advanced, and_on, run, at_first}
 use Rattle.http_wire.specs.Chunks.{chunked}
 use Rattle.http_wire.specs.Chunks as body
-use Rattle.http_wire.specs.declared.line.SizeStep.{SizeStep}
-use Rattle.http_wire.specs.declared.line.SizeStep.TheVariants as line
-use Rattle.http_wire.specs.declared.line.SizePlace.TheVariants.{Digits}
+use Rattle.http_wire.specs.declared.size.SizeStep.{SizeStep}
+use Rattle.http_wire.specs.declared.size.SizeStep.TheVariants as line
+use Rattle.http_wire.specs.declared.size.SizePlace.TheVariants.{Digits}
 use Rattle.http_wire.specs.declared.chunks.Place.{Place}
 use Rattle.http_wire.specs.declared.chunks.Place.TheVariants.{Size, Content, Feed, Start, Trailer, TrailerEnd, LastEnd}
 use Rattle.http_wire.specs.declared.chunks.Step.{Step}

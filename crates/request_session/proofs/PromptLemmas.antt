@@ -2,7 +2,7 @@
 use Rattle.std.proofs.Common.{◌≡◌, ◌∙◌, ℕ, Bool, List, [], ◌∷◌, ◌++◌, Option, None, Some, refl, sym, ap, subst, append_assoc, append-nil}
 use Rattle.dh_outside.specs.Talk.{Talk, Heard, joined, heard_one, heard_all, Hears, Says, BeforeEach, Paced}
 use Rattle.http_wire.specs.Next.{IsOpen}
-use Rattle.wire_head.specs.declared.request.Request.{Request}
+use Rattle.http_wire.specs.declared.request.Request.{Request}
 use Rattle.request_session.specs.Prompt.{given_by, EachRead, AllAnswered, Prompt}
 use Rattle.request_session.specs.Session.{Requests, Replies, GoesOn}
 use Rattle.request_session.specs.SoFar.{PromptSoFar}

@@ -6,7 +6,7 @@ use Rattle.std.specs.List.{list_all}
 use Rattle.std.proofs.lemmas.List.{take-append-le}
 use Rattle.std.proofs.Math.Seq.{take-append_seam}
 use Rattle.http_wire.specs.Next.{Found, ended, cut, refused, whole, IsNext}
-use Rattle.wire_head.specs.declared.request.Request.{Request}
+use Rattle.http_wire.specs.declared.request.Request.{Request}
 use Rattle.http_wire.proofs.NextLaws.{next_unique}
 use Rattle.request_session.specs.Session.{Requests, GoesOn, OneMore, AsksToClose, IsFull, EndsBy, Session, is_decided}
 use Rattle.request_session.specs.declared.ended.Ended.{Ended}

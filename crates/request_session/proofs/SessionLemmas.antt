@@ -7,7 +7,7 @@ use Rattle.std.proofs.KnownBytes.{Consumes-nil, Consumes-trans, Appends-nil, App
 use Rattle.dh_outside.specs.Faults.{Rose}
 use Rattle.dh_outside.specs.Pieces.{IsSpent}
 use Rattle.http_wire.specs.Reads.{RestSeen, Reads}
-use Rattle.wire_head.specs.declared.request.Request.{Request}
+use Rattle.http_wire.specs.declared.request.Request.{Request}
 use Rattle.http_wire.specs.declared.fault.WireFault.{WireFault}
 use Rattle.http_wire.specs.declared.fault.WireFault.TheVariants as fault
 use Rattle.request_session.specs.Session.{Requests, Replies, GoesOn, EndsBy, WritesUpTo, Ran}

@@ -5,7 +5,7 @@ use Rattle.std.specs.Prelude.{⊤}
 use Rattle.std.proofs.Math.Seq.{take-append-add, take-nil}
 use Rattle.dh_outside.specs.Pieces.{IsSpent}
 use Rattle.http_wire.specs.Next.{Found, ended, cut, refused, IsNext}
-use Rattle.wire_head.specs.declared.request.Request.{Request}
+use Rattle.http_wire.specs.declared.request.Request.{Request}
 use Rattle.http_wire.proofs.NextLaws.{next_stays}
 use Rattle.request_session.specs.Session.{Requests, AsksToClose, GoesOn, EndsBy, Ran, RanOver, counting}
 use Rattle.request_session.specs.declared.ended.Ended.{Ended}

@@ -2,7 +2,7 @@
 use Rattle.std.proofs.Common.{◌≡◌, ℕ, Bool, List, Option, Result, sym, subst}
 use Rattle.dh_outside.specs.Talk.{Talk}
 use Rattle.http_wire.specs.Reads.{RestSeen, Reads}
-use Rattle.wire_head.specs.declared.request.Request.{Request}
+use Rattle.http_wire.specs.declared.request.Request.{Request}
 use Rattle.http_wire.specs.declared.fault.WireFault.{WireFault}
 use Rattle.request_session.specs.Turn.{Turns, Follows, Speaks}
 use Rattle.request_session.specs.declared.ended.Turn.{Turn}

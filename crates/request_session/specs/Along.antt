@@ -1,6 +1,6 @@
 -- Steps of one machine that are steps of another one, along a function of its states.
 use Rattle.std.specs.Prelude.{ℕ, Bool, List}
-use Rattle.wire_head.specs.declared.request.Request.{Request}
+use Rattle.http_wire.specs.declared.request.Request.{Request}
 
 -- each step from a state of which something is known is a step of the other machine, and leaves a state of which it is
 -- known

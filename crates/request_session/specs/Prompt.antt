@@ -2,7 +2,7 @@
 use Rattle.std.specs.Prelude.{◌≡◌, ℕ, Bool, List, [], ◌∷◌, ◌++◌, Option, None, Some, ⊤}
 use Rattle.dh_outside.specs.Talk.{Talk, Heard}
 use Rattle.http_wire.specs.Next.{IsOpen}
-use Rattle.wire_head.specs.declared.request.Request.{Request}
+use Rattle.http_wire.specs.declared.request.Request.{Request}
 use Rattle.request_session.specs.Session.{Requests, Replies, GoesOn}
 
 -- all that these reads gave

@@ -5,7 +5,7 @@ use Rattle.std.specs.Io.KnownBytes.{Consumes, Appends}
 use Rattle.dh_base.specs.declared.codes.Code.{Code}
 use Rattle.dh_outside.specs.Pieces.{IsSpent}
 use Rattle.http_wire.specs.Next.{ended, cut, refused, whole, IsNext, IsOpen}
-use Rattle.wire_head.specs.declared.request.Request.{Request}
+use Rattle.http_wire.specs.declared.request.Request.{Request}
 use Rattle.request_session.specs.Replies.{RefusesBy, memory_reply}
 use Rattle.request_session.specs.declared.ended.Ended.{Ended}
 use Rattle.request_session.specs.declared.ended.Ended.TheVariants as end

@@ -3,7 +3,7 @@ use Rattle.std.specs.Prelude.{◌≡◌, ℕ, Bool, List, [], ◌++◌, Option, 
 use Rattle.std.specs.Io.KnownBytes.{Consumes, Appends}
 use Rattle.dh_outside.specs.Talk.{Talk, Heard}
 use Rattle.http_wire.specs.Reads.{RestSeen}
-use Rattle.wire_head.specs.declared.request.Request.{Request}
+use Rattle.http_wire.specs.declared.request.Request.{Request}
 use Rattle.request_session.specs.Prompt.{given_by, EachRead, AllAnswered}
 use Rattle.request_session.specs.Session.{Requests, Replies, GoesOn}
 

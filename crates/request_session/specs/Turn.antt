@@ -4,7 +4,7 @@ use Rattle.std.specs.Io.KnownBytes.{Appends}
 use Rattle.dh_outside.specs.Talk.{Talk, Says}
 use Rattle.dh_outside.specs.declared.Failed.{Failed}
 use Rattle.http_wire.specs.Reads.{RestSeen, Reads}
-use Rattle.wire_head.specs.declared.request.Request.{Request}
+use Rattle.http_wire.specs.declared.request.Request.{Request}
 use Rattle.http_wire.specs.declared.fault.WireFault.{WireFault}
 use Rattle.http_wire.specs.declared.fault.WireFault.TheVariants as fault
 use Rattle.request_session.specs.Replies.{RefusesBy}

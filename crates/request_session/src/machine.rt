@@ -1,12 +1,12 @@
 //! What answers requests.
 ghost use Rattle.std.specs.Prelude.{ℕ, Bool, List, IfOk, OnErr};
-ghost use Rattle.wire_head.specs.declared.request.Request.{Request as Asked};
+ghost use Rattle.http_wire.specs.declared.request.Request.{Request as Asked};
 ghost use Rattle.request_session.specs.Replies.{memory_reply, text_in};
 
 use crate::reply::Reply;
 use dh_base::memory::Memory;
+use http_wire::Request;
 use std::alloc::Global;
-use wire_head::Request;
 
 /// What answers requests.
 pub trait Machine {

@@ -11,9 +11,8 @@ ghost use Rattle.request_session.specs.Turn.{Sent};
 use crate::reply::Reply;
 use crate::send::{send_memory, send_reply};
 use dh_outside::{Failed, Link, Sink, Source};
-use http_wire::{Rest, WireFault, next_request};
+use http_wire::{Request, Rest, WireFault, next_request};
 use std::alloc::Global;
-use wire_head::Request;
 
 /// Where requests come from and replies go.
 pub(crate) trait Peer {

@@ -12,8 +12,8 @@ use crate::reply::Reply;
 use crate::texts::refused_reply;
 use dh_base::codes::Code;
 use dh_outside::{Failed, Sink, write_all};
+use http_wire::Request;
 use std::alloc::Global;
-use wire_head::Request;
 use wire_replies::heads::head;
 use wire_replies::{Head, memory_body};
 

@@ -10,9 +10,8 @@ use crate::ended::{Ended, Turn};
 use crate::machine::Machine;
 use crate::peer::Peer;
 use crate::send::{answer, refuse};
-use http_wire::{Rest, WireFault};
+use http_wire::{Request, Rest, WireFault};
 use std::alloc::Global;
-use wire_head::Request;
 
 // Answers a request. `more` says whether another one is allowed after it.
 fn respond<M: Machine, P: Peer>(

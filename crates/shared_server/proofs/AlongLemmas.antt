@@ -2,7 +2,7 @@
 use Rattle.std.proofs.Common.{◌≡◌, ◌∙◌, ℕ, ℤ, Bool, List, [], ◌∷◌, ◌++◌, Option, None, Some, refl, subst}
 use Rattle.dh_outside.specs.Talk.{Talk, Heard}
 use Rattle.history_word.specs.Views.{TokenView}
-use Rattle.wire_head.specs.declared.request.Request.{Request}
+use Rattle.http_wire.specs.declared.request.Request.{Request}
 use Rattle.request_session.specs.Along.{Carries}
 use Rattle.request_session.specs.Prompt.{Prompt, EachRead, AllAnswered}
 use Rattle.request_session.specs.Session.{Ran, Served}

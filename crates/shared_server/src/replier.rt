@@ -17,6 +17,7 @@ use dh_base::memory::Memory;
 use dh_metadata::metadata::Metadata;
 use dh_outside::{Clock, Keeper};
 use dh_periods::day_of;
+use http_wire::Request;
 use request_replies::replier::refuse;
 use request_session::{Machine, Reply};
 use shared_engine::{Naming, Pass};
@@ -24,7 +25,6 @@ use std::alloc::Global;
 use std::sync::Wait;
 use web_routes::call::Call;
 use web_routes::routing::route;
-use wire_head::Request;
 
 // The reply to a call at a moment.
 #[tactic(auto, using(crate::proofs::ReplyLemmas::user_made))]

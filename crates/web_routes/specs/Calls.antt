@@ -5,7 +5,7 @@ use Rattle.dh_approvals.specs.declared.act.Verb.{Verb}
 use Rattle.dh_approvals.specs.declared.act.Verb.TheVariants as verb
 use Rattle.dh_base.specs.declared.codes.Code.TheVariants as code
 use Rattle.dh_base.specs.declared.codes.Refusal.{Refusal}
-use Rattle.wire_head.specs.declared.request.Request.{Request}
+use Rattle.http_wire.specs.declared.request.Request.{Request}
 use Rattle.meta_parts.specs.declared.held.Records.{Records}
 use Rattle.dh_metadata.specs.Users.{user_of, has_authority}
 use Rattle.query_forms.specs.Form.{pairs_of}

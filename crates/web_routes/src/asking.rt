@@ -22,8 +22,8 @@ use dh_approvals::Verb;
 use dh_base::codes::Code;
 use dh_base::items::Items;
 use dh_metadata::metadata::Metadata;
+use http_wire::Request;
 use std::alloc::Global;
-use wire_head::Request;
 
 /// The user whose token it is.
 #[tactic(auto, unfolding(crate::specs::Calls::user_for))]

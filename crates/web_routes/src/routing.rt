@@ -10,8 +10,8 @@ use crate::call::Call;
 use crate::fault::RouteFault;
 use crate::table::route_of;
 use dh_metadata::metadata::Metadata;
+use http_wire::Request;
 use std::alloc::Global;
-use wire_head::Request;
 
 /// The call that a request stands for on a day from 1 January 1910 to 31 December 2099, or its refusal. Of several
 /// causes the first counts, in the order: F6 and F7 of the path and the method, F8 of the user, F31 of the right, F21

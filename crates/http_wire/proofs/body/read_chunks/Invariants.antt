@@ -1,5 +1,5 @@
 use Rattle.std.proofs.Common.{◌≡◌, ◌≤◌, ◌-◌, ◌^◌, length, drop}
-use Rattle.wire_head.specs.declared.plan.Plan.TheVariants.{Chunked}
+use Rattle.http_wire.specs.declared.plan.Plan.TheVariants.{Chunked}
 use Rattle.http_wire.specs.Reads.{Gathers, IsWaiting}
 use Rattle.http_wire.specs.Chunks.{run, at_first, IsSound}
 use Rattle.http_wire.proofs.body.read_chunks.Given as goal

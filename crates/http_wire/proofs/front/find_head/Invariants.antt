@@ -1,5 +1,5 @@
 use Rattle.std.proofs.Common.{◌≤◌, ◌-◌, ◌^◌}
-use Rattle.wire_head.specs.Lines.{IsPassed}
+use Rattle.http_wire.specs.Lines.{IsPassed}
 use Rattle.http_wire.specs.Reads.{Skims}
 use Rattle.http_wire.proofs.front.find_head.Given as goal
 

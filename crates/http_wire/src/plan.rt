@@ -1,0 +1,193 @@
+ghost use Rattle.std.specs.Prelude.{◌≡◌, ◌<◌, ◌≤◌, ◌^◌, map, true, length, codes, nat_lt};
+ghost use Rattle.std.specs.List.{list_any, list_all};
+ghost use Rattle.std.specs.Char.{is_ascii_digit};
+ghost use Rattle.std.specs.Str.Parse.{digits_value};
+ghost use Rattle.httparse.specs.Borrowed.{header_parts};
+ghost use Rattle.http_wire.specs.Fields.{count_named, last_named, is_length, gives_length, gives_bad_length, names_transfer, names_other_transfer};
+ghost use Rattle.http_wire.specs.Fields.{names_coding, names_other_media};
+ghost use Rattle.http_wire.specs.Plan.{length_in, length_by, announced, is_badly_framed, is_not_plain, has_body, is_too_long, plan_of};
+
+use crate::fields;
+use dh_base::codes::Code;
+use httparse::Header;
+
+// How many bytes a body may have.
+const BODY_LIMIT: u64 = 16_777_216;
+
+/// The body that a head announces.
+#[derive(Clone, Copy, Drop, PartialEq, Eq)]
+pub enum Plan {
+    /// So many bytes.
+    Sized(u64),
+    /// Chunks, up to one of no bytes.
+    Chunked,
+}
+
+fn gives_length(headers: &[Header]) -> bool
+    ensures { result ≡ list_any gives_length (map header_parts headers.now) }
+{
+    for header in headers {
+        if fields::gives_length(header) {
+            return true;
+        }
+    }
+    false
+}
+
+fn gives_bad_length(headers: &[Header]) -> bool
+    ensures { result ≡ list_any gives_bad_length (map header_parts headers.now) }
+{
+    for header in headers {
+        if fields::gives_bad_length(header) {
+            return true;
+        }
+    }
+    false
+}
+
+fn names_transfer(headers: &[Header]) -> bool
+    ensures { result ≡ list_any names_transfer (map header_parts headers.now) }
+{
+    for header in headers {
+        if fields::names_transfer(header) {
+            return true;
+        }
+    }
+    false
+}
+
+fn names_other_transfer(headers: &[Header]) -> bool
+    ensures { result ≡ list_any names_other_transfer (map header_parts headers.now) }
+{
+    for header in headers {
+        if fields::names_other_transfer(header) {
+            return true;
+        }
+    }
+    false
+}
+
+fn names_coding(headers: &[Header]) -> bool
+    ensures { result ≡ list_any names_coding (map header_parts headers.now) }
+{
+    for header in headers {
+        if fields::names_coding(header) {
+            return true;
+        }
+    }
+    false
+}
+
+fn names_other_media(headers: &[Header]) -> bool
+    ensures { result ≡ list_any names_other_media (map header_parts headers.now) }
+{
+    for header in headers {
+        if fields::names_other_media(header) {
+            return true;
+        }
+    }
+    false
+}
+
+fn digits_value(text: &[u8]) -> u64
+    requires digits { list_all is_ascii_digit text.now ≡ true }
+    requires short { length text.now ≤ 18 }
+    ensures value { result ≡ digits_value 10 text.now }
+    ensures bound { result < 10 ^ length text.now }
+{
+    let mut value = 0;
+    for byte in text {
+        value = value * 10 + u64::from(*byte - b'0');
+    }
+    value
+}
+
+#[tactic(auto, unfolding(crate::specs::Plan::length_in))]
+fn length_in(value: &[u8]) -> u64
+    ensures { result ≡ length_in value.now }
+{
+    if fields::is_length(value) {
+        digits_value(value)
+    } else {
+        0
+    }
+}
+
+fn length_by(headers: &[Header]) -> u64
+    ensures { result ≡ length_by (last_named (codes "content-length") (map header_parts headers.now)) }
+{
+    match fields::last_named(headers, b"content-length") {
+        Some(value) => length_in(value),
+        None => 0,
+    }
+}
+
+#[tactic(auto, unfolding(crate::specs::Plan::announced))]
+fn announced(headers: &[Header]) -> Plan
+    ensures { result ≡ announced (map header_parts headers.now) }
+{
+    if names_transfer(headers) {
+        Plan::Chunked
+    } else {
+        Plan::Sized(length_by(headers))
+    }
+}
+
+fn has_two_lengths(headers: &[Header]) -> bool
+    ensures { result ≡ nat_lt 1 (count_named (codes "content-length") (map header_parts headers.now)) }
+{
+    1 < fields::count_named(headers, b"content-length")
+}
+
+#[tactic(auto, unfolding(crate::specs::Plan::is_badly_framed))]
+fn is_badly_framed(headers: &[Header]) -> bool
+    ensures { result ≡ is_badly_framed (map header_parts headers.now) }
+{
+    has_two_lengths(headers)
+        || (gives_bad_length(headers)
+            || ((gives_length(headers) && names_transfer(headers))
+                || names_other_transfer(headers)))
+}
+
+fn has_body(plan: Plan) -> bool
+    ensures { result ≡ has_body plan }
+{
+    match plan {
+        Plan::Sized(count) => 0 < count,
+        Plan::Chunked => true,
+    }
+}
+
+fn is_too_long(plan: Plan) -> bool
+    ensures { result ≡ is_too_long plan }
+{
+    match plan {
+        Plan::Sized(count) => BODY_LIMIT < count,
+        Plan::Chunked => false,
+    }
+}
+
+#[tactic(auto, unfolding(crate::specs::Plan::is_not_plain))]
+fn is_not_plain(headers: &[Header], plan: Plan) -> bool
+    ensures { result ≡ is_not_plain (map header_parts headers.now) plan }
+{
+    names_coding(headers) || (has_body(plan) && names_other_media(headers))
+}
+
+/// The plan of the body, or the code of the first fault.
+#[tactic(auto, unfolding(crate::specs::Plan::plan_of))]
+pub fn plan_body(headers: &[Header]) -> Result<Plan, Code>
+    ensures { result ≡ plan_of (map header_parts headers.now) }
+{
+    if is_badly_framed(headers) {
+        return Err(Code::F4);
+    }
+    let plan = announced(headers);
+    if is_not_plain(headers, plan) {
+        return Err(Code::F5);
+    }
+    if is_too_long(plan) {
+        return Err(Code::F3);
+    }
+    Ok(plan)
+}

@@ -1,4 +1,0 @@
-pub mod Fields
-pub mod Head
-pub mod Lines
-pub mod Plan
