@@ -17,9 +17,7 @@ use Rattle.table_rows.proofs.OrderLemmas.{row_total, key_total, group_total, gro
 use Rattle.table_rows.proofs.RiseLemmas.{sorted_from_rises, sorted-far}
 use Rattle.table_sums.specs.declared.search.Bound.{Bound}
 use Rattle.table_sums.specs.declared.search.Bound.TheVariants as bound
-use Rattle.table_sums.specs.declared.rows.Head.{Head}
-use Rattle.table_sums.specs.Bounds.{is_before, is_head_before, IsCut}
-use Rattle.table_sums.specs.Columns.{head_of}
+use Rattle.table_sums.specs.Bounds.{is_before}
 
 -- ---- steps
 
@@ -85,20 +83,12 @@ before-down (bound.UptoElement element) x y less before = let upto = element-upt
 before-down (bound.UptoGroup group) x y less before =
     ap not (upto-trans group_total (group_of x) (group_of y) group (group_upto x y less) (not_true _ before))
 
--- whether a row stands before a bound is seen without its number
-pub head-before : (b : Bound) (row : Row) → is_head_before b (head_of row) ≡ is_before b row
-head-before (bound.Key key) row = refl
-head-before (bound.Element element) row = refl
-head-before (bound.UptoElement element) row = refl
-head-before (bound.UptoGroup group) row = refl
-
 -- ---- steps of a search
 
-pub before-more : (b : Bound) (rows : List Row) (middle : ℕ) (head : Head) → rises row_cmp rows ≡ true → middle < length rows → ((d : Row)
-    → head ≡ head_of (get_or rows middle d))
-    → is_head_before b head ≡ true → (k : ℕ) (d : Row) → k < middle + 1 → is_before b (get_or rows k d) ≡ true
-before-more b rows middle head up within at is k d below =
-    let here : is_before b (get_or rows middle d) ≡ true = sym (head-before b (get_or rows middle d)) ∙ ap (is_head_before b) (sym (at d)) ∙ is in
+pub before-more : (b : Bound) (rows : List Row) (middle : ℕ) → rises row_cmp rows ≡ true → middle < length rows
+    → ((d : Row) → is_before b (get_or rows middle d) ≡ true) → (k : ℕ) (d : Row) → k < middle + 1 → is_before b (get_or rows k d) ≡ true
+before-more b rows middle up within at k d below =
+    let here : is_before b (get_or rows middle d) ≡ true = at d in
     elim (lt_or_eq k middle (omega arith)) [
       | inl less ↦
           before-down b (get_or rows k d) (get_or rows middle d)
@@ -106,11 +96,10 @@ before-more b rows middle head up within at is k d below =
       | inr same ↦ ap (λ n. is_before b (get_or rows n d)) same ∙ here
     ]
 
-pub after-more : (b : Bound) (rows : List Row) (middle : ℕ) (head : Head) → rises row_cmp rows ≡ true → ((d : Row)
-    → head ≡ head_of (get_or rows middle d))
-    → is_head_before b head ≡ false → (k : ℕ) (d : Row) → middle ≤ k → k < length rows → is_before b (get_or rows k d) ≡ false
-after-more b rows middle head up at is k d from within =
-    let here : is_before b (get_or rows middle d) ≡ false = sym (head-before b (get_or rows middle d)) ∙ ap (is_head_before b) (sym (at d)) ∙ is in
+pub after-more : (b : Bound) (rows : List Row) (middle : ℕ) → rises row_cmp rows ≡ true
+    → ((d : Row) → is_before b (get_or rows middle d) ≡ false) → (k : ℕ) (d : Row) → middle ≤ k → k < length rows → is_before b (get_or rows k d) ≡ false
+after-more b rows middle up at k d from within =
+    let here : is_before b (get_or rows middle d) ≡ false = at d in
     elim (lt_or_eq middle k from) [
       | inl less ↦
           elim (cases_Bool (is_before b (get_or rows k d))) [

@@ -54,7 +54,7 @@ last-push gs g =
     ap (slice_get (gs ++ g ∷ [])) last ∙ slice_get-get_or (gs ++ g ∷ []) (length gs) g (omega arith) ∙ ap Some (get_or-append_seam gs g [] g)
 
 -- the group that was put is the last
-last-after : (gs : List Group) (g : Group) → last_of (with_group true gs g) ≡ Some g
+pub last-after : (gs : List Group) (g : Group) → last_of (with_group true gs g) ≡ Some g
 last-after gs g = by_last (last_of gs) refl
   where
     by_last : (o : Option Group) → last_of gs ≡ o → last_of (with_group true gs g) ≡ Some g

@@ -6,3 +6,5 @@ pub mod JumpLemmas
 pub mod StoreLemmas
 pub mod DayLemmas
 pub mod WidthLemmas
+pub mod GatherLemmas
+pub mod SpanLemmas

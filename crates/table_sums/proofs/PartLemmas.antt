@@ -23,7 +23,7 @@ use Rattle.table_rows.proofs.SumLemmas.{sum_over-append}
 use Rattle.table_rows.proofs.CellLemmas.{filter-never}
 use Rattle.table_sums.specs.declared.range.Part.{Part}
 use Rattle.table_sums.specs.declared.search.Bound.TheVariants as bound
-use Rattle.table_sums.specs.Bounds.{is_before, IsCut}
+use Rattle.table_sums.specs.Bounds.{is_before, is_place_below as below, IsCut}
 use Rattle.table_sums.specs.Running.{is_placed, IsPlaced, ArePlaced}
 use Rattle.table_sums.specs.Parts.{key_at, is_upto, IsRun}
 
@@ -86,16 +86,12 @@ filter-all-same p q xs all = filter-every-same p q xs (recursion_from_All (λ x.
 
 -- ---- keys of a group
 
--- how a place in a group stands to another one
-abbrev pub below : ℕ → ℕ → ℕ → ℕ → Bool
-below position order p o = nat_lt position p || (nat_eq position p && nat_lt order o)
-
 lt_cases : (a b : Bool) → is_lt (cond a Less (cond b Equal Greater)) ≡ a
 lt_cases true b = refl
 lt_cases false true = refl
 lt_cases false false = refl
 
-lt_then : (position order p o : ℕ) → is_lt (ordering_then (nat_cmp position p) (nat_cmp order o)) ≡ below position order p o
+pub lt_then : (position order p o : ℕ) → is_lt (ordering_then (nat_cmp position p) (nat_cmp order o)) ≡ below position order p o
 lt_then position order p o = by (nat_lt position p) (nat_eq position p)
   where
     by : (a b : Bool) → is_lt (ordering_then (cond a Less (cond b Equal Greater)) (nat_cmp order o)) ≡ (a || (b && nat_lt order o))

@@ -1,6 +1,7 @@
 -- Of the rows of a group at a position no two have one order, so that a range of orders holds no more rows than orders.
 use Rattle.std.proofs.Common.{◌≡◌, ◌∙◌, ℕ, zero, suc, ◌+◌, ◌-◌, ◌<◌, ◌≤◌, max, min, true, false, List, length, get_or, inl, inr}
 use Rattle.std.proofs.Common.{refl, sym, ap, arith, Less}
+use Rattle.std.specs.Prelude.{nat_lt}
 use Rattle.std.specs.Ordering.{is_lt}
 use Rattle.std.proofs.lemmas.Bool.{cases_Bool}
 use Rattle.std.proofs.lemmas.Bool.Decides.{nat_tests}
@@ -13,10 +14,11 @@ use Rattle.table_rows.specs.Store.{rises}
 use Rattle.table_rows.proofs.OrderLemmas.{row_total, same_group-true}
 use Rattle.table_rows.proofs.RiseLemmas.{sorted_from_rises, sorted-far}
 use Rattle.table_sums.specs.declared.range.Part.{Part}
-use Rattle.table_sums.specs.Bounds.{is_before, IsCut}
+use Rattle.table_sums.specs.Bounds.{is_before, is_place_below as below, IsCut, IsSpan}
 use Rattle.table_sums.specs.Parts.{key_at, bound_of}
 use Rattle.table_sums.proofs.BoundLemmas.{before-down}
-use Rattle.table_sums.proofs.PartLemmas.{below, between-group, in_group-below}
+use Rattle.table_sums.proofs.PartLemmas.{between-group, in_group-below}
+use Rattle.table_sums.proofs.SpanLemmas.{span-after}
 
 -- a row of the part's group, at a position, whose order lies in the part's range
 record InRun (part : Part) (p : ℕ) (row : Row) : Type 0 where
@@ -101,4 +103,24 @@ ended part p rows low end up cut is k d over within =
           let grown = orders-grow part p rows low d up cut k (k - low) from within before in
           too-many low end k (length rows) part.from (max part.to part.from) (get_or rows k d).order cut.within is over within grown less)
       | inr past ↦ past
+    ]
+
+end-over : (low high end k len width : ℕ) → low ≤ high → high ≤ len → end ≡ low + min (high - low) width → end ≤ k → k < high
+    → low + min (len - low) width ≤ k
+end-over low high end k len width upto within is over less = omega (arith, upto, within, is, over, less)
+
+-- nor after the rows of the group
+pub ended-in : (part : Part) (p : ℕ) (rows : List Row) (first high low end : ℕ) → rises row_cmp rows ≡ true → IsSpan part.group rows first high
+    → IsCut (is_before (bound_of part p part.from)) rows low → low ≤ high
+    → end ≡ low + min (high - low) (max part.to part.from - part.from) → (k : ℕ) (d : Row) → end ≤ k → k < length rows
+    → is_before (bound_of part p (max part.to part.from)) (get_or rows k d) ≡ false
+ended-in part p rows first high low end up s cut upto is k d over within =
+    elim (cases_Bool (nat_lt k high)) [
+      | inl inside ↦
+          let less : k < high = (let e : nat_lt k high ≡ true = inside in grind (arith, nat_tests)) in
+          ended part p rows low (low + min (length rows - low) (max part.to part.from - part.from)) up cut refl k d
+          (end-over low high end k (length rows) (max part.to part.from - part.from) upto s.within is over less) within
+      | inr past ↦
+          span-after (key_at part p (max part.to part.from)) rows first high s k d
+          (let e : nat_lt k high ≡ false = past in grind (arith, nat_tests)) within
     ]

@@ -1,5 +1,5 @@
 //! The groups of an element, by steps from group to group.
-ghost use Rattle.std.specs.Prelude.{◌≡◌, ◌+◌, ◌≤◌, ◌<◌, ◌++◌, ◌∷◌, [], ℕ, true, length, get_or, OnOk, IfOk};
+ghost use Rattle.std.specs.Prelude.{◌≡◌, ◌+◌, ◌≤◌, ◌<◌, ◌++◌, ◌∷◌, [], ℕ, true, length, get_or, IfOk};
 ghost use Rattle.table_rows.specs.declared.row.Row.{Row};
 ghost use Rattle.table_rows.specs.Groups as known;
 ghost use Rattle.table_rows.specs.Order.{row_cmp};
@@ -7,6 +7,7 @@ ghost use Rattle.table_rows.specs.Rows.{group_of};
 ghost use Rattle.table_rows.specs.Store.{rises};
 ghost use Rattle.table_sums.specs.Bounds.{NextGroup};
 
+use crate::gather::add_group;
 use crate::rows::Rows;
 use crate::search::{Bound, place_of};
 use crate::steps::Steps;
@@ -15,25 +16,6 @@ use dh_base::memory::Memory;
 use std::alloc::Global;
 use std::sync::ledger::Ledger;
 use table_rows::{Group, Row};
-
-// Whether the row is in another group than the last.
-fn differs_from_last(groups: &[Group], row: &Row) -> bool
-    ensures { result ≡ known.differs_from_last groups.now (group_of row.now) }
-{
-    match groups.last() {
-        Some(last) => !row.is_in(last),
-        None => true,
-    }
-}
-
-fn add_group(groups: &mut Vec<Group>, row: &Row) -> Result<(), Memory>
-    ensures { OnOk result (groups.new.items ≡ known.with_group true groups.old.items (group_of row.now)) }
-{
-    if differs_from_last(groups, row) {
-        groups.push(row.group())?;
-    }
-    Ok(())
-}
 
 // Adds the group of the row in a place. Where the rows of that group end.
 fn next_group<L: Ledger>(
@@ -46,9 +28,8 @@ fn next_group<L: Ledger>(
     requires within { place < length rows.now }
     ensures { IfOk result (λ next. NextGroup rows.now place groups.old.items groups.new.items next) }
 {
-    let row = rows.row(place, steps);
-    add_group(groups, &row)?;
-    Ok(place_of(rows, &Bound::UptoGroup(row.group()), steps))
+    add_group(groups, &rows.row(place, steps))?;
+    Ok(rows.group_end(place, steps))
 }
 
 /// The groups of the element that have a row, in order, each once.

@@ -2,6 +2,7 @@
 #![tactic(auto)]
 
 mod days;
+mod gather;
 mod groups;
 mod range;
 mod rows;
@@ -12,7 +13,7 @@ mod summed;
 
 pub use groups::groups_of;
 pub use range::{Part, rows_of_part, sum_of_part};
-pub use rows::{Head, Rows};
+pub use rows::Rows;
 pub use running::RunningRows;
 pub use search::{Bound, place_of};
 pub use steps::Steps;

@@ -9,12 +9,12 @@ ghost use Rattle.table_rows.specs.Rows.{wanted_rows};
 ghost use Rattle.table_rows.specs.Store.{rises};
 ghost use Rattle.table_rows.specs.Sums.{sum_of_rows, joined, IsSized};
 ghost use Rattle.table_sums.specs.Bounds.{is_before, IsCut};
-ghost use Rattle.table_sums.specs.Parts.{is_upto, bound_of};
+ghost use Rattle.table_sums.specs.Parts.{is_upto, bound_of, key_at};
 ghost use Rattle.table_sums.specs.Running.{IsPlaced};
 
 use crate::rows::Rows;
 use crate::running::RunningRows;
-use crate::search::{Bound, place_between, place_of};
+use crate::search::{place_between, place_in};
 use crate::steps::Steps;
 use dh_base::items::Items;
 use dh_base::memory::Memory;
@@ -31,23 +31,24 @@ pub struct Part {
     pub to: u32,
 }
 
-fn bound_of(part: &Part, position: u16, order: u32) -> Bound
-    ensures { result ≡ bound_of part.now position order }
+fn key_at(part: &Part, position: u16, order: u32) -> RowKey
+    ensures { result ≡ key_at part.now position order }
 {
-    Bound::Key(RowKey {
+    RowKey {
         group: part.group,
         position,
         order,
-    })
+    }
 }
 
-// Where the rows of the part at a position have ended that begin at a place: no two of them have one order.
-fn end_of(rows: &Rows, part: &Part, low: usize) -> usize
-    requires { low ≤ length rows.now }
-    ensures { result ≡ low + min (length rows.now - low) (max part.now.to part.now.from - part.now.from) }
+// Where the rows of the part at a position have ended that begin at a place, before the end of their group: no two of them have one
+// order.
+fn end_of(part: &Part, low: usize, high: usize) -> usize
+    requires { low ≤ high }
+    ensures { result ≡ low + min (high - low) (max part.now.to part.now.from - part.now.from) }
 {
     let width = part.to.max(part.from) - part.from;
-    low + (rows.len() - low).min(width as usize)
+    low + (high - low).min(width as usize)
 }
 
 // Where the rows of the part at a position begin and end.
@@ -62,14 +63,11 @@ fn run_of<L: Ledger>(
     ensures high { IsCut (is_before (bound_of part.now position (max part.now.to part.now.from))) rows.now result.1 }
     ensures cost { (d : ℕ) → length rows.now < 2 ^ d → steps.new ≤ steps.old + 2 * d }
 {
-    let low = place_of(rows, &bound_of(part, position, part.from), steps);
-    let high = place_between(
-        rows,
-        &bound_of(part, position, part.to.max(part.from)),
-        low,
-        end_of(rows, part, low),
-        steps,
-    );
+    let span = rows.span_of(&part.group);
+    let low = place_in(rows, &key_at(part, position, part.from), span, steps);
+    let end = end_of(part, low, span.high);
+    let last = key_at(part, position, part.to.max(part.from));
+    let high = place_between(rows, &last, low, end, steps);
     (low, high)
 }
 

@@ -1,10 +1,17 @@
 //! Rows in columns, of which a row is read at the cost of a step.
-ghost use Rattle.std.specs.Prelude.{◌≡◌, ◌+◌, ◌<◌, map, length, IfOk, get_or};
+ghost use Rattle.std.specs.Prelude.{◌≡◌, ◌+◌, ◌<◌, ◌≤◌, true, cond, nat_lt, All, map, length, IfOk, get_or};
+ghost use Rattle.dh_base.specs.declared.limits.TheConstants.{MOST_RECORDS};
 ghost use Rattle.table_rows.specs.declared.row.Row.{Row};
-ghost use Rattle.table_rows.specs.Rows.{position_of};
-ghost use Rattle.table_sums.specs.Bounds.{head_group, head_key};
-ghost use Rattle.table_sums.specs.Columns.{head_of, number_of, row_from};
+ghost use Rattle.table_rows.specs.Rows.{group_of, position_of};
+ghost use Rattle.table_rows.specs.Order.{row_cmp};
+ghost use Rattle.table_rows.specs.Store.{rises};
+ghost use Rattle.table_sums.specs.Bounds.{is_before, is_group_before, is_place_below, place_after, IsCut, IsSpan};
+ghost use Rattle.table_sums.specs.declared.search.Bound.TheVariants as bounds;
+ghost use Rattle.table_sums.specs.Columns.{head_in, head_from, number_of, row_from, IsKnown};
+ghost use Rattle.table_sums.specs.declared.gather.Member.{Member};
 
+use crate::gather::{Member, gather};
+use crate::search::{Bound, Span, groups_before};
 use crate::steps::Steps;
 use dh_base::memory::Memory;
 use dh_periods::Period;
@@ -13,17 +20,17 @@ use std::marker::Model;
 use std::sync::ledger::Ledger;
 use table_rows::{Group, Row, RowKey};
 
-/// A row without its number: 36 bytes.
+// A row without its number.
 #[derive(Clone, Copy)]
-pub struct Head {
-    pub element: u32,
-    pub combo: u32,
-    pub attribute: u32,
-    pub period: Period,
-    pub order: u32,
-    pub approved: Option<u8>,
-    /// Whether it has a number.
-    pub is_plain: bool,
+struct Head {
+    element: u32,
+    combo: u32,
+    attribute: u32,
+    period: Period,
+    order: u32,
+    approved: Option<u8>,
+    // whether it has a number
+    is_plain: bool,
 }
 
 fn position_of(approved: Option<u8>) -> u16
@@ -35,68 +42,91 @@ fn position_of(approved: Option<u8>) -> u16
     }
 }
 
-impl Head {
-    /// The group of the row.
-    pub fn group(&self) -> Group
-        ensures { result ≡ head_group self.now }
-    {
-        Group {
-            element: self.element,
-            combo: self.combo,
-            attribute: self.attribute,
-            period: self.period,
-        }
-    }
-
-    /// What the row is ordered by.
-    pub fn key(&self) -> RowKey
-        ensures { result ≡ head_key self.now }
-    {
-        RowKey {
-            group: self.group(),
-            position: position_of(self.approved),
-            order: self.order,
-        }
-    }
-}
-
-/// A list of rows, each without its number and beside it the number, or 0 where it has none: 44 bytes a row.
+/// A list of rows: the groups that they are in, each row in its group, and its number, or 0 where it has none: 20 bytes a row,
+/// beside some 32 for each group.
 #[derive(Drop)]
 pub struct Rows {
-    heads: Vec<Head>,
+    groups: Vec<Group>,
+    /// Where the rows of each group begin.
+    starts: Vec<u32>,
+    members: Vec<Member>,
     numbers: Vec<i64>,
 }
 
 impl Model for Rows {
-    ghost use Rattle.std.specs.Prelude.{◌≡◌, List, length};
+    ghost use Rattle.std.specs.Prelude.{List};
     ghost use Rattle.table_rows.specs.declared.row.Row.{Row};
-    ghost use Rattle.table_sums.specs.Columns.{rows_from};
+    ghost use Rattle.table_sums.specs.Columns.{rows_in, AreColumns};
 
     ghost Value = { List Row };
 
-    ghost view = { λ rows. rows_from rows.heads.items rows.numbers.items };
+    ghost view = { λ rows. rows_in rows.groups.items rows.members.items rows.numbers.items };
 
-    ghost invariant = { λ rows. length rows.heads.items ≡ length rows.numbers.items };
-}
-
-fn head_of(row: &Row) -> Head
-    ensures { result ≡ head_of row.now }
-{
-    Head {
-        element: row.element,
-        combo: row.combo,
-        attribute: row.attribute,
-        period: row.period,
-        order: row.order,
-        approved: row.approved,
-        is_plain: row.micros.is_some(),
-    }
+    ghost invariant = { λ rows. AreColumns rows.groups.items rows.starts.items rows.members.items rows.numbers.items };
 }
 
 fn number_of(row: &Row) -> i64
     ensures { result ≡ number_of row.now }
 {
     row.micros.unwrap_or(0)
+}
+
+// How many rows are of the first so many groups.
+fn start_of(starts: &[u32], groups: usize, rows: usize) -> usize
+    ensures { result ≡ cond (nat_lt groups (length starts.now)) (get_or starts.now groups 0) rows }
+{
+    if groups < starts.len() {
+        starts[groups] as usize
+    } else {
+        rows
+    }
+}
+
+// The next place, where the group stands in this one, and else this place.
+fn place_after(groups: &[Group], place: usize, group: &Group) -> usize
+    ensures { result ≡ place_after groups.now place group.now }
+{
+    if place < groups.len() && groups[place] == *group {
+        place + 1
+    } else {
+        place
+    }
+}
+
+fn is_member_before(member: &Member, key: &RowKey) -> bool
+    ensures { result ≡ is_place_below (position_of member.now.approved) member.now.order key.now.position key.now.order }
+{
+    let position = position_of(member.approved);
+    position < key.position || (position == key.position && member.order < key.order)
+}
+
+fn head_in(group: &Group, member: &Member) -> Head
+    ensures { result ≡ head_in group.now member.now }
+{
+    Head {
+        element: group.element,
+        combo: group.combo,
+        attribute: group.attribute,
+        period: group.period,
+        order: member.order,
+        approved: member.approved,
+        is_plain: member.is_plain,
+    }
+}
+
+fn head_from(groups: &[Group], member: &Member) -> Head
+    requires { member.now.group < length groups.now }
+    ensures { result ≡ head_from groups.now member.now }
+{
+    head_in(&groups[member.group as usize], member)
+}
+
+fn head_at(groups: &[Group], members: &[Member], place: usize) -> Head
+    requires within { place < length members.now }
+    requires known { All (IsKnown (length groups.now)) members.now }
+    ensures { (d : Member) → result ≡ head_from groups.now (get_or members.now place d) }
+{
+    head_from(groups, &members[place])
 }
 
 fn row_from(head: &Head, number: i64) -> Row
@@ -113,12 +143,6 @@ fn row_from(head: &Head, number: i64) -> Row
     }
 }
 
-fn heads_of(alloc: Global, rows: &[Row]) -> Result<Vec<Head>, Memory>
-    ensures { IfOk result (λ heads. heads.items ≡ map head_of rows.now) }
-{
-    Ok(rows.iter().map(|row| head_of(row)).collect(alloc)?)
-}
-
 fn numbers_of(alloc: Global, rows: &[Row]) -> Result<Vec<i64>, Memory>
     ensures { IfOk result (λ numbers. numbers.items ≡ map number_of rows.now) }
 {
@@ -127,13 +151,20 @@ fn numbers_of(alloc: Global, rows: &[Row]) -> Result<Vec<i64>, Memory>
 
 impl Rows {
     /// These rows.
-    #[tactic(auto, using(crate::proofs::ColumnLemmas::columns))]
+    #[tactic(auto, using(crate::proofs::GatherLemmas::gathered))]
     pub fn of(alloc: Global, rows: &[Row]) -> Result<Rows, Memory>
+        requires rise { rises row_cmp rows.now ≡ true }
+        requires few { length rows.now ≤ MOST_RECORDS }
         ensures { IfOk result (λ kept. kept ≡ rows.now) }
     {
-        let heads = heads_of(alloc, rows)?;
+        let gathered = gather(alloc, rows)?;
         let numbers = numbers_of(alloc, rows)?;
-        Ok(Rows { heads, numbers })
+        Ok(Rows {
+            groups: gathered.groups,
+            starts: gathered.starts,
+            members: gathered.members,
+            numbers,
+        })
     }
 
     /// How many rows there are.
@@ -141,28 +172,73 @@ impl Rows {
     pub fn len(&self) -> usize
         ensures { result ≡ length self.now }
     {
-        self.heads.len()
+        self.members.len()
     }
 
-    /// The row in a place without its number, at the cost of a step too.
-    #[tactic(auto, using(crate::proofs::ColumnLemmas::columns))]
-    pub fn head<L: Ledger>(&self, place: usize, steps: &mut Steps<L>) -> &Head
+    /// How many rows are of groups before the bound. It reads no row.
+    pub(crate) fn place_by_group(&self, bound: &Bound) -> usize
+        ensures { IsCut (λ row. is_group_before bound.now (group_of row)) self.now result }
+    {
+        let groups = groups_before(self.groups.as_slice(), bound);
+        start_of(self.starts.as_slice(), groups, self.members.len())
+    }
+
+    /// Where the rows of the group begin and end. It reads no row.
+    pub(crate) fn span_of(&self, group: &Group) -> Span
+        ensures { IsSpan group.now self.now result.low result.high }
+    {
+        let key = RowKey {
+            group: *group,
+            position: 0,
+            order: 0,
+        };
+        let groups = self.groups.as_slice();
+        let first = groups_before(groups, &Bound::Key(key));
+        let starts = self.starts.as_slice();
+        Span {
+            low: start_of(starts, first, self.members.len()),
+            high: start_of(
+                starts,
+                place_after(groups, first, group),
+                self.members.len(),
+            ),
+        }
+    }
+
+    /// Where the rows of the group end that the row in a place is of, at the cost of a step too.
+    pub(crate) fn group_end<L: Ledger>(&self, place: usize, steps: &mut Steps<L>) -> usize
         requires { place < length self.now }
-        ensures head { (d : Row) → result.now ≡ head_of (get_or self.now place d) }
+        ensures { (d : Row) → IsCut (is_before (bounds.UptoGroup (group_of (get_or self.now place d)))) self.now result }
+    {
+        steps.tick();
+        let group = self.members[place].group as usize;
+        start_of(self.starts.as_slice(), group + 1, self.members.len())
+    }
+
+    /// Whether the row in a place, which is of the key's group, stands before the key, at the cost of a step too.
+    pub(crate) fn stands_before<L: Ledger>(
+        &self,
+        place: usize,
+        key: &RowKey,
+        steps: &mut Steps<L>,
+    ) -> bool
+        requires { place < length self.now }
+        ensures before { (d : Row) → group_of (get_or self.now place d) ≡ key.now.group
+            → result ≡ is_before (bounds.Key key.now) (get_or self.now place d) }
         ensures cost { steps.new ≡ steps.old + 1 }
     {
         steps.tick();
-        &self.heads[place]
+        is_member_before(&self.members[place], key)
     }
 
-    /// The row in a place. No other call reads one but `head`.
-    #[tactic(auto, using(crate::proofs::ColumnLemmas::columns))]
+    /// The row in a place. Besides, only `stands_before` and `group_end` read one.
     pub fn row<L: Ledger>(&self, place: usize, steps: &mut Steps<L>) -> Row
         requires { place < length self.now }
         ensures row { (d : Row) → result ≡ get_or self.now place d }
         ensures cost { steps.new ≡ steps.old + 1 }
     {
         steps.tick();
-        row_from(&self.heads[place], self.numbers[place])
+        let head = head_at(self.groups.as_slice(), self.members.as_slice(), place);
+        row_from(&head, self.numbers[place])
     }
 }

@@ -111,7 +111,7 @@ fn difference(micros: &[i128], plain: &[u32], from: usize, to: usize) -> Sum
     }
 }
 
-/// Rows in their order with running sums beside them: 64 bytes a row.
+/// Rows in their order with running sums beside them: 40 bytes a row.
 #[derive(Drop)]
 pub struct RunningRows {
     rows: Rows,

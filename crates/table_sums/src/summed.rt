@@ -48,7 +48,7 @@ fn rest_of(alloc: Global, regs: Vec<RegRow>, years: Vec<i32>) -> ListRows
     ListRows::of(Vec::new(alloc), Vec::new(alloc), regs, years)
 }
 
-/// The store of these lists. Of the rows each takes 64 bytes.
+/// The store of these lists. Of the rows each takes 40 bytes.
 pub fn with_sums(
     alloc: Global,
     rows: &[Row],
