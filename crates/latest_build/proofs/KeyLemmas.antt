@@ -46,7 +46,7 @@ use Rattle.latest_build.specs.Places.{value_at, value_place, reg_at, reg_place, 
 use Rattle.latest_build.proofs.ListLemmas.{IsListOf, IsPlaced, in-given, in-given-all}
 use Rattle.latest_build.proofs.NamedLemmas.{value-held, reg-held, event-held}
 
-inside : {A : Type 0} (x y : A) → Some x ≡ Some y → x ≡ y
+pub inside : {A : Type 0} (x y : A) → Some x ≡ Some y → x ≡ y
 inside x y e = ap (λ o. unwrap_or o x) e
 
 find-one : (r : Records) (kind : Kind) (a b : List ℕ) (n m : ℕ) → find_of r kind a ≡ Some n → find_of r kind b ≡ Some m → n ≡ m → a ≡ b
@@ -90,7 +90,7 @@ objects-parts r key o e =
       attribute = attribute.1 ∙ ap (λ (x : ValueObjects). Some x.attribute) attribute.2;
     }
 
-value-one : (r : Records) (facts : Facts) → StandsTree r facts → (a b : ValueKey) (p : RowPlace) → value_place r facts a ≡ Some p
+pub value-one : (r : Records) (facts : Facts) → StandsTree r facts → (a b : ValueKey) (p : RowPlace) → value_place r facts a ≡ Some p
     → value_place r facts b ≡ Some p → a ≡ b
 unfolding value_place
 value-one r facts stands a b p left right =

@@ -8,3 +8,4 @@ pub mod FoundLemmas
 pub mod KeptLemmas
 pub mod LeadLemmas
 pub mod OverLemmas
+pub mod HeldLemmas

@@ -3,3 +3,4 @@ pub mod Covers
 pub mod Touches
 pub mod Found
 pub mod Leads
+pub mod Held

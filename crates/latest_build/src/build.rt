@@ -10,11 +10,13 @@ ghost use Rattle.dh_records.specs.Access.{tree};
 ghost use Rattle.table_rows.specs.Store.{contents_in};
 ghost use Rattle.table_build.specs.Listed.{listed_in};
 ghost use Rattle.table_build.specs.Log.{writes_of, is_of_days};
+ghost use Rattle.table_build.specs.Values.{rows_of};
 ghost use Rattle.table_latest.specs.Later.{LeadsTo};
 ghost use Rattle.latest_build.specs.Covers.{Covers};
 ghost use Rattle.latest_build.specs.Places.{held_by, touched_of};
 ghost use Rattle.dh_base.specs.declared.limits.TheConstants.{MOST_RECORDS};
 
+use crate::held::{HeldRows, held_rows};
 use crate::touched::{LogKeys, touched_keys};
 use dh_base::memory::Memory;
 use dh_changes::change::Change;
@@ -24,8 +26,8 @@ use std::alloc::Global;
 use std::sync::Arc;
 use table_build::events::events_of;
 use table_build::regs::regs_of;
-use table_build::values::rows_of;
 use table_latest::Latest;
+use table_rows::Row;
 use table_sums::{SummedRows, with_sums};
 
 // The units are a tree after every log, so that no two have one order.
@@ -44,18 +46,19 @@ fn store_of(
     world: &World,
     changes: &[Arc<Change>],
     keys: &LogKeys<'_>,
+    rows: &[Row],
 ) -> Result<SummedRows, Memory>
     requires held { facts world.now ≡ facts_in (writes_of (map arc_value changes.now)) }
     requires few { length (writes_of (map arc_value changes.now)) ≤ MOST_RECORDS }
     requires days { IsTrue (list_all is_of_days (writes_of (map arc_value changes.now))) }
     requires tree { IsTree (tree (facts world.now) meta.now) }
     requires numbers { length (tree (facts world.now) meta.now) ≡ length meta.now.organisation_units }
+    requires rows { rows.now ≡ rows_of meta.now (facts world.now) keys.now.values.now }
     ensures { IfOk result (λ store. contents_in store ≡ held_by meta.now (facts world.now) keys.now.values.now keys.now.events.now keys.now.regs.now) }
 {
-    let rows = rows_of(alloc, meta, world, keys.values)?;
     let events = events_of(alloc, meta, world, keys.events)?;
     let regs = regs_of(alloc, meta, world, keys.regs)?;
-    with_sums(alloc, &rows, events, regs, Vec::new(alloc))
+    with_sums(alloc, rows, events, regs, Vec::new(alloc))
 }
 
 /// The latest part of these keys: what each holds after the changes, of which `from` stand in the base. Where the keys are all
@@ -80,7 +83,9 @@ pub fn latest_of(
     ensures to { IfOk result (λ latest. latest.to ≡ length changes.now) }
 {
     units_stand(meta);
-    let store = store_of(alloc, meta, world, changes, keys)?;
-    let touched = touched_keys(alloc, meta, world, keys)?;
+    let HeldRows { places, rows } = held_rows(alloc, meta, world, keys.values)?;
+    let store = store_of(alloc, meta, world, changes, keys, &rows)?;
+    drop(rows);
+    let touched = touched_keys(alloc, meta, world, keys, places)?;
     Ok(Latest::of(touched, store, from, changes.len() as u64))
 }

@@ -6,6 +6,7 @@ mod after;
 mod build;
 mod decided;
 mod found;
+mod held;
 mod named;
 mod over;
 mod touched;

@@ -5,9 +5,8 @@ ghost use Rattle.std.specs.List.{filter_map};
 ghost use Rattle.std.specs.Ordering.{nat_cmp};
 ghost use Rattle.record_index.specs.World.{facts};
 ghost use Rattle.table_build.specs.Ordered.{put_all};
-ghost use Rattle.table_build.specs.Values as values;
 ghost use Rattle.table_build.specs.Regs as registrations;
-ghost use Rattle.table_latest.specs.Keys.{place_cmp, reg_place_cmp};
+ghost use Rattle.table_latest.specs.Keys.{reg_place_cmp};
 ghost use Rattle.table_latest.specs.Latest.{touched_in};
 ghost use Rattle.latest_build.specs.Places as known;
 
@@ -21,9 +20,7 @@ use record_index::world::World;
 use std::alloc::Global;
 use std::collections::BTreeMap;
 use table_build::regs::RegObjects;
-use table_build::values::ValueObjects;
 use table_latest::{RegPlace, RowPlace, TouchedKeys};
-use table_rows::Group;
 
 /// Keys of a log, in any order.
 #[derive(Clone, Copy)]
@@ -32,85 +29,6 @@ pub struct LogKeys<'a> {
     /// Events by their identifiers.
     pub events: &'a [Uid],
     pub regs: &'a [RegKey],
-}
-
-#[tactic(auto, unfolding(table_build::specs::Values::objects_of))]
-fn value_objects(meta: &Metadata, key: &ValueKey) -> Option<ValueObjects>
-    ensures value { result ≡ values.objects_of meta.now key.now }
-    ensures in_range { IfSome result (λ objects. objects.unit < length meta.now.organisation_units) }
-{
-    let element = meta.find(Kind::DataElement, key.element)?;
-    let unit = meta.find(Kind::OrganisationUnit, key.unit)?;
-    let combo = meta.find(Kind::CategoryOptionCombo, key.combo)?;
-    let attribute = meta.find(Kind::CategoryOptionCombo, key.attribute)?;
-    Some(ValueObjects {
-        element,
-        unit,
-        combo,
-        attribute,
-    })
-}
-
-fn value_at(meta: &Metadata, world: &World, key: &ValueKey, objects: ValueObjects) -> RowPlace
-    requires { objects.unit < length meta.now.organisation_units }
-    ensures { result ≡ known.value_at meta.now (facts world.now) key.now objects }
-{
-    RowPlace {
-        group: Group {
-            element: objects.element,
-            combo: objects.combo,
-            attribute: objects.attribute,
-            period: key.period,
-        },
-        order: tree_of(world, meta).order(objects.unit),
-    }
-}
-
-#[tactic(auto, unfolding(crate::specs::Places::value_place))]
-fn value_place(meta: &Metadata, world: &World, key: &ValueKey) -> Option<RowPlace>
-    ensures { result ≡ known.value_place meta.now (facts world.now) key.now }
-{
-    let objects = value_objects(meta, key)?;
-    Some(value_at(meta, world, key, objects))
-}
-
-fn same_place(place: &RowPlace) -> RowPlace
-    ensures { result ≡ place.now }
-{
-    RowPlace {
-        group: place.group,
-        order: place.order,
-    }
-}
-
-fn value_map(
-    alloc: Global,
-    meta: &Metadata,
-    world: &World,
-    keys: &[ValueKey],
-) -> Result<BTreeMap<RowPlace, RowPlace>, Memory>
-    ensures { IfOk result (λ map. map.entries ≡ put_all place_cmp (λ place. place) [] (filter_map (known.value_place meta.now (facts world.now)) keys.now)) }
-{
-    let mut map = BTreeMap::new(alloc);
-    for key in keys {
-        if let Some(place) = value_place(meta, world, key) {
-            map.insert(same_place(&place), place)?;
-        }
-    }
-    Ok(map)
-}
-
-#[tactic(auto, unfolding(crate::specs::Places::value_places))]
-fn value_places(
-    alloc: Global,
-    meta: &Metadata,
-    world: &World,
-    keys: &[ValueKey],
-) -> Result<Vec<RowPlace>, Memory>
-    ensures { IfOk result (λ places. places.items ≡ known.value_places meta.now (facts world.now) keys.now) }
-{
-    let map = value_map(alloc, meta, world, keys)?;
-    Ok(map.into_values().collect(alloc)?)
 }
 
 #[tactic(auto, unfolding(table_build::specs::Regs::objects_of))]
@@ -207,17 +125,18 @@ fn event_ids(alloc: Global, ids: &[Uid]) -> Result<Vec<Uid>, Memory>
     Ok(map.into_values().collect(alloc)?)
 }
 
-/// These keys as keys of tables, each list ascending.
+/// These keys as keys of tables, each list ascending, where those of the values are made.
 pub(crate) fn touched_keys(
     alloc: Global,
     meta: &Metadata,
     world: &World,
     keys: &LogKeys<'_>,
+    rows: Vec<RowPlace>,
 ) -> Result<TouchedKeys, Memory>
+    requires { rows.items ≡ known.value_places meta.now (facts world.now) keys.now.values.now }
     ensures { IfOk result (λ touched. touched_in touched ≡ known.touched_of meta.now
         (facts world.now) keys.now.values.now keys.now.events.now keys.now.regs.now) }
 {
-    let rows = value_places(alloc, meta, world, keys.values)?;
     let events = event_ids(alloc, keys.events)?;
     let regs = reg_places(alloc, meta, world, keys.regs)?;
     Ok(TouchedKeys { rows, events, regs })

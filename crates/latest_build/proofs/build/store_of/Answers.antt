@@ -8,6 +8,6 @@ use Rattle.latest_build.proofs.build.store_of.Goals as goal
 
 pub with_sums-requires : goal.with_sums-requires
 with_sums-requires c =
-    (λ i. is_store ((c.deref.ensures.value ∙ c.in_ok-rows.ensures.rows) i) (c.in_ok-events.ensures i) (c.in_ok-regs.ensures i) (c.new.ensures.items i))
+    (λ i. is_store (c.requires.rows i) (c.in_ok-events.ensures i) (c.in_ok-regs.ensures i) (c.new.ensures.items i))
     ∙ store-held c.args.meta.now (writes_of (map arc_value c.args.changes.now)) (facts c.args.world.now) c.requires.held c.requires.tree c.requires.numbers
     c.requires.few c.requires.days c.args.keys.now.values.now c.args.keys.now.events.now c.args.keys.now.regs.now
