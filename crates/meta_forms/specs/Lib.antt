@@ -1,3 +1,4 @@
+pub mod Both
 pub mod Fields
 pub mod Objects
 pub mod Entries

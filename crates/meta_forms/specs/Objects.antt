@@ -8,11 +8,16 @@ use Rattle.json_read.specs.Forms.{Formed, and_then, at_step, or_fault, found_of,
 use Rattle.json_read.specs.declared.fault.FormFault.{FormFault}
 use Rattle.json_read.specs.declared.fault.FormFault.TheVariants as fault
 use Rattle.meta_parts.specs.BuiltIn.{is_built_in}
+use Rattle.meta_forms.specs.Fields.{name_of}
 
 -- the number of a place, or that memory ran out
 abbrev pub IsPlace : ℕ → Result ℕ FormFault → Type 0
 IsPlace place (Ok number) = number ≡ place
 IsPlace place (Err error) = error ≡ fault.Memory
+
+-- an object by its place and identifier: its name, then its other fields
+unfoldable pub named_form : {A B : Type 0} → (Data → Formed B) → (ℕ → List ℕ → List ℕ → B → A) → ℕ → List ℕ → Data → Formed A
+named_form fields made place id json = and_then (name_of id json) (λ name. and_then (fields json) (λ values. Ok (made place id name values)))
 
 -- what an object at a place stands for; one with the identifier of a built-in object is passed over
 abbrev pub object_of : {A : Type 0} → (ℕ → List ℕ → Data → Formed A) → ℕ → Data → Formed (Option A)

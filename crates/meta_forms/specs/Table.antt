@@ -1,14 +1,25 @@
 -- The objects of a metadata file: which fields are read of each kind, in their order, and with which defaults.
-use Rattle.std.specs.Prelude.{ℕ, pos, negsuc, false, List, codes, Ok}
+use Rattle.std.specs.Prelude.{ℕ, ℤ, pos, negsuc, Bool, false, List, Option, codes}
 use Rattle.serde_json.specs.Data.{Data}
+use Rattle.dh_base.specs.declared.plain.AggType.{AggType}
 use Rattle.dh_base.specs.declared.plain.AggType.TheVariants as aggregation
+use Rattle.dh_base.specs.declared.plain.Strategy.{Strategy}
+use Rattle.dh_periods.specs.declared.kind.PeriodType.{PeriodType}
 use Rattle.dh_periods.specs.Types.{type_named}
-use Rattle.json_read.specs.Forms.{Formed, and_then, text_of, truth_of, field_of, field_or_of, optional_of, listed_of}
+use Rattle.json_read.specs.Forms.{Formed, text_of, truth_of, field_of, field_or_of, optional_of, listed_of}
 use Rattle.meta_parts.specs.BuiltIn.{default_combo}
 use Rattle.meta_parts.specs.Names.{value_type_named, aggregation_named, operator_named, program_type_named, analytics_type_named}
+use Rattle.meta_parts.specs.declared.names.ValueType.{ValueType}
 use Rattle.meta_parts.specs.declared.names.ValueType.TheVariants as value_type
+use Rattle.meta_parts.specs.declared.names.AnalyticsType.{AnalyticsType}
 use Rattle.meta_parts.specs.declared.names.AnalyticsType.TheVariants as analytics
-use Rattle.meta_forms.specs.Fields.{name_of, reference_at, reference_or_at, optional_reference_at, references_at, name_of_table, name_or_other, whole_of}
+use Rattle.meta_parts.specs.declared.names.Operator.{Operator}
+use Rattle.meta_parts.specs.declared.names.ProgramType.{ProgramType}
+use Rattle.meta_parts.specs.declared.raw.RawSharing.{RawSharing}
+use Rattle.meta_forms.specs.declared.entry.ConstantValue.{ConstantValue}
+use Rattle.meta_forms.specs.Both.{◌⊗◌}
+use Rattle.meta_forms.specs.Objects.{named_form}
+use Rattle.meta_forms.specs.Fields.{reference_at, reference_or_at, optional_reference_at, references_at, name_of_table, name_or_other, whole_of}
 use Rattle.meta_forms.specs.Entries.{set_elements_of, attributes_of, stage_elements_of, side_of, constant_form}
 use Rattle.meta_forms.specs.Sharing.{sharing_of}
 use Rattle.meta_parts.specs.declared.raw.RawUnit.{RawUnit}
@@ -33,317 +44,393 @@ use Rattle.meta_parts.specs.declared.raw.RawProgramIndicator.{RawProgramIndicato
 use Rattle.meta_parts.specs.declared.raw.RawRole.{RawRole}
 use Rattle.meta_parts.specs.declared.raw.RawUser.{RawUser}
 use Rattle.meta_parts.specs.declared.raw.RawUserGroup.{RawUserGroup}
-use Rattle.meta_forms.specs.declared.aggregate.ElementValues.{ElementValues}
-use Rattle.meta_forms.specs.declared.aggregate.SetContent.{SetContent}
-use Rattle.meta_forms.specs.declared.aggregate.SetRules.{SetRules}
-use Rattle.meta_forms.specs.declared.formulas.Ratio.{Ratio}
-use Rattle.meta_forms.specs.declared.formulas.Comparison.{Comparison}
-use Rattle.meta_forms.specs.declared.tracking.Subject.{Subject}
-use Rattle.meta_forms.specs.declared.tracking.Formula.{Formula}
-use Rattle.meta_forms.specs.declared.tracking.Figure.{Figure}
-use Rattle.meta_forms.specs.declared.people.UserUnits.{UserUnits}
 
 -- organisationUnits: parent (none)
-unfoldable pub unit_of : ℕ → List ℕ → Data → Formed RawUnit
-unit_of place id json =
-    and_then (name_of id json) (λ name.
-    and_then (optional_reference_at (codes "parent") json) (λ parent.
-    Ok (record { place = place; id = id; name = name; parent = parent })))
+unfoldable pub unit_made : ℕ → List ℕ → List ℕ → Option (List ℕ) → RawUnit
+unit_made place id name parent = record { place = place; id = id; name = name; parent = parent }
+
+abbrev pub unit_of : ℕ → List ℕ → Data → Formed RawUnit
+unit_of = named_form (optional_reference_at (codes "parent")) unit_made
 
 -- organisationUnitGroups: organisationUnits
-unfoldable pub unit_group_of : ℕ → List ℕ → Data → Formed RawUnitGroup
-unit_group_of place id json =
-    and_then (name_of id json) (λ name.
-    and_then (references_at (codes "organisationUnits") json) (λ organisation_units.
-    Ok (record { place = place; id = id; name = name; organisation_units = organisation_units })))
+unfoldable pub unit_group_made : ℕ → List ℕ → List ℕ → List (List ℕ) → RawUnitGroup
+unit_group_made place id name organisation_units = record { place = place; id = id; name = name; organisation_units = organisation_units }
+
+abbrev pub unit_group_of : ℕ → List ℕ → Data → Formed RawUnitGroup
+unit_group_of = named_form (references_at (codes "organisationUnits")) unit_group_made
 
 -- categoryOptions: sharing
-unfoldable pub category_option_of : ℕ → List ℕ → Data → Formed RawCategoryOption
-category_option_of place id json =
-    and_then (name_of id json) (λ name.
-    and_then (sharing_of json) (λ sharing.
-    Ok (record { place = place; id = id; name = name; sharing = sharing })))
+unfoldable pub category_option_made : ℕ → List ℕ → List ℕ → RawSharing → RawCategoryOption
+category_option_made place id name sharing = record { place = place; id = id; name = name; sharing = sharing }
+
+abbrev pub category_option_of : ℕ → List ℕ → Data → Formed RawCategoryOption
+category_option_of = named_form sharing_of category_option_made
 
 -- categories: categoryOptions
-unfoldable pub category_of : ℕ → List ℕ → Data → Formed RawCategory
-category_of place id json =
-    and_then (name_of id json) (λ name.
-    and_then (references_at (codes "categoryOptions") json) (λ category_options.
-    Ok (record { place = place; id = id; name = name; category_options = category_options })))
+unfoldable pub category_made : ℕ → List ℕ → List ℕ → List (List ℕ) → RawCategory
+category_made place id name category_options = record { place = place; id = id; name = name; category_options = category_options }
+
+abbrev pub category_of : ℕ → List ℕ → Data → Formed RawCategory
+category_of = named_form (references_at (codes "categoryOptions")) category_made
 
 -- categoryCombos: categories
-unfoldable pub category_combo_of : ℕ → List ℕ → Data → Formed RawCategoryCombo
-category_combo_of place id json =
-    and_then (name_of id json) (λ name.
-    and_then (references_at (codes "categories") json) (λ categories.
-    Ok (record { place = place; id = id; name = name; categories = categories })))
+unfoldable pub category_combo_made : ℕ → List ℕ → List ℕ → List (List ℕ) → RawCategoryCombo
+category_combo_made place id name categories = record { place = place; id = id; name = name; categories = categories }
+
+abbrev pub category_combo_of : ℕ → List ℕ → Data → Formed RawCategoryCombo
+category_combo_of = named_form (references_at (codes "categories")) category_combo_made
 
 -- categoryOptionCombos: categoryCombo, categoryOptions
-unfoldable pub option_combo_of : ℕ → List ℕ → Data → Formed RawOptionCombo
-option_combo_of place id json =
-    and_then (name_of id json) (λ name.
-    and_then (reference_at (codes "categoryCombo") json) (λ category_combo.
-    and_then (references_at (codes "categoryOptions") json) (λ category_options.
-    Ok (record { place = place; id = id; name = name; category_combo = category_combo; category_options = category_options }))))
+abbrev pub OptionComboFields : Type 0
+OptionComboFields = List ℕ × List (List ℕ)
+
+unfoldable pub option_combo_fields : Data → Formed OptionComboFields
+option_combo_fields json =
+    reference_at (codes "categoryCombo") json
+    ⊗ references_at (codes "categoryOptions") json
+
+unfoldable pub option_combo_made : ℕ → List ℕ → List ℕ → OptionComboFields → RawOptionCombo
+option_combo_made place id name (category_combo, category_options) = record {
+  place = place;
+  id = id;
+  name = name;
+  category_combo = category_combo;
+  category_options = category_options;
+}
+
+abbrev pub option_combo_of : ℕ → List ℕ → Data → Formed RawOptionCombo
+option_combo_of = named_form option_combo_fields option_combo_made
 
 -- dataElements: valueType (one that is not listed is TEXT), aggregationType (SUM; one that is not listed is NONE),
 -- categoryCombo (the default one), zeroIsSignificant (false), sharing
-unfoldable pub element_values_of : Data → Formed ElementValues
-element_values_of json =
-    and_then (field_of (codes "valueType") (name_or_other value_type_named value_type.Text) json) (λ value_type.
-    and_then (field_or_of (codes "aggregationType") (name_or_other aggregation_named aggregation.None) aggregation.Sum json) (λ aggregation_type.
-    and_then (reference_or_at (codes "categoryCombo") default_combo json) (λ category_combo.
-    and_then (field_or_of (codes "zeroIsSignificant") truth_of false json) (λ zero_is_significant.
-    Ok (record { value_type = value_type; aggregation_type = aggregation_type; category_combo = category_combo; zero_is_significant = zero_is_significant })))))
+abbrev pub ElementFields : Type 0
+ElementFields = (((ValueType × AggType) × List ℕ) × Bool) × RawSharing
 
-unfoldable pub element_of : ℕ → List ℕ → Data → Formed RawElement
-element_of place id json =
-    and_then (name_of id json) (λ name.
-    and_then (element_values_of json) (λ values.
-    and_then (sharing_of json) (λ sharing.
-    Ok (record {
-      place = place;
-      id = id;
-      name = name;
-      value_type = values.value_type;
-      aggregation_type = values.aggregation_type;
-      category_combo = values.category_combo;
-      zero_is_significant = values.zero_is_significant;
-      sharing = sharing;
-    }))))
+unfoldable pub element_fields : Data → Formed ElementFields
+element_fields json =
+    field_of (codes "valueType") (name_or_other value_type_named value_type.Text) json
+    ⊗ field_or_of (codes "aggregationType") (name_or_other aggregation_named aggregation.None) aggregation.Sum json
+    ⊗ reference_or_at (codes "categoryCombo") default_combo json
+    ⊗ field_or_of (codes "zeroIsSignificant") truth_of false json
+    ⊗ sharing_of json
+
+unfoldable pub element_made : ℕ → List ℕ → List ℕ → ElementFields → RawElement
+element_made place id name ((((value_type, aggregation_type), category_combo), zero_is_significant), sharing) = record {
+  place = place;
+  id = id;
+  name = name;
+  value_type = value_type;
+  aggregation_type = aggregation_type;
+  category_combo = category_combo;
+  zero_is_significant = zero_is_significant;
+  sharing = sharing;
+}
+
+abbrev pub element_of : ℕ → List ℕ → Data → Formed RawElement
+element_of = named_form element_fields element_made
 
 -- dataApprovalLevels: level from 1 to 1,000, orgUnitLevel from 1 to 12
-unfoldable pub approval_level_of : ℕ → List ℕ → Data → Formed RawApprovalLevel
-approval_level_of place id json =
-    and_then (name_of id json) (λ name.
-    and_then (field_of (codes "level") (whole_of (pos 1) (pos 1000)) json) (λ level.
-    and_then (field_of (codes "orgUnitLevel") (whole_of (pos 1) (pos 12)) json) (λ org_unit_level.
-    Ok (record { place = place; id = id; name = name; level = level; org_unit_level = org_unit_level }))))
+abbrev pub ApprovalLevelFields : Type 0
+ApprovalLevelFields = ℤ × ℤ
+
+unfoldable pub approval_level_fields : Data → Formed ApprovalLevelFields
+approval_level_fields json =
+    field_of (codes "level") (whole_of (pos 1) (pos 1000)) json
+    ⊗ field_of (codes "orgUnitLevel") (whole_of (pos 1) (pos 12)) json
+
+unfoldable pub approval_level_made : ℕ → List ℕ → List ℕ → ApprovalLevelFields → RawApprovalLevel
+approval_level_made place id name (level, org_unit_level) = record { place = place; id = id; name = name; level = level; org_unit_level = org_unit_level }
+
+abbrev pub approval_level_of : ℕ → List ℕ → Data → Formed RawApprovalLevel
+approval_level_of = named_form approval_level_fields approval_level_made
 
 -- dataApprovalWorkflows: periodType, dataApprovalLevels
-unfoldable pub workflow_of : ℕ → List ℕ → Data → Formed RawWorkflow
-workflow_of place id json =
-    and_then (name_of id json) (λ name.
-    and_then (field_of (codes "periodType") (name_of_table type_named) json) (λ period_type.
-    and_then (references_at (codes "dataApprovalLevels") json) (λ data_approval_levels.
-    Ok (record { place = place; id = id; name = name; period_type = period_type; data_approval_levels = data_approval_levels }))))
+abbrev pub WorkflowFields : Type 0
+WorkflowFields = PeriodType × List (List ℕ)
+
+unfoldable pub workflow_fields : Data → Formed WorkflowFields
+workflow_fields json =
+    field_of (codes "periodType") (name_of_table type_named) json
+    ⊗ references_at (codes "dataApprovalLevels") json
+
+unfoldable pub workflow_made : ℕ → List ℕ → List ℕ → WorkflowFields → RawWorkflow
+workflow_made place id name (period_type, data_approval_levels) = record {
+  place = place;
+  id = id;
+  name = name;
+  period_type = period_type;
+  data_approval_levels = data_approval_levels;
+}
+
+abbrev pub workflow_of : ℕ → List ℕ → Data → Formed RawWorkflow
+workflow_of = named_form workflow_fields workflow_made
 
 -- dataSets: periodType, dataSetElements, organisationUnits, categoryCombo (the default one), workflow (none),
 -- openFuturePeriods (0), expiryDays (0) and timelyDays (15), which are from 0 to 100,000, sharing
+abbrev pub SetContent : Type 0
+SetContent = ((PeriodType × List (List ℕ × Option (List ℕ))) × List (List ℕ)) × List ℕ
+
 unfoldable pub set_content_of : Data → Formed SetContent
 set_content_of json =
-    and_then (field_of (codes "periodType") (name_of_table type_named) json) (λ period_type.
-    and_then (set_elements_of json) (λ elements.
-    and_then (references_at (codes "organisationUnits") json) (λ units.
-    and_then (reference_or_at (codes "categoryCombo") default_combo json) (λ category_combo.
-    Ok (record { period_type = period_type; elements = elements; units = units; category_combo = category_combo })))))
+    field_of (codes "periodType") (name_of_table type_named) json
+    ⊗ set_elements_of json
+    ⊗ references_at (codes "organisationUnits") json
+    ⊗ reference_or_at (codes "categoryCombo") default_combo json
+
+abbrev pub SetRules : Type 0
+SetRules = ((Option (List ℕ) × ℤ) × ℤ) × ℤ
 
 unfoldable pub set_rules_of : Data → Formed SetRules
 set_rules_of json =
-    and_then (optional_reference_at (codes "workflow") json) (λ workflow.
-    and_then (field_or_of (codes "openFuturePeriods") (whole_of (pos 0) (pos 100000)) (pos 0) json) (λ open_future_periods.
-    and_then (field_or_of (codes "expiryDays") (whole_of (pos 0) (pos 100000)) (pos 0) json) (λ expiry_days.
-    and_then (field_or_of (codes "timelyDays") (whole_of (pos 0) (pos 100000)) (pos 15) json) (λ timely_days.
-    Ok (record { workflow = workflow; open_future_periods = open_future_periods; expiry_days = expiry_days; timely_days = timely_days })))))
+    optional_reference_at (codes "workflow") json
+    ⊗ field_or_of (codes "openFuturePeriods") (whole_of (pos 0) (pos 100000)) (pos 0) json
+    ⊗ field_or_of (codes "expiryDays") (whole_of (pos 0) (pos 100000)) (pos 0) json
+    ⊗ field_or_of (codes "timelyDays") (whole_of (pos 0) (pos 100000)) (pos 15) json
 
-unfoldable pub data_set_of : ℕ → List ℕ → Data → Formed RawDataSet
-data_set_of place id json =
-    and_then (name_of id json) (λ name.
-    and_then (set_content_of json) (λ content.
-    and_then (set_rules_of json) (λ rules.
-    and_then (sharing_of json) (λ sharing.
-    Ok (record {
-      place = place;
-      id = id;
-      name = name;
-      period_type = content.period_type;
-      data_set_elements = content.elements;
-      organisation_units = content.units;
-      category_combo = content.category_combo;
-      workflow = rules.workflow;
-      open_future_periods = rules.open_future_periods;
-      expiry_days = rules.expiry_days;
-      timely_days = rules.timely_days;
-      sharing = sharing;
-    })))))
+abbrev pub DataSetFields : Type 0
+DataSetFields = (SetContent × SetRules) × RawSharing
+
+unfoldable pub data_set_fields : Data → Formed DataSetFields
+data_set_fields json =
+    set_content_of json
+    ⊗ set_rules_of json
+    ⊗ sharing_of json
+
+unfoldable pub data_set_made : ℕ → List ℕ → List ℕ → DataSetFields → RawDataSet
+data_set_made place id name (((((period_type, data_set_elements), organisation_units), category_combo), (((workflow, open_future_periods), expiry_days), timely_days)), sharing) = record {
+  place = place;
+  id = id;
+  name = name;
+  period_type = period_type;
+  data_set_elements = data_set_elements;
+  organisation_units = organisation_units;
+  category_combo = category_combo;
+  workflow = workflow;
+  open_future_periods = open_future_periods;
+  expiry_days = expiry_days;
+  timely_days = timely_days;
+  sharing = sharing;
+}
+
+abbrev pub data_set_of : ℕ → List ℕ → Data → Formed RawDataSet
+data_set_of = named_form data_set_fields data_set_made
 
 -- constants: value
-unfoldable pub constant_object_of : ℕ → List ℕ → Data → Formed RawConstant
-constant_object_of place id json =
-    and_then (name_of id json) (λ name.
-    and_then (field_of (codes "value") constant_form json) (λ constant.
-    Ok (record { place = place; id = id; name = name; value = constant.value })))
+unfoldable pub constant_object_made : ℕ → List ℕ → List ℕ → ConstantValue → RawConstant
+constant_object_made place id name constant = record { place = place; id = id; name = name; value = constant.value }
+
+abbrev pub constant_object_of : ℕ → List ℕ → Data → Formed RawConstant
+constant_object_of = named_form (field_of (codes "value") constant_form) constant_object_made
 
 -- indicatorTypes: factor, from -1,000,000,000 to 1,000,000,000
-unfoldable pub indicator_type_of : ℕ → List ℕ → Data → Formed RawIndicatorType
-indicator_type_of place id json =
-    and_then (name_of id json) (λ name.
-    and_then (field_of (codes "factor") (whole_of (negsuc 999999999) (pos 1000000000)) json) (λ factor.
-    Ok (record { place = place; id = id; name = name; factor = factor })))
+unfoldable pub indicator_type_made : ℕ → List ℕ → List ℕ → ℤ → RawIndicatorType
+indicator_type_made place id name factor = record { place = place; id = id; name = name; factor = factor }
+
+abbrev pub indicator_type_of : ℕ → List ℕ → Data → Formed RawIndicatorType
+indicator_type_of = named_form (field_of (codes "factor") (whole_of (negsuc 999999999) (pos 1000000000))) indicator_type_made
 
 -- indicators: numerator, denominator, indicatorType, annualized (false), decimals from 0 to 5 (1), sharing
+abbrev pub Ratio : Type 0
+Ratio = ((List ℕ × List ℕ) × List ℕ) × Bool
+
 unfoldable pub ratio_of : Data → Formed Ratio
 ratio_of json =
-    and_then (field_of (codes "numerator") text_of json) (λ numerator.
-    and_then (field_of (codes "denominator") text_of json) (λ denominator.
-    and_then (reference_at (codes "indicatorType") json) (λ indicator_type.
-    and_then (field_or_of (codes "annualized") truth_of false json) (λ annualized.
-    Ok (record { numerator = numerator; denominator = denominator; indicator_type = indicator_type; annualized = annualized })))))
+    field_of (codes "numerator") text_of json
+    ⊗ field_of (codes "denominator") text_of json
+    ⊗ reference_at (codes "indicatorType") json
+    ⊗ field_or_of (codes "annualized") truth_of false json
 
-unfoldable pub indicator_of : ℕ → List ℕ → Data → Formed RawIndicator
-indicator_of place id json =
-    and_then (name_of id json) (λ name.
-    and_then (ratio_of json) (λ ratio.
-    and_then (field_or_of (codes "decimals") (whole_of (pos 0) (pos 5)) (pos 1) json) (λ decimals.
-    and_then (sharing_of json) (λ sharing.
-    Ok (record {
-      place = place;
-      id = id;
-      name = name;
-      numerator = ratio.numerator;
-      denominator = ratio.denominator;
-      indicator_type = ratio.indicator_type;
-      annualized = ratio.annualized;
-      decimals = decimals;
-      sharing = sharing;
-    })))))
+abbrev pub IndicatorFields : Type 0
+IndicatorFields = (Ratio × ℤ) × RawSharing
+
+unfoldable pub indicator_fields : Data → Formed IndicatorFields
+indicator_fields json =
+    ratio_of json
+    ⊗ field_or_of (codes "decimals") (whole_of (pos 0) (pos 5)) (pos 1) json
+    ⊗ sharing_of json
+
+unfoldable pub indicator_made : ℕ → List ℕ → List ℕ → IndicatorFields → RawIndicator
+indicator_made place id name (((((numerator, denominator), indicator_type), annualized), decimals), sharing) = record {
+  place = place;
+  id = id;
+  name = name;
+  numerator = numerator;
+  denominator = denominator;
+  indicator_type = indicator_type;
+  annualized = annualized;
+  decimals = decimals;
+  sharing = sharing;
+}
+
+abbrev pub indicator_of : ℕ → List ℕ → Data → Formed RawIndicator
+indicator_of = named_form indicator_fields indicator_made
 
 -- validationRules: operator, periodType, leftSide, rightSide, sharing
-unfoldable pub comparison_of : Data → Formed Comparison
-comparison_of json =
-    and_then (field_of (codes "operator") (name_of_table operator_named) json) (λ operator.
-    and_then (field_of (codes "periodType") (name_of_table type_named) json) (λ period_type.
-    and_then (side_of (codes "leftSide") json) (λ left_side.
-    and_then (side_of (codes "rightSide") json) (λ right_side.
-    Ok (record { operator = operator; period_type = period_type; left_side = left_side; right_side = right_side })))))
+abbrev pub RuleFields : Type 0
+RuleFields = (((Operator × PeriodType) × (List ℕ × Strategy)) × (List ℕ × Strategy)) × RawSharing
 
-unfoldable pub rule_of : ℕ → List ℕ → Data → Formed RawRule
-rule_of place id json =
-    and_then (name_of id json) (λ name.
-    and_then (comparison_of json) (λ comparison.
-    and_then (sharing_of json) (λ sharing.
-    Ok (record {
-      place = place;
-      id = id;
-      name = name;
-      operator = comparison.operator;
-      period_type = comparison.period_type;
-      left_side = comparison.left_side;
-      right_side = comparison.right_side;
-      sharing = sharing;
-    }))))
+unfoldable pub rule_fields : Data → Formed RuleFields
+rule_fields json =
+    field_of (codes "operator") (name_of_table operator_named) json
+    ⊗ field_of (codes "periodType") (name_of_table type_named) json
+    ⊗ side_of (codes "leftSide") json
+    ⊗ side_of (codes "rightSide") json
+    ⊗ sharing_of json
+
+unfoldable pub rule_made : ℕ → List ℕ → List ℕ → RuleFields → RawRule
+rule_made place id name ((((operator, period_type), left_side), right_side), sharing) = record {
+  place = place;
+  id = id;
+  name = name;
+  operator = operator;
+  period_type = period_type;
+  left_side = left_side;
+  right_side = right_side;
+  sharing = sharing;
+}
+
+abbrev pub rule_of : ℕ → List ℕ → Data → Formed RawRule
+rule_of = named_form rule_fields rule_made
 
 -- trackedEntityTypes: sharing
-unfoldable pub entity_type_of : ℕ → List ℕ → Data → Formed RawEntityType
-entity_type_of place id json =
-    and_then (name_of id json) (λ name.
-    and_then (sharing_of json) (λ sharing.
-    Ok (record { place = place; id = id; name = name; sharing = sharing })))
+unfoldable pub entity_type_made : ℕ → List ℕ → List ℕ → RawSharing → RawEntityType
+entity_type_made place id name sharing = record { place = place; id = id; name = name; sharing = sharing }
+
+abbrev pub entity_type_of : ℕ → List ℕ → Data → Formed RawEntityType
+entity_type_of = named_form sharing_of entity_type_made
 
 -- trackedEntityAttributes: valueType (one that is not listed is TEXT)
-unfoldable pub tracked_attribute_of : ℕ → List ℕ → Data → Formed RawAttribute
-tracked_attribute_of place id json =
-    and_then (name_of id json) (λ name.
-    and_then (field_of (codes "valueType") (name_or_other value_type_named value_type.Text) json) (λ value_type.
-    Ok (record { place = place; id = id; name = name; value_type = value_type })))
+unfoldable pub tracked_attribute_made : ℕ → List ℕ → List ℕ → ValueType → RawAttribute
+tracked_attribute_made place id name value_type = record { place = place; id = id; name = name; value_type = value_type }
+
+abbrev pub tracked_attribute_of : ℕ → List ℕ → Data → Formed RawAttribute
+tracked_attribute_of = named_form (field_of (codes "valueType") (name_or_other value_type_named value_type.Text)) tracked_attribute_made
 
 -- programs: programType, trackedEntityType (none), programTrackedEntityAttributes, sharing
-unfoldable pub subject_of : Data → Formed Subject
-subject_of json =
-    and_then (field_of (codes "programType") (name_of_table program_type_named) json) (λ program_type.
-    and_then (optional_reference_at (codes "trackedEntityType") json) (λ tracked_entity_type.
-    and_then (attributes_of json) (λ attributes.
-    Ok (record { program_type = program_type; tracked_entity_type = tracked_entity_type; attributes = attributes }))))
+abbrev pub ProgramFields : Type 0
+ProgramFields = ((ProgramType × Option (List ℕ)) × List (List ℕ)) × RawSharing
 
-unfoldable pub program_of : ℕ → List ℕ → Data → Formed RawProgram
-program_of place id json =
-    and_then (name_of id json) (λ name.
-    and_then (subject_of json) (λ subject.
-    and_then (sharing_of json) (λ sharing.
-    Ok (record {
-      place = place;
-      id = id;
-      name = name;
-      program_type = subject.program_type;
-      tracked_entity_type = subject.tracked_entity_type;
-      program_tracked_entity_attributes = subject.attributes;
-      sharing = sharing;
-    }))))
+unfoldable pub program_fields : Data → Formed ProgramFields
+program_fields json =
+    field_of (codes "programType") (name_of_table program_type_named) json
+    ⊗ optional_reference_at (codes "trackedEntityType") json
+    ⊗ attributes_of json
+    ⊗ sharing_of json
+
+unfoldable pub program_made : ℕ → List ℕ → List ℕ → ProgramFields → RawProgram
+program_made place id name (((program_type, tracked_entity_type), program_tracked_entity_attributes), sharing) = record {
+  place = place;
+  id = id;
+  name = name;
+  program_type = program_type;
+  tracked_entity_type = tracked_entity_type;
+  program_tracked_entity_attributes = program_tracked_entity_attributes;
+  sharing = sharing;
+}
+
+abbrev pub program_of : ℕ → List ℕ → Data → Formed RawProgram
+program_of = named_form program_fields program_made
 
 -- programStages: program, programStageDataElements
-unfoldable pub stage_of : ℕ → List ℕ → Data → Formed RawStage
-stage_of place id json =
-    and_then (name_of id json) (λ name.
-    and_then (reference_at (codes "program") json) (λ program.
-    and_then (stage_elements_of json) (λ program_stage_data_elements.
-    Ok (record { place = place; id = id; name = name; program = program; program_stage_data_elements = program_stage_data_elements }))))
+abbrev pub StageFields : Type 0
+StageFields = List ℕ × List (List ℕ)
+
+unfoldable pub stage_fields : Data → Formed StageFields
+stage_fields json =
+    reference_at (codes "program") json
+    ⊗ stage_elements_of json
+
+unfoldable pub stage_made : ℕ → List ℕ → List ℕ → StageFields → RawStage
+stage_made place id name (program, program_stage_data_elements) = record {
+  place = place;
+  id = id;
+  name = name;
+  program = program;
+  program_stage_data_elements = program_stage_data_elements;
+}
+
+abbrev pub stage_of : ℕ → List ℕ → Data → Formed RawStage
+stage_of = named_form stage_fields stage_made
 
 -- programIndicators: program, expression, filter (none), aggregationType (SUM), analyticsType (EVENT),
 -- decimals from 0 to 5 (1), sharing
+abbrev pub Formula : Type 0
+Formula = (List ℕ × List ℕ) × Option (List ℕ)
+
 unfoldable pub formula_of : Data → Formed Formula
 formula_of json =
-    and_then (reference_at (codes "program") json) (λ program.
-    and_then (field_of (codes "expression") text_of json) (λ expression.
-    and_then (optional_of (codes "filter") text_of json) (λ filter.
-    Ok (record { program = program; expression = expression; filter = filter }))))
+    reference_at (codes "program") json
+    ⊗ field_of (codes "expression") text_of json
+    ⊗ optional_of (codes "filter") text_of json
+
+abbrev pub Figure : Type 0
+Figure = (AggType × AnalyticsType) × ℤ
 
 unfoldable pub figure_of : Data → Formed Figure
 figure_of json =
-    and_then (field_or_of (codes "aggregationType") (name_of_table aggregation_named) aggregation.Sum json) (λ aggregation_type.
-    and_then (field_or_of (codes "analyticsType") (name_of_table analytics_type_named) analytics.Event json) (λ analytics_type.
-    and_then (field_or_of (codes "decimals") (whole_of (pos 0) (pos 5)) (pos 1) json) (λ decimals.
-    Ok (record { aggregation_type = aggregation_type; analytics_type = analytics_type; decimals = decimals }))))
+    field_or_of (codes "aggregationType") (name_of_table aggregation_named) aggregation.Sum json
+    ⊗ field_or_of (codes "analyticsType") (name_of_table analytics_type_named) analytics.Event json
+    ⊗ field_or_of (codes "decimals") (whole_of (pos 0) (pos 5)) (pos 1) json
 
-unfoldable pub program_indicator_of : ℕ → List ℕ → Data → Formed RawProgramIndicator
-program_indicator_of place id json =
-    and_then (name_of id json) (λ name.
-    and_then (formula_of json) (λ formula.
-    and_then (figure_of json) (λ figure.
-    and_then (sharing_of json) (λ sharing.
-    Ok (record {
-      place = place;
-      id = id;
-      name = name;
-      program = formula.program;
-      expression = formula.expression;
-      filter = formula.filter;
-      aggregation_type = figure.aggregation_type;
-      analytics_type = figure.analytics_type;
-      decimals = figure.decimals;
-      sharing = sharing;
-    })))))
+abbrev pub ProgramIndicatorFields : Type 0
+ProgramIndicatorFields = (Formula × Figure) × RawSharing
+
+unfoldable pub program_indicator_fields : Data → Formed ProgramIndicatorFields
+program_indicator_fields json =
+    formula_of json
+    ⊗ figure_of json
+    ⊗ sharing_of json
+
+unfoldable pub program_indicator_made : ℕ → List ℕ → List ℕ → ProgramIndicatorFields → RawProgramIndicator
+program_indicator_made place id name ((((program, expression), filter), ((aggregation_type, analytics_type), decimals)), sharing) = record {
+  place = place;
+  id = id;
+  name = name;
+  program = program;
+  expression = expression;
+  filter = filter;
+  aggregation_type = aggregation_type;
+  analytics_type = analytics_type;
+  decimals = decimals;
+  sharing = sharing;
+}
+
+abbrev pub program_indicator_of : ℕ → List ℕ → Data → Formed RawProgramIndicator
+program_indicator_of = named_form program_indicator_fields program_indicator_made
 
 -- userRoles: authorities
-unfoldable pub role_of : ℕ → List ℕ → Data → Formed RawRole
-role_of place id json =
-    and_then (name_of id json) (λ name.
-    and_then (listed_of (codes "authorities") text_of json) (λ authorities.
-    Ok (record { place = place; id = id; name = name; authorities = authorities })))
+unfoldable pub role_made : ℕ → List ℕ → List ℕ → List (List ℕ) → RawRole
+role_made place id name authorities = record { place = place; id = id; name = name; authorities = authorities }
+
+abbrev pub role_of : ℕ → List ℕ → Data → Formed RawRole
+role_of = named_form (listed_of (codes "authorities") text_of) role_made
 
 -- users: organisationUnits, dataViewOrganisationUnits, userRoles
-unfoldable pub user_units_of : Data → Formed UserUnits
-user_units_of json =
-    and_then (references_at (codes "organisationUnits") json) (λ organisation_units.
-    and_then (references_at (codes "dataViewOrganisationUnits") json) (λ data_view_organisation_units.
-    Ok (record { organisation_units = organisation_units; data_view_organisation_units = data_view_organisation_units })))
+abbrev pub UserFields : Type 0
+UserFields = (List (List ℕ) × List (List ℕ)) × List (List ℕ)
 
-unfoldable pub user_of : ℕ → List ℕ → Data → Formed RawUser
-user_of place id json =
-    and_then (name_of id json) (λ name.
-    and_then (user_units_of json) (λ units.
-    and_then (references_at (codes "userRoles") json) (λ user_roles.
-    Ok (record {
-      place = place;
-      id = id;
-      name = name;
-      organisation_units = units.organisation_units;
-      data_view_organisation_units = units.data_view_organisation_units;
-      user_roles = user_roles;
-    }))))
+unfoldable pub user_fields : Data → Formed UserFields
+user_fields json =
+    references_at (codes "organisationUnits") json
+    ⊗ references_at (codes "dataViewOrganisationUnits") json
+    ⊗ references_at (codes "userRoles") json
+
+unfoldable pub user_made : ℕ → List ℕ → List ℕ → UserFields → RawUser
+user_made place id name ((organisation_units, data_view_organisation_units), user_roles) = record {
+  place = place;
+  id = id;
+  name = name;
+  organisation_units = organisation_units;
+  data_view_organisation_units = data_view_organisation_units;
+  user_roles = user_roles;
+}
+
+abbrev pub user_of : ℕ → List ℕ → Data → Formed RawUser
+user_of = named_form user_fields user_made
 
 -- userGroups: users
-unfoldable pub user_group_of : ℕ → List ℕ → Data → Formed RawUserGroup
-user_group_of place id json =
-    and_then (name_of id json) (λ name.
-    and_then (references_at (codes "users") json) (λ users.
-    Ok (record { place = place; id = id; name = name; users = users })))
+unfoldable pub user_group_made : ℕ → List ℕ → List ℕ → List (List ℕ) → RawUserGroup
+user_group_made place id name users = record { place = place; id = id; name = name; users = users }
+
+abbrev pub user_group_of : ℕ → List ℕ → Data → Formed RawUserGroup
+user_group_of = named_form (references_at (codes "users")) user_group_made

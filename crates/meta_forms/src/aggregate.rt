@@ -2,10 +2,11 @@
 
 ghost use Rattle.json_read.specs.Views.{data_of};
 ghost use Rattle.json_read.specs.Given.{Gives};
-ghost use Rattle.meta_forms.specs.Table.{element_values_of, set_content_of, set_rules_of};
+ghost use Rattle.meta_forms.specs.Table.{set_content_of, set_rules_of};
 
+use crate::both::both;
 use crate::entry::set_elements;
-use crate::field::{name, optional_reference, reference_or, references, whole, whole_or};
+use crate::field::{optional_reference, reference_or, references, whole, whole_or};
 use crate::named::{named_at, named_else, named_or_else};
 use crate::object::ReadObject;
 use crate::sharing::sharing;
@@ -18,197 +19,185 @@ use json_read::fault::FormFault;
 use json_read::form::field_or;
 use meta_parts::built_in::default_combo;
 use meta_parts::names::ValueType;
-use meta_parts::raw::{RawApprovalLevel, RawDataSet, RawElement, RawWorkflow};
+use meta_parts::raw::{RawApprovalLevel, RawDataSet, RawElement, RawSharing, RawWorkflow};
 use std::alloc::Global;
 
-// What the values of a data element are.
-#[derive(Drop)]
-pub(crate) struct ElementValues {
-    pub value_type: ValueType,
-    pub aggregation_type: AggType,
-    pub category_combo: Uid,
-    pub zero_is_significant: bool,
-}
-
-#[tactic(auto, unfolding(crate::specs::Table::element_values_of))]
-fn read_element_values(alloc: Global, value: &Value<'_>) -> Result<ElementValues, FormFault>
-    ensures { Gives (element_values_of (data_of value.now)) result }
-{
-    let value_type = named_else(alloc, value, "valueType", ValueType::Text)?;
-    let aggregation_type = named_or_else(
-        alloc,
-        value,
-        "aggregationType",
-        AggType::Sum,
-        AggType::None,
-    )?;
-    let category_combo = reference_or(alloc, value, "categoryCombo", default_combo())?;
-    let zero_is_significant = field_or(alloc, value, "zeroIsSignificant", false)?;
-    Ok(ElementValues {
-        value_type,
-        aggregation_type,
-        category_combo,
-        zero_is_significant,
-    })
-}
+type ElementFields = ((((ValueType, AggType), Uid), bool), RawSharing);
 
 impl ReadObject for RawElement {
-    ghost use Rattle.meta_forms.specs.Table.{element_of};
+    type Fields = ElementFields;
 
-    ghost form = { element_of };
+    ghost use Rattle.meta_forms.specs.Table.{element_fields, element_made};
 
-    #[tactic(auto, unfolding(crate::specs::Table::element_of))]
-    fn read(
-        alloc: Global,
-        place: u32,
-        id: Uid,
-        value: &Value<'_>,
-    ) -> Result<RawElement, FormFault> {
-        let name = name(alloc, id, value)?;
-        let values = read_element_values(alloc, value)?;
-        let sharing = sharing(alloc, value)?;
-        Ok(RawElement {
+    ghost form = { element_fields };
+
+    ghost made = { element_made };
+
+    fn read(alloc: Global, value: &Value<'_>) -> Result<ElementFields, FormFault> {
+        let read = named_else(alloc, value, "valueType", ValueType::Text);
+        let read = both(
+            read,
+            named_or_else(alloc, value, "aggregationType", AggType::Sum, AggType::None),
+        );
+        let read = both(
+            read,
+            reference_or(alloc, value, "categoryCombo", default_combo()),
+        );
+        let read = both(read, field_or(alloc, value, "zeroIsSignificant", false));
+        both(read, sharing(alloc, value))
+    }
+
+    #[tactic(auto, unfolding(crate::specs::Table::element_made))]
+    fn from_fields(place: u32, id: Uid, name: Items<u8>, fields: ElementFields) -> RawElement {
+        let ((((value_type, aggregation_type), category_combo), zero_is_significant), sharing) =
+            fields;
+        RawElement {
             place,
             id,
             name,
-            value_type: values.value_type,
-            aggregation_type: values.aggregation_type,
-            category_combo: values.category_combo,
-            zero_is_significant: values.zero_is_significant,
+            value_type,
+            aggregation_type,
+            category_combo,
+            zero_is_significant,
             sharing,
-        })
+        }
     }
 }
 
 impl ReadObject for RawApprovalLevel {
-    ghost use Rattle.meta_forms.specs.Table.{approval_level_of};
+    type Fields = (i64, i64);
 
-    ghost form = { approval_level_of };
+    ghost use Rattle.meta_forms.specs.Table.{approval_level_fields, approval_level_made};
 
-    #[tactic(auto, unfolding(crate::specs::Table::approval_level_of))]
-    fn read(
-        alloc: Global,
-        place: u32,
-        id: Uid,
-        value: &Value<'_>,
-    ) -> Result<RawApprovalLevel, FormFault> {
-        let name = name(alloc, id, value)?;
-        let level = whole(alloc, value, "level", 1, 1000)?;
-        let org_unit_level = whole(alloc, value, "orgUnitLevel", 1, 12)?;
-        Ok(RawApprovalLevel {
+    ghost form = { approval_level_fields };
+
+    ghost made = { approval_level_made };
+
+    fn read(alloc: Global, value: &Value<'_>) -> Result<(i64, i64), FormFault> {
+        let read = whole(alloc, value, "level", 1, 1000);
+        both(read, whole(alloc, value, "orgUnitLevel", 1, 12))
+    }
+
+    #[tactic(auto, unfolding(crate::specs::Table::approval_level_made))]
+    fn from_fields(place: u32, id: Uid, name: Items<u8>, fields: (i64, i64)) -> RawApprovalLevel {
+        let (level, org_unit_level) = fields;
+        RawApprovalLevel {
             place,
             id,
             name,
             level,
             org_unit_level,
-        })
+        }
     }
 }
 
 impl ReadObject for RawWorkflow {
-    ghost use Rattle.meta_forms.specs.Table.{workflow_of};
+    type Fields = (PeriodType, Items<Uid>);
 
-    ghost form = { workflow_of };
+    ghost use Rattle.meta_forms.specs.Table.{workflow_fields, workflow_made};
 
-    #[tactic(auto, unfolding(crate::specs::Table::workflow_of))]
-    fn read(
-        alloc: Global,
+    ghost form = { workflow_fields };
+
+    ghost made = { workflow_made };
+
+    fn read(alloc: Global, value: &Value<'_>) -> Result<(PeriodType, Items<Uid>), FormFault> {
+        let read = named_at(alloc, value, "periodType");
+        both(read, references(alloc, value, "dataApprovalLevels"))
+    }
+
+    #[tactic(auto, unfolding(crate::specs::Table::workflow_made))]
+    fn from_fields(
         place: u32,
         id: Uid,
-        value: &Value<'_>,
-    ) -> Result<RawWorkflow, FormFault> {
-        let name = name(alloc, id, value)?;
-        let period_type = named_at(alloc, value, "periodType")?;
-        let data_approval_levels = references(alloc, value, "dataApprovalLevels")?;
-        Ok(RawWorkflow {
+        name: Items<u8>,
+        fields: (PeriodType, Items<Uid>),
+    ) -> RawWorkflow {
+        let (period_type, data_approval_levels) = fields;
+        RawWorkflow {
             place,
             id,
             name,
             period_type,
             data_approval_levels,
-        })
+        }
     }
 }
 
-// What a data set collects.
-#[derive(Drop)]
-pub(crate) struct SetContent {
-    pub period_type: PeriodType,
-    pub elements: Items<(Uid, Option<Uid>)>,
-    pub units: Items<Uid>,
-    pub category_combo: Uid,
-}
+// What a data set collects: its period type, elements and units, and its category combination.
+type SetContent = (((PeriodType, Items<(Uid, Option<Uid>)>), Items<Uid>), Uid);
 
-#[tactic(auto, unfolding(crate::specs::Table::set_content_of))]
 fn read_set_content(alloc: Global, value: &Value<'_>) -> Result<SetContent, FormFault>
     ensures { Gives (set_content_of (data_of value.now)) result }
 {
-    let period_type = named_at(alloc, value, "periodType")?;
-    let elements = set_elements(alloc, value)?;
-    let units = references(alloc, value, "organisationUnits")?;
-    let category_combo = reference_or(alloc, value, "categoryCombo", default_combo())?;
-    Ok(SetContent {
-        period_type,
-        elements,
-        units,
-        category_combo,
-    })
+    let read = named_at(alloc, value, "periodType");
+    let read = both(read, set_elements(alloc, value));
+    let read = both(read, references(alloc, value, "organisationUnits"));
+    both(
+        read,
+        reference_or(alloc, value, "categoryCombo", default_combo()),
+    )
 }
 
-// How a data set is approved, and when it may be written.
-#[derive(Drop)]
-pub(crate) struct SetRules {
-    pub workflow: Option<Uid>,
-    pub open_future_periods: i64,
-    pub expiry_days: i64,
-    pub timely_days: i64,
-}
+// How a data set is approved, and when it may be written: its workflow, periods ahead, days to expire, days to be timely.
+type SetRules = (((Option<Uid>, i64), i64), i64);
 
-#[tactic(auto, unfolding(crate::specs::Table::set_rules_of))]
 fn read_set_rules(alloc: Global, value: &Value<'_>) -> Result<SetRules, FormFault>
     ensures { Gives (set_rules_of (data_of value.now)) result }
 {
-    let workflow = optional_reference(alloc, value, "workflow")?;
-    let open_future_periods = whole_or(alloc, value, "openFuturePeriods", 0, 100_000, 0)?;
-    let expiry_days = whole_or(alloc, value, "expiryDays", 0, 100_000, 0)?;
-    let timely_days = whole_or(alloc, value, "timelyDays", 0, 100_000, 15)?;
-    Ok(SetRules {
-        workflow,
-        open_future_periods,
-        expiry_days,
-        timely_days,
-    })
+    let read = optional_reference(alloc, value, "workflow");
+    let read = both(
+        read,
+        whole_or(alloc, value, "openFuturePeriods", 0, 100_000, 0),
+    );
+    let read = both(read, whole_or(alloc, value, "expiryDays", 0, 100_000, 0));
+    both(read, whole_or(alloc, value, "timelyDays", 0, 100_000, 15))
 }
 
 impl ReadObject for RawDataSet {
-    ghost use Rattle.meta_forms.specs.Table.{data_set_of};
+    type Fields = ((SetContent, SetRules), RawSharing);
 
-    ghost form = { data_set_of };
+    ghost use Rattle.meta_forms.specs.Table.{data_set_fields, data_set_made};
 
-    #[tactic(auto, unfolding(crate::specs::Table::data_set_of))]
+    ghost form = { data_set_fields };
+
+    ghost made = { data_set_made };
+
     fn read(
         alloc: Global,
+        value: &Value<'_>,
+    ) -> Result<((SetContent, SetRules), RawSharing), FormFault> {
+        let read = read_set_content(alloc, value);
+        let read = both(read, read_set_rules(alloc, value));
+        both(read, sharing(alloc, value))
+    }
+
+    #[tactic(auto, unfolding(crate::specs::Table::data_set_made))]
+    fn from_fields(
         place: u32,
         id: Uid,
-        value: &Value<'_>,
-    ) -> Result<RawDataSet, FormFault> {
-        let name = name(alloc, id, value)?;
-        let content = read_set_content(alloc, value)?;
-        let rules = read_set_rules(alloc, value)?;
-        let sharing = sharing(alloc, value)?;
-        Ok(RawDataSet {
+        name: Items<u8>,
+        fields: ((SetContent, SetRules), RawSharing),
+    ) -> RawDataSet {
+        let (
+            (
+                (((period_type, data_set_elements), organisation_units), category_combo),
+                (((workflow, open_future_periods), expiry_days), timely_days),
+            ),
+            sharing,
+        ) = fields;
+        RawDataSet {
             place,
             id,
             name,
-            period_type: content.period_type,
-            data_set_elements: content.elements,
-            organisation_units: content.units,
-            category_combo: content.category_combo,
-            workflow: rules.workflow,
-            open_future_periods: rules.open_future_periods,
-            expiry_days: rules.expiry_days,
-            timely_days: rules.timely_days,
+            period_type,
+            data_set_elements,
+            organisation_units,
+            category_combo,
+            workflow,
+            open_future_periods,
+            expiry_days,
+            timely_days,
             sharing,
-        })
+        }
     }
 }

@@ -2,10 +2,11 @@
 
 ghost use Rattle.json_read.specs.Views.{data_of};
 ghost use Rattle.json_read.specs.Given.{Gives};
-ghost use Rattle.meta_forms.specs.Table.{ratio_of, comparison_of};
+ghost use Rattle.meta_forms.specs.Table.{ratio_of};
 
+use crate::both::both;
 use crate::entry::{ConstantValue, rule_side};
-use crate::field::{name, reference, whole, whole_or};
+use crate::field::{reference, whole, whole_or};
 use crate::named::named_at;
 use crate::object::ReadObject;
 use crate::sharing::sharing;
@@ -17,154 +18,150 @@ use json::Value;
 use json_read::fault::FormFault;
 use json_read::form::{field, field_or};
 use meta_parts::names::Operator;
-use meta_parts::raw::{RawConstant, RawIndicator, RawIndicatorType, RawRule};
+use meta_parts::raw::{RawConstant, RawIndicator, RawIndicatorType, RawRule, RawSharing};
 use std::alloc::Global;
 
 impl ReadObject for RawConstant {
-    ghost use Rattle.meta_forms.specs.Table.{constant_object_of};
+    type Fields = ConstantValue;
 
-    ghost form = { constant_object_of };
+    ghost use Rattle.json_read.specs.Forms.{field_of};
+    ghost use Rattle.std.specs.Prelude.{codes};
+    ghost use Rattle.meta_forms.specs.Entries.{constant_form};
+    ghost use Rattle.meta_forms.specs.Table.{constant_object_made};
 
-    #[tactic(auto, unfolding(crate::specs::Table::constant_object_of))]
-    fn read(
-        alloc: Global,
-        place: u32,
-        id: Uid,
-        value: &Value<'_>,
-    ) -> Result<RawConstant, FormFault> {
-        let name = name(alloc, id, value)?;
-        let constant: ConstantValue = field(alloc, value, "value")?;
-        Ok(RawConstant {
+    ghost form = { field_of (codes "value") constant_form };
+
+    ghost made = { constant_object_made };
+
+    fn read(alloc: Global, value: &Value<'_>) -> Result<ConstantValue, FormFault> {
+        field(alloc, value, "value")
+    }
+
+    #[tactic(auto, unfolding(crate::specs::Table::constant_object_made))]
+    fn from_fields(place: u32, id: Uid, name: Items<u8>, constant: ConstantValue) -> RawConstant {
+        RawConstant {
             place,
             id,
             name,
             value: constant.value,
-        })
+        }
     }
 }
 
 impl ReadObject for RawIndicatorType {
-    ghost use Rattle.meta_forms.specs.Table.{indicator_type_of};
+    type Fields = i64;
 
-    ghost form = { indicator_type_of };
+    ghost use Rattle.json_read.specs.Forms.{field_of};
+    ghost use Rattle.std.specs.Prelude.{codes, negsuc, pos};
+    ghost use Rattle.meta_forms.specs.Fields.{whole_of};
+    ghost use Rattle.meta_forms.specs.Table.{indicator_type_made};
 
-    #[tactic(auto, unfolding(crate::specs::Table::indicator_type_of))]
-    fn read(
-        alloc: Global,
-        place: u32,
-        id: Uid,
-        value: &Value<'_>,
-    ) -> Result<RawIndicatorType, FormFault> {
-        let name = name(alloc, id, value)?;
-        let factor = whole(alloc, value, "factor", -1_000_000_000, 1_000_000_000)?;
-        Ok(RawIndicatorType {
+    ghost form = { field_of (codes "factor") (whole_of (negsuc 999999999) (pos 1000000000)) };
+
+    ghost made = { indicator_type_made };
+
+    fn read(alloc: Global, value: &Value<'_>) -> Result<i64, FormFault> {
+        whole(alloc, value, "factor", -1_000_000_000, 1_000_000_000)
+    }
+
+    #[tactic(auto, unfolding(crate::specs::Table::indicator_type_made))]
+    fn from_fields(place: u32, id: Uid, name: Items<u8>, factor: i64) -> RawIndicatorType {
+        RawIndicatorType {
             place,
             id,
             name,
             factor,
-        })
+        }
     }
 }
 
-// What an indicator computes.
-#[derive(Drop)]
-pub(crate) struct Ratio {
-    pub numerator: Items<u8>,
-    pub denominator: Items<u8>,
-    pub indicator_type: Uid,
-    pub annualized: bool,
-}
+// What an indicator computes: its numerator and denominator, its type, and whether it is of a year.
+type Ratio = (((Items<u8>, Items<u8>), Uid), bool);
 
-#[tactic(auto, unfolding(crate::specs::Table::ratio_of))]
 fn read_ratio(alloc: Global, value: &Value<'_>) -> Result<Ratio, FormFault>
     ensures { Gives (ratio_of (data_of value.now)) result }
 {
-    let numerator = field(alloc, value, "numerator")?;
-    let denominator = field(alloc, value, "denominator")?;
-    let indicator_type = reference(alloc, value, "indicatorType")?;
-    let annualized = field_or(alloc, value, "annualized", false)?;
-    Ok(Ratio {
-        numerator,
-        denominator,
-        indicator_type,
-        annualized,
-    })
+    let read = field(alloc, value, "numerator");
+    let read = both(read, field(alloc, value, "denominator"));
+    let read = both(read, reference(alloc, value, "indicatorType"));
+    both(read, field_or(alloc, value, "annualized", false))
 }
 
 impl ReadObject for RawIndicator {
-    ghost use Rattle.meta_forms.specs.Table.{indicator_of};
+    type Fields = ((Ratio, i64), RawSharing);
 
-    ghost form = { indicator_of };
+    ghost use Rattle.meta_forms.specs.Table.{indicator_fields, indicator_made};
 
-    #[tactic(auto, unfolding(crate::specs::Table::indicator_of))]
-    fn read(
-        alloc: Global,
+    ghost form = { indicator_fields };
+
+    ghost made = { indicator_made };
+
+    fn read(alloc: Global, value: &Value<'_>) -> Result<((Ratio, i64), RawSharing), FormFault> {
+        let read = read_ratio(alloc, value);
+        let read = both(read, whole_or(alloc, value, "decimals", 0, 5, 1));
+        both(read, sharing(alloc, value))
+    }
+
+    #[tactic(auto, unfolding(crate::specs::Table::indicator_made))]
+    fn from_fields(
         place: u32,
         id: Uid,
-        value: &Value<'_>,
-    ) -> Result<RawIndicator, FormFault> {
-        let name = name(alloc, id, value)?;
-        let ratio = read_ratio(alloc, value)?;
-        let decimals = whole_or(alloc, value, "decimals", 0, 5, 1)?;
-        let sharing = sharing(alloc, value)?;
-        Ok(RawIndicator {
+        name: Items<u8>,
+        fields: ((Ratio, i64), RawSharing),
+    ) -> RawIndicator {
+        let (((((numerator, denominator), indicator_type), annualized), decimals), sharing) =
+            fields;
+        RawIndicator {
             place,
             id,
             name,
-            numerator: ratio.numerator,
-            denominator: ratio.denominator,
-            indicator_type: ratio.indicator_type,
-            annualized: ratio.annualized,
+            numerator,
+            denominator,
+            indicator_type,
+            annualized,
             decimals,
             sharing,
-        })
+        }
     }
 }
 
-// What a validation rule compares.
-#[derive(Drop)]
-pub(crate) struct Comparison {
-    pub operator: Operator,
-    pub period_type: PeriodType,
-    pub left_side: (Items<u8>, Strategy),
-    pub right_side: (Items<u8>, Strategy),
-}
-
-#[tactic(auto, unfolding(crate::specs::Table::comparison_of))]
-fn read_comparison(alloc: Global, value: &Value<'_>) -> Result<Comparison, FormFault>
-    ensures { Gives (comparison_of (data_of value.now)) result }
-{
-    let operator = named_at(alloc, value, "operator")?;
-    let period_type = named_at(alloc, value, "periodType")?;
-    let left_side = rule_side(alloc, value, "leftSide")?;
-    let right_side = rule_side(alloc, value, "rightSide")?;
-    Ok(Comparison {
-        operator,
-        period_type,
-        left_side,
-        right_side,
-    })
-}
+type RuleFields = (
+    (
+        ((Operator, PeriodType), (Items<u8>, Strategy)),
+        (Items<u8>, Strategy),
+    ),
+    RawSharing,
+);
 
 impl ReadObject for RawRule {
-    ghost use Rattle.meta_forms.specs.Table.{rule_of};
+    type Fields = RuleFields;
 
-    ghost form = { rule_of };
+    ghost use Rattle.meta_forms.specs.Table.{rule_fields, rule_made};
 
-    #[tactic(auto, unfolding(crate::specs::Table::rule_of))]
-    fn read(alloc: Global, place: u32, id: Uid, value: &Value<'_>) -> Result<RawRule, FormFault> {
-        let name = name(alloc, id, value)?;
-        let comparison = read_comparison(alloc, value)?;
-        let sharing = sharing(alloc, value)?;
-        Ok(RawRule {
+    ghost form = { rule_fields };
+
+    ghost made = { rule_made };
+
+    fn read(alloc: Global, value: &Value<'_>) -> Result<RuleFields, FormFault> {
+        let read = named_at(alloc, value, "operator");
+        let read = both(read, named_at(alloc, value, "periodType"));
+        let read = both(read, rule_side(alloc, value, "leftSide"));
+        let read = both(read, rule_side(alloc, value, "rightSide"));
+        both(read, sharing(alloc, value))
+    }
+
+    #[tactic(auto, unfolding(crate::specs::Table::rule_made))]
+    fn from_fields(place: u32, id: Uid, name: Items<u8>, fields: RuleFields) -> RawRule {
+        let ((((operator, period_type), left_side), right_side), sharing) = fields;
+        RawRule {
             place,
             id,
             name,
-            operator: comparison.operator,
-            period_type: comparison.period_type,
-            left_side: comparison.left_side,
-            right_side: comparison.right_side,
+            operator,
+            period_type,
+            left_side,
+            right_side,
             sharing,
-        })
+        }
     }
 }

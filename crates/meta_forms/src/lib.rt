@@ -3,6 +3,7 @@
 #![tactic(auto)]
 
 mod aggregate;
+mod both;
 mod entry;
 mod field;
 mod formulas;

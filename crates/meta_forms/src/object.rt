@@ -6,8 +6,9 @@ ghost use Rattle.serde_json.specs.Data.{Data};
 ghost use Rattle.json_read.specs.Views.{data_of, items_data};
 ghost use Rattle.json_read.specs.Forms.{at_step, field_or_of};
 ghost use Rattle.json_read.specs.Given.{Gives};
-ghost use Rattle.meta_forms.specs.Objects.{IsPlace, object_of, objects_of, list_of, objects_at};
+ghost use Rattle.meta_forms.specs.Objects.{IsPlace, named_form, object_of, objects_of, list_of, objects_at};
 
+use crate::field::name;
 use crate::path::{here, seen_from};
 use dh_base::items::Items;
 use dh_base::uid::Uid;
@@ -18,14 +19,24 @@ use json_read::look::{items, member};
 use meta_parts::built_in::is_built_in;
 use std::alloc::{AllocError, Global};
 
-/// A record of an object that stands at a place of a key's list and has an identifier.
+/// A record of an object that stands at a place of a key's list and has an identifier and a name.
 pub trait ReadObject: Sized + Drop {
-    /// What the object stands for, or the path of the first fault in it.
-    ghost form: { ℕ → List ℕ → Data → Result Self (List ℕ) };
+    /// What is read after the name.
+    type Fields: Drop;
 
-    /// Reads what is after the identifier.
-    fn read(alloc: Global, place: u32, id: Uid, value: &Value<'_>) -> Result<Self, FormFault>
-        ensures { Gives (form place id (data_of value.now)) result };
+    /// What these fields stand for, or the path of the first fault in them.
+    ghost form: { Data → Result Self.Fields (List ℕ) };
+
+    /// The record of a place, an identifier, a name and these fields.
+    ghost made: { ℕ → List ℕ → List ℕ → Self.Fields → Self };
+
+    /// Reads what is after the name.
+    fn read(alloc: Global, value: &Value<'_>) -> Result<Self::Fields, FormFault>
+        ensures { Gives (form (data_of value.now)) result };
+
+    /// The record of what was read.
+    fn from_fields(place: u32, id: Uid, name: Items<u8>, fields: Self::Fields) -> Self
+        ensures { result ≡ made place id name fields };
 }
 
 // The number of a place. A list of 2^32 values and more takes more memory than there is.
@@ -38,12 +49,29 @@ fn place_of(place: usize) -> Result<u32, FormFault>
     }
 }
 
+// The object of a place and an identifier.
+#[tactic(auto, unfolding(crate::specs::Objects::named_form))]
+fn read_named<T: ReadObject>(
+    alloc: Global,
+    place: u32,
+    id: Uid,
+    value: &Value<'_>,
+) -> Result<T, FormFault>
+    ensures { Gives (named_form T.form T.made place id (data_of value.now)) result }
+{
+    let name = name(alloc, id, value)?;
+    match T::read(alloc, value) {
+        Ok(fields) => Ok(T::from_fields(place, id, name, fields)),
+        Err(fault) => Err(fault),
+    }
+}
+
 fn read_object<T: ReadObject>(
     alloc: Global,
     place: usize,
     value: &Value<'_>,
 ) -> Result<Option<T>, FormFault>
-    ensures { Gives (object_of T.form place (data_of value.now)) result }
+    ensures { Gives (object_of (named_form T.form T.made) place (data_of value.now)) result }
 {
     require_object(alloc, value)?;
     let id: Uid = field(alloc, value, "id")?;
@@ -51,7 +79,7 @@ fn read_object<T: ReadObject>(
         return Ok(None);
     }
     let place = place_of(place)?;
-    Ok(Some(T::read(alloc, place, id, value)?))
+    Ok(Some(read_named(alloc, place, id, value)?))
 }
 
 fn step_of(alloc: Global, place: usize) -> Result<Vec<u8>, AllocError>
@@ -65,7 +93,7 @@ fn read_at<T: ReadObject>(
     place: usize,
     value: &Value<'_>,
 ) -> Result<Option<T>, FormFault>
-    ensures { Gives (at_step (decimal place) (object_of T.form place (data_of value.now))) result }
+    ensures { Gives (at_step (decimal place) (object_of (named_form T.form T.made) place (data_of value.now))) result }
 {
     match read_object(alloc, place, value) {
         Ok(read) => Ok(read),
@@ -77,7 +105,7 @@ fn read_at<T: ReadObject>(
 }
 
 fn read_each<T: ReadObject>(alloc: Global, values: &[Value<'_>]) -> Result<Items<T>, FormFault>
-    ensures { Gives (objects_of T.form 0 (items_data values.now)) result }
+    ensures { Gives (objects_of (named_form T.form T.made) 0 (items_data values.now)) result }
 {
     let mut all = Vec::new(alloc);
     let mut place = 0;
@@ -91,7 +119,7 @@ fn read_each<T: ReadObject>(alloc: Global, values: &[Value<'_>]) -> Result<Items
 }
 
 fn read_list<T: ReadObject>(alloc: Global, value: &Value<'_>) -> Result<Items<T>, FormFault>
-    ensures { Gives (list_of T.form (data_of value.now)) result }
+    ensures { Gives (list_of (named_form T.form T.made) (data_of value.now)) result }
 {
     match items(value) {
         Some(values) => read_each(alloc, values),
@@ -105,7 +133,7 @@ pub fn objects<T: ReadObject>(
     value: &Value<'_>,
     key: &str,
 ) -> Result<Items<T>, FormFault>
-    ensures { Gives (objects_at key.now T.form (data_of value.now)) result }
+    ensures { Gives (objects_at key.now (named_form T.form T.made) (data_of value.now)) result }
 {
     match member(value, key) {
         Some(found) => match read_list(alloc, found) {

@@ -1,10 +1,7 @@
 //! Users, their roles and groups.
 
-ghost use Rattle.json_read.specs.Views.{data_of};
-ghost use Rattle.json_read.specs.Given.{Gives};
-ghost use Rattle.meta_forms.specs.Table.{user_units_of};
-
-use crate::field::{name, references};
+use crate::both::both;
+use crate::field::references;
 use crate::object::ReadObject;
 use dh_base::items::Items;
 use dh_base::uid::Uid;
@@ -15,82 +12,90 @@ use meta_parts::raw::{RawRole, RawUser, RawUserGroup};
 use std::alloc::Global;
 
 impl ReadObject for RawRole {
-    ghost use Rattle.meta_forms.specs.Table.{role_of};
+    type Fields = Items<Items<u8>>;
 
-    ghost form = { role_of };
+    ghost use Rattle.json_read.specs.Forms.{listed_of, text_of};
+    ghost use Rattle.std.specs.Prelude.{codes};
+    ghost use Rattle.meta_forms.specs.Table.{role_made};
 
-    #[tactic(auto, unfolding(crate::specs::Table::role_of))]
-    fn read(alloc: Global, place: u32, id: Uid, value: &Value<'_>) -> Result<RawRole, FormFault> {
-        let name = name(alloc, id, value)?;
-        let authorities = listed(alloc, value, "authorities")?;
-        Ok(RawRole {
+    ghost form = { listed_of (codes "authorities") text_of };
+
+    ghost made = { role_made };
+
+    fn read(alloc: Global, value: &Value<'_>) -> Result<Items<Items<u8>>, FormFault> {
+        listed(alloc, value, "authorities")
+    }
+
+    #[tactic(auto, unfolding(crate::specs::Table::role_made))]
+    fn from_fields(place: u32, id: Uid, name: Items<u8>, authorities: Items<Items<u8>>) -> RawRole {
+        RawRole {
             place,
             id,
             name,
             authorities,
-        })
+        }
     }
 }
 
-// The units of a user: where the user enters data, and what the user may see.
-#[derive(Drop)]
-pub(crate) struct UserUnits {
-    organisation_units: Items<Uid>,
-    data_view_organisation_units: Items<Uid>,
-}
-
-#[tactic(auto, unfolding(crate::specs::Table::user_units_of))]
-fn read_user_units(alloc: Global, value: &Value<'_>) -> Result<UserUnits, FormFault>
-    ensures { Gives (user_units_of (data_of value.now)) result }
-{
-    let organisation_units = references(alloc, value, "organisationUnits")?;
-    let data_view_organisation_units = references(alloc, value, "dataViewOrganisationUnits")?;
-    Ok(UserUnits {
-        organisation_units,
-        data_view_organisation_units,
-    })
-}
-
 impl ReadObject for RawUser {
-    ghost use Rattle.meta_forms.specs.Table.{user_of};
+    type Fields = ((Items<Uid>, Items<Uid>), Items<Uid>);
 
-    ghost form = { user_of };
+    ghost use Rattle.meta_forms.specs.Table.{user_fields, user_made};
 
-    #[tactic(auto, unfolding(crate::specs::Table::user_of))]
-    fn read(alloc: Global, place: u32, id: Uid, value: &Value<'_>) -> Result<RawUser, FormFault> {
-        let name = name(alloc, id, value)?;
-        let units = read_user_units(alloc, value)?;
-        let user_roles = references(alloc, value, "userRoles")?;
-        Ok(RawUser {
+    ghost form = { user_fields };
+
+    ghost made = { user_made };
+
+    fn read(
+        alloc: Global,
+        value: &Value<'_>,
+    ) -> Result<((Items<Uid>, Items<Uid>), Items<Uid>), FormFault> {
+        let read = references(alloc, value, "organisationUnits");
+        let read = both(read, references(alloc, value, "dataViewOrganisationUnits"));
+        both(read, references(alloc, value, "userRoles"))
+    }
+
+    #[tactic(auto, unfolding(crate::specs::Table::user_made))]
+    fn from_fields(
+        place: u32,
+        id: Uid,
+        name: Items<u8>,
+        fields: ((Items<Uid>, Items<Uid>), Items<Uid>),
+    ) -> RawUser {
+        let ((organisation_units, data_view_organisation_units), user_roles) = fields;
+        RawUser {
             place,
             id,
             name,
-            organisation_units: units.organisation_units,
-            data_view_organisation_units: units.data_view_organisation_units,
+            organisation_units,
+            data_view_organisation_units,
             user_roles,
-        })
+        }
     }
 }
 
 impl ReadObject for RawUserGroup {
-    ghost use Rattle.meta_forms.specs.Table.{user_group_of};
+    type Fields = Items<Uid>;
 
-    ghost form = { user_group_of };
+    ghost use Rattle.meta_forms.specs.Fields.{references_at};
+    ghost use Rattle.std.specs.Prelude.{codes};
+    ghost use Rattle.meta_forms.specs.Table.{user_group_made};
 
-    #[tactic(auto, unfolding(crate::specs::Table::user_group_of))]
-    fn read(
-        alloc: Global,
-        place: u32,
-        id: Uid,
-        value: &Value<'_>,
-    ) -> Result<RawUserGroup, FormFault> {
-        let name = name(alloc, id, value)?;
-        let users = references(alloc, value, "users")?;
-        Ok(RawUserGroup {
+    ghost form = { references_at (codes "users") };
+
+    ghost made = { user_group_made };
+
+    fn read(alloc: Global, value: &Value<'_>) -> Result<Items<Uid>, FormFault> {
+        references(alloc, value, "users")
+    }
+
+    #[tactic(auto, unfolding(crate::specs::Table::user_group_made))]
+    fn from_fields(place: u32, id: Uid, name: Items<u8>, users: Items<Uid>) -> RawUserGroup {
+        RawUserGroup {
             place,
             id,
             name,
             users,
-        })
+        }
     }
 }

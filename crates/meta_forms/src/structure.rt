@@ -1,147 +1,191 @@
 //! Organisation units, their groups, and categories.
 
-use crate::field::{name, optional_reference, reference, references};
+use crate::both::both;
+use crate::field::{optional_reference, reference, references};
 use crate::object::ReadObject;
 use crate::sharing::sharing;
+use dh_base::items::Items;
 use dh_base::uid::Uid;
 use json::Value;
 use json_read::fault::FormFault;
 use meta_parts::raw::{
-    RawCategory, RawCategoryCombo, RawCategoryOption, RawOptionCombo, RawUnit, RawUnitGroup,
+    RawCategory, RawCategoryCombo, RawCategoryOption, RawOptionCombo, RawSharing, RawUnit,
+    RawUnitGroup,
 };
 use std::alloc::Global;
 
 impl ReadObject for RawUnit {
-    ghost use Rattle.meta_forms.specs.Table.{unit_of};
+    type Fields = Option<Uid>;
 
-    ghost form = { unit_of };
+    ghost use Rattle.meta_forms.specs.Fields.{optional_reference_at};
+    ghost use Rattle.std.specs.Prelude.{codes};
+    ghost use Rattle.meta_forms.specs.Table.{unit_made};
 
-    #[tactic(auto, unfolding(crate::specs::Table::unit_of))]
-    fn read(alloc: Global, place: u32, id: Uid, value: &Value<'_>) -> Result<RawUnit, FormFault> {
-        let name = name(alloc, id, value)?;
-        let parent = optional_reference(alloc, value, "parent")?;
-        Ok(RawUnit {
+    ghost form = { optional_reference_at (codes "parent") };
+
+    ghost made = { unit_made };
+
+    fn read(alloc: Global, value: &Value<'_>) -> Result<Option<Uid>, FormFault> {
+        optional_reference(alloc, value, "parent")
+    }
+
+    #[tactic(auto, unfolding(crate::specs::Table::unit_made))]
+    fn from_fields(place: u32, id: Uid, name: Items<u8>, parent: Option<Uid>) -> RawUnit {
+        RawUnit {
             place,
             id,
             name,
             parent,
-        })
+        }
     }
 }
 
 impl ReadObject for RawUnitGroup {
-    ghost use Rattle.meta_forms.specs.Table.{unit_group_of};
+    type Fields = Items<Uid>;
 
-    ghost form = { unit_group_of };
+    ghost use Rattle.meta_forms.specs.Fields.{references_at};
+    ghost use Rattle.std.specs.Prelude.{codes};
+    ghost use Rattle.meta_forms.specs.Table.{unit_group_made};
 
-    #[tactic(auto, unfolding(crate::specs::Table::unit_group_of))]
-    fn read(
-        alloc: Global,
+    ghost form = { references_at (codes "organisationUnits") };
+
+    ghost made = { unit_group_made };
+
+    fn read(alloc: Global, value: &Value<'_>) -> Result<Items<Uid>, FormFault> {
+        references(alloc, value, "organisationUnits")
+    }
+
+    #[tactic(auto, unfolding(crate::specs::Table::unit_group_made))]
+    fn from_fields(
         place: u32,
         id: Uid,
-        value: &Value<'_>,
-    ) -> Result<RawUnitGroup, FormFault> {
-        let name = name(alloc, id, value)?;
-        let organisation_units = references(alloc, value, "organisationUnits")?;
-        Ok(RawUnitGroup {
+        name: Items<u8>,
+        organisation_units: Items<Uid>,
+    ) -> RawUnitGroup {
+        RawUnitGroup {
             place,
             id,
             name,
             organisation_units,
-        })
+        }
     }
 }
 
 impl ReadObject for RawCategoryOption {
-    ghost use Rattle.meta_forms.specs.Table.{category_option_of};
+    type Fields = RawSharing;
 
-    ghost form = { category_option_of };
+    ghost use Rattle.meta_forms.specs.Sharing.{sharing_of};
+    ghost use Rattle.meta_forms.specs.Table.{category_option_made};
 
-    #[tactic(auto, unfolding(crate::specs::Table::category_option_of))]
-    fn read(
-        alloc: Global,
-        place: u32,
-        id: Uid,
-        value: &Value<'_>,
-    ) -> Result<RawCategoryOption, FormFault> {
-        let name = name(alloc, id, value)?;
-        let sharing = sharing(alloc, value)?;
-        Ok(RawCategoryOption {
+    ghost form = { sharing_of };
+
+    ghost made = { category_option_made };
+
+    fn read(alloc: Global, value: &Value<'_>) -> Result<RawSharing, FormFault> {
+        sharing(alloc, value)
+    }
+
+    #[tactic(auto, unfolding(crate::specs::Table::category_option_made))]
+    fn from_fields(place: u32, id: Uid, name: Items<u8>, sharing: RawSharing) -> RawCategoryOption {
+        RawCategoryOption {
             place,
             id,
             name,
             sharing,
-        })
+        }
     }
 }
 
 impl ReadObject for RawCategory {
-    ghost use Rattle.meta_forms.specs.Table.{category_of};
+    type Fields = Items<Uid>;
 
-    ghost form = { category_of };
+    ghost use Rattle.meta_forms.specs.Fields.{references_at};
+    ghost use Rattle.std.specs.Prelude.{codes};
+    ghost use Rattle.meta_forms.specs.Table.{category_made};
 
-    #[tactic(auto, unfolding(crate::specs::Table::category_of))]
-    fn read(
-        alloc: Global,
+    ghost form = { references_at (codes "categoryOptions") };
+
+    ghost made = { category_made };
+
+    fn read(alloc: Global, value: &Value<'_>) -> Result<Items<Uid>, FormFault> {
+        references(alloc, value, "categoryOptions")
+    }
+
+    #[tactic(auto, unfolding(crate::specs::Table::category_made))]
+    fn from_fields(
         place: u32,
         id: Uid,
-        value: &Value<'_>,
-    ) -> Result<RawCategory, FormFault> {
-        let name = name(alloc, id, value)?;
-        let category_options = references(alloc, value, "categoryOptions")?;
-        Ok(RawCategory {
+        name: Items<u8>,
+        category_options: Items<Uid>,
+    ) -> RawCategory {
+        RawCategory {
             place,
             id,
             name,
             category_options,
-        })
+        }
     }
 }
 
 impl ReadObject for RawCategoryCombo {
-    ghost use Rattle.meta_forms.specs.Table.{category_combo_of};
+    type Fields = Items<Uid>;
 
-    ghost form = { category_combo_of };
+    ghost use Rattle.meta_forms.specs.Fields.{references_at};
+    ghost use Rattle.std.specs.Prelude.{codes};
+    ghost use Rattle.meta_forms.specs.Table.{category_combo_made};
 
-    #[tactic(auto, unfolding(crate::specs::Table::category_combo_of))]
-    fn read(
-        alloc: Global,
+    ghost form = { references_at (codes "categories") };
+
+    ghost made = { category_combo_made };
+
+    fn read(alloc: Global, value: &Value<'_>) -> Result<Items<Uid>, FormFault> {
+        references(alloc, value, "categories")
+    }
+
+    #[tactic(auto, unfolding(crate::specs::Table::category_combo_made))]
+    fn from_fields(
         place: u32,
         id: Uid,
-        value: &Value<'_>,
-    ) -> Result<RawCategoryCombo, FormFault> {
-        let name = name(alloc, id, value)?;
-        let categories = references(alloc, value, "categories")?;
-        Ok(RawCategoryCombo {
+        name: Items<u8>,
+        categories: Items<Uid>,
+    ) -> RawCategoryCombo {
+        RawCategoryCombo {
             place,
             id,
             name,
             categories,
-        })
+        }
     }
 }
 
 impl ReadObject for RawOptionCombo {
-    ghost use Rattle.meta_forms.specs.Table.{option_combo_of};
+    type Fields = (Uid, Items<Uid>);
 
-    ghost form = { option_combo_of };
+    ghost use Rattle.meta_forms.specs.Table.{option_combo_fields, option_combo_made};
 
-    #[tactic(auto, unfolding(crate::specs::Table::option_combo_of))]
-    fn read(
-        alloc: Global,
+    ghost form = { option_combo_fields };
+
+    ghost made = { option_combo_made };
+
+    fn read(alloc: Global, value: &Value<'_>) -> Result<(Uid, Items<Uid>), FormFault> {
+        let read = reference(alloc, value, "categoryCombo");
+        both(read, references(alloc, value, "categoryOptions"))
+    }
+
+    #[tactic(auto, unfolding(crate::specs::Table::option_combo_made))]
+    fn from_fields(
         place: u32,
         id: Uid,
-        value: &Value<'_>,
-    ) -> Result<RawOptionCombo, FormFault> {
-        let name = name(alloc, id, value)?;
-        let category_combo = reference(alloc, value, "categoryCombo")?;
-        let category_options = references(alloc, value, "categoryOptions")?;
-        Ok(RawOptionCombo {
+        name: Items<u8>,
+        fields: (Uid, Items<Uid>),
+    ) -> RawOptionCombo {
+        let (category_combo, category_options) = fields;
+        RawOptionCombo {
             place,
             id,
             name,
             category_combo,
             category_options,
-        })
+        }
     }
 }

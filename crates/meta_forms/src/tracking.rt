@@ -2,10 +2,11 @@
 
 ghost use Rattle.json_read.specs.Views.{data_of};
 ghost use Rattle.json_read.specs.Given.{Gives};
-ghost use Rattle.meta_forms.specs.Table.{subject_of, formula_of, figure_of};
+ghost use Rattle.meta_forms.specs.Table.{formula_of, figure_of};
 
+use crate::both::both;
 use crate::entry::{attributes, stage_elements};
-use crate::field::{name, optional_reference, reference, whole_or};
+use crate::field::{optional_reference, reference, whole_or};
 use crate::named::{named_at, named_else, named_or};
 use crate::object::ReadObject;
 use crate::sharing::sharing;
@@ -16,195 +17,191 @@ use json::Value;
 use json_read::fault::FormFault;
 use json_read::form::{field, optional};
 use meta_parts::names::{AnalyticsType, ProgramType, ValueType};
-use meta_parts::raw::{RawAttribute, RawEntityType, RawProgram, RawProgramIndicator, RawStage};
+use meta_parts::raw::{
+    RawAttribute, RawEntityType, RawProgram, RawProgramIndicator, RawSharing, RawStage,
+};
 use std::alloc::Global;
 
 impl ReadObject for RawEntityType {
-    ghost use Rattle.meta_forms.specs.Table.{entity_type_of};
+    type Fields = RawSharing;
 
-    ghost form = { entity_type_of };
+    ghost use Rattle.meta_forms.specs.Sharing.{sharing_of};
+    ghost use Rattle.meta_forms.specs.Table.{entity_type_made};
 
-    #[tactic(auto, unfolding(crate::specs::Table::entity_type_of))]
-    fn read(
-        alloc: Global,
-        place: u32,
-        id: Uid,
-        value: &Value<'_>,
-    ) -> Result<RawEntityType, FormFault> {
-        let name = name(alloc, id, value)?;
-        let sharing = sharing(alloc, value)?;
-        Ok(RawEntityType {
+    ghost form = { sharing_of };
+
+    ghost made = { entity_type_made };
+
+    fn read(alloc: Global, value: &Value<'_>) -> Result<RawSharing, FormFault> {
+        sharing(alloc, value)
+    }
+
+    #[tactic(auto, unfolding(crate::specs::Table::entity_type_made))]
+    fn from_fields(place: u32, id: Uid, name: Items<u8>, sharing: RawSharing) -> RawEntityType {
+        RawEntityType {
             place,
             id,
             name,
             sharing,
-        })
+        }
     }
 }
 
 impl ReadObject for RawAttribute {
-    ghost use Rattle.meta_forms.specs.Table.{tracked_attribute_of};
+    type Fields = ValueType;
 
-    ghost form = { tracked_attribute_of };
+    ghost use Rattle.json_read.specs.Forms.{field_of};
+    ghost use Rattle.std.specs.Prelude.{codes};
+    ghost use Rattle.meta_forms.specs.Fields.{name_or_other};
+    ghost use Rattle.meta_parts.specs.Names.{value_type_named};
+    ghost use Rattle.meta_parts.specs.declared.names.ValueType.TheVariants as value_type;
+    ghost use Rattle.meta_forms.specs.Table.{tracked_attribute_made};
 
-    #[tactic(auto, unfolding(crate::specs::Table::tracked_attribute_of))]
-    fn read(
-        alloc: Global,
-        place: u32,
-        id: Uid,
-        value: &Value<'_>,
-    ) -> Result<RawAttribute, FormFault> {
-        let name = name(alloc, id, value)?;
-        let value_type = named_else(alloc, value, "valueType", ValueType::Text)?;
-        Ok(RawAttribute {
+    ghost form = { field_of (codes "valueType") (name_or_other value_type_named value_type.Text) };
+
+    ghost made = { tracked_attribute_made };
+
+    fn read(alloc: Global, value: &Value<'_>) -> Result<ValueType, FormFault> {
+        named_else(alloc, value, "valueType", ValueType::Text)
+    }
+
+    #[tactic(auto, unfolding(crate::specs::Table::tracked_attribute_made))]
+    fn from_fields(place: u32, id: Uid, name: Items<u8>, value_type: ValueType) -> RawAttribute {
+        RawAttribute {
             place,
             id,
             name,
             value_type,
-        })
+        }
     }
 }
 
-// Whom the events of a program are about.
-#[derive(Drop)]
-pub(crate) struct Subject {
-    pub program_type: ProgramType,
-    pub tracked_entity_type: Option<Uid>,
-    pub attributes: Items<Uid>,
-}
-
-#[tactic(auto, unfolding(crate::specs::Table::subject_of))]
-fn read_subject(alloc: Global, value: &Value<'_>) -> Result<Subject, FormFault>
-    ensures { Gives (subject_of (data_of value.now)) result }
-{
-    let program_type = named_at(alloc, value, "programType")?;
-    let tracked_entity_type = optional_reference(alloc, value, "trackedEntityType")?;
-    let attributes = attributes(alloc, value)?;
-    Ok(Subject {
-        program_type,
-        tracked_entity_type,
-        attributes,
-    })
-}
+type ProgramFields = (((ProgramType, Option<Uid>), Items<Uid>), RawSharing);
 
 impl ReadObject for RawProgram {
-    ghost use Rattle.meta_forms.specs.Table.{program_of};
+    type Fields = ProgramFields;
 
-    ghost form = { program_of };
+    ghost use Rattle.meta_forms.specs.Table.{program_fields, program_made};
 
-    #[tactic(auto, unfolding(crate::specs::Table::program_of))]
-    fn read(
-        alloc: Global,
-        place: u32,
-        id: Uid,
-        value: &Value<'_>,
-    ) -> Result<RawProgram, FormFault> {
-        let name = name(alloc, id, value)?;
-        let subject = read_subject(alloc, value)?;
-        let sharing = sharing(alloc, value)?;
-        Ok(RawProgram {
+    ghost form = { program_fields };
+
+    ghost made = { program_made };
+
+    fn read(alloc: Global, value: &Value<'_>) -> Result<ProgramFields, FormFault> {
+        let read = named_at(alloc, value, "programType");
+        let read = both(read, optional_reference(alloc, value, "trackedEntityType"));
+        let read = both(read, attributes(alloc, value));
+        both(read, sharing(alloc, value))
+    }
+
+    #[tactic(auto, unfolding(crate::specs::Table::program_made))]
+    fn from_fields(place: u32, id: Uid, name: Items<u8>, fields: ProgramFields) -> RawProgram {
+        let (((program_type, tracked_entity_type), program_tracked_entity_attributes), sharing) =
+            fields;
+        RawProgram {
             place,
             id,
             name,
-            program_type: subject.program_type,
-            tracked_entity_type: subject.tracked_entity_type,
-            program_tracked_entity_attributes: subject.attributes,
+            program_type,
+            tracked_entity_type,
+            program_tracked_entity_attributes,
             sharing,
-        })
+        }
     }
 }
 
 impl ReadObject for RawStage {
-    ghost use Rattle.meta_forms.specs.Table.{stage_of};
+    type Fields = (Uid, Items<Uid>);
 
-    ghost form = { stage_of };
+    ghost use Rattle.meta_forms.specs.Table.{stage_fields, stage_made};
 
-    #[tactic(auto, unfolding(crate::specs::Table::stage_of))]
-    fn read(alloc: Global, place: u32, id: Uid, value: &Value<'_>) -> Result<RawStage, FormFault> {
-        let name = name(alloc, id, value)?;
-        let program = reference(alloc, value, "program")?;
-        let program_stage_data_elements = stage_elements(alloc, value)?;
-        Ok(RawStage {
+    ghost form = { stage_fields };
+
+    ghost made = { stage_made };
+
+    fn read(alloc: Global, value: &Value<'_>) -> Result<(Uid, Items<Uid>), FormFault> {
+        let read = reference(alloc, value, "program");
+        both(read, stage_elements(alloc, value))
+    }
+
+    #[tactic(auto, unfolding(crate::specs::Table::stage_made))]
+    fn from_fields(place: u32, id: Uid, name: Items<u8>, fields: (Uid, Items<Uid>)) -> RawStage {
+        let (program, program_stage_data_elements) = fields;
+        RawStage {
             place,
             id,
             name,
             program,
             program_stage_data_elements,
-        })
+        }
     }
 }
 
-// What a program indicator computes of an event.
-#[derive(Drop)]
-pub(crate) struct Formula {
-    pub program: Uid,
-    pub expression: Items<u8>,
-    pub filter: Option<Items<u8>>,
-}
+// What a program indicator computes of an event: its program, expression and filter.
+type Formula = ((Uid, Items<u8>), Option<Items<u8>>);
 
-#[tactic(auto, unfolding(crate::specs::Table::formula_of))]
 fn read_formula(alloc: Global, value: &Value<'_>) -> Result<Formula, FormFault>
     ensures { Gives (formula_of (data_of value.now)) result }
 {
-    let program = reference(alloc, value, "program")?;
-    let expression = field(alloc, value, "expression")?;
-    let filter = optional(alloc, value, "filter")?;
-    Ok(Formula {
-        program,
-        expression,
-        filter,
-    })
+    let read = reference(alloc, value, "program");
+    let read = both(read, field(alloc, value, "expression"));
+    both(read, optional(alloc, value, "filter"))
 }
 
-// How the figures of a program indicator are made into one.
-#[derive(Drop)]
-pub(crate) struct Figure {
-    pub aggregation_type: AggType,
-    pub analytics_type: AnalyticsType,
-    pub decimals: i64,
-}
+// How the figures of a program indicator are made into one: by its aggregation, of events or enrollments, with its decimals.
+type Figure = ((AggType, AnalyticsType), i64);
 
-#[tactic(auto, unfolding(crate::specs::Table::figure_of))]
 fn read_figure(alloc: Global, value: &Value<'_>) -> Result<Figure, FormFault>
     ensures { Gives (figure_of (data_of value.now)) result }
 {
-    let aggregation_type = named_or(alloc, value, "aggregationType", AggType::Sum)?;
-    let analytics_type = named_or(alloc, value, "analyticsType", AnalyticsType::Event)?;
-    let decimals = whole_or(alloc, value, "decimals", 0, 5, 1)?;
-    Ok(Figure {
-        aggregation_type,
-        analytics_type,
-        decimals,
-    })
+    let read = named_or(alloc, value, "aggregationType", AggType::Sum);
+    let read = both(
+        read,
+        named_or(alloc, value, "analyticsType", AnalyticsType::Event),
+    );
+    both(read, whole_or(alloc, value, "decimals", 0, 5, 1))
 }
 
 impl ReadObject for RawProgramIndicator {
-    ghost use Rattle.meta_forms.specs.Table.{program_indicator_of};
+    type Fields = ((Formula, Figure), RawSharing);
 
-    ghost form = { program_indicator_of };
+    ghost use Rattle.meta_forms.specs.Table.{program_indicator_fields, program_indicator_made};
 
-    #[tactic(auto, unfolding(crate::specs::Table::program_indicator_of))]
+    ghost form = { program_indicator_fields };
+
+    ghost made = { program_indicator_made };
+
     fn read(
         alloc: Global,
+        value: &Value<'_>,
+    ) -> Result<((Formula, Figure), RawSharing), FormFault> {
+        let read = read_formula(alloc, value);
+        let read = both(read, read_figure(alloc, value));
+        both(read, sharing(alloc, value))
+    }
+
+    #[tactic(auto, unfolding(crate::specs::Table::program_indicator_made))]
+    fn from_fields(
         place: u32,
         id: Uid,
-        value: &Value<'_>,
-    ) -> Result<RawProgramIndicator, FormFault> {
-        let name = name(alloc, id, value)?;
-        let formula = read_formula(alloc, value)?;
-        let figure = read_figure(alloc, value)?;
-        let sharing = sharing(alloc, value)?;
-        Ok(RawProgramIndicator {
+        name: Items<u8>,
+        fields: ((Formula, Figure), RawSharing),
+    ) -> RawProgramIndicator {
+        let (
+            (((program, expression), filter), ((aggregation_type, analytics_type), decimals)),
+            sharing,
+        ) = fields;
+        RawProgramIndicator {
             place,
             id,
             name,
-            program: formula.program,
-            expression: formula.expression,
-            filter: formula.filter,
-            aggregation_type: figure.aggregation_type,
-            analytics_type: figure.analytics_type,
-            decimals: figure.decimals,
+            program,
+            expression,
+            filter,
+            aggregation_type,
+            analytics_type,
+            decimals,
             sharing,
-        })
+        }
     }
 }

@@ -1,0 +1,10 @@
+use Rattle.meta_forms.specs.Parts.{sets_of}
+use Rattle.meta_forms.proofs.BothLemmas.{gives_both}
+use Rattle.meta_forms.proofs.parts.read_sets.Goals as goal
+
+pub returns : goal.returns
+unfolding sets_of
+returns c =
+    gives_both _ _ _ _ _ c.both.ensures
+    (gives_both _ _ _ _ _ c.both-read-2.ensures
+    (gives_both _ _ _ _ _ c.both-read.ensures c.objects-read.ensures c.objects.ensures) c.objects-2.ensures) c.objects-3.ensures
