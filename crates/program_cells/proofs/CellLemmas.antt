@@ -34,10 +34,13 @@ use Rattle.cell_values.proofs.PartLemmas.{filter_both}
 use Rattle.cell_values.proofs.ReorderLemmas.{filter-permutation}
 use Rattle.program_cells.specs.Cells.{is_on_some, is_event_in, cell_events, is_enrolled_on, is_enrolled_at, cell_enrollments, alone, subjects_by}
 use Rattle.program_cells.specs.Cells.{indicator_cell, cell_value}
-use Rattle.program_cells.specs.Code.{IsCodeOf}
+use Rattle.program_cells.specs.Code.{measure_in, IsCodeOf}
+use Rattle.program_cells.specs.Places.{items_of}
+use Rattle.program_cells.specs.Sampled.{Sampled}
+use Rattle.program_cells.specs.declared.measure.Measure.TheVariants as measure
 use Rattle.program_cells.specs.Enrollments.{is_enrolled_in, first_is, together, enrollments}
 use Rattle.program_cells.specs.Kept.{is_seen_during, seen_during, AreDuring, is_seen_enrolled, seen_enrolled, IsPlanOf, IsPlanOfSome, IsProgramPlan}
-use Rattle.program_cells.specs.Kept.{AreSubjects}
+use Rattle.program_cells.specs.Kept.{AreEventSubjects, AreSubjects}
 use Rattle.program_cells.specs.Kept.{is_placed_in, subjects_in}
 use Rattle.program_cells.specs.Days.{Cover}
 use Rattle.program_cells.specs.Items.{first_of}
@@ -47,6 +50,7 @@ use Rattle.program_cells.specs.declared.plan.ProgramPlan.{ProgramPlan}
 use Rattle.program_cells.specs.declared.plan.Subjects.{Subjects}
 use Rattle.program_cells.specs.declared.plan.Subjects.TheVariants as subjects
 use Rattle.program_cells.specs.declared.days.Days.{Days}
+use Rattle.program_cells.proofs.PlaceLemmas.{items-are}
 use Rattle.program_cells.proofs.OrderLemmas.{event_total, whole_total, whole_same, enrolled_total, enrolled_same, in_order_permutation}
 use Rattle.program_cells.proofs.OrderLemmas.{in_order_sorted, rising_events}
 
@@ -233,6 +237,11 @@ subjects_are r user periods units all indicator plan (subjects.Events events) is
     ap (map alone) (under_cell r user plan.code.program periods units all events are not kept.1)
     ∙ ap (λ which. subjects_by r which plan.code.program periods units.units (seen_events r user all)) over
     ∙ ap (λ program. subjects_by r indicator.analytics_type program periods units.units (seen_events r user all)) is.code.program
+subjects_are r user periods units all indicator plan (subjects.Samples found) is kept are not =
+    let over : analytics.Event ≡ indicator.analytics_type = sym kept.0 ∙ is.over in
+    ap (map alone) (under_cell r user plan.code.program periods units all found.events are not kept.1.1.1)
+    ∙ ap (λ which. subjects_by r which plan.code.program periods units.units (seen_events r user all)) over
+    ∙ ap (λ program. subjects_by r indicator.analytics_type program periods units.units (seen_events r user all)) is.code.program
 subjects_are r user periods units all indicator plan (subjects.Enrollments found) is kept are not =
     let over : analytics.Enrollment ≡ indicator.analytics_type = sym kept.0 ∙ is.over in
     ap (filter (first_is (is_placed_in units.asked))) (kept.1 ∙ ap (filter (first_is (is_enrolled_on periods))) (is.enrollments kept.0))
@@ -255,6 +264,42 @@ cell_meant r user n periods units all plan kept own result is subjects are not f
     by_found (Some indicator) planned =
         subst (λ list. Values result (program_value r indicator list))
         (found ∙ subjects_are r user periods units all indicator plan kept planned subjects are not) (means indicator planned.code)
+
+-- the same by the samples of events
+pub sampled_meant : (r : Records) (user n : ℕ) (periods : List PeriodName) (units : CellUnits) (all : List EventRow) (plan : ProgramPlan) (kept : Subjects)
+    (found : Sampled) (result : Result (Option Fraction) PiFault) → IsProgramPlan r user all n plan → AreSubjects r user all periods plan kept
+    → AreCellUnits r user units → units.alone ≡ false → kept ≡ subjects.Samples found
+    → ((indicator : ProgramIndicator) → IsCodeOf r indicator plan.code → found.code ≡ plan.code → measure_in plan.code.value ≡ measure.Formula
+    → Values result (program_value r indicator (map alone (filter (is_placed_in units.asked) found.events))))
+    → Values result (cell_value r n periods units.units (seen_events r user all))
+sampled_meant r user n periods units all plan kept found result is those are not same means =
+    let own : AreSubjects r user all periods plan (subjects.Samples found) = subst (λ some. AreSubjects r user all periods plan some) same those in
+    cell_meant r user n periods units all plan kept (map alone (filter (is_placed_in units.asked) found.events)) result is those are not
+    (ap (subjects_in units.asked) (sym same)) (λ indicator code. means indicator code own.1.0 own.1.1.0)
+
+-- the subjects of events, of which it is known what they are
+pub events_subjects : (r : Records) (user : ℕ) (all : List EventRow) (periods : List PeriodName) (plan : ProgramPlan) (events : List EventRow)
+    (kept : Subjects) → plan.over ≡ analytics.Event → AreDuring r user plan.code.program periods all events → AreEventSubjects plan.code events kept
+    → AreSubjects r user all periods plan kept
+events_subjects r user all periods plan events (subjects.Events found) over during is =
+    (over, subst (AreDuring r user plan.code.program periods all) (sym is) during)
+events_subjects r user all periods plan events (subjects.Samples found) over during is =
+    (over, (is.0, (is.1.0, subst (AreDuring r user plan.code.program periods all) (sym is.1.1) during)))
+events_subjects r user all periods plan events (subjects.Enrollments found) over during is = absurd is
+
+-- the same, if memory suffices
+pub events_made : (r : Records) (user : ℕ) (all : List EventRow) (periods : List PeriodName) (plan : ProgramPlan) (events : List EventRow)
+    (result : Result Subjects Memory) → plan.over ≡ analytics.Event → AreDuring r user plan.code.program periods all events
+    → IfOk result (AreEventSubjects plan.code events) → IfOk result (AreSubjects r user all periods plan)
+events_made r user all periods plan events (Ok kept) over during is = events_subjects r user all periods plan events kept over during is
+events_made r user all periods plan events (Err e) over during is = tt
+
+-- the items of the members that pass, if memory suffices
+pub items_made : {X T Y : Type 0} (view : T → Y) (of : X → Y) (test : X → Bool) (xs : List X) (items : List T) (result : Result (Vec T) Memory)
+    → map view items ≡ map of xs → IfOk result (λ kept. kept.items ≡ items_of test xs items)
+    → IfOk result (λ kept. map view kept.items ≡ map of (filter test xs))
+items_made view of test xs items (Ok kept) are is = items-are of view test xs items kept.items are is
+items_made view of test xs items (Err e) are is = tt
 
 -- the plan of the indicator with a number
 pub planned_at : (r : Records) (user : ℕ) (all : List EventRow) (n : ℕ) (indicator : ProgramIndicator) (result : Result ProgramPlan Memory)

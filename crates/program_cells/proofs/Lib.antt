@@ -3,6 +3,7 @@ mod DayLemmas
 pub mod CellLemmas
 pub mod ValueLemmas
 pub mod LoopLemmas
+pub mod SeenLemmas
 pub mod SortLemmas
 pub mod GroupLemmas
 pub mod PlaceLemmas

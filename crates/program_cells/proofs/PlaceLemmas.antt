@@ -2,14 +2,14 @@
 use Rattle.std.proofs.Common.{◌≡◌, ◌∙◌, ℕ, zero, suc, ◌+◌, ◌<◌, ◌≤◌, inl, inr, Bool, true, false, cond, ◌&&◌, ◌||◌, nat_eq, List, [], ◌∷◌}
 use Rattle.std.proofs.Common.{◌++◌, length, map, take}
 use Rattle.std.proofs.Common.{get_or, set, Option, Some, None, slice_get, refl, sym, ap, append_assoc, arith}
-use Rattle.std.specs.Prelude.{nat_lt, nat_le, OnOk, Result, Ok, Err}
+use Rattle.std.specs.Prelude.{nat_lt, nat_le, option_map, OnOk, Result, Ok, Err}
 use Rattle.std.specs.Option.{option_to_list}
 use Rattle.std.specs.List.{filter, filter_map, cons_option, list_all, list_any}
 use Rattle.std.proofs.lemmas.Bool.{and_parts, cases_Bool}
 use Rattle.std.proofs.lemmas.Bool.Decides.{nat_tests}
 use Rattle.std.proofs.lemmas.List.{append-nil, map-append, length_push, length-set, get_or-set_same, get_or-set_other, get_or_append_left, get_or_at, take_more}
 use Rattle.std.proofs.lemmas.List.Elements.{filter_map-append}
-use Rattle.program_cells.specs.Places.{places_from, ArePlaces}
+use Rattle.program_cells.specs.Places.{places_from, items_of, ArePlaces}
 
 one_more : (b : Bool) (n : ℕ) (rest last : List ℕ) → cond b (n ∷ (rest ++ last)) (rest ++ last) ≡ cond b (n ∷ rest) rest ++ last
 one_more true n rest last = refl
@@ -144,16 +144,84 @@ own {X} number test xs lists unit list known within at one =
     ∙ picked (λ x. nat_eq (number x) unit) xs
     ∙ same-test (λ x. nat_eq (number x) unit) (λ x. test (number x)) xs (λ x. sym (one (number x)))
 
+same-places : {X : Type 0} (one other : X → Bool) (n : ℕ) (xs : List X) → ((x : X) → one x ≡ other x) → places_from n one xs ≡ places_from n other xs
+same-places one other n [] same = refl
+same-places one other n (x ∷ xs) same =
+    ap (λ b. cond b (n ∷ places_from (suc n) one xs) (places_from (suc n) one xs)) (same x)
+    ∙ ap (λ ps. cond (other x) (n ∷ ps) ps) (same-places one other (suc n) xs same)
+
+-- their places
+pub own-places : {X : Type 0} (number : X → ℕ) (test : ℕ → Bool) (xs : List X) (lists : List (List ℕ)) (unit : ℕ) (list : List ℕ) → ArePlaces number xs lists
+    → unit < length lists → list ≡ get_or lists unit list → ((n : ℕ) → test n ≡ nat_eq n unit) → list ≡ places_from 0 (λ x. test (number x)) xs
+own-places {X} number test xs lists unit list known within at one =
+    at ∙ known.each unit list within
+    ∙ same-places (λ x. nat_eq (number x) unit) (λ x. test (number x)) 0 xs (λ x. sym (one (number x)))
+
+-- ---- items, one for each member
+
+one_option : {X : Type 0} (o : Option X) → cons_option o [] ≡ option_to_list o
+one_option None = refl
+one_option (Some x) = refl
+
+item-at : {X Y : Type 0} (f : X → Y) (xs : List X) (i : ℕ) → slice_get (map f xs) i ≡ option_map f (slice_get xs i)
+item-at f [] i = refl
+item-at f (x ∷ xs) zero = refl
+item-at f (x ∷ xs) (suc i) = item-at f xs i
+
+consed : {X Y : Type 0} (f : X → Y) (o : Option X) (xs : List X) → cons_option (option_map f o) (map f xs) ≡ map f (cons_option o xs)
+consed f None xs = refl
+consed f (Some x) xs = refl
+
+items-at : {X Y : Type 0} (f : X → Y) (xs : List X) (places : List ℕ) → filter_map (slice_get (map f xs)) places ≡ map f (filter_map (slice_get xs) places)
+items-at f xs [] = refl
+items-at f xs (place ∷ places) =
+    ap (λ o. cons_option o (filter_map (slice_get (map f xs)) places)) (item-at f xs place)
+    ∙ ap (λ ys. cons_option (option_map f (slice_get xs place)) ys) (items-at f xs places)
+    ∙ consed f (slice_get xs place) (filter_map (slice_get xs) places)
+
+-- the items of the members that pass
+pub items-are : {X T Y : Type 0} (of : X → Y) (view : T → Y) (test : X → Bool) (xs : List X) (items kept : List T) → map view items ≡ map of xs
+    → kept ≡ items_of test xs items → map view kept ≡ map of (filter test xs)
+items-are of view test xs items kept are is =
+    ap (map view) is ∙ sym (items-at view items (places_from 0 test xs))
+    ∙ ap (λ list. filter_map (slice_get list) (places_from 0 test xs)) are
+    ∙ items-at of xs (places_from 0 test xs) ∙ ap (map of) (picked test xs)
+
+-- an item more
+pub item-more : {T : Type 0} (items : List T) (places : List ℕ) (i place : ℕ) (old new : List T) → i < length places → place ≡ get_or places i place
+    → old ≡ filter_map (slice_get items) (take i places) → new ≡ old ++ option_to_list (slice_get items place)
+    → new ≡ filter_map (slice_get items) (take (i + 1) places)
+item-more {T} items places i place old new within at so_far is =
+    let found : List ℕ → List T = filter_map (slice_get items) in
+    is ∙ ap (λ ys. ys ++ option_to_list (slice_get items place)) so_far
+    ∙ sym (ap found (take_more places i place within ∙ ap (λ n. take i places ++ n ∷ []) (sym at))
+    ∙ filter_map-append (slice_get items) (take i places) (place ∷ [])
+    ∙ ap (λ ys. found (take i places) ++ ys) (one_option (slice_get items place)))
+
+pub item-there : {T : Type 0} (items : List T) (place : ℕ) (x : T) (old new : List T) → place < length items → x ≡ get_or items place x
+    → new ≡ old ++ x ∷ [] → new ≡ old ++ option_to_list (slice_get items place)
+item-there items place x old new within at is =
+    is ∙ ap (λ o. old ++ option_to_list o) (sym (lent-here items place x within at))
+  where
+    lent-here : {T : Type 0} (xs : List T) (i : ℕ) (x : T) → i < length xs → x ≡ get_or xs i x → slice_get xs i ≡ Some x
+    lent-here [] i x within at = absurd (omega (arith, within))
+    lent-here (y ∷ ys) zero x within at = ap (λ z. Some z) (sym at)
+    lent-here (y ∷ ys) (suc i) x within at = lent-here ys i x (omega (arith, within)) at
+
+pub item-past : {T : Type 0} (items : List T) (place : ℕ) (old : List T) → length items ≤ place → old ≡ old ++ option_to_list (slice_get items place)
+item-past items place old past = sym (ap (λ o. old ++ option_to_list o) (none-here items place past) ∙ append-nil old)
+  where
+    none-here : {T : Type 0} (xs : List T) (i : ℕ) → length xs ≤ i → slice_get xs i ≡ None
+    none-here [] i past = refl
+    none-here (y ∷ ys) zero past = absurd (omega (arith, past))
+    none-here (y ∷ ys) (suc i) past = none-here ys i (omega (arith, past))
+
 -- what follows where memory suffices
 pub on_ok : {A E P Q : Type 0} (result : Result A E) → (P → Q) → OnOk result P → OnOk result Q
 on_ok (Ok a) follows is = follows is
 on_ok (Err e) follows is = tt
 
 -- ---- the members at places, one by one
-
-one_option : {X : Type 0} (o : Option X) → cons_option o [] ≡ option_to_list o
-one_option None = refl
-one_option (Some x) = refl
 
 pub picked-more : {X S Y : Type 0} (view : S → Y) (f : X → Y) (xs : List X) (places : List ℕ) (i place : ℕ) (old new : List S) → i < length places
     → place ≡ get_or places i place → map view old ≡ map f (filter_map (slice_get xs) (take i places))
@@ -194,6 +262,29 @@ pub put-past : {L X S : Type 0} (seen : L → X) (view : S → List X) (xs : Lis
     → map view old ≡ map view old ++ map (λ y. y ∷ []) (option_to_list (slice_get (map seen xs) place))
 put-past seen view xs place old past =
     sym (ap (λ o. map view old ++ map (λ y. y ∷ []) (option_to_list o)) (lent-past seen xs place past) ∙ append-nil (map view old))
+
+-- ---- places, one by one
+
+many-taken : {L X : Type 0} (view : L → X) (xs : List L) (i : ℕ) → i ≤ length xs → i ≡ length (map view (take i xs))
+many-taken view [] zero within = refl
+many-taken view (y ∷ ys) zero within = refl
+many-taken view [] (suc i) within = absurd (omega (arith, within))
+many-taken view (y ∷ ys) (suc i) within = ap suc (many-taken view ys i (omega (arith, within)))
+
+place-more : {L X : Type 0} (view : L → X) (test : X → Bool) (xs : List L) (i : ℕ) (x : L) → i < length xs → x ≡ get_or xs i x
+    → places_from 0 test (map view (take (i + 1) xs)) ≡ places_from 0 test (map view (take i xs)) ++ cond (test (view x)) (i ∷ []) []
+place-more view test xs i x within at =
+    let many : i ≡ length (map view (take i xs)) = many-taken view xs i (omega (arith, within)) in
+    ap (λ ys. places_from 0 test (map view ys)) (take_more xs i x within ∙ ap (λ y. take i xs ++ y ∷ []) (sym at))
+    ∙ ap (places_from 0 test) (map-append view (take i xs) (x ∷ []))
+    ∙ places-push 0 test (map view (take i xs)) (view x) i (omega (arith, many))
+
+-- the place of a member that passes, and none of one that doesn't
+pub place-step : {L X : Type 0} (view : L → X) (test : X → Bool) (xs : List L) (i : ℕ) (x : L) (old new : List ℕ) → i < length xs → x ≡ get_or xs i x
+    → old ≡ places_from 0 test (map view (take i xs)) → new ≡ old ++ cond (test (view x)) (i ∷ []) []
+    → new ≡ places_from 0 test (map view (take (i + 1) xs))
+place-step view test xs i x old new within at so_far is =
+    is ∙ ap (λ ps. ps ++ cond (test (view x)) (i ∷ []) []) so_far ∙ sym (place-more view test xs i x within at)
 
 -- ---- all members
 

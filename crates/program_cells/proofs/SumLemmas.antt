@@ -6,9 +6,9 @@ use Rattle.std.specs.Prelude.{nat_lt, option_map, IfSome}
 use Rattle.std.proofs.lemmas.Bool.{and_from}
 use Rattle.std.proofs.lemmas.Bool.Decides.{nat_tests}
 use Rattle.std.proofs.lemmas.Int.{ints}
-use Rattle.dh_base.specs.Fractions.{Fraction, IsReduced, fraction_of, ratio, gcd, greatest_divisor, over_common, fits}
+use Rattle.dh_base.specs.Fractions.{Fraction, IsReduced, fraction_of, of_micros, ratio, gcd, greatest_divisor, over_common, fits}
 use Rattle.dh_base.specs.Fractions.{fits_size, can_compare, can_add, add_of, sum_of, or_wide, some_if}
-use Rattle.dh_base.proofs.FractionLemmas.{fraction_of-reduced}
+use Rattle.dh_base.proofs.FractionLemmas.{fraction_of-reduced, fraction_of-same}
 use Rattle.dh_base.proofs.GcdLemmas.{gcd-positive, gcd-le}
 use Rattle.dh_base.proofs.MillionthLemmas.{sum_of-over_one}
 use Rattle.program_cells.specs.Value.{unless_fault}
@@ -74,3 +74,10 @@ whole-if number sum n d sample result num den one sum_fits n_fits reduced is =
         subst (λ m. Next (sum +ℤ m)) (sym num)
         (whole-more sum sample sum_fits (subst (λ m. unsigned_abs m < 2 ^ 127) num n_fits) reduced whole (ap (λ m. fits (sum +ℤ m)) (sym num) ∙ fit))
     by false fit = tt
+
+times-one : (z : ℤ) → z *ℤ pos 1 ≡ z
+times-one z = omega (arith, ints)
+
+-- a whole number by its millionths
+pub micros-whole : (whole micros : ℤ) → micros ≡ whole *ℤ pos 1000000 → fraction_of whole 1 ≡ of_micros micros
+micros-whole whole micros is = fraction_of-same whole micros 1 1000000 (omega arith) (omega arith) (sym is ∙ sym (times-one micros))

@@ -1,7 +1,7 @@
 -- What a form gives is what its indicator means.
-use Rattle.std.proofs.Common.{◌≡◌, ◌∙◌, Bool, List, [], ◌∷◌, map, Option, Some, None, refl, ap}
+use Rattle.std.proofs.Common.{◌≡◌, ◌∙◌, Bool, List, [], ◌∷◌, ◌++◌, map, Option, Some, None, refl, sym, ap}
 use Rattle.std.proofs.Math.Path.{fun_ext}
-use Rattle.std.specs.Prelude.{option_and_then}
+use Rattle.std.specs.Prelude.{option_and_then, option_map}
 use Rattle.dh_base.specs.declared.plain.AggType.{AggType}
 use Rattle.dh_base.specs.declared.plain.Strategy.TheVariants.{Never}
 use Rattle.expr_lang.specs.declared.expr.Expr.{Expr}
@@ -19,10 +19,12 @@ use Rattle.meta_parts.specs.declared.held.Records.{Records}
 use Rattle.meta_parts.specs.declared.records.ProgramIndicator.{ProgramIndicator}
 use Rattle.table_rows.specs.declared.event.EventRow.{EventRow}
 use Rattle.program_cells.specs.Items.{named_item, item_in}
-use Rattle.program_cells.specs.Value.{passes_by, sample_by, item_value, subject_value, passes, sample, collected, aggregated}
+use Rattle.program_cells.specs.Value.{passes_by, sample_by, item_value, subject_value, passes, sample, if_passing, collected, aggregated}
 use Rattle.program_cells.specs.Value.{measure_of, value_over, told, program_value}
 use Rattle.program_cells.specs.Code.{measure_in, IsFormula, items_by, IsFilter, filter_items_of, IsCodeOf, form_value, passes_form}
-use Rattle.program_cells.specs.Code.{sample_form, code_value}
+use Rattle.program_cells.specs.Code.{sample_form, sample_alone, gathered, code_value}
+use Rattle.program_cells.specs.Cells.{alone}
+use Rattle.program_cells.specs.declared.measure.Measure.TheVariants as measure
 
 items_are : (r : Records) (subject : List EventRow) (its : List Item) → map (item_in subject) (map (named_item r) its) ≡ map (item_value r subject) its
 items_are r subject [] = refl
@@ -71,3 +73,22 @@ value_meant r indicator code subjects is =
     (value_over (measure_of indicator.expression.tree) by (passes_form code.filter code.filter_items) (sample r indicator.expression) subjects))
     is.aggregation
     ∙ ap (λ test. told (value_over (measure_of indicator.expression.tree) indicator.aggregation_type test (sample r indicator.expression) subjects)) passing
+
+-- what is taken of events alone
+alone_are : (code : PiCode) (events : List EventRow) → gathered (map (sample_alone code) events)
+    ≡ collected (passes_form code.filter code.filter_items) (sample_form code.value code.value_items) (map alone events)
+unfolding sample_alone
+alone_are code [] = refl
+alone_are code (event ∷ events) =
+    ap (λ rest. option_and_then (λ found. option_map (λ more. found ++ more) rest)
+    (if_passing (passes_form code.filter code.filter_items (alone event)) (sample_form code.value code.value_items (alone event))))
+    (alone_are code events)
+
+-- the value by the samples of events
+pub samples_meant : (code : PiCode) (events : List EventRow) → measure_in code.value ≡ measure.Formula
+    → option_and_then (aggregated code.aggregation) (gathered (map (sample_alone code) events)) ≡ code_value code (map alone events)
+unfolding code_value
+samples_meant code events formula =
+    ap (option_and_then (aggregated code.aggregation)) (alone_are code events)
+    ∙ ap (λ which. value_over which code.aggregation (passes_form code.filter code.filter_items) (sample_form code.value code.value_items) (map alone events))
+    (sym formula)

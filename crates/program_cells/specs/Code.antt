@@ -1,5 +1,5 @@
 -- A program indicator in the form that is evaluated.
-use Rattle.std.specs.Prelude.{◌≡◌, ⊤, Bool, true, List, [], map, Option, Some, None}
+use Rattle.std.specs.Prelude.{◌≡◌, ⊤, Bool, true, List, [], ◌∷◌, map, Option, Some, None}
 use Rattle.dh_base.specs.declared.plain.Strategy.TheVariants.{Never}
 use Rattle.dh_base.specs.Fractions.{Fraction}
 use Rattle.expr_lang.specs.declared.expr.Expr.{Expr}
@@ -17,7 +17,7 @@ use Rattle.table_rows.specs.declared.event.EventRow.{EventRow}
 use Rattle.program_cells.specs.declared.measure.Measure.{Measure}
 use Rattle.program_cells.specs.declared.measure.Measure.TheVariants as measure
 use Rattle.program_cells.specs.Items.{named_item, item_in}
-use Rattle.program_cells.specs.Value.{passes_by, sample_by, measure_of, value_over}
+use Rattle.program_cells.specs.Value.{passes_by, sample_by, if_passing, collected, measure_of, value_over}
 
 -- ---- the form of an indicator
 
@@ -71,3 +71,12 @@ sample_form _ items subject = Some []
 unfoldable pub code_value : PiCode → List (List EventRow) → Option (Option Fraction)
 code_value code subjects =
     value_over (measure_in code.value) code.aggregation (passes_form code.filter code.filter_items) (sample_form code.value code.value_items) subjects
+
+-- what the form takes of an event alone, where it passes
+unfoldable pub sample_alone : PiCode → EventRow → Option (List Fraction)
+sample_alone code event =
+    if_passing (passes_form code.filter code.filter_items (event ∷ [])) (sample_form code.value code.value_items (event ∷ []))
+
+-- what was taken of each of some subjects, in their order
+abbrev pub gathered : {B : Type 0} → List (Option (List B)) → Option (List B)
+gathered taken = collected (λ one. Some true) (λ one. one) taken

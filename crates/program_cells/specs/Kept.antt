@@ -6,11 +6,13 @@ use Rattle.dh_periods.specs.declared.name.PeriodName.{PeriodName}
 use Rattle.meta_parts.specs.declared.held.Records.{Records}
 use Rattle.meta_parts.specs.declared.names.AnalyticsType.TheVariants as analytics
 use Rattle.meta_parts.specs.declared.records.ProgramIndicator.{ProgramIndicator}
+use Rattle.expr_eval.specs.declared.indicator.PiCode.{PiCode}
 use Rattle.table_rows.specs.declared.event.EventRow.{EventRow}
 use Rattle.cell_values.specs.Seen.{is_event_seen, seen_events}
 use Rattle.dh_sharing.specs.Ranges.{is_within}
 use Rattle.program_cells.specs.Cells.{is_on_some, is_enrolled_on, alone}
-use Rattle.program_cells.specs.Code.{IsCodeOf}
+use Rattle.program_cells.specs.Code.{measure_in, IsCodeOf}
+use Rattle.program_cells.specs.declared.measure.Measure.TheVariants as measure
 use Rattle.program_cells.specs.Enrollments.{is_enrolled_in, first_is, enrollments}
 use Rattle.program_cells.specs.Order.{whole_cmp}
 use Rattle.program_cells.specs.declared.grouping.EnrolledKey.{EnrolledKey}
@@ -52,10 +54,20 @@ IsPlanOfSome r user all (Some indicator) plan = IsPlanOf r user all indicator pl
 pub record IsProgramPlan (r : Records) (user : ℕ) (all : List EventRow) (n : ℕ) (plan : ProgramPlan) : Type 0 where
   pub is : IsPlanOfSome r user all (slice_get r.program_indicators n) plan
 
+-- the events as subjects, with the samples of each where the form takes numbers
+abbrev pub AreEventSubjects : PiCode → List EventRow → Subjects → Type 0
+AreEventSubjects code events (subjects.Events found) = found ≡ events
+AreEventSubjects code events (subjects.Samples found) =
+    (found.code ≡ code) × ((measure_in code.value ≡ measure.Formula) × (found.events ≡ events))
+AreEventSubjects code events (subjects.Enrollments kept) = ⊥
+
 -- the subjects of a plan in some periods, in order: they serve for the cells of all units
 abbrev pub AreSubjects : Records → ℕ → List EventRow → List PeriodName → ProgramPlan → Subjects → Type 0
 AreSubjects r user all periods plan (subjects.Events events) =
     (plan.over ≡ analytics.Event) × AreDuring r user plan.code.program periods all events
+AreSubjects r user all periods plan (subjects.Samples found) =
+    (plan.over ≡ analytics.Event)
+    × ((found.code ≡ plan.code) × ((measure_in plan.code.value ≡ measure.Formula) × AreDuring r user plan.code.program periods all found.events))
 AreSubjects r user all periods plan (subjects.Enrollments kept) =
     (plan.over ≡ analytics.Enrollment) × (map (λ subject. subject.now) kept.items ≡ filter (first_is (is_enrolled_on periods)) plan.enrollments)
 
@@ -66,6 +78,7 @@ is_placed_in ranges event = is_within ranges event.order
 -- those of the subjects whose first event lies there
 abbrev pub subjects_in : List (ℕ × ℕ) → Subjects → List (List EventRow)
 subjects_in ranges (subjects.Events events) = map alone (filter (is_placed_in ranges) events)
+subjects_in ranges (subjects.Samples found) = map alone (filter (is_placed_in ranges) found.events)
 subjects_in ranges (subjects.Enrollments kept) = filter (first_is (is_placed_in ranges)) (map (λ subject. subject.now) kept.items)
 
 -- what events are ordered by, where those of one enrollment are to stand together

@@ -6,4 +6,5 @@ pub mod Enrollments
 pub mod Cells
 pub mod Days
 pub mod Places
+pub mod Sampled
 pub mod Kept

@@ -1,5 +1,6 @@
 -- Where the events of a unit stand among others.
 use Rattle.std.specs.Prelude.{◌≡◌, ℕ, ◌<◌, suc, Bool, false, ◌&&◌, nat_eq, nat_le, nat_lt, if◌then◌else◌, List, [], ◌∷◌, length, get_or, slice_get}
+use Rattle.std.specs.List.{filter_map}
 use Rattle.std.specs.Option.{option_map_or}
 use Rattle.table_rows.specs.declared.event.EventRow.{EventRow}
 
@@ -22,3 +23,7 @@ passes_at test xs place = option_map_or test (slice_get xs place) false
 -- the number lies from the one up to below the other
 abbrev pub is_between : ℕ → ℕ → ℕ → Bool
 is_between from to n = nat_le from n && nat_lt n to
+
+-- of a list with an item for each member, the items of the members that pass
+abbrev pub items_of : {X T : Type 0} → (X → Bool) → List X → List T → List T
+items_of test xs items = filter_map (slice_get items) (places_from 0 test xs)

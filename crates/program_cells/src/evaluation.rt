@@ -7,10 +7,14 @@ ghost use Rattle.meta_parts.specs.declared.records.ProgramIndicator.{ProgramIndi
 ghost use Rattle.program_cells.specs.Items.{item_in};
 ghost use Rattle.program_cells.specs.Value.{passes_by, sample_by, if_passing, collected, aggregated, counted, ids_of, value_over, told, program_value, Values};
 ghost use Rattle.program_cells.specs.Value.{some_where};
-ghost use Rattle.program_cells.specs.Code.{measure_in, form_value, passes_form, sample_form, code_value, IsCodeOf};
+ghost use Rattle.std.specs.Prelude.{List};
+ghost use Rattle.table_rows.specs.declared.event.EventRow.{EventRow};
+ghost use Rattle.program_cells.specs.declared.measure.Measure.TheVariants as measure;
+ghost use Rattle.program_cells.specs.Cells.{alone};
+ghost use Rattle.program_cells.specs.Code.{measure_in, form_value, passes_form, sample_form, sample_alone, gathered, code_value, IsCodeOf};
 
 use crate::counting::count;
-use crate::items::list_items;
+use crate::items::{likely_samples, list_items};
 use crate::measure::{Measure, push_ids};
 use crate::samples::aggregate;
 use dh_base::frac::Frac;
@@ -74,7 +78,7 @@ fn passes(
 }
 
 /// The sample of a subject, if it passes the filter and has one.
-fn sample(
+pub(crate) fn sample(
     alloc: Global,
     code: &PiCode,
     form: &Postfix,
@@ -114,8 +118,9 @@ fn samples(
         ≡ collected (passes_form code.now.filter code.now.filter_items) (λ subject. sample_by (form_value form.now code.now.value_items subject))
         (map (λ subject. subject.now) subjects.now)) }
 {
+    let likely = likely_samples(code.value_items.as_slice(), subjects);
     let mut entries = Vec::new(alloc);
-    let mut samples = Vec::new(alloc);
+    let mut samples = Vec::with_capacity(alloc, likely)?;
     for subject in subjects {
         let Some(found) = sample(alloc, code, form, &mut entries, subject)? else {
             return Ok(None);
@@ -158,8 +163,9 @@ fn ids(
         ≡ collected (passes_form code.now.filter code.now.filter_items) (λ subject. Some (ids_of measure subject))
         (map (λ subject. subject.now) subjects.now)) }
 {
+    let likely = likely_samples(code.filter_items.as_slice(), subjects);
     let mut entries = Vec::new(alloc);
-    let mut ids = Vec::new(alloc);
+    let mut ids = Vec::with_capacity(alloc, likely)?;
     for subject in subjects {
         if !put_ids(alloc, code, measure, &mut entries, subject, &mut ids)? {
             return Ok(None);
@@ -236,5 +242,47 @@ pub(crate) fn value_over(
         → Values result (program_value r indicator (map (λ subject. subject.now) subjects.now)) }
 {
     let value = evaluate_code(alloc, code, subjects)?;
+    told(value)
+}
+
+/// The samples in one list, `None` where a number on the way was too wide.
+fn numbers(alloc: Global, found: &[Option<Option<Frac>>]) -> Result<Option<Items<Frac>>, Memory>
+    ensures { IfOk result (λ numbers. numbers ≡ gathered (map (option_map option_to_list) found.now)) }
+{
+    let mut numbers = Vec::with_capacity(alloc, found.len())?;
+    for each in found {
+        let Some(number) = each else {
+            return Ok(None);
+        };
+        put(&mut numbers, *number)?;
+    }
+    Ok(Some(Items::from(numbers)))
+}
+
+fn aggregate_samples(
+    alloc: Global,
+    code: &PiCode,
+    found: &[Option<Option<Frac>>],
+) -> Result<Option<Option<Frac>>, Memory>
+    ensures { IfOk result (λ value. value ≡ option_and_then (aggregated code.now.aggregation) (gathered (map (option_map option_to_list) found.now))) }
+{
+    let Some(samples) = numbers(alloc, found)? else {
+        return Ok(None);
+    };
+    Ok(aggregate(code.aggregation, samples.as_slice()))
+}
+
+/// The same by the samples of events that are at hand.
+pub(crate) fn value_of_samples(
+    alloc: Global,
+    code: &PiCode,
+    found: &[Option<Option<Frac>>],
+) -> Result<Option<Frac>, PiFault>
+    ensures { (r : Records) (indicator : ProgramIndicator) (events : List EventRow) → IsCodeOf r indicator code.now
+        → measure_in code.now.value ≡ measure.Formula
+        → map (option_map option_to_list) found.now ≡ map (sample_alone code.now) events
+        → Values result (program_value r indicator (map alone events)) }
+{
+    let value = aggregate_samples(alloc, code, found)?;
     told(value)
 }

@@ -1,6 +1,6 @@
 //! What an item names, and what a subject has of it: an event alone, or the events of an enrollment.
 
-ghost use Rattle.std.specs.Prelude.{◌≡◌, ◌==◌, ℕ, slice_get, option_and_then, option_map, map, IfOk, OnOk};
+ghost use Rattle.std.specs.Prelude.{◌≡◌, ◌==◌, ℕ, slice_get, option_and_then, option_map, map, pos, ◌*ℤ◌, IfOk, OnOk, IfSome};
 ghost use Rattle.std.specs.List.{find};
 ghost use Rattle.dh_base.specs.Fractions.{of_micros};
 ghost use Rattle.std.specs.Option.{option_or};
@@ -91,10 +91,25 @@ fn day(day: i32) -> Frac
     Frac::of(i128::from(day), 1)
 }
 
+/// The whole number that so many millionths are, if they are one.
+fn whole_of(micros: i64) -> Option<i64>
+    ensures { IfSome result (λ whole. micros ≡ whole *ℤ pos 1000000) }
+{
+    let whole = micros / 1_000_000;
+    match whole.checked_mul(1_000_000) {
+        Some(again) if again == micros => Some(whole),
+        _ => None,
+    }
+}
+
+/// A number by its millionths. Most are whole, and such a one is made without a division of 128 bits.
 fn micros(micros: i64) -> Frac
     ensures { result ≡ of_micros micros }
 {
-    Frac::of(i128::from(micros), 1_000_000)
+    match whole_of(micros) {
+        Some(whole) => Frac::of(i128::from(whole), 1),
+        None => Frac::of(i128::from(micros), 1_000_000),
+    }
 }
 
 fn number(value: ItemValue) -> Frac
@@ -201,6 +216,39 @@ fn item(subject: &[EventRow], item: &PiItem) -> Option<Frac>
         PiItem::EnrollmentDate => enrolled_day(subject),
         PiItem::Nothing => None,
     }
+}
+
+fn has_value(entries: &[(u32, ItemValue)], n: u32) -> bool {
+    entry_of(entries, n).is_some()
+}
+
+fn has_item(event: &EventRow, item: &PiItem) -> bool {
+    match item {
+        PiItem::Element { stage, element } => {
+            event.stage == *stage && has_value(event.values.as_slice(), *element)
+        }
+        PiItem::Attribute(attribute) => has_value(event.attributes.as_slice(), *attribute),
+        _ => true,
+    }
+}
+
+fn has_some(items: &[PiItem], subject: &[EventRow]) -> bool {
+    match subject.last() {
+        Some(event) => items.iter().any(|item| has_item(event, item)),
+        None => false,
+    }
+}
+
+/// In how many of the subjects the last event has some of the items: about so many samples need room. This reads little of each event and
+/// computes nothing, so that the processor waits for many events at once; what is worked out of them afterwards finds them at hand.
+pub(crate) fn likely_samples(items: &[PiItem], subjects: &[&[EventRow]]) -> usize {
+    let mut count: usize = 0;
+    for subject in subjects {
+        if has_some(items, subject) {
+            count = count.saturating_add(1);
+        }
+    }
+    count
 }
 
 /// The values of items in a subject, into a list that may be used again.

@@ -13,9 +13,11 @@ mod joined;
 mod measure;
 mod placed;
 mod plan;
+mod sampled;
 mod samples;
 mod seen;
 mod under;
 
 pub use placed::PlacedEvents;
 pub use plan::{ProgramPlan, Subjects, program_plan, subjects_during, value};
+pub use sampled::SampledEvents;

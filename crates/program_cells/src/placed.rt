@@ -6,10 +6,10 @@ ghost use Rattle.dh_sharing.specs.Ranges.{is_within};
 ghost use Rattle.table_rows.specs.declared.event.EventRow.{EventRow};
 ghost use Rattle.program_cells.specs.Cells.{alone};
 ghost use Rattle.program_cells.specs.Kept.{is_placed_in};
-ghost use Rattle.program_cells.specs.Places.{ArePlaces, order_of};
+ghost use Rattle.program_cells.specs.Places.{ArePlaces, order_of, places_from, items_of};
 
 use crate::joined::joined_places;
-use crate::under::events_in;
+use crate::under::{events_in, places_in};
 use dh_base::items::Items;
 use dh_base::memory::Memory;
 use dh_sharing::ranges::ViewRanges;
@@ -96,8 +96,10 @@ fn only_unit(parts: &[(u32, u32)]) -> Option<u32>
 
 /// The places of the events in the ranges, if one list has them all.
 fn own_places<'a>(places: &'a [Items<usize>], parts: &[(u32, u32)]) -> Option<&'a [usize]>
-    ensures { (events : List EventRow) → ArePlaces order_of events places.now
+    ensures members { (events : List EventRow) → ArePlaces order_of events places.now
         → IfSome result (λ own. filter_map (slice_get events) own.now ≡ filter (is_placed_in parts.now) events) }
+    ensures places { (events : List EventRow) → ArePlaces order_of events places.now
+        → IfSome result (λ own. own.now ≡ places_from 0 (is_placed_in parts.now) events) }
 {
     let unit = only_unit(parts)? as usize;
     if unit < places.len() {
@@ -130,7 +132,7 @@ fn events_at<'a>(
     ensures { IfOk result (λ kept. map (λ subject. subject.now) kept.items
         ≡ map alone (filter_map (slice_get (map (λ event. event.now) events.now)) places.now)) }
 {
-    let mut kept = Vec::new(alloc);
+    let mut kept = Vec::with_capacity(alloc, places.len())?;
     for place in places {
         put_at(&mut kept, events, *place)?;
     }
@@ -173,8 +175,65 @@ fn events_within<'a>(
     }
 }
 
+/// The places of the events whose units lie in the ranges, where no list has them all.
+fn places_of_several(
+    alloc: Global,
+    events: &[&EventRow],
+    places: &[Items<usize>],
+    ranges: &ViewRanges,
+) -> Result<Vec<usize>, Memory>
+    requires { ArePlaces order_of (map (λ event. event.now) events.now) places.now }
+    ensures { IfOk result (λ own. own.items ≡ places_from 0 (is_placed_in ranges.now) (map (λ event. event.now) events.now)) }
+{
+    match joined_places(alloc, places, ranges.parts(), events.len() / FEW)? {
+        Some(own) => Ok(own),
+        None => places_in(alloc, ranges, events),
+    }
+}
+
+fn put_item<T: Copy>(kept: &mut Vec<T>, items: &[T], place: usize) -> Result<(), Memory>
+    ensures { OnOk result (kept.new.items ≡ kept.old.items ++ option_to_list (slice_get items.now place)) }
+{
+    if place < items.len() {
+        kept.push(items[place])?;
+    }
+    Ok(())
+}
+
+/// The items at these places.
+fn items_at<T: Copy>(alloc: Global, items: &[T], places: &[usize]) -> Result<Vec<T>, Memory>
+    ensures { IfOk result (λ kept. kept.items ≡ filter_map (slice_get items.now) places.now) }
+{
+    let mut kept = Vec::with_capacity(alloc, places.len())?;
+    for place in places {
+        put_item(&mut kept, items, *place)?;
+    }
+    Ok(kept)
+}
+
+/// Of a list with an item for each event, the items of those whose units lie in the ranges.
+fn items_within<T: Copy>(
+    alloc: Global,
+    events: &[&EventRow],
+    places: &[Items<usize>],
+    ranges: &ViewRanges,
+    items: &[T],
+) -> Result<Vec<T>, Memory>
+    requires { ArePlaces order_of (map (λ event. event.now) events.now) places.now }
+    ensures { IfOk result (λ kept. kept.items ≡ items_of (is_placed_in ranges.now) (map (λ event. event.now) events.now) items.now) }
+{
+    match own_places(places, ranges.parts()) {
+        Some(own) => items_at(alloc, items, own),
+        None => {
+            let own = places_of_several(alloc, events, places, ranges)?;
+            items_at(alloc, items, &own)
+        }
+    }
+}
+
 impl<'a> PlacedEvents<'a> {
     ghost use Rattle.std.specs.Prelude.{◌≡◌, [], map, IfOk};
+    ghost use Rattle.program_cells.specs.Places.{items_of};
     ghost use Rattle.std.specs.List.{filter};
     ghost use Rattle.program_cells.specs.Cells.{alone};
     ghost use Rattle.program_cells.specs.Kept.{is_placed_in};
@@ -210,5 +269,24 @@ impl<'a> PlacedEvents<'a> {
         ensures { IfOk result (λ kept. map (λ subject. subject.now) kept.items ≡ map alone (filter (is_placed_in ranges.now) self.now)) }
     {
         events_within(alloc, &self.events, &self.places, ranges)
+    }
+
+    /// The events.
+    pub(crate) fn list(&self) -> &[&'a EventRow]
+        ensures { map (λ event. event.now) result.now ≡ self.now }
+    {
+        &self.events
+    }
+
+    /// Of a list with an item for each event, the items of those whose units lie in the ranges.
+    pub(crate) fn items_within<T: Copy>(
+        &self,
+        alloc: Global,
+        ranges: &ViewRanges,
+        items: &[T],
+    ) -> Result<Vec<T>, Memory>
+        ensures { IfOk result (λ kept. kept.items ≡ items_of (is_placed_in ranges.now) self.now items.now) }
+    {
+        items_within(alloc, &self.events, &self.places, ranges, items)
     }
 }

@@ -7,21 +7,28 @@ ghost use Rattle.meta_parts.specs.declared.held.Records.{Records};
 ghost use Rattle.meta_parts.specs.declared.names.AnalyticsType.TheVariants as analytics;
 ghost use Rattle.program_cells.specs.Cells.{cell_value};
 ghost use Rattle.program_cells.specs.Enrollments.{enrollments};
-ghost use Rattle.program_cells.specs.Kept.{IsPlanOf, IsProgramPlan, AreDuring, AreSubjects, subjects_in};
-ghost use Rattle.program_cells.specs.Value.{Values};
+ghost use Rattle.std.specs.List.{filter};
+ghost use Rattle.meta_parts.specs.declared.records.ProgramIndicator.{ProgramIndicator};
+ghost use Rattle.program_cells.specs.declared.measure.Measure.TheVariants as measure;
+ghost use Rattle.program_cells.specs.Cells.{alone};
+ghost use Rattle.program_cells.specs.Code.{measure_in, IsCodeOf};
+ghost use Rattle.program_cells.specs.Enrollments.{first_is};
+ghost use Rattle.program_cells.specs.Kept.{IsPlanOf, IsProgramPlan, AreDuring, AreEventSubjects, AreSubjects, is_placed_in};
+ghost use Rattle.program_cells.specs.Value.{Values, program_value};
 ghost use Rattle.table_rows.specs.declared.event.EventRow.{EventRow};
 
 use crate::coding::code_of;
 use crate::enrolled::{enrolled_during, enrollments};
-use crate::evaluation::value_over;
+use crate::evaluation::{value_of_samples, value_over};
 use crate::placed::PlacedEvents;
+use crate::sampled::SampledEvents;
 use crate::seen::events_during;
 use crate::under::enrollments_in;
 use cell_values::{CellPeriods, CellUnits, Source};
 use dh_base::frac::Frac;
 use dh_base::items::Items;
 use dh_base::memory::Memory;
-use expr_eval::{PiCode, PiFault};
+use expr_eval::{PiCode, PiFault, PiValue};
 use meta_parts::kind::Kind;
 use meta_parts::names::AnalyticsType;
 use meta_parts::records::ProgramIndicator;
@@ -43,6 +50,8 @@ pub struct ProgramPlan {
 pub enum Subjects<'a> {
     /// Each event alone, by day and identifier.
     Events(PlacedEvents<'a>),
+    /// The same with the sample of each, for an indicator that takes numbers.
+    Samples(SampledEvents<'a>),
     /// The events of each enrollment, by the day on which it began and its identifier.
     Enrollments(Vec<&'a [EventRow]>),
 }
@@ -107,7 +116,24 @@ fn placed_during<'a, S: RowStore>(
     PlacedEvents::of(alloc, events, source.meta.count(Kind::OrganisationUnit))
 }
 
+fn event_subjects<'a>(
+    alloc: Global,
+    code: &'a PiCode,
+    events: PlacedEvents<'a>,
+) -> Result<Subjects<'a>, Memory>
+    ensures { IfOk result (AreEventSubjects code.now events.entry) }
+{
+    match &code.value {
+        PiValue::Formula(form) => {
+            let sampled = SampledEvents::of(alloc, code, form, events)?;
+            Ok(Subjects::Samples(sampled))
+        }
+        _ => Ok(Subjects::Events(events)),
+    }
+}
+
 /// The subjects of a plan in some periods that the user sees.
+#[tactic(auto, using(crate::proofs::CellLemmas::events_made))]
 pub fn subjects_during<'a, S: RowStore>(
     alloc: Global,
     source: &Source<'a, S>,
@@ -120,7 +146,7 @@ pub fn subjects_during<'a, S: RowStore>(
     match plan.over {
         AnalyticsType::Event => {
             let events = placed_during(alloc, source, plan.code.program, periods)?;
-            Ok(Subjects::Events(events))
+            event_subjects(alloc, &plan.code, events)
         }
         AnalyticsType::Enrollment => {
             let kept = enrolled_during(alloc, periods.periods(), plan.enrollments.as_slice())?;
@@ -129,17 +155,44 @@ pub fn subjects_during<'a, S: RowStore>(
     }
 }
 
-fn subjects_under<'a>(
+fn value_of_sampled(
     alloc: Global,
-    subjects: &'a Subjects<'_>,
+    code: &PiCode,
+    sampled: &SampledEvents<'_>,
     units: &CellUnits,
-) -> Result<Vec<&'a [EventRow]>, Memory>
-    ensures { IfOk result (λ kept. map (λ subject. subject.now) kept.items ≡ subjects_in units.now.asked subjects.now) }
+) -> Result<Option<Frac>, PiFault>
+    ensures { (r : Records) (indicator : ProgramIndicator) → IsCodeOf r indicator code.now → sampled.now.code ≡ code.now
+        → measure_in code.now.value ≡ measure.Formula
+        → Values result (program_value r indicator (map alone (filter (is_placed_in units.now.asked) sampled.now.events))) }
 {
-    match subjects {
-        Subjects::Events(events) => events.within(alloc, &units.asked),
-        Subjects::Enrollments(kept) => enrollments_in(alloc, &units.asked, kept.as_slice()),
-    }
+    let own = sampled.within(alloc, &units.asked)?;
+    value_of_samples(alloc, code, &own)
+}
+
+fn value_of_events(
+    alloc: Global,
+    code: &PiCode,
+    events: &PlacedEvents<'_>,
+    units: &CellUnits,
+) -> Result<Option<Frac>, PiFault>
+    ensures { (r : Records) (indicator : ProgramIndicator) → IsCodeOf r indicator code.now
+        → Values result (program_value r indicator (map alone (filter (is_placed_in units.now.asked) events.now))) }
+{
+    let own = events.within(alloc, &units.asked)?;
+    value_over(alloc, code, own.as_slice())
+}
+
+fn value_of_enrollments(
+    alloc: Global,
+    code: &PiCode,
+    kept: &[&[EventRow]],
+    units: &CellUnits,
+) -> Result<Option<Frac>, PiFault>
+    ensures { (r : Records) (indicator : ProgramIndicator) → IsCodeOf r indicator code.now
+        → Values result (program_value r indicator (filter (first_is (is_placed_in units.now.asked)) (map (λ subject. subject.now) kept.now))) }
+{
+    let own = enrollments_in(alloc, &units.asked, kept)?;
+    value_over(alloc, code, own.as_slice())
 }
 
 /// The value of a plan in a cell of these units, by its subjects in the periods of the cell. There is none where no subject gives a
@@ -155,6 +208,11 @@ pub fn value(
         → AreCellUnits r user units.now → units.now.alone ≡ false
         → Values result (cell_value r n periods units.now.units (seen_events r user all)) }
 {
-    let own = subjects_under(alloc, subjects, units)?;
-    value_over(alloc, &plan.code, own.as_slice())
+    match subjects {
+        Subjects::Events(events) => value_of_events(alloc, &plan.code, events, units),
+        Subjects::Samples(sampled) => value_of_sampled(alloc, &plan.code, sampled, units),
+        Subjects::Enrollments(kept) => {
+            value_of_enrollments(alloc, &plan.code, kept.as_slice(), units)
+        }
+    }
 }

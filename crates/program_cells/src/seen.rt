@@ -1,7 +1,11 @@
 //! The events that a user sees.
-ghost use Rattle.std.specs.Prelude.{◌≡◌, map, IfOk};
+ghost use Rattle.std.specs.Prelude.{◌≡◌, ◌&&◌, nat_eq, true, map, IfOk};
 ghost use Rattle.std.specs.List.{list_all};
 ghost use Rattle.cell_values.specs.Held.{IsSeer};
+ghost use Rattle.dh_sharing.specs.declared.access.Right.TheVariants as right;
+ghost use Rattle.dh_metadata.specs.Users.{may_of};
+ghost use Rattle.meta_parts.specs.declared.kind.Kind.TheVariants as kind;
+ghost use Rattle.program_cells.specs.Cells.{is_on_some};
 ghost use Rattle.program_cells.specs.Kept.{is_seen_during, seen_during, AreDuring};
 
 use crate::days::{days_of, is_on_some};
@@ -9,10 +13,32 @@ use cell_values::{CellPeriods, Seer, Source};
 use dh_base::memory::Memory;
 use dh_metadata::metadata::Metadata;
 use dh_periods::Period;
+use dh_sharing::access::Right;
+use meta_parts::kind::Kind;
 use std::alloc::Global;
 use table_rows::{EventRow, RowStore};
 
-#[tactic(auto, unfolding(crate::specs::Kept::is_seen_during))]
+/// Whether the user may read the data of the program.
+#[tactic(auto, using(cell_values::proofs::RightLemmas::may_not_past))]
+fn reads_program(meta: &Metadata, seer: &Seer, program: u32) -> bool
+    requires { IsSeer meta.now seer.now }
+    ensures { result ≡ may_of meta.now seer.now.user right.DataRead kind.Program program }
+{
+    if meta.count(Kind::Program) <= program {
+        return false;
+    }
+    meta.may(seer.user(), Right::DataRead, Kind::Program, program)
+}
+
+/// Whether the event is of the program, on a day of the periods.
+fn is_due(program: u32, periods: &[Period], event: &EventRow) -> bool
+    ensures { result ≡ (nat_eq event.now.program program && is_on_some periods.now event.now.day) }
+{
+    event.program == program && is_on_some(periods, &event.day)
+}
+
+/// Whether the event is of the program, on a day of the periods, and seen. That the user may read the data of the program is asked once for
+/// all events.
 fn is_seen_during(
     meta: &Metadata,
     seer: &Seer,
@@ -20,10 +46,11 @@ fn is_seen_during(
     periods: &[Period],
     event: &EventRow,
 ) -> bool
-    requires { IsSeer meta.now seer.now }
+    requires seer { IsSeer meta.now seer.now }
+    requires reads { may_of meta.now seer.now.user right.DataRead kind.Program program ≡ true }
     ensures { result ≡ is_seen_during meta.now seer.now.user program periods.now event.now }
 {
-    event.program == program && is_on_some(periods, &event.day) && seer.sees_event(meta, event)
+    is_due(program, periods, event) && seer.views().holds(event.order)
 }
 
 /// Whether all of the events are of the program, on days of the periods, and seen.
@@ -34,7 +61,8 @@ fn are_seen(
     periods: &[Period],
     events: &[&EventRow],
 ) -> bool
-    requires { IsSeer meta.now seer.now }
+    requires seer { IsSeer meta.now seer.now }
+    requires reads { may_of meta.now seer.now.user right.DataRead kind.Program program ≡ true }
     ensures { result ≡ list_all (is_seen_during meta.now seer.now.user program periods.now) (map (λ event. event.now) events.now) }
 {
     for event in events {
@@ -53,7 +81,8 @@ fn picked<'a>(
     periods: &[Period],
     events: &[&'a EventRow],
 ) -> Result<Vec<&'a EventRow>, Memory>
-    requires { IsSeer meta.now seer.now }
+    requires seer { IsSeer meta.now seer.now }
+    requires reads { may_of meta.now seer.now.user right.DataRead kind.Program program ≡ true }
     ensures { IfOk result (λ kept. map (λ event. event.now) kept.items
         ≡ seen_during meta.now seer.now.user program periods.now (map (λ event. event.now) events.now)) }
 {
@@ -79,6 +108,9 @@ fn kept<'a>(
     ensures { IfOk result (λ kept. map (λ event. event.now) kept.items
         ≡ seen_during meta.now seer.now.user program periods.now (map (λ event. event.now) events.entry.items)) }
 {
+    if !reads_program(meta, seer, program) {
+        return Ok(Vec::new(alloc));
+    }
     if are_seen(meta, seer, program, periods, &events) {
         Ok(events)
     } else {

@@ -1,10 +1,11 @@
 //! The subjects of some units.
-ghost use Rattle.std.specs.Prelude.{◌≡◌, map, IfOk};
+ghost use Rattle.std.specs.Prelude.{◌≡◌, ◌++◌, ◌∷◌, [], if◌then◌else◌, map, IfOk, OnOk};
 ghost use Rattle.std.specs.List.{filter};
 ghost use Rattle.dh_sharing.specs.Ranges.{is_within};
 ghost use Rattle.program_cells.specs.Cells.{alone};
 ghost use Rattle.program_cells.specs.Enrollments.{first_is};
 ghost use Rattle.program_cells.specs.Kept.{is_placed_in};
+ghost use Rattle.program_cells.specs.Places.{places_from};
 
 use dh_base::memory::Memory;
 use dh_sharing::ranges::ViewRanges;
@@ -28,6 +29,36 @@ pub(crate) fn events_in<'a>(
         }
     }
     Ok(kept)
+}
+
+/// Puts the place of an event, if its unit lies in the ranges.
+fn put_place(
+    own: &mut Vec<usize>,
+    ranges: &ViewRanges,
+    event: &EventRow,
+    at: usize,
+) -> Result<(), Memory>
+    ensures { OnOk result (own.new.items ≡ own.old.items ++ (if is_placed_in ranges.now event.now then at ∷ [] else [])) }
+{
+    if ranges.holds(event.order) {
+        own.push(at)?;
+    }
+    Ok(())
+}
+
+/// The places of the events whose units lie in the ranges.
+pub(crate) fn places_in(
+    alloc: Global,
+    ranges: &ViewRanges,
+    events: &[&EventRow],
+) -> Result<Vec<usize>, Memory>
+    ensures { IfOk result (λ own. own.items ≡ places_from 0 (is_placed_in ranges.now) (map (λ event. event.now) events.now)) }
+{
+    let mut own = Vec::new(alloc);
+    for at in 0..events.len() {
+        put_place(&mut own, ranges, events[at], at)?;
+    }
+    Ok(own)
 }
 
 fn lies_in(ranges: &ViewRanges, subject: &[EventRow]) -> bool

@@ -1,9 +1,29 @@
-use Rattle.std.proofs.Common.{◌∙◌, map, ap}
-use Rattle.program_cells.proofs.CellLemmas.{cell_meant}
+use Rattle.std.proofs.Common.{◌∙◌, map, ap, sym}
+use Rattle.std.specs.List.{filter}
+use Rattle.program_cells.specs.Cells.{alone}
+use Rattle.program_cells.specs.Enrollments.{first_is}
+use Rattle.program_cells.specs.Kept.{is_placed_in, subjects_in}
+use Rattle.program_cells.proofs.CellLemmas.{cell_meant, sampled_meant}
 use Rattle.program_cells.proofs.plan.value.Goals as goal
 
-pub returns : goal.returns
-returns c r user n periods all is subjects units not =
-    cell_meant r user n periods c.args.units.now all c.args.plan.now c.args.subjects.now (map (λ subject. subject.now) c.as_slice.result.now)
-    c.value_over.result is subjects units not (ap (map (λ subject. subject.now)) c.as_slice.ensures.value ∙ c.in_ok-own.ensures)
-    (λ indicator code. c.value_over.ensures r indicator code)
+pub returns-in-Events : goal.returns-in-Events
+returns-in-Events c r user n periods all is subjects units not =
+    let asked = c.args.units.now.asked in
+    cell_meant r user n periods c.args.units.now all c.args.plan.now c.args.subjects.now (map alone (filter (is_placed_in asked) c.in-Events.events))
+    c.value_of_events.result is subjects units not (ap (subjects_in asked) (sym c.in-Events.is))
+    (λ indicator code. c.value_of_events.ensures r indicator code)
+
+pub returns-in-Samples : goal.returns-in-Samples
+returns-in-Samples c r user n periods all is subjects units not =
+    sampled_meant r user n periods c.args.units.now all c.args.plan.now c.args.subjects.now c.in-Samples.sampled c.value_of_sampled.result is subjects
+    units not c.in-Samples.is (λ indicator code same formula. c.value_of_sampled.ensures r indicator code same formula)
+
+pub returns-in-Enrollments : goal.returns-in-Enrollments
+returns-in-Enrollments c r user n periods all is subjects units not =
+    let asked = c.args.units.now.asked in
+    cell_meant r user n periods c.args.units.now all c.args.plan.now c.args.subjects.now
+    (filter (first_is (is_placed_in asked)) (map (λ subject. subject.now) c.as_slice.result.now))
+    c.value_of_enrollments.result is subjects units not
+    (ap (λ list. filter (first_is (is_placed_in asked)) (map (λ subject. subject.now) list)) c.as_slice.ensures.value
+    ∙ ap (subjects_in asked) (sym c.in-Enrollments.is))
+    (λ indicator code. c.value_of_enrollments.ensures r indicator code)

@@ -1,0 +1,10 @@
+use Rattle.std.proofs.Common.{◌<◌, length, rules}
+use Rattle.program_cells.specs.Kept.{is_placed_in}
+use Rattle.program_cells.proofs.PlaceLemmas.{place-step}
+use Rattle.program_cells.proofs.under.places_in.Goals as goal
+
+pub loop-at-preserved : goal.loop-at-preserved
+loop-at-preserved c =
+    let within : c.loop-at.at < length c.args.events.now = search rules in
+    place-step (λ event. event.now) (is_placed_in c.args.ranges.now) c.args.events.now c.loop-at.at c.index-events-at.result c.loop-at.own.items
+    c.put_place.new.own.items within c.index-events-at.is c.loop-at.invariant c.in_ok-put_place.ensures
