@@ -2,26 +2,19 @@
 use Rattle.std.proofs.Common.{◌≡◌, ℕ, List, [], ◌∷◌, Bool, true, false, ◌||◌, Ordering, Less, Equal, Greater, refl}
 use Rattle.std.specs.Ordering.{nat_cmp, match_ordering}
 use Rattle.std.specs.Cmp.Lexicographic.{slice_cmp}
-use Rattle.serde_json.specs.Data.{Data, Members, no_members, member, put}
+use Rattle.serde_json.specs.Data.{Data, object, Members, no_members, member, put}
 use Rattle.serde_json.specs.View.{items_of}
 use Rattle.serde_json.specs.Written.{has_float, items_have_float, members_have_float}
 use Rattle.meta_parts.specs.declared.held.Records.{Records}
-use Rattle.query_forms.specs.declared.plain.Dx.{Dx}
 use Rattle.query_forms.specs.declared.plain.Query.{Query}
-use Rattle.query_answer.specs.declared.body_rows.AnswerRow.{AnswerRow}
-use Rattle.query_answer.specs.Texts.{texts_of}
 use Rattle.query_answer.specs.Heads.{heads_of, dimension_of, value_column}
-use Rattle.query_answer.specs.BodyRows.{row_texts, row_of, rows_of}
 use Rattle.query_answer.specs.Names.{ids_of, name_of, put_name, put_names, dimensions_of, meta_of, dx_named, unit_named, period_named}
-use Rattle.query_answer.specs.Body.{told_of, body_with, body_of}
+use Rattle.query_answer.specs.Body.{told_of}
+use Rattle.query_answer.specs.Written.{members_before, before_of}
 
 both_false : (a b : Bool) → a ≡ false → b ≡ false → (a || b) ≡ false
 both_false true b p q = p
 both_false false b p q = q
-
-texts_plain : (texts : List (List ℕ)) → items_have_float (items_of (texts_of texts)) ≡ false
-texts_plain [] = refl
-texts_plain (x ∷ xs) = texts_plain xs
 
 ids_plain : (named : List (List ℕ × List ℕ)) → items_have_float (items_of (ids_of named)) ≡ false
 ids_plain [] = refl
@@ -33,11 +26,6 @@ heads_plain true true = refl
 heads_plain true false = refl
 heads_plain false true = refl
 heads_plain false false = refl
-
-rows_plain : (r : Records) (dx : List Dx) (rows : List AnswerRow) → items_have_float (items_of (rows_of r dx rows)) ≡ false
-unfolding row_of
-rows_plain r dx [] = refl
-rows_plain r dx (row ∷ rows) = both_false _ _ (texts_plain (row_texts r dx row)) (rows_plain r dx rows)
 
 by_order : (o : Ordering) (a b c : Members) → members_have_float a ≡ false → members_have_float b ≡ false → members_have_float c ≡ false
     → members_have_float (match_ordering o a b c) ≡ false
@@ -80,8 +68,8 @@ told_plain : (told : Bool) (r : Records) (query : Query) → has_float (told_of 
 told_plain true r query = meta_plain r query
 told_plain false r query = refl
 
-pub body_plain : (r : Records) (query : Query) (rows : List AnswerRow) → has_float (body_of r query rows) ≡ false
-unfolding body_of body_with
-body_plain r query rows =
-    both_false _ _ (heads_plain query.periods.filter query.units.filter)
-    (both_false _ _ (told_plain query.meta r query) (both_false _ _ (rows_plain r query.dx rows) refl))
+-- the members before the rows
+pub before_plain : (r : Records) (query : Query) (height : ℕ) → has_float (object (before_of r query height)) ≡ false
+unfolding members_before
+before_plain r query height =
+    both_false _ _ (heads_plain query.periods.filter query.units.filter) (both_false _ _ (told_plain query.meta r query) refl)

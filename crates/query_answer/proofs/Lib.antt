@@ -6,3 +6,5 @@ pub mod AnswerLemmas
 pub mod UnseenLemmas
 pub mod PlanLemmas
 pub mod PartLemmas
+pub mod RowLemmas
+pub mod BodyLemmas

@@ -5,6 +5,7 @@ pub mod Heads
 pub mod BodyRows
 pub mod Names
 pub mod Body
+pub mod Written
 pub mod Asked
 pub mod Cells
 pub mod Plans

@@ -1,8 +1,9 @@
-//! Texts as JSON values.
+//! Texts as JSON values, and as they are written.
 
 ghost use Rattle.std.specs.Prelude.{◌≡◌, [], ◌∷◌, ◌++◌, map, IfOk, OnOk};
+ghost use Rattle.std.specs.List.{list_all};
 ghost use Rattle.serde_json.specs.View.{view};
-ghost use Rattle.query_answer.specs.Texts.{text_of_bytes};
+ghost use Rattle.query_answer.specs.Texts.{text_of_bytes, is_plain, in_quotes};
 
 use dh_base::memory::Memory;
 use serde_json::Value;
@@ -22,4 +23,56 @@ pub fn push_text(alloc: Global, list: &mut Vec<Value>, bytes: &[u8]) -> Result<(
     let text = text_value(alloc, bytes)?;
     list.push(text)?;
     Ok(())
+}
+
+/// Whether the byte is ASCII that stands in quotes as it is.
+fn is_plain(byte: u8) -> bool
+    ensures { result ≡ is_plain byte }
+{
+    32 <= byte && byte < 128 && byte != b'"' && byte != b'\\'
+}
+
+fn are_plain(bytes: &[u8]) -> bool
+    ensures { result ≡ list_all is_plain bytes.now }
+{
+    bytes.iter().all(|byte| is_plain(*byte))
+}
+
+fn push_plain(text: &mut Vec<u8>, bytes: &[u8]) -> Result<(), Memory>
+    ensures { OnOk result (text.new.items ≡ text.old.items ++ 34 ∷ (bytes.now ++ 34 ∷ [])) }
+{
+    text.push(b'"')?;
+    text.extend_from_slice(bytes)?;
+    text.push(b'"')?;
+    Ok(())
+}
+
+#[tactic(auto, unfolding(crate::specs::Texts::in_quotes))]
+fn push_escaped(alloc: Global, text: &mut Vec<u8>, bytes: &[u8]) -> Result<(), Memory>
+    ensures { OnOk result (text.new.items ≡ text.old.items ++ in_quotes bytes.now) }
+{
+    let value = text_value(alloc, bytes)?;
+    let escaped = value.to_vec(alloc)?;
+    text.extend_from_slice(escaped.as_slice())?;
+    Ok(())
+}
+
+/// The text in its quotes. What is plain, as nearly all of a body is, makes no value of its own.
+#[tactic(auto, using(crate::proofs::RowLemmas::plain_text))]
+pub fn push_quoted(alloc: Global, text: &mut Vec<u8>, bytes: &[u8]) -> Result<(), Memory>
+    ensures { OnOk result (text.new.items ≡ text.old.items ++ in_quotes bytes.now) }
+{
+    if are_plain(bytes) {
+        push_plain(text, bytes)
+    } else {
+        push_escaped(alloc, text, bytes)
+    }
+}
+
+/// One more text of an array, with the comma before it.
+pub fn push_more(alloc: Global, text: &mut Vec<u8>, bytes: &[u8]) -> Result<(), Memory>
+    ensures { OnOk result (text.new.items ≡ text.old.items ++ 44 ∷ in_quotes bytes.now) }
+{
+    text.push(b',')?;
+    push_quoted(alloc, text, bytes)
 }
