@@ -27,9 +27,8 @@ use Rattle.expr_grammar.proofs.Listed.{items_at, items_so, different_so}
 use Rattle.expr_grammar.proofs.Stored.{AnswersBy}
 use Rattle.expr_grammar.proofs.Limits.{meant_by}
 use Rattle.expr_grammar.proofs.Faulted.{goes_on}
-use Rattle.expr_grammar.specs.Continues.{GoesOnAt, EndsAt, OnlyAt}
+use Rattle.expr_grammar.specs.Continues.{GoesOnAt, EndsAt}
 use Rattle.expr_grammar.proofs.Ended.{ends_so}
-use Rattle.expr_grammar.proofs.OnlyPlace.{only_so}
 use Rattle.expr_lang.proofs.ExprLemmas.{IsOf-expression_of}
 use Rattle.expr_lang.specs.Faults.{IfSyntax}
 use Rattle.expr_grammar.proofs.Sound.{text_sound}
@@ -149,6 +148,3 @@ module _ (p : Place) (days : List (List ℕ)) (wanted : Option Sort) (text : Lis
 
   pub ends_at : IfErr (parse_of p days wanted text) (λ f. IfSyntax f (EndsAt p text))
   ends_at = ends_so p text days wanted (parse_of p days wanted text) meant
-
-  pub only_at : IfErr (parse_of p days wanted text) (λ f. IfSyntax f (OnlyAt p text))
-  only_at = only_so p text (parse_of p days wanted text) before_fault ends_at

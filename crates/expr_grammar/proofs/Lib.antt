@@ -44,3 +44,4 @@ pub mod Few
 pub mod Trim
 pub mod Ended
 pub mod OnlyPlace
+pub mod OneAnswer

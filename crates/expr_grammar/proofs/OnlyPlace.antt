@@ -2,14 +2,8 @@
 use Rattle.std.proofs.Common.{◌≡◌, ℕ, ◌+◌, ◌<◌, ◌≤◌, List, ◌++◌, length, take, drop, sym, ap, subst, ◌∙◌, inl, inr, append_assoc, arith}
 use Rattle.std.proofs.lemmas.Bool.{cases_lt}
 use Rattle.std.proofs.lemmas.List.{take-append-drop}
-use Rattle.std.proofs.Common.{Result, Ok, Err}
-use Rattle.std.specs.Prelude.{IfErr}
 use Rattle.expr_lang.specs.declared.tree.Place.{Place}
-use Rattle.expr_lang.specs.declared.expr.Expr.{Expr}
-use Rattle.expr_lang.specs.declared.fault.ExprFault.{ExprFault}
-use Rattle.expr_lang.specs.declared.fault.ExprFault.TheVariants as fault
-use Rattle.expr_lang.specs.Faults.{IfSyntax}
-use Rattle.expr_grammar.specs.Continues.{GoesOn, EndsInQuote, HasNoQuote, Begins, GoesOnAt, EndsAt, OnlyAt}
+use Rattle.expr_grammar.specs.Continues.{GoesOn, EndsInQuote, HasNoQuote, Begins, GoesOnAt, EndsAt}
 use Rattle.expr_grammar.proofs.Quoted.{plain_front}
 use Rattle.expr_grammar.proofs.Fuel.{split_within}
 use Rattle.expr_grammar.proofs.Trim.{take_short}
@@ -67,11 +61,3 @@ module _ (p : Place) where
           | inr same ↦ omega (arith, more, same)
         ]
       ]
-
-  pub only_so : (text : List ℕ) (r : Result Expr ExprFault) → IfErr r (λ f. IfSyntax f (GoesOnAt p text)) → IfErr r (λ f. IfSyntax f (EndsAt p text))
-      → IfErr r (λ f. IfSyntax f (OnlyAt p text))
-  only_so text (Ok expr) goes ends = tt
-  only_so text (Err fault.Memory) goes ends = tt
-  only_so text (Err (fault.Syntax at)) goes ends = λ other goes' ends'. only_place text at other goes ends goes' ends'
-  only_so text (Err (fault.TooDeep at)) goes ends = tt
-  only_so text (Err (fault.Sort at)) goes ends = tt

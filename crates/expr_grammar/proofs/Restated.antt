@@ -159,7 +159,7 @@ module _ (p : Place) (days : List (List ℕ)) (wanted : Option Sort) (text : Lis
   sorted_same : (F : Form) → IsWhole p F → is_sorted wanted (tree_of days F) ≡ old.is_sorted wanted (old.tree_of days F)
   sorted_same F h = taken_same wanted (tree_of days F) (old.tree_of days F) (told days p F h).same
 
-  first_same : (F : Form) (blanks : List ℕ) → IsWhole p F → first_misfit days wanted text F blanks ≡ old.first_misfit days wanted text F blanks
+  pub first_same : (F : Form) (blanks : List ℕ) → IsWhole p F → first_misfit days wanted text F blanks ≡ old.first_misfit days wanted text F blanks
   first_same F blanks h = ap least_of (whole_misfits days (length text) p F h wanted (place_of (length text) F blanks) blanks)
 
   answers_from : (r : Result Expression ExprFault) → old.AnswersBy p days wanted text r → AnswersBy p days wanted text r

@@ -50,7 +50,3 @@ GoesOnAt place text at = (at ≤ length text) × Begins place (take at text)
 -- With the byte at a place of a text they don't, unless the text ends there. A text is too long at byte 4096.
 abbrev pub EndsAt : Place → List ℕ → ℕ → Type 0
 EndsAt place text at = (at ≤ 4096) × (at < length text → at < 4096 → ¬ (Begins place (take (at + 1) text)))
-
--- no other place of a text is like this
-abbrev pub OnlyAt : Place → List ℕ → ℕ → Type 0
-OnlyAt place text at = (other : ℕ) → GoesOnAt place text other → EndsAt place text other → at ≡ other

@@ -4,9 +4,8 @@ use Rattle.expr_lang.specs.declared.tree.Item.{Item}
 use Rattle.expr_lang.specs.declared.tree.Leaf.{Leaf}
 use Rattle.expr_lang.specs.declared.tree.Leaf.TheVariants as leaf
 use Rattle.expr_lang.specs.declared.tree.Place.{Place}
-use Rattle.expr_lang.specs.declared.expr.Expr.{Expr}
 use Rattle.expr_lang.specs.declared.words.Symbol.TheVariants as symbol
-use Rattle.expr_lang.specs.Expr.{items_in, places_in}
+use Rattle.expr_lang.specs.Expression.{Expression}
 use Rattle.expr_lang.specs.Item.{item_from}
 use Rattle.expr_lang.specs.Items.{Occurrence, item_of_leaf_of, with_occurrence, Lists}
 use Rattle.expr_lang.specs.Leaves.{item_leaf}
@@ -65,6 +64,6 @@ occurrences_of days total (DaysBetween b c one d other e) rest =
 occurrences_of days total (Apply b name c arguments d) rest = occurrences_of days total arguments (symbol_text d symbol.Close rest)
 
 -- the different items of an expression, and the place of the first occurrence of each, are those of each form that the text is
-abbrev pub ListsItems : Place → List (List ℕ) → List ℕ → Expr → Type 0
+abbrev pub ListsItems : Place → List (List ℕ) → List ℕ → Expression → Type 0
 ListsItems place days text expr =
-    (form : Form) (is : IsTextOf place text form) → Lists (occurrences_of days (length text) form is.1) (items_in expr) (places_in expr)
+    (form : Form) (is : IsTextOf place text form) → Lists (occurrences_of days (length text) form is.1) expr.items expr.places

@@ -3,6 +3,7 @@ pub mod Fewest
 pub mod Sorts
 pub mod Limits
 pub mod Laws
+pub mod Answer
 pub mod Continues
 pub mod Items
 pub mod Misfits

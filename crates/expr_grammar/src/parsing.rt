@@ -1,14 +1,12 @@
 //! Reading expressions.
 
-ghost use Rattle.std.specs.Prelude.{◌≡◌, [], Some, None, IfOk, IfErr};
-ghost use Rattle.expr_grammar.specs.Continues.{GoesOnAt, EndsAt, OnlyAt};
-ghost use Rattle.expr_grammar.specs.Items.{items_of, Different, ListsItems};
+ghost use Rattle.std.specs.Prelude.{◌≡◌, [], Some, None, IfOk};
+ghost use Rattle.expr_grammar.specs.Answer.{IsAnswer, HasOneAnswer};
+ghost use Rattle.expr_grammar.specs.Items.{items_of, Different};
 ghost use Rattle.expr_grammar.specs.Laws.{OneTree};
-ghost use Rattle.expr_grammar.specs.Limits.{AnswersBy};
 ghost use Rattle.dh_base.specs.Memory.{Answers};
 ghost use Rattle.expr_lang.specs.Causes.{cause_of};
 ghost use Rattle.expr_lang.specs.Expr.{parse_of};
-ghost use Rattle.expr_lang.specs.Faults.{IfSyntax};
 ghost use Rattle.expr_lang.specs.Stored.{syntax_of};
 
 use dh_base::uid::Uid;
@@ -20,19 +18,14 @@ use std::alloc::Global;
 pub fn parse(alloc: Global, text: &[u8], place: Place, days: &[Uid]) -> Result<Expr, ExprFault>
     // The answer is what the text means, unless memory runs out.
     ensures value { Answers cause_of (parse_of place days.now None text.now) result }
-    // What it means is the tree of a form of the grammar, or why no form is accepted, and where.
-    ensures read { AnswersBy place days.now None text.now (parse_of place days.now None text.now) }
-    // The bytes before a fault of syntax begin a text of the grammar, or so inside a quoted text; with the byte there they don't.
-    ensures before { IfErr (parse_of place days.now None text.now) (λ fault. IfSyntax fault (GoesOnAt place text.now)) }
-    ensures ends { IfErr (parse_of place days.now None text.now) (λ fault. IfSyntax fault (EndsAt place text.now)) }
-    // No other place is like this.
-    ensures only { IfErr (parse_of place days.now None text.now) (λ fault. IfSyntax fault (OnlyAt place text.now)) }
+    // What it means is an answer by the grammar: the tree of a form with its items and their places, or why no form is accepted, and where.
+    ensures is { IsAnswer place days.now None text.now (parse_of place days.now None text.now) }
+    // There is no other answer by the grammar.
+    ensures sole { HasOneAnswer place days.now None text.now }
     // All forms that the text is have one tree.
     ensures one { IfOk (parse_of place days.now None text.now) (λ expr. OneTree place days.now text.now (syntax_of expr.tree)) }
     // Its items are those of the tree, in order of their first occurrence.
     ensures items { IfOk (parse_of place days.now None text.now) (λ expr. Different (items_of (syntax_of expr.tree)) [] expr.items) }
-    // The place of an item is where its first occurrence stands in the form.
-    ensures places { IfOk (parse_of place days.now None text.now) (λ expr. ListsItems place days.now text.now expr) }
 {
     expr_lang::parse(alloc, text, place, days)
 }
@@ -46,13 +39,10 @@ pub fn parse_sorted(
     wanted: Sort,
 ) -> Result<Expr, ExprFault>
     ensures value { Answers cause_of (parse_of place days.now (Some wanted) text.now) result }
-    ensures read { AnswersBy place days.now (Some wanted) text.now (parse_of place days.now (Some wanted) text.now) }
-    ensures before { IfErr (parse_of place days.now (Some wanted) text.now) (λ fault. IfSyntax fault (GoesOnAt place text.now)) }
-    ensures ends { IfErr (parse_of place days.now (Some wanted) text.now) (λ fault. IfSyntax fault (EndsAt place text.now)) }
-    ensures only { IfErr (parse_of place days.now (Some wanted) text.now) (λ fault. IfSyntax fault (OnlyAt place text.now)) }
+    ensures is { IsAnswer place days.now (Some wanted) text.now (parse_of place days.now (Some wanted) text.now) }
+    ensures sole { HasOneAnswer place days.now (Some wanted) text.now }
     ensures one { IfOk (parse_of place days.now (Some wanted) text.now) (λ expr. OneTree place days.now text.now (syntax_of expr.tree)) }
     ensures items { IfOk (parse_of place days.now (Some wanted) text.now) (λ expr. Different (items_of (syntax_of expr.tree)) [] expr.items) }
-    ensures places { IfOk (parse_of place days.now (Some wanted) text.now) (λ expr. ListsItems place days.now text.now expr) }
 {
     expr_lang::parse_sorted(alloc, text, place, days, wanted)
 }
