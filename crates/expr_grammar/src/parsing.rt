@@ -9,13 +9,12 @@ ghost use Rattle.expr_lang.specs.Causes.{cause_of};
 ghost use Rattle.expr_lang.specs.Expr.{parse_of};
 ghost use Rattle.expr_lang.specs.Stored.{syntax_of};
 
-use dh_base::uid::Uid;
-use expr_lang::{Expr, ExprFault, Place, Sort};
+use expr_lang::{DayItems, Expr, ExprFault, Place, Sort};
 use std::alloc::Global;
 
 /// The expression that a text is, of any sort. `days` has the elements and attributes whose values
 /// are days.
-pub fn parse(alloc: Global, text: &[u8], place: Place, days: &[Uid]) -> Result<Expr, ExprFault>
+pub fn parse(alloc: Global, text: &[u8], place: Place, days: &DayItems) -> Result<Expr, ExprFault>
     // The answer is what the text means, unless memory runs out.
     ensures value { Answers cause_of (parse_of place days.now None text.now) result }
     // What it means is an answer by the grammar: the tree of a form with its items and their places, or why no form is accepted, and where.
@@ -35,7 +34,7 @@ pub fn parse_sorted(
     alloc: Global,
     text: &[u8],
     place: Place,
-    days: &[Uid],
+    days: &DayItems,
     wanted: Sort,
 ) -> Result<Expr, ExprFault>
     ensures value { Answers cause_of (parse_of place days.now (Some wanted) text.now) result }

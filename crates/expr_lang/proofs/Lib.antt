@@ -6,3 +6,4 @@ pub mod Listing
 pub mod ExprLemmas
 pub mod Letters
 pub mod Shorter
+pub mod DayLemmas

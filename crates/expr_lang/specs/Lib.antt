@@ -4,6 +4,7 @@ pub mod Words
 pub mod Token
 pub mod Short
 pub mod Item
+pub mod Days
 pub mod Reading
 pub mod Leaves
 pub mod Survey

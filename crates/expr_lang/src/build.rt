@@ -1,17 +1,17 @@
 //! The tree and the items with given nodes.
 
-ghost use Rattle.std.specs.Prelude.{◌≡◌, ◌∷◌, ◌↔◌, [], OnOk, IfOk, IsTrue, Contains, vec_len};
+ghost use Rattle.std.specs.Prelude.{◌≡◌, ◌∷◌, ◌++◌, ◌+◌, ◌↔◌, [], OnOk, IfOk, IsTrue, Contains, vec_len};
 ghost use Rattle.expr_lang.specs.Items.{item_of_leaf_of, occurrences, ListsOne, Lists};
 ghost use Rattle.expr_lang.specs.Leaves.{leaf_of_node};
 ghost use Rattle.expr_lang.specs.declared.reading.Node.TheVariants as node;
 ghost use Rattle.expr_lang.specs.Shape.{Shape, shape_of};
 ghost use Rattle.expr_lang.specs.Build.{shapes_of, top_shape, under_shape, shapes_after, built};
 
+use crate::days::DayItems;
 use crate::reading::{Node, Spot};
 use crate::survey::leaf_at;
 use crate::tree::{Binary, Item, Leaf, Tree, Unary};
 use dh_base::memory::Memory;
-use dh_base::uid::Uid;
 use std::alloc::Global;
 
 fn take(stack: &mut Vec<Tree>) -> Tree
@@ -66,7 +66,7 @@ fn advance(
     alloc: Global,
     stack: &mut Vec<Tree>,
     text: &[u8],
-    days: &[Uid],
+    days: &DayItems,
     spot: Spot,
 ) -> Result<(), Memory>
     ensures { OnOk result (shapes_of stack.new.items ≡ shapes_after text.now days.now spot.at spot.node (shapes_of stack.old.items)) }
@@ -81,7 +81,7 @@ fn advance(
 
 /// The tree with these nodes, each of which stands after its operands.
 #[tactic(auto, unfolding(crate::specs::Build::built))]
-pub fn build(alloc: Global, text: &[u8], days: &[Uid], nodes: &[Spot]) -> Result<Tree, Memory>
+pub fn build(alloc: Global, text: &[u8], days: &DayItems, nodes: &[Spot]) -> Result<Tree, Memory>
     ensures { IfOk result (λ tree. shape_of tree ≡ built text.now days.now nodes.now) }
 {
     let mut stack = Vec::new(alloc);
@@ -111,7 +111,7 @@ fn is_among(item: &Item, items: &Vec<Item>) -> bool
 pub fn list_items(
     alloc: Global,
     text: &[u8],
-    days: &[Uid],
+    days: &DayItems,
     nodes: &[Spot],
 ) -> Result<(Vec<Item>, Vec<usize>), Memory>
     ensures value { IfOk result (λ listed. Lists (occurrences text.now days.now nodes.now) listed.0.items listed.1.items) }
@@ -125,12 +125,20 @@ pub fn list_items(
     Ok((items, places))
 }
 
+fn put_last<T: Copy>(list: &mut Vec<T>, item: T) -> Result<(), Memory>
+    ensures items { OnOk result (list.new.items ≡ list.old.items ++ item ∷ []) }
+    ensures len { OnOk result (vec_len list.new ≡ vec_len list.old + 1) }
+{
+    list.push(item)?;
+    Ok(())
+}
+
 /// Puts the item of a node at the end, unless it has none or one that is there already.
 fn list(
     items: &mut Vec<Item>,
     places: &mut Vec<usize>,
     text: &[u8],
-    days: &[Uid],
+    days: &DayItems,
     spot: Spot,
 ) -> Result<(), Memory>
     ensures value { OnOk result (ListsOne (item_of_leaf_of (leaf_of_node text.now days.now spot.at spot.node)) spot.at
@@ -140,8 +148,8 @@ fn list(
     let leaf = leaf_at(text, days, spot.at, spot.node);
     if let Some(item) = item_of_leaf(&leaf) {
         if !is_among(&item, items) {
-            places.push(spot.at)?;
-            items.push(item)?;
+            put_last(places, spot.at)?;
+            put_last(items, item)?;
         }
     }
     Ok(())

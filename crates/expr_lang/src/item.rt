@@ -2,8 +2,9 @@
 
 ghost use Rattle.std.specs.Prelude.{◌≡◌, ◌<◌, Some, None};
 ghost use Rattle.expr_lang.specs.declared.tree.Item.TheVariants as item;
-ghost use Rattle.expr_lang.specs.Item.{uid_from, one_uid, two_uids, three_uids, item_from, is_among_of, is_day_of, leaf_from};
+ghost use Rattle.expr_lang.specs.Item.{uid_from, one_uid, two_uids, three_uids, item_from, is_day_of, leaf_from};
 
+use crate::days::DayItems;
 use crate::tree::{Item, Leaf};
 use crate::words::ItemForm;
 use dh_base::uid::Uid;
@@ -89,7 +90,7 @@ pub fn item_of(form: ItemForm, bytes: &[u8]) -> Option<Item>
 }
 
 /// The operand that an item is: some items are days.
-pub fn leaf_of(item: Item, days: &[Uid]) -> Leaf
+pub fn leaf_of(item: Item, days: &DayItems) -> Leaf
     ensures { result ≡ leaf_from days.now item }
 {
     if is_day(&item, days) {
@@ -99,19 +100,13 @@ pub fn leaf_of(item: Item, days: &[Uid]) -> Leaf
     }
 }
 
-fn is_day(item: &Item, days: &[Uid]) -> bool
+fn is_day(item: &Item, days: &DayItems) -> bool
     ensures { result ≡ is_day_of days.now item.now }
 {
     match item {
         Item::EventDate | Item::EnrollmentDate => true,
-        Item::StageElement { stage: _, element } => is_among(*element, days),
-        Item::Attribute(attribute) => is_among(*attribute, days),
+        Item::StageElement { stage: _, element } => days.has(*element),
+        Item::Attribute(attribute) => days.has(*attribute),
         _ => false,
     }
-}
-
-fn is_among(uid: Uid, days: &[Uid]) -> bool
-    ensures { result ≡ is_among_of uid days.now }
-{
-    days.contains(&uid)
 }

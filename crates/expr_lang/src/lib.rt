@@ -2,6 +2,7 @@
 #![tactic(auto)]
 
 mod build;
+mod days;
 mod expr;
 mod fault;
 mod item;
@@ -14,6 +15,7 @@ mod token;
 mod tree;
 mod words;
 
+pub use days::DayItems;
 pub use expr::Expr;
 pub use fault::ExprFault;
 pub use parsing::{parse, parse_sorted};

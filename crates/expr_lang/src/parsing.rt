@@ -8,13 +8,13 @@ ghost use Rattle.expr_lang.specs.Parse.{nodes_of_text, judged, accepted, Accepts
 ghost use Rattle.expr_lang.specs.Survey.{survey_of};
 
 use crate::build::{build, list_items};
+use crate::days::DayItems;
 use crate::expr::Expr;
 use crate::fault::{ExprFault, ReadFault};
 use crate::reading::{Nodes, read};
 use crate::survey::{Known, misfit_as, survey};
 use crate::tree::{Place, Sort};
 use dh_base::memory::Memory;
-use dh_base::uid::Uid;
 use std::alloc::Global;
 
 const MOST_BYTES: usize = 4096;
@@ -56,7 +56,7 @@ fn accept(
     alloc: Global,
     text: &[u8],
     place: Place,
-    days: &[Uid],
+    days: &DayItems,
     wanted: Option<Sort>,
 ) -> Result<Nodes, ExprFault>
     ensures { Answers cause_of (accepted place days.now wanted text.now) result }
@@ -72,7 +72,7 @@ fn accept(
 }
 
 /// The expression of a text with these nodes.
-fn with_nodes(alloc: Global, text: &[u8], days: &[Uid], nodes: &Nodes) -> Result<Expr, Memory>
+fn with_nodes(alloc: Global, text: &[u8], days: &DayItems, nodes: &Nodes) -> Result<Expr, Memory>
     ensures { IfOk result (λ expr. IsOf text.now days.now expr nodes.now) }
 {
     let tree = build(alloc, text, days, nodes.nodes.as_slice())?;
@@ -84,7 +84,7 @@ fn whole(
     alloc: Global,
     text: &[u8],
     place: Place,
-    days: &[Uid],
+    days: &DayItems,
     wanted: Option<Sort>,
 ) -> Result<Expr, ExprFault>
     ensures { Accepts (λ expr nodes. IsOf text.now days.now expr nodes) result (accepted place days.now wanted text.now) }
@@ -96,7 +96,7 @@ fn whole(
 
 /// The expression that a text is, of any sort. `days` has the elements and attributes whose values
 /// are days.
-pub fn parse(alloc: Global, text: &[u8], place: Place, days: &[Uid]) -> Result<Expr, ExprFault>
+pub fn parse(alloc: Global, text: &[u8], place: Place, days: &DayItems) -> Result<Expr, ExprFault>
     ensures { Answers cause_of (parse_of place days.now None text.now) result }
 {
     whole(alloc, text, place, days, None)
@@ -107,7 +107,7 @@ pub fn parse_sorted(
     alloc: Global,
     text: &[u8],
     place: Place,
-    days: &[Uid],
+    days: &DayItems,
     wanted: Sort,
 ) -> Result<Expr, ExprFault>
     ensures { Answers cause_of (parse_of place days.now (Some wanted) text.now) result }

@@ -6,12 +6,12 @@ ghost use Rattle.expr_lang.specs.Survey.{same_sort, leaf_sort_of, is_literal_of,
 ghost use Rattle.expr_lang.specs.Survey.{one_deeper, edge_if_taken, leaf_known_of, unary_known_of, deeper_of, binary_known_of, if_known_of, topmost, below};
 ghost use Rattle.expr_lang.specs.Survey.{known_after, survey_of, misfit_of};
 
+use crate::days::DayItems;
 use crate::item::{item_of, leaf_of};
 use crate::reading::{Node, Spot, rest};
 use crate::stack::Stack;
 use crate::tree::{Binary, Leaf, Sort, Unary};
 use dh_base::memory::Memory;
-use dh_base::uid::Uid;
 use std::alloc::Global;
 
 /// What is known of a whole operand.
@@ -39,7 +39,7 @@ fn is_same(a: Sort, b: Sort) -> bool
 }
 
 /// The operand of a node that stands at a place of the text.
-pub fn leaf_at(text: &[u8], days: &[Uid], at: usize, node: Node) -> Leaf
+pub fn leaf_at(text: &[u8], days: &DayItems, at: usize, node: Node) -> Leaf
     ensures { result ≡ leaf_of_node text.now days.now at node }
 {
     match node {
@@ -235,7 +235,7 @@ fn take(stack: &mut Stack<Known>) -> Known
     }
 }
 
-fn advance(stack: &mut Stack<Known>, text: &[u8], days: &[Uid], spot: Spot) -> Result<(), Memory>
+fn advance(stack: &mut Stack<Known>, text: &[u8], days: &DayItems, spot: Spot) -> Result<(), Memory>
     ensures { OnOk result (stack.new ≡ known_after text.now days.now spot.at spot.node stack.old) }
 {
     let known = match spot.node {
@@ -261,7 +261,7 @@ fn advance(stack: &mut Stack<Known>, text: &[u8], days: &[Uid], spot: Spot) -> R
 
 /// What is known of the tree with these nodes.
 #[tactic(auto, unfolding(crate::specs::Survey::survey_of))]
-pub fn survey(alloc: Global, text: &[u8], days: &[Uid], nodes: &[Spot]) -> Result<Known, Memory>
+pub fn survey(alloc: Global, text: &[u8], days: &DayItems, nodes: &[Spot]) -> Result<Known, Memory>
     ensures { IfOk result (λ known. known ≡ survey_of text.now days.now nodes.now) }
 {
     let mut stack = Stack::new(alloc);

@@ -5,6 +5,7 @@ ghost use Rattle.meta_exprs.specs.Days.{days_of, day_elements, day_attributes};
 
 use dh_base::memory::Memory;
 use dh_base::uid::Uid;
+use expr_lang::DayItems;
 use meta_parts::names::ValueType;
 use meta_parts::parts::MetaParts;
 use meta_parts::raw::{RawAttribute, RawElement};
@@ -32,12 +33,19 @@ fn add_attributes(days: &mut Vec<Uid>, attributes: &[RawAttribute]) -> Result<()
     Ok(())
 }
 
-/// The elements and attributes of value type DATE.
-pub fn days_of(alloc: Global, parts: &MetaParts) -> Result<Vec<Uid>, Memory>
+fn listed(alloc: Global, parts: &MetaParts) -> Result<Vec<Uid>, Memory>
     ensures { IfOk result (λ days. days.items ≡ days_of parts.now) }
 {
     let mut days = Vec::new(alloc);
     add_elements(&mut days, parts.data_elements.as_slice())?;
     add_attributes(&mut days, parts.tracked_entity_attributes.as_slice())?;
     Ok(days)
+}
+
+/// The elements and attributes of value type DATE.
+pub fn days_of(alloc: Global, parts: &MetaParts) -> Result<DayItems, Memory>
+    ensures { IfOk result (λ days. days ≡ days_of parts.now) }
+{
+    let listed = listed(alloc, parts)?;
+    DayItems::of(alloc, &listed)
 }

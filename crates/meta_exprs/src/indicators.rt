@@ -11,8 +11,7 @@ use crate::fault::ExprError;
 use crate::object::{copied, read_numbers};
 use crate::waiting::{next, waiting};
 use dh_base::items::Items;
-use dh_base::uid::Uid;
-use expr_lang::Expr;
+use expr_lang::{DayItems, Expr};
 use meta_parts::ids::Ids;
 use meta_parts::raw::RawIndicator;
 use meta_parts::records::{Indicator, IndicatorLinks};
@@ -21,7 +20,7 @@ use std::alloc::Global;
 fn texts(
     alloc: Global,
     ids: &Ids,
-    days: &[Uid],
+    days: &DayItems,
     raw: &RawIndicator,
 ) -> Result<(Items<u8>, (Expr, Expr)), ExprError>
     ensures { Finds expr_cause (indicator_unread ids.now days.now raw.now) (λ texts. (texts.0 ≡ raw.now.name)
@@ -62,7 +61,7 @@ fn with_links(
 pub fn indicator(
     alloc: Global,
     ids: &Ids,
-    days: &[Uid],
+    days: &DayItems,
     raw: &RawIndicator,
     links: IndicatorLinks,
 ) -> Result<Indicator, ExprError>
@@ -81,7 +80,7 @@ pub fn indicator(
 pub fn indicators(
     alloc: Global,
     ids: &Ids,
-    days: &[Uid],
+    days: &DayItems,
     raw: &[RawIndicator],
     links: Items<IndicatorLinks>,
 ) -> Result<Vec<Indicator>, ExprError>

@@ -12,7 +12,7 @@ use crate::fault::{ExprError, ExprFault, TextFault};
 use crate::read::read;
 use dh_base::items::Items;
 use dh_base::uid::Uid;
-use expr_lang::{Expr, Place, Sort};
+use expr_lang::{DayItems, Expr, Place, Sort};
 use meta_parts::ids::Ids;
 use std::alloc::{AllocError, Global};
 
@@ -21,7 +21,7 @@ use std::alloc::{AllocError, Global};
 pub fn read_of(
     alloc: Global,
     ids: &Ids,
-    days: &[Uid],
+    days: &DayItems,
     uid: Uid,
     text: &[u8],
     place: Place,
@@ -40,7 +40,7 @@ pub fn read_of(
 pub fn read_number(
     alloc: Global,
     ids: &Ids,
-    days: &[Uid],
+    days: &DayItems,
     uid: Uid,
     text: &[u8],
 ) -> Result<Expr, ExprError>
@@ -53,7 +53,7 @@ pub fn read_number(
 pub fn read_numbers(
     alloc: Global,
     ids: &Ids,
-    days: &[Uid],
+    days: &DayItems,
     uid: Uid,
     first: &[u8],
     second: &[u8],

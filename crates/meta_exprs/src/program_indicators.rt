@@ -13,7 +13,7 @@ use crate::object::{copied, read_of};
 use crate::waiting::{next, waiting};
 use dh_base::items::Items;
 use dh_base::uid::Uid;
-use expr_lang::{Expr, Place, Sort};
+use expr_lang::{DayItems, Expr, Place, Sort};
 use meta_parts::ids::Ids;
 use meta_parts::raw::RawProgramIndicator;
 use meta_parts::records::{ProgramIndicator, ProgramIndicatorLinks};
@@ -22,7 +22,7 @@ use std::alloc::Global;
 fn read_filter(
     alloc: Global,
     ids: &Ids,
-    days: &[Uid],
+    days: &DayItems,
     uid: Uid,
     filter: &Option<Items<u8>>,
 ) -> Result<Option<Expr>, ExprError>
@@ -45,7 +45,7 @@ fn read_filter(
 fn texts(
     alloc: Global,
     ids: &Ids,
-    days: &[Uid],
+    days: &DayItems,
     raw: &RawProgramIndicator,
 ) -> Result<(Items<u8>, (Expr, Option<Expr>)), ExprError>
     ensures { Finds expr_cause (program_indicator_unread ids.now days.now raw.now) (λ texts. (texts.0 ≡ raw.now.name)
@@ -89,7 +89,7 @@ fn with_links(
 pub fn program_indicator(
     alloc: Global,
     ids: &Ids,
-    days: &[Uid],
+    days: &DayItems,
     raw: &RawProgramIndicator,
     links: ProgramIndicatorLinks,
 ) -> Result<ProgramIndicator, ExprError>
@@ -108,7 +108,7 @@ pub fn program_indicator(
 pub fn program_indicators(
     alloc: Global,
     ids: &Ids,
-    days: &[Uid],
+    days: &DayItems,
     raw: &[RawProgramIndicator],
     links: Items<ProgramIndicatorLinks>,
 ) -> Result<Vec<ProgramIndicator>, ExprError>

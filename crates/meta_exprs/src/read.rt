@@ -8,9 +8,8 @@ ghost use Rattle.meta_exprs.specs.Read.{text_fault_of, missing_place, unread_at,
 
 use crate::fault::TextFault;
 use crate::names::is_missing;
-use dh_base::uid::Uid;
 use expr_grammar::parse_sorted;
-use expr_lang::{Expr, Place, Sort};
+use expr_lang::{DayItems, Expr, Place, Sort};
 use meta_parts::ids::Ids;
 use std::alloc::Global;
 
@@ -44,7 +43,7 @@ fn missing_at(ids: &Ids, expr: &Expr) -> Option<usize>
 pub fn read(
     alloc: Global,
     ids: &Ids,
-    days: &[Uid],
+    days: &DayItems,
     text: &[u8],
     place: Place,
     wanted: Sort,

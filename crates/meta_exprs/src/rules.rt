@@ -11,9 +11,8 @@ use crate::fault::ExprError;
 use crate::object::{copied, read_numbers};
 use crate::waiting::{next, waiting};
 use dh_base::items::Items;
-use dh_base::uid::Uid;
 use dh_sharing::rule::Sharing;
-use expr_lang::Expr;
+use expr_lang::{DayItems, Expr};
 use meta_parts::ids::Ids;
 use meta_parts::raw::RawRule;
 use meta_parts::records::Rule;
@@ -22,7 +21,7 @@ use std::alloc::Global;
 fn texts(
     alloc: Global,
     ids: &Ids,
-    days: &[Uid],
+    days: &DayItems,
     raw: &RawRule,
 ) -> Result<(Items<u8>, (Expr, Expr)), ExprError>
     ensures { Finds expr_cause (rule_unread ids.now days.now raw.now) (λ texts. (texts.0 ≡ raw.now.name)
@@ -58,7 +57,7 @@ fn with_links(raw: &RawRule, texts: (Items<u8>, (Expr, Expr)), links: Sharing) -
 pub fn rule(
     alloc: Global,
     ids: &Ids,
-    days: &[Uid],
+    days: &DayItems,
     raw: &RawRule,
     links: Sharing,
 ) -> Result<Rule, ExprError>
@@ -77,7 +76,7 @@ pub fn rule(
 pub fn rules(
     alloc: Global,
     ids: &Ids,
-    days: &[Uid],
+    days: &DayItems,
     raw: &[RawRule],
     links: Items<Sharing>,
 ) -> Result<Vec<Rule>, ExprError>

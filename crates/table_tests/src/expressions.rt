@@ -7,7 +7,7 @@ use dh_base::plain::Strategy;
 use dh_base::uid::Uid;
 use expr_eval::{Postfix, Value, compile, eval};
 use expr_grammar::{parse, parse_sorted, print};
-use expr_lang::{Expr, ExprFault, Place, Sort};
+use expr_lang::{DayItems, Expr, ExprFault, Place, Sort};
 use std::alloc::Global;
 
 fn place_named(name: &str) -> Option<Place> {
@@ -38,7 +38,7 @@ pub fn expression_row(alloc: Global, out: &mut Vec<u8>, case: &str) -> Option<()
     let (place, case) = case.split_once('|')?;
     let (sort, text) = case.split_once('|')?;
     let place = place_named(place)?;
-    let days = [day_id()?];
+    let days = DayItems::of(alloc, &[day_id()?]).ok()?;
     match sort_named(sort) {
         Some(sort) => put_read(
             alloc,
@@ -106,7 +106,8 @@ fn entries_in(alloc: Global, text: &str) -> Option<Vec<Option<Frac>>> {
 }
 
 fn form_of(alloc: Global, text: &str, place: Place) -> Option<Postfix> {
-    let expr = parse(alloc, text.as_bytes(), place, &[]).ok()?;
+    let days = DayItems::none(alloc);
+    let expr = parse(alloc, text.as_bytes(), place, &days).ok()?;
     compile(alloc, &expr).ok()
 }
 
