@@ -3,3 +3,4 @@ pub mod Patch
 pub mod Stored
 pub mod Agreed
 pub mod Meanings
+pub mod Places

@@ -4,7 +4,9 @@ use Rattle.std.specs.Prelude.{slice_set}
 use Rattle.std.proofs.Math.Seq.{set-append_seam}
 use Rattle.expr_eval.specs.declared.code.Instr.{Instr}
 use Rattle.expr_eval.specs.declared.code.Instr.TheVariants as instr
+use Rattle.expr_lang.specs.declared.tree.Binary.TheVariants as binary
 use Rattle.expr_eval.specs.Code.{if_code, same_code, code_in}
+use Rattle.expr_eval.specs.Emitted.{joined}
 
 pub code_in_same : (list : Bool) (code : List Instr) → code_in list (same_code code) ≡ code
 code_in_same true code = refl
@@ -53,3 +55,11 @@ patch_if base tc ac bc c1 c2 c3 c4 c5 x y n1 n2 n3 e1 m1 e2 e3 m2 e4 e5 m3 =
     ∙ append_assoc base tc (i ∷ (ac ++ j ∷ bc))
     ∙ ap (λ n. base ++ (tc ++ instr.SkipUnless n ∷ (ac ++ j ∷ bc))) d1
     ∙ ap (λ n. base ++ (tc ++ instr.SkipUnless (length ac + 1) ∷ (ac ++ instr.GoOn n ∷ bc))) d2
+
+pub joined-and : (list : Bool) (left right : List Instr) → joined list binary.And left right ≡ left ++ instr.And (length right) ∷ right
+joined-and true left right = refl
+joined-and false left right = refl
+
+pub joined-or : (list : Bool) (left right : List Instr) → joined list binary.Or left right ≡ left ++ instr.Or (length right) ∷ right
+joined-or true left right = refl
+joined-or false left right = refl

@@ -3,3 +3,4 @@ pub mod Applied
 pub mod Given
 pub mod Code
 pub mod Correct
+pub mod Emitted

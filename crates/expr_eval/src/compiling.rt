@@ -1,132 +1,93 @@
-//! From trees to the postfix form.
+//! From the nodes of an expression to its postfix form.
 
-ghost use Rattle.std.specs.Prelude.{◌≡◌, ◌∷◌, [], ◌++◌, map, OnOk, IfOk};
+ghost use Rattle.std.specs.Prelude.{◌≡◌, ◌<◌, ◌∷◌, [], ◌++◌, ◌&&◌, List, length, map, slice_get, vec_len, vec_capacity, OnOk, IfOk};
+ghost use Rattle.expr_lang.specs.Branches.{shape_in, item_shape, AreSound, AreDifferent};
 ghost use Rattle.expr_lang.specs.Expr.{items_in};
-ghost use Rattle.expr_lang.specs.Shape.{shape_of};
+ghost use Rattle.expr_lang.specs.declared.tree.Leaf.TheVariants as leaf;
+ghost use Rattle.expr_eval.specs.declared.code.Instr.{Instr};
+ghost use Rattle.expr_eval.specs.declared.code.Instr.TheVariants as instr;
 ghost use Rattle.expr_eval.specs.Applied.{hides_items, plain_items};
-ghost use Rattle.expr_eval.specs.Meaning.{can_miss, plain_leaf};
-ghost use Rattle.expr_eval.specs.Given.{same_uid, same_option, same_item, rate_number, index_in};
-ghost use Rattle.expr_eval.specs.Code.{leaf_code, asked_instr, asked_code, first_code, argument_count, code_in, codes_of};
+ghost use Rattle.expr_eval.specs.Meaning.{can_miss, literal_of};
+ghost use Rattle.expr_eval.specs.Given.{index_in};
+ghost use Rattle.expr_eval.specs.Code.{asked_instr, asked_code, first_code, argument_count, code_in, codes_of};
 ghost use Rattle.expr_eval.specs.Correct.{Means};
+ghost use Rattle.expr_eval.specs.Emitted.{takes_list, is_list, hidden_code, operator_code, room_of, joined};
 
 use crate::arithmetic::{literal, zero};
 use crate::code::{Instr, Postfix};
 use dh_base::memory::Memory;
-use dh_base::plain::Rate;
-use dh_base::uid::Uid;
-use expr_lang::{Binary, Expr, Item, Leaf, Tree, Unary};
+use expr_lang::{Binary, Branch, Expr, Item, Unary, branch_at};
 use std::alloc::Global;
+
+/// The nodes of an expression, and the items in them.
+#[derive(Clone, Copy)]
+struct Source<'a> {
+    items: &'a [Item],
+    branches: &'a [Branch],
+}
 
 /// The postfix form of an expression, for its list of items.
 pub fn compile(alloc: Global, expr: &Expr) -> Result<Postfix, Memory>
     ensures { IfOk result (λ form. Means (items_in expr.now) expr.now.tree form) }
 {
-    let mut code = Vec::new(alloc);
-    emit(&mut code, expr.items(), false, expr.tree())?;
-    let mut plain = Vec::new(alloc);
-    list_plain(&mut plain, expr.items(), expr.tree())?;
+    let branches = expr.branches();
+    let items = expr.items();
+    let mut code = Vec::with_capacity(alloc, branches.len())?;
+    let mut plain = Vec::with_capacity(alloc, items.len())?;
+    let source = Source { items, branches };
+    emit(&mut code, &mut plain, &source, false, branches.len() - 1)?;
     Ok(Postfix { code, plain })
 }
 
-fn is_same_uid(a: Uid, b: Uid) -> bool
-    ensures { result ≡ same_uid a b }
+/// Makes room for one more instruction.
+fn grow(code: &mut Vec<Instr>) -> Result<(), Memory>
+    ensures items { code.new.items ≡ code.old.items }
+    ensures room { OnOk result (vec_len code.new < vec_capacity code.new) }
 {
-    a == b
-}
-
-fn is_same_option(a: Option<Uid>, b: Option<Uid>) -> bool
-    ensures { result ≡ same_option a b }
-{
-    match (a, b) {
-        (None, None) => true,
-        (Some(a), Some(b)) => is_same_uid(a, b),
-        _ => false,
-    }
-}
-
-fn number_of_rate(rate: Rate) -> u8
-    ensures { result ≡ rate_number rate }
-{
-    match rate {
-        Rate::Expected => 0,
-        Rate::Actual => 1,
-        Rate::OnTime => 2,
-        Rate::Reported => 3,
-        Rate::ReportedOnTime => 4,
-    }
-}
-
-#[tactic(auto, unfolding(crate::specs::Given::same_item))]
-fn is_same(a: &Item, b: &Item) -> bool
-    ensures { result ≡ same_item a.now b.now }
-{
-    match (a, b) {
-        (
-            Item::Element {
-                element: a,
-                combo: b,
-                attribute: c,
-            },
-            Item::Element {
-                element: d,
-                combo: e,
-                attribute: f,
-            },
-        ) => is_same_uid(*a, *d) && is_same_option(*b, *e) && is_same_option(*c, *f),
-        (Item::Constant(a), Item::Constant(b)) => is_same_uid(*a, *b),
-        (Item::Group(a), Item::Group(b)) => is_same_uid(*a, *b),
-        (Item::Days, Item::Days) => true,
-        (Item::Rate { set: a, rate: r }, Item::Rate { set: b, rate: s }) => {
-            is_same_uid(*a, *b) && number_of_rate(*r) == number_of_rate(*s)
-        }
-        (
-            Item::StageElement {
-                stage: a,
-                element: b,
-            },
-            Item::StageElement {
-                stage: c,
-                element: d,
-            },
-        ) => is_same_uid(*a, *c) && is_same_uid(*b, *d),
-        (Item::Attribute(a), Item::Attribute(b)) => is_same_uid(*a, *b),
-        (Item::EventDate, Item::EventDate) => true,
-        (Item::EnrollmentDate, Item::EnrollmentDate) => true,
-        (Item::EventCount, Item::EventCount) => true,
-        (Item::EnrollmentCount, Item::EnrollmentCount) => true,
-        (Item::EntityCount, Item::EntityCount) => true,
-        _ => false,
-    }
-}
-
-/// The place of an item in a list, or a number past every list.
-#[tactic(auto, unfolding(crate::specs::Given::index_in))]
-fn index_of(items: &[Item], item: &Item) -> usize
-    ensures { result ≡ index_in items.now item.now }
-{
-    for n in 0..items.len() {
-        if is_same(&items[n], item) {
-            return n;
-        }
-    }
-    usize::MAX
+    code.reserve(1)?;
+    Ok(())
 }
 
 fn put(code: &mut Vec<Instr>, instr: Instr) -> Result<(), Memory>
     ensures { OnOk result (code.new.items ≡ code.old.items ++ instr ∷ []) }
 {
-    code.push(instr)?;
+    if code.len() == code.capacity() {
+        grow(code)?;
+    }
+    code.push_reserved(instr);
     Ok(())
 }
 
-fn emit_leaf(code: &mut Vec<Instr>, items: &[Item], leaf: &Leaf) -> Result<(), Memory>
-    ensures { OnOk result (code.new.items ≡ code.old.items ++ leaf_code (index_in items.now) leaf.now) }
+// What most nodes are is written where it stands by a function of its own, since `put` copies what it is given.
+
+fn put_number(code: &mut Vec<Instr>, millionths: u64) -> Result<(), Memory>
+    ensures { OnOk result (code.new.items ≡ code.old.items ++ instr.Number (literal_of millionths) ∷ []) }
 {
-    match leaf {
-        Leaf::Number(millionths) => put(code, Instr::Number(literal(*millionths))),
-        Leaf::Item(item) => put(code, Instr::Load(index_of(items, item))),
-        Leaf::Day(item) => put(code, Instr::LoadDay(index_of(items, item))),
+    if code.len() == code.capacity() {
+        grow(code)?;
     }
+    code.push_reserved(Instr::Number(literal(millionths)));
+    Ok(())
+}
+
+fn put_load(code: &mut Vec<Instr>, place: usize) -> Result<(), Memory>
+    ensures { OnOk result (code.new.items ≡ code.old.items ++ instr.Load place ∷ []) }
+{
+    if code.len() == code.capacity() {
+        grow(code)?;
+    }
+    code.push_reserved(Instr::Load(place));
+    Ok(())
+}
+
+fn put_binary(code: &mut Vec<Instr>, operator: Binary) -> Result<(), Memory>
+    ensures { OnOk result (code.new.items ≡ code.old.items ++ instr.Binary operator ∷ []) }
+{
+    if code.len() == code.capacity() {
+        grow(code)?;
+    }
+    code.push_reserved(Instr::Binary(operator));
+    Ok(())
 }
 
 fn put_asked(code: &mut Vec<Instr>, wanted: bool, index: usize) -> Result<(), Memory>
@@ -136,125 +97,6 @@ fn put_asked(code: &mut Vec<Instr>, wanted: bool, index: usize) -> Result<(), Me
         put(code, Instr::Present(index))
     } else {
         put(code, Instr::Absent(index))
-    }
-}
-
-/// Whether an item is there, or is missing.
-fn emit_asked(
-    code: &mut Vec<Instr>,
-    items: &[Item],
-    wanted: bool,
-    operand: &Tree,
-) -> Result<(), Memory>
-    ensures { OnOk result (code.new.items ≡ code.old.items ++ asked_code (index_in items.now) wanted (shape_of operand.now)) }
-{
-    match operand {
-        Tree::Leaf(Leaf::Item(item)) => put_asked(code, wanted, index_of(items, item)),
-        Tree::Leaf(Leaf::Day(item)) => put_asked(code, wanted, index_of(items, item)),
-        _ => put(code, Instr::Truth(wanted)),
-    }
-}
-
-/// The first of a list that isn't missing, from the last to the first.
-fn emit_first(code: &mut Vec<Instr>, items: &[Item], list: &Tree) -> Result<(), Memory>
-    ensures { OnOk result (code.new.items ≡ code.old.items ++ first_code (index_in items.now) (shape_of list.now)) }
-{
-    match list {
-        Tree::Binary(Binary::Comma, left, right) => {
-            emit_first(code, items, right)?;
-            emit_first(code, items, left)
-        }
-        Tree::Leaf(Leaf::Number(millionths)) => put(
-            code,
-            Instr::PreferNumber(literal(*millionths)),
-        ),
-        Tree::Leaf(Leaf::Item(item)) => put(code, Instr::Prefer(index_of(items, item))),
-        _ => Ok(()),
-    }
-}
-
-/// How many arguments a list has.
-fn count(list: &Tree) -> Result<usize, Memory>
-    ensures { IfOk result (λ n. n ≡ argument_count (shape_of list.now)) }
-{
-    match list {
-        Tree::Binary(Binary::Comma, left, _) => {
-            let n = count(left)?;
-            n.checked_add(1).ok_or(Memory)
-        }
-        _ => Ok(1),
-    }
-}
-
-/// The form of a tree, as a value or as a list of arguments.
-fn emit(code: &mut Vec<Instr>, items: &[Item], list: bool, tree: &Tree) -> Result<(), Memory>
-    ensures { OnOk result (code.new.items ≡ code.old.items ++ code_in list (codes_of (index_in items.now) (shape_of tree.now))) }
-{
-    match tree {
-        Tree::Leaf(leaf) => emit_leaf(code, items, leaf),
-        Tree::Unary(unary, operand) => match unary {
-            Unary::IsNull => emit_asked(code, items, false, operand),
-            Unary::IsNotNull | Unary::HasValue => emit_asked(code, items, true, operand),
-            Unary::FirstNonNull => {
-                put(code, Instr::Number(zero()))?;
-                emit_first(code, items, operand)
-            }
-            Unary::Greatest => {
-                emit(code, items, true, operand)?;
-                put(code, Instr::Greatest(count(operand)?))
-            }
-            Unary::Least => {
-                emit(code, items, true, operand)?;
-                put(code, Instr::Least(count(operand)?))
-            }
-            operator => {
-                emit(code, items, false, operand)?;
-                put(code, Instr::Unary(*operator))
-            }
-        },
-        Tree::Binary(binary, left, right) => match binary {
-            Binary::Comma => {
-                if list {
-                    emit(code, items, true, left)?;
-                    emit(code, items, false, right)
-                } else {
-                    put(code, Instr::Number(zero()))
-                }
-            }
-            Binary::And => {
-                emit(code, items, false, left)?;
-                let at = code.len();
-                put(code, Instr::And(0))?;
-                emit(code, items, false, right)?;
-                code[at] = Instr::And(code.len() - at - 1);
-                Ok(())
-            }
-            Binary::Or => {
-                emit(code, items, false, left)?;
-                let at = code.len();
-                put(code, Instr::Or(0))?;
-                emit(code, items, false, right)?;
-                code[at] = Instr::Or(code.len() - at - 1);
-                Ok(())
-            }
-            operator => {
-                emit(code, items, false, left)?;
-                emit(code, items, false, right)?;
-                put(code, Instr::Binary(*operator))
-            }
-        },
-        Tree::If(test, one, other) => {
-            emit(code, items, false, test)?;
-            let test_end = code.len();
-            put(code, Instr::SkipUnless(0))?;
-            emit(code, items, false, one)?;
-            let one_end = code.len();
-            put(code, Instr::GoOn(0))?;
-            emit(code, items, false, other)?;
-            code[test_end] = Instr::SkipUnless(one_end - test_end);
-            code[one_end] = Instr::GoOn(code.len() - one_end - 1);
-            Ok(())
-        }
     }
 }
 
@@ -281,41 +123,248 @@ fn hides(unary: Unary) -> bool
     }
 }
 
-fn list_leaf(plain: &mut Vec<usize>, items: &[Item], leaf: &Leaf) -> Result<(), Memory>
-    ensures { OnOk result (plain.new.items ≡ plain.old.items ++ map (index_in items.now) (plain_leaf leaf.now)) }
+/// Lists the item at a place as a plain one if it can be missing.
+fn list_item(plain: &mut Vec<usize>, source: &Source<'_>, place: usize) -> Result<(), Memory>
+    requires within { place < length source.now.items.now }
+    requires different { AreDifferent source.now.items.now }
+    ensures { OnOk result (plain.new.items
+        ≡ plain.old.items ++ map (index_in source.now.items.now) (plain_items (item_shape (λ i. leaf.Item i) (slice_get source.now.items.now place)))) }
 {
-    match leaf {
-        Leaf::Item(item) => {
-            if misses(item) {
-                plain.push(index_of(items, item))?;
+    if !misses(&source.items[place]) {
+        return Ok(());
+    }
+    plain.push(place)?;
+    Ok(())
+}
+
+/// The entry of the item at a place.
+fn emit_item(
+    code: &mut Vec<Instr>,
+    plain: &mut Vec<usize>,
+    source: &Source<'_>,
+    place: usize,
+) -> Result<(), Memory>
+    requires within { place < length source.now.items.now }
+    requires different { AreDifferent source.now.items.now }
+    ensures code { OnOk result (code.new.items
+        ≡ code.old.items ++ (codes_of (index_in source.now.items.now) (item_shape (λ i. leaf.Item i) (slice_get source.now.items.now place))).one) }
+    ensures plain { OnOk result (plain.new.items
+        ≡ plain.old.items ++ map (index_in source.now.items.now) (plain_items (item_shape (λ i. leaf.Item i) (slice_get source.now.items.now place)))) }
+{
+    list_item(plain, source, place)?;
+    put_load(code, place)
+}
+
+/// Whether an item is there, or is missing.
+fn emit_asked(
+    code: &mut Vec<Instr>,
+    source: &Source<'_>,
+    wanted: bool,
+    n: usize,
+) -> Result<(), Memory>
+    requires within { n < length source.now.branches.now }
+    requires sound { AreSound (length source.now.items.now) source.now.branches.now }
+    requires different { AreDifferent source.now.items.now }
+    ensures { OnOk result (code.new.items ≡ code.old.items ++ asked_code (index_in source.now.items.now) wanted (shape_in source.now.items.now source.now.branches.now n)) }
+{
+    match branch_at(source.items, source.branches, n) {
+        Branch::Item(place) => put_asked(code, wanted, place),
+        Branch::Day(place) => put_asked(code, wanted, place),
+        _ => put(code, Instr::Truth(wanted)),
+    }
+}
+
+/// The first of a list that isn't missing, from the last to the first.
+fn emit_first(code: &mut Vec<Instr>, source: &Source<'_>, n: usize) -> Result<(), Memory>
+    requires within { n < length source.now.branches.now }
+    requires sound { AreSound (length source.now.items.now) source.now.branches.now }
+    requires different { AreDifferent source.now.items.now }
+    ensures { OnOk result (code.new.items ≡ code.old.items ++ first_code (index_in source.now.items.now) (shape_in source.now.items.now source.now.branches.now n)) }
+{
+    match branch_at(source.items, source.branches, n) {
+        Branch::Binary(binary, left, right) => {
+            if is_comma(binary) {
+                emit_first(code, source, right)?;
+                emit_first(code, source, left)
+            } else {
+                Ok(())
             }
-            Ok(())
         }
+        Branch::Number(millionths) => put(code, Instr::PreferNumber(literal(millionths))),
+        Branch::Item(place) => put(code, Instr::Prefer(place)),
+        Branch::Day(_) => Ok(()),
+        Branch::Unary(_, _) | Branch::If(_, _, _) => Ok(()),
+    }
+}
+
+/// How many arguments a list has.
+fn count(source: &Source<'_>, n: usize) -> Result<usize, Memory>
+    requires within { n < length source.now.branches.now }
+    requires sound { AreSound (length source.now.items.now) source.now.branches.now }
+    ensures { IfOk result (λ count. count ≡ argument_count (shape_in source.now.items.now source.now.branches.now n)) }
+{
+    match branch_at(source.items, source.branches, n) {
+        Branch::Binary(binary, left, _) => {
+            if is_comma(binary) {
+                let more = count(source, left)?;
+                more.checked_add(1).ok_or(Memory)
+            } else {
+                Ok(1)
+            }
+        }
+        _ => Ok(1),
+    }
+}
+
+fn is_comma(binary: Binary) -> bool
+    ensures { result ≡ is_list binary }
+{
+    match binary {
+        Binary::Comma => true,
+        _ => false,
+    }
+}
+
+fn takes_list(unary: Unary) -> bool
+    ensures { result ≡ takes_list unary }
+{
+    match unary {
+        Unary::Greatest | Unary::Least => true,
+        _ => false,
+    }
+}
+
+/// A call under which no item counts as missing.
+fn emit_hidden(
+    code: &mut Vec<Instr>,
+    source: &Source<'_>,
+    unary: Unary,
+    operand: usize,
+) -> Result<(), Memory>
+    requires within { operand < length source.now.branches.now }
+    requires sound { AreSound (length source.now.items.now) source.now.branches.now }
+    requires different { AreDifferent source.now.items.now }
+    ensures { OnOk result (code.new.items ≡ code.old.items ++ hidden_code (index_in source.now.items.now) unary (shape_in source.now.items.now source.now.branches.now operand)) }
+{
+    match unary {
+        Unary::IsNull => emit_asked(code, source, false, operand),
+        Unary::FirstNonNull => {
+            put(code, Instr::Number(zero()))?;
+            emit_first(code, source, operand)
+        }
+        _ => emit_asked(code, source, true, operand),
+    }
+}
+
+/// What is done to the value or the list that was put.
+fn put_operator(
+    code: &mut Vec<Instr>,
+    source: &Source<'_>,
+    unary: Unary,
+    operand: usize,
+) -> Result<(), Memory>
+    requires within { operand < length source.now.branches.now }
+    requires sound { AreSound (length source.now.items.now) source.now.branches.now }
+    ensures { OnOk result (code.new.items ≡ code.old.items ++ operator_code unary (shape_in source.now.items.now source.now.branches.now operand) ∷ []) }
+{
+    match unary {
+        Unary::Greatest => put(code, Instr::Greatest(count(source, operand)?)),
+        Unary::Least => put(code, Instr::Least(count(source, operand)?)),
+        operator => put(code, Instr::Unary(operator)),
+    }
+}
+
+/// Leaves room for the jump over the right operand, where there is one.
+fn put_room(code: &mut Vec<Instr>, binary: Binary) -> Result<(), Memory>
+    ensures { OnOk result (code.new.items ≡ code.old.items ++ room_of binary) }
+{
+    match binary {
+        Binary::And => put(code, Instr::And(0)),
+        Binary::Or => put(code, Instr::Or(0)),
         _ => Ok(()),
     }
 }
 
-/// The numbers of the plain items.
-fn list_plain(plain: &mut Vec<usize>, items: &[Item], tree: &Tree) -> Result<(), Memory>
-    ensures { OnOk result (plain.new.items ≡ plain.old.items ++ map (index_in items.now) (plain_items (shape_of tree.now))) }
+/// Makes one of both operands, of which the left one begins at `start` and ends at `end`.
+fn join(
+    code: &mut Vec<Instr>,
+    list: bool,
+    binary: Binary,
+    start: usize,
+    end: usize,
+) -> Result<(), Memory>
+    ensures { (base left right : List Instr) → start ≡ length base → end ≡ length (base ++ left) → code.old.items ≡ ((base ++ left) ++ room_of binary) ++ right
+        → OnOk result (code.new.items ≡ base ++ joined list binary left right) }
 {
-    match tree {
-        Tree::Leaf(leaf) => list_leaf(plain, items, leaf),
-        Tree::Unary(unary, operand) => {
-            if hides(*unary) {
-                Ok(())
+    match binary {
+        Binary::And => {
+            if end < code.len() {
+                code[end] = Instr::And(code.len() - end - 1);
+            }
+            Ok(())
+        }
+        Binary::Or => {
+            if end < code.len() {
+                code[end] = Instr::Or(code.len() - end - 1);
+            }
+            Ok(())
+        }
+        Binary::Comma => {
+            if list {
+                return Ok(());
+            }
+            code.truncate(start);
+            put(code, Instr::Number(zero()))
+        }
+        operator => put_binary(code, operator),
+    }
+}
+
+/// The form of the tree of a node, as a value or as a list of arguments, and the numbers of its plain items.
+fn emit(
+    code: &mut Vec<Instr>,
+    plain: &mut Vec<usize>,
+    source: &Source<'_>,
+    list: bool,
+    n: usize,
+) -> Result<(), Memory>
+    requires within { n < length source.now.branches.now }
+    requires sound { AreSound (length source.now.items.now) source.now.branches.now }
+    requires different { AreDifferent source.now.items.now }
+    ensures code { OnOk result (code.new.items ≡ code.old.items ++ code_in list (codes_of (index_in source.now.items.now) (shape_in source.now.items.now source.now.branches.now n))) }
+    ensures plain { OnOk result (plain.new.items ≡ plain.old.items ++ map (index_in source.now.items.now) (plain_items (shape_in source.now.items.now source.now.branches.now n))) }
+{
+    match branch_at(source.items, source.branches, n) {
+        Branch::Number(millionths) => put_number(code, millionths),
+        Branch::Item(place) => emit_item(code, plain, source, place),
+        Branch::Day(place) => put(code, Instr::LoadDay(place)),
+        Branch::Unary(unary, operand) => {
+            if hides(unary) {
+                emit_hidden(code, source, unary, operand)
             } else {
-                list_plain(plain, items, operand)
+                emit(code, plain, source, takes_list(unary), operand)?;
+                put_operator(code, source, unary, operand)
             }
         }
-        Tree::Binary(_, left, right) => {
-            list_plain(plain, items, left)?;
-            list_plain(plain, items, right)
+        Branch::Binary(binary, left, right) => {
+            let start = code.len();
+            emit(code, plain, source, list && is_comma(binary), left)?;
+            let end = code.len();
+            put_room(code, binary)?;
+            emit(code, plain, source, false, right)?;
+            join(code, list, binary, start, end)
         }
-        Tree::If(test, one, other) => {
-            list_plain(plain, items, test)?;
-            list_plain(plain, items, one)?;
-            list_plain(plain, items, other)
+        Branch::If(test, one, other) => {
+            emit(code, plain, source, false, test)?;
+            let test_end = code.len();
+            put(code, Instr::SkipUnless(0))?;
+            emit(code, plain, source, false, one)?;
+            let one_end = code.len();
+            put(code, Instr::GoOn(0))?;
+            emit(code, plain, source, false, other)?;
+            code[test_end] = Instr::SkipUnless(one_end - test_end);
+            code[one_end] = Instr::GoOn(code.len() - one_end - 1);
+            Ok(())
         }
     }
 }

@@ -103,7 +103,7 @@ better_stays best w bytes h =
     let a = apart (text_of w) bytes (all_literal w) h in
     no_better best _ (front_of (text_of w) bytes) (length (text_of w)) a.none a.some
 
-stays : (allowed : Allowed) (best : Front) (w : Symbol) (bytes : List ℕ) → nat_eq (letter_of w) (slice_index bytes 0) ≡ false
+pub stays : (allowed : Allowed) (best : Front) (w : Symbol) (bytes : List ℕ) → nat_eq (letter_of w) (slice_index bytes 0) ≡ false
     → cond (is_allowed_of allowed w) (better_of best w bytes) best ≡ best
 stays allowed best w bytes h = by_test (is_allowed_of allowed w)
   where

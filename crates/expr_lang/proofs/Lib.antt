@@ -3,7 +3,10 @@ pub mod Stacks
 pub mod Readings
 pub mod Decimals
 pub mod Listing
+pub mod BranchLemmas
+pub mod MakingLemmas
 pub mod ExprLemmas
 pub mod Letters
 pub mod Shorter
 pub mod DayLemmas
+pub mod Sooner

@@ -1,16 +1,11 @@
 -- The tree with given nodes.
-use Rattle.std.specs.Prelude.{ℕ, List, [], ◌∷◌, map, reverse}
+use Rattle.std.specs.Prelude.{ℕ, List, [], ◌∷◌}
 use Rattle.expr_lang.specs.declared.tree.Leaf.TheVariants as leaf
-use Rattle.expr_lang.specs.declared.tree.Tree.{Tree}
 use Rattle.expr_lang.specs.declared.reading.Spot.{Spot}
 use Rattle.expr_lang.specs.declared.reading.Node.{Node}
 use Rattle.expr_lang.specs.declared.reading.Node.TheVariants as node
 use Rattle.expr_lang.specs.Leaves.{leaf_of_node}
-use Rattle.expr_lang.specs.Shape.{Shape, Operand, One, Two, Choice, shape_of}
-
--- a stack of trees, the last on top
-abbrev pub shapes_of : List Tree → List Shape
-shapes_of trees = map shape_of (reverse trees)
+use Rattle.expr_lang.specs.Shape.{Shape, Operand, One, Two, Choice}
 
 abbrev pub top_shape : List Shape → Shape
 top_shape [] = Operand (leaf.Number 0)

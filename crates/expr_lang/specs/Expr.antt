@@ -38,3 +38,8 @@ expression_from text days (Err f) = Err f
 -- the expression that a text is in its place, of a sort or of any, or the first fault
 unfoldable pub parse_of : Place → List (List ℕ) → Option Sort → List ℕ → Result Expression ExprFault
 parse_of place days wanted text = expression_from text days (accepted place days wanted text)
+
+-- these nodes are judged to be accepted, or to have a fault
+abbrev pub IsJudged : Nodes → Result Nodes ExprFault → Result Unit ExprFault → Type 0
+IsJudged nodes answer (Ok _) = answer ≡ Ok nodes
+IsJudged nodes answer (Err f) = answer ≡ Err f

@@ -6,14 +6,17 @@ pub mod Short
 pub mod Item
 pub mod Days
 pub mod Reading
+pub mod Quick
 pub mod Leaves
 pub mod Survey
 pub mod Shape
+pub mod Branches
 pub mod Syntax
 pub mod Stored
 pub mod Expression
 pub mod Build
 pub mod Items
+pub mod Making
 pub mod Print
 pub mod Parse
 pub mod Expr

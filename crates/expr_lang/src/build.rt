@@ -1,156 +1,245 @@
-//! The tree and the items with given nodes.
+//! The expression with given nodes, in one pass over them.
 
-ghost use Rattle.std.specs.Prelude.{◌≡◌, ◌∷◌, ◌++◌, ◌+◌, ◌↔◌, [], OnOk, IfOk, IsTrue, Contains, vec_len};
-ghost use Rattle.expr_lang.specs.Items.{item_of_leaf_of, occurrences, ListsOne, Lists};
-ghost use Rattle.expr_lang.specs.Leaves.{leaf_of_node};
-ghost use Rattle.expr_lang.specs.declared.reading.Node.TheVariants as node;
-ghost use Rattle.expr_lang.specs.Shape.{Shape, shape_of};
-ghost use Rattle.expr_lang.specs.Build.{shapes_of, top_shape, under_shape, shapes_after, built};
+ghost use Rattle.std.specs.Prelude.{◌≡◌, ◌↔◌, slice_get, slice_index, Some, None, OnOk, IfOk, IfSome, IfNone, IsTrue, Contains};
+ghost use Rattle.expr_lang.specs.Branches.{shape_in};
+ghost use Rattle.expr_lang.specs.Build.{built};
+ghost use Rattle.expr_lang.specs.Items.{occurrences, ListsOne, Lists};
+ghost use Rattle.expr_lang.specs.Making.{mark_of, top_waiting, under_waiting, with_branch, with_unary, with_binary, with_choice, new_making, IsMaking, IsNext, IsNextLeaf, IsListed};
+ghost use Rattle.expr_lang.specs.Survey.{survey_of};
 
 use crate::days::DayItems;
+use crate::expr::Expr;
 use crate::reading::{Node, Spot};
-use crate::survey::leaf_at;
-use crate::tree::{Binary, Item, Leaf, Tree, Unary};
+use crate::stack::Stack;
+use crate::survey::{Known, binary_known, if_known, leaf_at, leaf_known, nothing, unary_known};
+use crate::tree::{Binary, Branch, Item, Leaf, Unary};
+use dh_base::items::Items;
 use dh_base::memory::Memory;
+use dh_base::uid::Uid;
 use std::alloc::Global;
 
-fn take(stack: &mut Vec<Tree>) -> Tree
-    ensures top { shape_of result ≡ top_shape (shapes_of stack.old.items) }
-    ensures rest { shapes_of stack.new.items ≡ under_shape (shapes_of stack.old.items) }
+/// Room for as many items, and operands that wait, as most expressions have.
+const SOME: usize = 16;
+
+/// A whole operand that waits for its operator.
+#[derive(Clone, Copy)]
+pub struct Waiting {
+    pub known: Known,
+    pub node: usize,
+}
+
+/// What was made of the nodes so far.
+#[derive(Drop)]
+pub struct Making {
+    /// The first one stands for an operand that is missing, which is 0.
+    pub branches: Items<Branch>,
+    pub items: Items<Item>,
+    pub places: Items<usize>,
+    pub stack: Stack<Waiting>,
+}
+
+fn take(stack: &mut Stack<Waiting>) -> Waiting
+    ensures top { result ≡ top_waiting stack.old }
+    ensures rest { stack.new ≡ under_waiting stack.old }
 {
     match stack.pop() {
-        Some(tree) => tree,
-        None => Tree::Leaf(Leaf::Number(0)),
+        Some(waiting) => waiting,
+        None => Waiting {
+            known: nothing(),
+            node: 0,
+        },
     }
 }
 
-fn put(stack: &mut Vec<Tree>, tree: Tree) -> Result<(), Memory>
-    ensures { OnOk result (shapes_of stack.new.items ≡ shape_of tree ∷ shapes_of stack.old.items) }
+fn put(making: &mut Making, known: Known, branch: Branch) -> Result<(), Memory>
+    ensures { OnOk result (making.new ≡ with_branch known branch making.old) }
 {
-    stack.push(tree)?;
-    Ok(())
+    let node = making.branches.len();
+    making.branches.push(branch)?;
+    making.stack.push(Waiting { known, node })
 }
 
-fn take_boxed(alloc: Global, stack: &mut Vec<Tree>) -> Result<Box<Tree>, Memory>
-    ensures top { IfOk result (λ tree. shape_of tree.value ≡ top_shape (shapes_of stack.old.items)) }
-    ensures rest { shapes_of stack.new.items ≡ under_shape (shapes_of stack.old.items) }
+fn put_unary(making: &mut Making, at: usize, unary: Unary) -> Result<(), Memory>
+    ensures { OnOk result (making.new ≡ with_unary at unary making.old) }
 {
-    Ok(Box::new(alloc, take(stack))?)
+    let operand = take(&mut making.stack);
+    let known = unary_known(at, unary, operand.known);
+    put(making, known, Branch::Unary(unary, operand.node))
 }
 
-fn put_unary(alloc: Global, stack: &mut Vec<Tree>, unary: Unary) -> Result<(), Memory>
-    ensures { OnOk result (shapes_of stack.new.items ≡ shapes_after [] [] 0 (node.Unary unary) (shapes_of stack.old.items)) }
+fn put_binary(making: &mut Making, at: usize, binary: Binary) -> Result<(), Memory>
+    ensures { OnOk result (making.new ≡ with_binary at binary making.old) }
 {
-    let operand = take_boxed(alloc, stack)?;
-    put(stack, Tree::Unary(unary, operand))
+    let right = take(&mut making.stack);
+    let left = take(&mut making.stack);
+    let known = binary_known(at, binary, left.known, right.known);
+    put(making, known, Branch::Binary(binary, left.node, right.node))
 }
 
-fn put_binary(alloc: Global, stack: &mut Vec<Tree>, binary: Binary) -> Result<(), Memory>
-    ensures { OnOk result (shapes_of stack.new.items ≡ shapes_after [] [] 0 (node.Binary binary) (shapes_of stack.old.items)) }
+fn put_choice(making: &mut Making, at: usize) -> Result<(), Memory>
+    ensures { OnOk result (making.new ≡ with_choice at making.old) }
 {
-    let right = take_boxed(alloc, stack)?;
-    let left = take_boxed(alloc, stack)?;
-    put(stack, Tree::Binary(binary, left, right))
+    let other = take(&mut making.stack);
+    let one = take(&mut making.stack);
+    let test = take(&mut making.stack);
+    let known = if_known(at, test.known, one.known, other.known);
+    put(making, known, Branch::If(test.node, one.node, other.node))
 }
 
-fn put_choice(alloc: Global, stack: &mut Vec<Tree>) -> Result<(), Memory>
-    ensures { OnOk result (shapes_of stack.new.items ≡ shapes_after [] [] 0 node.If (shapes_of stack.old.items)) }
+fn last_byte(uid: Uid) -> u8
+    ensures { result ≡ slice_index uid 10 }
 {
-    let other = take_boxed(alloc, stack)?;
-    let one = take_boxed(alloc, stack)?;
-    let test = take_boxed(alloc, stack)?;
-    put(stack, Tree::If(test, one, other))
+    let bytes = uid.bytes();
+    bytes[10]
 }
 
-fn advance(
-    alloc: Global,
-    stack: &mut Vec<Tree>,
-    text: &[u8],
-    days: &DayItems,
-    spot: Spot,
-) -> Result<(), Memory>
-    ensures { OnOk result (shapes_of stack.new.items ≡ shapes_after text.now days.now spot.at spot.node (shapes_of stack.old.items)) }
+/// The last byte of an identifier of the item. Identifiers that were counted up differ there alone.
+fn mark(item: &Item) -> u8
+    ensures { result ≡ mark_of item.now }
 {
-    match spot.node {
-        Node::Unary(unary) => put_unary(alloc, stack, unary),
-        Node::Binary(binary) => put_binary(alloc, stack, binary),
-        Node::If => put_choice(alloc, stack),
-        _ => put(stack, Tree::Leaf(leaf_at(text, days, spot.at, spot.node))),
+    match item {
+        Item::Element {
+            element,
+            combo: _,
+            attribute: _,
+        } => last_byte(*element),
+        Item::StageElement { stage: _, element } => last_byte(*element),
+        Item::Constant(uid) => last_byte(*uid),
+        _ => 0,
     }
 }
 
-/// The tree with these nodes, each of which stands after its operands.
-#[tactic(auto, unfolding(crate::specs::Build::built))]
-pub fn build(alloc: Global, text: &[u8], days: &DayItems, nodes: &[Spot]) -> Result<Tree, Memory>
-    ensures { IfOk result (λ tree. shape_of tree ≡ built text.now days.now nodes.now) }
+fn is_equal(one: &Item, other: &Item) -> bool
+    ensures { IsTrue result ↔ (one.now ≡ other.now) }
 {
-    let mut stack = Vec::new(alloc);
-    for spot in nodes {
-        advance(alloc, &mut stack, text, days, *spot)?;
-    }
-    Ok(take(&mut stack))
+    one == other
 }
 
-fn item_of_leaf(leaf: &Leaf) -> Option<Item>
-    ensures { result ≡ item_of_leaf_of leaf.now }
+/// Most items that differ are told apart by one byte.
+fn is_same(one: &Item, other: &Item, own: u8) -> bool
+    requires { own ≡ mark_of other.now }
+    ensures { IsTrue result ↔ (one.now ≡ other.now) }
+{
+    if mark(one) != own {
+        return false;
+    }
+    is_equal(one, other)
+}
+
+/// The place of an item in a list.
+fn place_of(items: &[Item], item: &Item) -> Option<usize>
+    ensures found { IfSome result (λ k. slice_get items.now k ≡ Some item.now) }
+    ensures none { IfNone result (¬ Contains items.now item.now) }
+{
+    let own = mark(item);
+    for n in 0..items.len() {
+        if is_same(&items[n], item, own) {
+            return Some(n);
+        }
+    }
+    None
+}
+
+/// The place of an item among those so far. One that isn't there is put at the end.
+fn list(
+    items: &mut Items<Item>,
+    places: &mut Items<usize>,
+    item: &Item,
+    at: usize,
+) -> Result<usize, Memory>
+    ensures found { IfOk result (λ k. slice_get items.new k ≡ Some item.now) }
+    ensures listed { OnOk result (ListsOne (Some item.now) at items.old places.old items.new places.new) }
+{
+    if let Some(place) = place_of(items.as_slice(), item) {
+        return Ok(place);
+    }
+    let place = items.len();
+    items.push(*item)?;
+    places.push(at)?;
+    Ok(place)
+}
+
+/// The node that an operand is.
+fn branch_of(
+    items: &mut Items<Item>,
+    places: &mut Items<usize>,
+    leaf: &Leaf,
+    at: usize,
+) -> Result<Branch, Memory>
+    ensures { IfOk result (λ branch. IsListed leaf.now at items.old places.old items.new places.new branch) }
 {
     match leaf {
-        Leaf::Number(_) => None,
-        Leaf::Item(item) => Some(*item),
-        Leaf::Day(item) => Some(*item),
+        Leaf::Number(number) => Ok(Branch::Number(*number)),
+        Leaf::Item(item) => Ok(Branch::Item(list(items, places, item, at)?)),
+        Leaf::Day(item) => Ok(Branch::Day(list(items, places, item, at)?)),
     }
 }
 
-fn is_among(item: &Item, items: &Vec<Item>) -> bool
-    ensures { IsTrue result ↔ Contains items.now.items item.now }
+fn put_leaf(making: &mut Making, at: usize, leaf: &Leaf) -> Result<(), Memory>
+    requires { IsMaking making.old }
+    ensures { OnOk result (IsNextLeaf at leaf.now making.old making.new) }
 {
-    items.contains(item)
+    let known = leaf_known(at, leaf);
+    let branch = branch_of(&mut making.items, &mut making.places, leaf, at)?;
+    put(making, known, branch)
 }
 
-/// The different items in order of their first occurrence, and the places of these.
-pub fn list_items(
+fn advance(making: &mut Making, text: &[u8], days: &DayItems, spot: Spot) -> Result<(), Memory>
+    requires { IsMaking making.old }
+    ensures { OnOk result (IsNext text.now days.now spot.at spot.node making.old making.new) }
+{
+    match spot.node {
+        Node::Unary(unary) => put_unary(making, spot.at, unary),
+        Node::Binary(binary) => put_binary(making, spot.at, binary),
+        Node::If => put_choice(making, spot.at),
+        _ => {
+            let leaf = leaf_at(text, days, spot.at, spot.node);
+            put_leaf(making, spot.at, &leaf)
+        }
+    }
+}
+
+/// Nothing yet, with room for so many nodes.
+fn begin(alloc: Global, count: usize) -> Result<Making, Memory>
+    ensures { IfOk result (λ making. making ≡ new_making) }
+{
+    let mut branches = Vec::with_capacity(alloc, count.saturating_add(1))?;
+    branches.push(Branch::Number(0))?;
+    Ok(Making {
+        branches: Items::from(branches),
+        items: Items::from(Vec::with_capacity(alloc, SOME)?),
+        places: Items::from(Vec::with_capacity(alloc, SOME)?),
+        stack: Stack::with_room(alloc, SOME)?,
+    })
+}
+
+/// What was made is whole once all nodes were met.
+fn finish(mut making: Making) -> (Known, Expr)
+    requires { IsMaking making }
+    ensures known { result.0 ≡ (top_waiting making.stack).known }
+    ensures tree { result.1.tree ≡ shape_in making.items making.branches (top_waiting making.stack).node }
+    ensures items { result.1.items ≡ making.items }
+    ensures places { result.1.places ≡ making.places }
+{
+    let whole = take(&mut making.stack);
+    let expr = Expr::new(making.branches, making.items, making.places);
+    (whole.known, expr)
+}
+
+/// The expression with these nodes, each of which stands after its operands, and what is known of it.
+pub fn build(
     alloc: Global,
     text: &[u8],
     days: &DayItems,
     nodes: &[Spot],
-) -> Result<(Vec<Item>, Vec<usize>), Memory>
-    ensures value { IfOk result (λ listed. Lists (occurrences text.now days.now nodes.now) listed.0.items listed.1.items) }
-    ensures paired { IfOk result (λ listed. vec_len listed.0 ≡ vec_len listed.1) }
+) -> Result<(Known, Expr), Memory>
+    ensures known { IfOk result (λ made. made.0 ≡ survey_of text.now days.now nodes.now) }
+    ensures tree { IfOk result (λ made. made.1.tree ≡ built text.now days.now nodes.now) }
+    ensures items { IfOk result (λ made. Lists (occurrences text.now days.now nodes.now) made.1.items made.1.places) }
 {
-    let mut items = Vec::new(alloc);
-    let mut places = Vec::new(alloc);
+    let mut making = begin(alloc, nodes.len())?;
     for spot in nodes {
-        list(&mut items, &mut places, text, days, *spot)?;
+        advance(&mut making, text, days, *spot)?;
     }
-    Ok((items, places))
-}
-
-fn put_last<T: Copy>(list: &mut Vec<T>, item: T) -> Result<(), Memory>
-    ensures items { OnOk result (list.new.items ≡ list.old.items ++ item ∷ []) }
-    ensures len { OnOk result (vec_len list.new ≡ vec_len list.old + 1) }
-{
-    list.push(item)?;
-    Ok(())
-}
-
-/// Puts the item of a node at the end, unless it has none or one that is there already.
-fn list(
-    items: &mut Vec<Item>,
-    places: &mut Vec<usize>,
-    text: &[u8],
-    days: &DayItems,
-    spot: Spot,
-) -> Result<(), Memory>
-    ensures value { OnOk result (ListsOne (item_of_leaf_of (leaf_of_node text.now days.now spot.at spot.node)) spot.at
-        items.old.items places.old.items items.new.items places.new.items) }
-    ensures paired { OnOk result (vec_len items.old ≡ vec_len places.old → vec_len items.new ≡ vec_len places.new) }
-{
-    let leaf = leaf_at(text, days, spot.at, spot.node);
-    if let Some(item) = item_of_leaf(&leaf) {
-        if !is_among(&item, items) {
-            put_last(places, spot.at)?;
-            put_last(items, item)?;
-        }
-    }
-    Ok(())
+    Ok(finish(making))
 }

@@ -1,63 +1,67 @@
 //! Expressions that were read.
 
-use crate::tree::{Item, Tree};
+use crate::tree::{Branch, Item};
+use dh_base::items::Items;
 use std::marker::Model;
 
 /// An expression that was read.
 #[derive(Drop)]
 pub struct Expr {
-    tree: Tree,
-    items: Vec<Item>,
-    places: Vec<usize>,
+    branches: Items<Branch>,
+    items: Items<Item>,
+    places: Items<usize>,
 }
 
 impl Model for Expr {
-    ghost use Rattle.std.specs.Prelude.{◌≡◌, vec_len};
     ghost use Rattle.expr_lang.specs.contracts.tree.Item as item;
     ghost use Rattle.expr_lang.specs.contracts.tree.Leaf as leaf;
     ghost use Rattle.expr_lang.specs.contracts.tree.Unary as unary;
     ghost use Rattle.expr_lang.specs.contracts.tree.Binary as binary;
     ghost use Rattle.expr_lang.specs.Expression.{Expression, expression_code};
-    ghost use Rattle.expr_lang.specs.Shape.{shape_of};
+    ghost use Rattle.expr_lang.specs.Branches.{tree_in, AreParts};
 
     ghost Value = { Expression };
 
     ghost coded = { expression_code leaf.the_row.coded unary.the_row.coded binary.the_row.coded item.the_row.coded };
 
-    ghost view = { λ e. record { tree = shape_of e.tree; items = e.items.items; places = e.places.items } };
+    ghost view = { λ e. record { tree = tree_in e.items e.branches; items = e.items; places = e.places } };
 
-    ghost invariant = { λ e. vec_len e.items ≡ vec_len e.places };
+    ghost invariant = { λ e. AreParts e.branches e.items e.places };
 }
 
 impl Expr {
-    ghost use Rattle.std.specs.Prelude.{◌≡◌, ◌<◌, length, slice_index, vec_len};
-    ghost use Rattle.expr_lang.specs.Shape.{shape_of};
+    ghost use Rattle.std.specs.Prelude.{◌≡◌, ◌<◌, length, slice_index};
+    ghost use Rattle.expr_lang.specs.Branches.{tree_in, AreSound, AreDifferent, AreParts};
 
-    pub(crate) fn new(tree: Tree, items: Vec<Item>, places: Vec<usize>) -> Expr
-        requires { vec_len items ≡ vec_len places }
-        ensures tree { result.tree ≡ shape_of tree }
-        ensures items { result.items ≡ items.items }
-        ensures places { result.places ≡ places.items }
+    pub(crate) fn new(branches: Items<Branch>, items: Items<Item>, places: Items<usize>) -> Expr
+        requires { AreParts branches items places }
+        ensures tree { result.tree ≡ tree_in items branches }
+        ensures items { result.items ≡ items }
+        ensures places { result.places ≡ places }
     {
         Expr {
-            tree,
+            branches,
             items,
             places,
         }
     }
 
-    /// The tree. Its depth is at most 512.
-    pub fn tree(&self) -> &Tree
-        ensures { shape_of result.now ≡ self.now.tree }
+    /// The nodes, each after its operands. The last one is the whole expression, and the others need
+    /// not all be part of it. Their depth is at most 512.
+    pub fn branches(&self) -> &[Branch]
+        ensures tree { self.now.tree ≡ tree_in self.now.items result.now }
+        ensures some { 0 < length result.now }
+        ensures sound { AreSound (length self.now.items) result.now }
+        ensures different { AreDifferent self.now.items }
     {
-        &self.tree
+        self.branches.as_slice()
     }
 
     /// The different items, in order of their first occurrence.
     pub fn items(&self) -> &[Item]
         ensures { result.now ≡ self.now.items }
     {
-        &self.items
+        self.items.as_slice()
     }
 
     /// The first byte of the first occurrence of an item.
@@ -65,6 +69,6 @@ impl Expr {
         requires { n < length self.now.items }
         ensures { result ≡ slice_index self.now.places n }
     {
-        self.places[n]
+        self.places.as_slice()[n]
     }
 }

@@ -3,16 +3,16 @@
 ghost use Rattle.std.specs.Prelude.{◌≡◌, Some, None, IfOk};
 ghost use Rattle.dh_base.specs.Memory.{Answers};
 ghost use Rattle.expr_lang.specs.Causes.{cause_of, stop_of};
-ghost use Rattle.expr_lang.specs.Expr.{IsOf, parse_of};
+ghost use Rattle.expr_lang.specs.Expr.{IsOf, IsJudged, parse_of};
 ghost use Rattle.expr_lang.specs.Parse.{nodes_of_text, judged, accepted, Accepts};
 ghost use Rattle.expr_lang.specs.Survey.{survey_of};
 
-use crate::build::{build, list_items};
+use crate::build::build;
 use crate::days::DayItems;
 use crate::expr::Expr;
 use crate::fault::{ExprFault, ReadFault};
 use crate::reading::{Nodes, read};
-use crate::survey::{Known, misfit_as, survey};
+use crate::survey::{Known, misfit_as};
 use crate::tree::{Place, Sort};
 use dh_base::memory::Memory;
 use std::alloc::Global;
@@ -35,9 +35,9 @@ fn nodes_of(alloc: Global, text: &[u8], place: Place) -> Result<Nodes, ReadFault
     }
 }
 
-/// What is read, unless it is too deep or its sorts don't fit.
-fn judge(nodes: Nodes, known: Known, wanted: Option<Sort>) -> Result<Nodes, ExprFault>
-    ensures { result ≡ judged known wanted nodes }
+/// Whether what is read isn't too deep and its sorts fit.
+fn judge(nodes: &Nodes, known: Known, wanted: Option<Sort>) -> Result<(), ExprFault>
+    ensures { IsJudged nodes.now (judged known wanted nodes.now) result }
 {
     if known.depth > MOST_DEPTH {
         return Err(ExprFault::TooDeep { at: 0 });
@@ -48,38 +48,38 @@ fn judge(nodes: Nodes, known: Known, wanted: Option<Sort>) -> Result<Nodes, Expr
     if let Some(at) = misfit_as(known, wanted) {
         return Err(ExprFault::Sort { at });
     }
-    Ok(nodes)
+    Ok(())
+}
+
+/// The expression with these nodes, and what is known of it.
+fn with_nodes(
+    alloc: Global,
+    text: &[u8],
+    days: &DayItems,
+    nodes: &Nodes,
+) -> Result<(Known, Expr), Memory>
+    ensures known { IfOk result (λ made. made.0 ≡ survey_of text.now days.now nodes.now.nodes) }
+    ensures value { IfOk result (λ made. IsOf text.now days.now made.1 nodes.now) }
+{
+    build(alloc, text, days, nodes.nodes.as_slice())
+}
+
+/// The expression with these nodes, unless it is too deep or its sorts don't fit.
+fn judged_with(
+    alloc: Global,
+    text: &[u8],
+    days: &DayItems,
+    nodes: &Nodes,
+    wanted: Option<Sort>,
+) -> Result<Expr, ExprFault>
+    ensures { Accepts (λ expr nodes. IsOf text.now days.now expr nodes) result (judged (survey_of text.now days.now nodes.now.nodes) wanted nodes.now) }
+{
+    let (known, expr) = with_nodes(alloc, text, days, nodes)?;
+    judge(nodes, known, wanted)?;
+    Ok(expr)
 }
 
 #[tactic(auto, unfolding(crate::specs::Parse::accepted))]
-fn accept(
-    alloc: Global,
-    text: &[u8],
-    place: Place,
-    days: &DayItems,
-    wanted: Option<Sort>,
-) -> Result<Nodes, ExprFault>
-    ensures { Answers cause_of (accepted place days.now wanted text.now) result }
-{
-    match nodes_of(alloc, text, place) {
-        Err(ReadFault::Syntax(at)) => Err(ExprFault::Syntax { at }),
-        Err(ReadFault::Memory) => Err(ExprFault::Memory),
-        Ok(nodes) => {
-            let known = survey(alloc, text, days, nodes.nodes.as_slice())?;
-            judge(nodes, known, wanted)
-        }
-    }
-}
-
-/// The expression of a text with these nodes.
-fn with_nodes(alloc: Global, text: &[u8], days: &DayItems, nodes: &Nodes) -> Result<Expr, Memory>
-    ensures { IfOk result (λ expr. IsOf text.now days.now expr nodes.now) }
-{
-    let tree = build(alloc, text, days, nodes.nodes.as_slice())?;
-    let (items, places) = list_items(alloc, text, days, nodes.nodes.as_slice())?;
-    Ok(Expr::new(tree, items, places))
-}
-
 fn whole(
     alloc: Global,
     text: &[u8],
@@ -89,9 +89,11 @@ fn whole(
 ) -> Result<Expr, ExprFault>
     ensures { Accepts (λ expr nodes. IsOf text.now days.now expr nodes) result (accepted place days.now wanted text.now) }
 {
-    let nodes = accept(alloc, text, place, days, wanted)?;
-    let expr = with_nodes(alloc, text, days, &nodes)?;
-    Ok(expr)
+    match nodes_of(alloc, text, place) {
+        Err(ReadFault::Syntax(at)) => Err(ExprFault::Syntax { at }),
+        Err(ReadFault::Memory) => Err(ExprFault::Memory),
+        Ok(nodes) => judged_with(alloc, text, days, &nodes, wanted),
+    }
 }
 
 /// The expression that a text is, of any sort. `days` has the elements and attributes whose values

@@ -1,16 +1,16 @@
 //! Expressions as text.
 
-ghost use Rattle.std.specs.Prelude.{◌≡◌, ◌++◌, ◌<◌, ◌≤◌, ◌^◌, ◌+◌, [], if◌then◌else◌, OnOk, IfOk, codes, nat_eq};
+ghost use Rattle.std.specs.Prelude.{◌≡◌, ◌++◌, ◌<◌, ◌≤◌, ◌^◌, ◌+◌, [], if◌then◌else◌, OnOk, IfOk, codes, length, nat_eq};
 ghost use Rattle.std.specs.Fmt.{decimal};
-ghost use Rattle.expr_lang.specs.Print.{decimals_text, number_text, rate_name_of, more_text, named_text, item_text, leaf_text, unary_level_of};
+ghost use Rattle.expr_lang.specs.Print.{decimals_text, number_text, rate_name_of, more_text, named_text, item_text, unary_level_of};
 ghost use Rattle.expr_lang.specs.Print.{binary_level_of, exponent_text, before_of, behind_of, inner_level_of, opening_of, between_of, closing_of};
 ghost use Rattle.expr_lang.specs.Print.{left_level_of, right_level_of, text_from};
-ghost use Rattle.expr_lang.specs.Shape.{shape_of};
+ghost use Rattle.expr_lang.specs.Branches.{shape_in, AreSound};
 ghost use Rattle.expr_lang.specs.Words.{operator_text_of};
 
 use crate::expr::Expr;
 use crate::reading::level;
-use crate::tree::{Binary, Item, Leaf, Tree, Unary};
+use crate::tree::{Binary, Branch, Item, Unary, branch_at};
 use crate::words::operator_text;
 use dh_base::memory::Memory;
 use dh_base::plain::Rate;
@@ -22,7 +22,15 @@ pub fn print(alloc: Global, expr: &Expr) -> Result<Vec<u8>, Memory>
     ensures { IfOk result (λ text. text.items ≡ text_from 0 expr.now.tree) }
 {
     let mut out = Vec::new(alloc);
-    put_tree(alloc, &mut out, 0, expr.tree())?;
+    let branches = expr.branches();
+    put_tree(
+        alloc,
+        &mut out,
+        0,
+        expr.items(),
+        branches,
+        branches.len() - 1,
+    )?;
     Ok(out)
 }
 
@@ -156,34 +164,45 @@ fn closing(binary: Binary) -> &'static [u8]
     }
 }
 
-/// The text of a tree where it has to bind at least so tightly.
-fn put_tree(alloc: Global, out: &mut Vec<u8>, least: u8, tree: &Tree) -> Result<(), Memory>
-    ensures { OnOk result (out.new.items ≡ out.old.items ++ text_from least (shape_of tree.now)) }
+/// The text of the tree at a place where it has to bind at least so tightly.
+fn put_tree(
+    alloc: Global,
+    out: &mut Vec<u8>,
+    least: u8,
+    items: &[Item],
+    branches: &[Branch],
+    n: usize,
+) -> Result<(), Memory>
+    requires within { n < length branches.now }
+    requires sound { AreSound (length items.now) branches.now }
+    ensures { OnOk result (out.new.items ≡ out.old.items ++ text_from least (shape_in items.now branches.now n)) }
 {
-    match tree {
-        Tree::Leaf(leaf) => put_leaf(alloc, out, leaf),
-        Tree::Unary(unary, operand) => {
-            let inside = unary_level(*unary) < least;
-            put_opening(out, inside, before(*unary))?;
-            put_tree(alloc, out, inner_level(*unary), operand)?;
-            put_behind(out, *unary)?;
+    match branch_at(items, branches, n) {
+        Branch::Number(number) => put_number(alloc, out, number),
+        Branch::Item(k) => put_item(out, &items[k]),
+        Branch::Day(k) => put_item(out, &items[k]),
+        Branch::Unary(unary, operand) => {
+            let inside = unary_level(unary) < least;
+            put_opening(out, inside, before(unary))?;
+            put_tree(alloc, out, inner_level(unary), items, branches, operand)?;
+            put_behind(out, unary)?;
             put_if(out, inside, b")")
         }
-        Tree::Binary(binary, left, right) => {
-            let inside = binary_level(*binary) < least;
-            put_opening(out, inside, opening(*binary))?;
-            put_tree(alloc, out, left_level(*binary), left)?;
-            put(out, between(*binary))?;
-            put_tree(alloc, out, right_level(*binary), right)?;
-            put_closing(out, inside, closing(*binary))
+        Branch::Binary(binary, left, right) => {
+            let inside = binary_level(binary) < least;
+            put_opening(out, inside, opening(binary))?;
+            put_tree(alloc, out, left_level(binary), items, branches, left)?;
+            put(out, between(binary))?;
+            put_tree(alloc, out, right_level(binary), items, branches, right)?;
+            put_closing(out, inside, closing(binary))
         }
-        Tree::If(test, one, other) => {
+        Branch::If(test, one, other) => {
             put(out, b"if(")?;
-            put_tree(alloc, out, 0, test)?;
+            put_tree(alloc, out, 0, items, branches, test)?;
             put(out, b",")?;
-            put_tree(alloc, out, 0, one)?;
+            put_tree(alloc, out, 0, items, branches, one)?;
             put(out, b",")?;
-            put_tree(alloc, out, 0, other)?;
+            put_tree(alloc, out, 0, items, branches, other)?;
             put(out, b")")
         }
     }
@@ -207,16 +226,6 @@ fn put_if(out: &mut Vec<u8>, needed: bool, text: &[u8]) -> Result<(), Memory>
     ensures { OnOk result (out.new.items ≡ out.old.items ++ (if needed then text.now else [])) }
 {
     if needed { put(out, text) } else { Ok(()) }
-}
-
-fn put_leaf(alloc: Global, out: &mut Vec<u8>, leaf: &Leaf) -> Result<(), Memory>
-    ensures { OnOk result (out.new.items ≡ out.old.items ++ leaf_text leaf.now) }
-{
-    match leaf {
-        Leaf::Number(millionths) => put_number(alloc, out, *millionths),
-        Leaf::Item(item) => put_item(out, item),
-        Leaf::Day(item) => put_item(out, item),
-    }
 }
 
 #[tactic(auto, unfolding(crate::specs::Print::number_text))]

@@ -1,6 +1,6 @@
 //! Reading a text from left to right.
 
-ghost use Rattle.std.specs.Prelude.{◌≡◌, ◌≤◌, ◌<◌, ◌^◌, length, map, drop, List, OnOk, IfErr, MatchResult, Err, true};
+ghost use Rattle.std.specs.Prelude.{◌≡◌, ◌≤◌, ◌<◌, ◌^◌, length, map, drop, List, OnOk, IfOk, IfErr, MatchResult, Err, true};
 ghost use Rattle.dh_base.specs.Memory.{Answers, IsCause};
 ghost use Rattle.expr_lang.specs.Causes.{stop_of};
 ghost use Rattle.expr_lang.specs.Reading.{level_of, node_level, enclosing_of, compares, least_arguments, most_arguments, allow, all_allowed};
@@ -11,11 +11,13 @@ ghost use Rattle.expr_lang.specs.Reading.{with_quote, with_word, with_exponent, 
 ghost use Rattle.expr_lang.specs.Reading.{read_text};
 ghost use Rattle.expr_lang.specs.Reading.{number_found as specs_number_found, exponent_found as specs_exponent_found, word_found as specs_word_found};
 ghost use Rattle.expr_lang.specs.Reading.{most_words as words_limit};
+ghost use Rattle.expr_lang.specs.Quick.{name_of, other_of, mark_after, follower_of, item_at_of, item_word, operand_of, bracket_of_call, quick_word_of};
 ghost use Rattle.expr_lang.specs.Stack.{top_of};
 ghost use Rattle.expr_lang.specs.Words.{letter_of};
 ghost use Rattle.expr_lang.specs.Token.{number_of, exponent_of};
 
 use crate::fault::ReadFault;
+use crate::quick::{call_at, item_at, sole_operator};
 use crate::stack::Stack;
 use crate::token::{Allowed, Front, exponent_at, longest, number_at};
 use crate::tree::{Binary, Place, Unary};
@@ -298,6 +300,109 @@ fn word_found(front: Front) -> Result<Found, usize>
     }
 }
 
+/// A mark after an operand, where it may stand.
+#[tactic(auto, unfolding(crate::specs::Quick::mark_after))]
+fn mark_at(frames: &Stack<Frame>, caret: bool, byte: u8) -> Option<(Symbol, usize)>
+    ensures { result ≡ mark_after frames.now caret byte }
+{
+    if byte == b')' && allowed_at(frames, caret).close {
+        return Some((Symbol::Close, 1));
+    }
+    if byte == b',' && allowed_at(frames, caret).comma {
+        return Some((Symbol::Comma, 1));
+    }
+    None
+}
+
+#[tactic(auto, unfolding(crate::specs::Quick::follower_of))]
+fn follower_at(frames: &Stack<Frame>, caret: bool, byte: u8) -> Option<(Symbol, usize)>
+    ensures { result ≡ follower_of frames.now caret byte }
+{
+    match sole_operator(byte) {
+        Some(operator) => Some((Symbol::Operator(operator), 1)),
+        None => mark_at(frames, caret, byte),
+    }
+}
+
+fn item_word_at(place: Place, bytes: &[u8]) -> Option<(Symbol, usize)>
+    ensures { result ≡ item_word (item_at_of place bytes.now) }
+{
+    match item_at(place, bytes) {
+        Some((form, len)) => Some((Symbol::Item(form), len)),
+        None => None,
+    }
+}
+
+#[tactic(auto, unfolding(crate::specs::Quick::operand_of))]
+fn operand_at(place: Place, bytes: &[u8]) -> Option<(Symbol, usize)>
+    requires { 0 < length bytes.now }
+    ensures { result ≡ operand_of place bytes.now }
+{
+    if bytes[0] == b'(' {
+        Some((Symbol::Open, 1))
+    } else if bytes[0] == b'-' {
+        Some((Symbol::Minus, 1))
+    } else {
+        call_at(place, bytes)
+    }
+}
+
+fn other_at(expect: Expect, place: Place, bytes: &[u8]) -> Option<(Symbol, usize)>
+    requires { 0 < length bytes.now }
+    ensures { result ≡ other_of expect place bytes.now }
+{
+    match expect {
+        Expect::Start | Expect::Operand => operand_at(place, bytes),
+        _ => None,
+    }
+}
+
+/// An item, or else what may open an operand that isn't one.
+#[tactic(auto, unfolding(crate::specs::Quick::name_of))]
+fn name_at(expect: Expect, place: Place, bytes: &[u8]) -> Option<(Symbol, usize)>
+    requires { 0 < length bytes.now }
+    ensures { result ≡ name_of expect place bytes.now }
+{
+    match item_word_at(place, bytes) {
+        Some(found) => Some(found),
+        None => other_at(expect, place, bytes),
+    }
+}
+
+#[tactic(auto, unfolding(crate::specs::Quick::bracket_of_call))]
+fn bracket_at(byte: u8) -> Option<(Symbol, usize)>
+    ensures { result ≡ bracket_of_call byte }
+{
+    if byte == b'(' {
+        Some((Symbol::Open, 1))
+    } else {
+        None
+    }
+}
+
+/// The next word and its length, where its first bytes tell which it is.
+#[tactic(auto, unfolding(crate::specs::Quick::quick_word_of))]
+fn quick_word(
+    expect: Expect,
+    frames: &Stack<Frame>,
+    place: Place,
+    bytes: &[u8],
+) -> Option<(Symbol, usize)>
+    ensures { result ≡ quick_word_of expect frames.now place bytes.now }
+{
+    if bytes.is_empty() {
+        return None;
+    }
+    match expect {
+        Expect::Operator(caret) => follower_at(frames, caret, bytes[0]),
+        Expect::Start | Expect::Operand | Expect::Item | Expect::Plain => {
+            name_at(expect, place, bytes)
+        }
+        Expect::Bracket => bracket_at(bytes[0]),
+        _ => None,
+    }
+}
+
 /// The next token of the text, or how many bytes may begin one.
 #[tactic(auto, unfolding(crate::specs::Reading::token_from))]
 fn token_at(
@@ -315,6 +420,12 @@ fn token_at(
     }
     if takes_a_number(expect) && !bytes.is_empty() && bytes[0].is_ascii_digit() {
         return number_found(bytes);
+    }
+    if let Some((symbol, len)) = quick_word(expect, frames, place, bytes) {
+        return Ok(Found {
+            token: Token::Word(symbol),
+            len,
+        });
     }
     word_found(longest(
         allowed(expect, frames, quoted),
@@ -347,17 +458,20 @@ fn reduce(frames: &mut Stack<Frame>, nodes: &mut Items<Spot>, least: u8) -> Resu
 }
 
 impl Reader {
-    pub fn new(alloc: Global) -> Reader
-        ensures { result ≡ new_reader }
+    /// A reader of a text of so many bytes, with room for what most texts of this length need.
+    fn with_room(alloc: Global, len: usize) -> Result<Reader, Memory>
+        ensures { IfOk result (λ reader. reader ≡ new_reader) }
     {
-        Reader {
+        let frames = Stack::with_room(alloc, len / 16 + 8)?;
+        let nodes = Items::from(Vec::with_capacity(alloc, len / 8 + 16)?);
+        Ok(Reader {
             expect: Expect::Start,
-            frames: Stack::new(alloc),
-            nodes: Items::new(alloc),
+            frames,
+            nodes,
             opened: 0,
             crowded: None,
             quoted: false,
-        }
+        })
     }
 }
 
@@ -626,7 +740,18 @@ fn is_blank(byte: u8) -> bool
     byte == b' ' || byte == b'\t' || byte == b'\r' || byte == b'\n'
 }
 
+/// How many blanks stand at the front. Most words have none before them, which the first byte tells.
 fn blanks(bytes: &[u8]) -> usize
+    ensures count { result ≡ blank_count bytes.now }
+    ensures within { result ≤ length bytes.now }
+{
+    if bytes.is_empty() || !is_blank(bytes[0]) {
+        return 0;
+    }
+    blank_run(bytes)
+}
+
+fn blank_run(bytes: &[u8]) -> usize
     ensures count { result ≡ blank_count bytes.now }
     ensures within { result ≤ length bytes.now }
 {
@@ -693,6 +818,14 @@ pub fn rest(text: &[u8], at: usize) -> &[u8]
     }
 }
 
+/// The text from a place in it on.
+fn tail(text: &[u8], at: usize) -> &[u8]
+    requires { at ≤ length text.now }
+    ensures { result.now ≡ drop at text.now }
+{
+    &text[at..]
+}
+
 /// How many words a text of 4,096 bytes has at most, and one more.
 #[tactic(auto, unfolding(crate::specs::Reading::most_words))]
 fn most_words() -> usize
@@ -707,16 +840,16 @@ fn most_words() -> usize
 pub fn read(alloc: Global, text: &[u8], place: Place) -> Result<Nodes, ReadFault>
     ensures { Answers stop_of (read_text place text.now) result }
 {
-    let mut reader = Reader::new(alloc);
+    let mut reader = Reader::with_room(alloc, text.len())?;
     let mut at = 0;
     let mut most = most_words();
     while most > 0 {
         most -= 1;
-        at += blanks(rest(text, at));
+        at += blanks(tail(text, at));
         if at == text.len() {
             return finish(reader, at);
         }
-        let bytes = rest(text, at);
+        let bytes = tail(text, at);
         let found = token_at(reader.expect, &reader.frames, reader.quoted, place, bytes);
         match found {
             Err(len) => return Err(ReadFault::Syntax(at + len)),

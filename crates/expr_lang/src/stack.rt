@@ -1,6 +1,6 @@
 //! A stack, which contracts see as the list of its items, the topmost first.
 
-ghost use Rattle.std.specs.Prelude.{◌≡◌, ◌+◌, ◌<◌, ◌^◌, ◌∷◌, [], length, drop, slice_get, OnOk, IfSome, IfNone};
+ghost use Rattle.std.specs.Prelude.{◌≡◌, ◌+◌, ◌<◌, ◌^◌, ◌∷◌, [], length, drop, slice_get, OnOk, IfOk, IfSome, IfNone};
 ghost use Rattle.expr_lang.specs.Stack.{top_of, rest_of};
 
 use dh_base::memory::Memory;
@@ -27,6 +27,15 @@ impl<T> Stack<T> {
         Stack {
             entries: Vec::new(alloc),
         }
+    }
+
+    /// An empty stack with room for so many items.
+    pub fn with_room(alloc: Global, room: usize) -> Result<Stack<T>, Memory>
+        ensures { IfOk result (λ stack. stack ≡ []) }
+    {
+        Ok(Stack {
+            entries: Vec::with_capacity(alloc, room)?,
+        })
     }
 
     pub fn push(&mut self, item: T) -> Result<(), Memory>

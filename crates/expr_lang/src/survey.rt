@@ -1,18 +1,15 @@
-//! The depth and the sorts of a tree, from its nodes.
+//! The depth and the sorts of an operand, from those of its parts.
 
-ghost use Rattle.std.specs.Prelude.{◌≡◌, OnOk, IfOk};
+ghost use Rattle.std.specs.Prelude.{◌≡◌};
 ghost use Rattle.expr_lang.specs.Leaves.{leaf_of_node};
 ghost use Rattle.expr_lang.specs.Survey.{same_sort, leaf_sort_of, is_literal_of, taken_by_of, given_by_of, taken_by_two, given_by_two, first_of_two, edge_of};
-ghost use Rattle.expr_lang.specs.Survey.{one_deeper, edge_if_taken, leaf_known_of, unary_known_of, deeper_of, binary_known_of, if_known_of, topmost, below};
-ghost use Rattle.expr_lang.specs.Survey.{known_after, survey_of, misfit_of};
+ghost use Rattle.expr_lang.specs.Survey.{one_deeper, edge_if_taken, leaf_known_of, unary_known_of, deeper_of, binary_known_of, if_known_of};
+ghost use Rattle.expr_lang.specs.Survey.{nothing_known, misfit_of};
 
 use crate::days::DayItems;
 use crate::item::{item_of, leaf_of};
-use crate::reading::{Node, Spot, rest};
-use crate::stack::Stack;
+use crate::reading::{Node, rest};
 use crate::tree::{Binary, Leaf, Sort, Unary};
-use dh_base::memory::Memory;
-use std::alloc::Global;
 
 /// What is known of a whole operand.
 #[derive(Clone, Copy)]
@@ -150,14 +147,14 @@ fn edge_at(at: usize, taken: Option<Sort>, operand: Known) -> Option<usize>
     }
 }
 
-fn leaf_known(at: usize, leaf: Leaf) -> Known
-    ensures { result ≡ leaf_known_of at leaf }
+pub fn leaf_known(at: usize, leaf: &Leaf) -> Known
+    ensures { result ≡ leaf_known_of at leaf.now }
 {
     Known {
         depth: 1,
-        sort: leaf_sort(&leaf),
+        sort: leaf_sort(leaf),
         at,
-        literal: is_literal(&leaf),
+        literal: is_literal(leaf),
         misfit: None,
     }
 }
@@ -169,7 +166,7 @@ fn deepened(depth: u64) -> u64
     if depth < 513 { depth + 1 } else { depth }
 }
 
-fn unary_known(at: usize, unary: Unary, operand: Known) -> Known
+pub fn unary_known(at: usize, unary: Unary, operand: Known) -> Known
     ensures { result ≡ unary_known_of at unary operand }
 {
     Known {
@@ -190,7 +187,7 @@ fn deeper(binary: Binary, depth: u64) -> u64
     }
 }
 
-fn binary_known(at: usize, binary: Binary, left: Known, right: Known) -> Known
+pub fn binary_known(at: usize, binary: Binary, left: Known, right: Known) -> Known
     ensures { result ≡ binary_known_of at binary left right }
 {
     let taken = taken_by_binary(binary);
@@ -204,7 +201,7 @@ fn binary_known(at: usize, binary: Binary, left: Known, right: Known) -> Known
     }
 }
 
-fn if_known(at: usize, test: Known, one: Known, other: Known) -> Known
+pub fn if_known(at: usize, test: Known, one: Known, other: Known) -> Known
     ensures { result ≡ if_known_of at test one other }
 {
     let numbers = first(edge(at, Sort::Number, one), edge(at, Sort::Number, other));
@@ -219,56 +216,17 @@ fn if_known(at: usize, test: Known, one: Known, other: Known) -> Known
     }
 }
 
-fn take(stack: &mut Stack<Known>) -> Known
-    ensures top { result ≡ topmost stack.old }
-    ensures rest { stack.new ≡ below stack.old }
+/// What is known of an operand that is missing.
+pub fn nothing() -> Known
+    ensures { result ≡ nothing_known }
 {
-    match stack.pop() {
-        Some(known) => known,
-        None => Known {
-            depth: 0,
-            sort: Sort::Number,
-            at: 0,
-            literal: false,
-            misfit: None,
-        },
+    Known {
+        depth: 0,
+        sort: Sort::Number,
+        at: 0,
+        literal: false,
+        misfit: None,
     }
-}
-
-fn advance(stack: &mut Stack<Known>, text: &[u8], days: &DayItems, spot: Spot) -> Result<(), Memory>
-    ensures { OnOk result (stack.new ≡ known_after text.now days.now spot.at spot.node stack.old) }
-{
-    let known = match spot.node {
-        Node::Unary(unary) => {
-            let operand = take(stack);
-            unary_known(spot.at, unary, operand)
-        }
-        Node::Binary(binary) => {
-            let right = take(stack);
-            let left = take(stack);
-            binary_known(spot.at, binary, left, right)
-        }
-        Node::If => {
-            let other = take(stack);
-            let one = take(stack);
-            let test = take(stack);
-            if_known(spot.at, test, one, other)
-        }
-        _ => leaf_known(spot.at, leaf_at(text, days, spot.at, spot.node)),
-    };
-    stack.push(known)
-}
-
-/// What is known of the tree with these nodes.
-#[tactic(auto, unfolding(crate::specs::Survey::survey_of))]
-pub fn survey(alloc: Global, text: &[u8], days: &DayItems, nodes: &[Spot]) -> Result<Known, Memory>
-    ensures { IfOk result (λ known. known ≡ survey_of text.now days.now nodes.now) }
-{
-    let mut stack = Stack::new(alloc);
-    for spot in nodes {
-        advance(&mut stack, text, days, *spot)?;
-    }
-    Ok(take(&mut stack))
 }
 
 /// The first place that doesn't fit where the whole has to have a sort, or may have any.

@@ -63,7 +63,7 @@ fn fits(letter: u8, byte: u8) -> bool
     }
 }
 
-fn front_len(word: &[u8], bytes: &[u8]) -> usize
+pub fn front_len(word: &[u8], bytes: &[u8]) -> usize
     ensures value { result ≡ front_of word.now bytes.now }
     ensures within { result ≤ length bytes.now }
 {

@@ -1,5 +1,8 @@
 //! Expressions as trees.
 
+ghost use Rattle.std.specs.Prelude.{◌≡◌, ◌<◌, length, slice_get, Some};
+ghost use Rattle.expr_lang.specs.Branches.{shape_in, branch_shape, AreSound, IsEarlier};
+
 use dh_base::plain::Rate;
 use dh_base::uid::Uid;
 
@@ -119,12 +122,27 @@ pub enum Binary {
     Comma,
 }
 
-/// An expression. Its depth is at most 512.
-#[derive(Drop)]
-pub enum Tree {
-    Leaf(Leaf),
-    Unary(Unary, Box<Tree>),
-    Binary(Binary, Box<Tree>, Box<Tree>),
+/// A node of an expression. Its operands are earlier nodes of the list in which it stands.
+#[derive(Clone, Copy)]
+pub enum Branch {
+    /// A number of millionths.
+    Number(u64),
+    /// An item that is a number, by its place in the list of items.
+    Item(usize),
+    /// An item that is a day, by its place in the list of items.
+    Day(usize),
+    Unary(Unary, usize),
+    Binary(Binary, usize, usize),
     /// `if(condition, then, else)`
-    If(Box<Tree>, Box<Tree>, Box<Tree>),
+    If(usize, usize, usize),
+}
+
+/// The node at a place.
+pub fn branch_at(items: &[Item], branches: &[Branch], n: usize) -> Branch
+    requires within { n < length branches.now }
+    requires sound { AreSound (length items.now) branches.now }
+    ensures shape { shape_in items.now branches.now n ≡ branch_shape items.now (shape_in items.now branches.now) result }
+    ensures earlier { IsEarlier (length items.now) n result }
+{
+    branches[n]
 }

@@ -100,7 +100,7 @@ pub fn operator_text(operator: Binary) -> &'static [u8]
     }
 }
 
-fn call_text(call: Call) -> &'static [u8]
+pub fn call_text(call: Call) -> &'static [u8]
     ensures { result.now ≡ call_text_of call }
 {
     match call {

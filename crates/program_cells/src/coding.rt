@@ -20,7 +20,7 @@ fn value_of(alloc: Global, expr: &Expr) -> Result<PiValue, Memory>
     ensures measured { IfOk result (λ value. measure_in value ≡ measure_of expr.now.tree) }
     ensures formula { IfOk result (IsFormula expr.now) }
 {
-    match measure_of(expr.tree()) {
+    match measure_of(expr) {
         Measure::Formula => Ok(PiValue::Formula(compile(alloc, expr)?)),
         Measure::Events => Ok(PiValue::Events),
         Measure::Enrollments => Ok(PiValue::Enrollments),

@@ -2,7 +2,6 @@
 
 ghost use Rattle.std.specs.Prelude.{◌≡◌, ◌++◌, option_and_then, OnOk};
 ghost use Rattle.std.specs.Option.{option_to_list};
-ghost use Rattle.expr_lang.specs.Shape.{shape_of};
 ghost use Rattle.table_rows.specs.declared.event.EventRow.{EventRow};
 ghost use Rattle.program_cells.specs.Items.{first_of};
 ghost use Rattle.program_cells.specs.Value.{measure_by, measure_of, ids_of};
@@ -10,7 +9,7 @@ ghost use Rattle.program_cells.specs.declared.measure.Measure.TheVariants as mea
 
 use dh_base::memory::Memory;
 use dh_base::uid::Uid;
-use expr_lang::{Item, Leaf, Tree};
+use expr_lang::{Branch, Expr, Item, branch_at};
 use table_rows::EventRow;
 
 /// What a program indicator takes of each subject: the number of an expression, or identifiers, of
@@ -35,12 +34,17 @@ fn measure_by(item: &Item) -> Measure
 }
 
 /// What is taken by an expression: a count variable is a whole expression.
-pub(crate) fn measure_of(tree: &Tree) -> Measure
-    ensures { result ≡ measure_of (shape_of tree.now) }
+pub(crate) fn measure_of(expr: &Expr) -> Measure
+    ensures { result ≡ measure_of expr.now.tree }
 {
-    match tree {
-        Tree::Leaf(Leaf::Item(item)) => measure_by(item),
-        _ => Measure::Formula,
+    let items = expr.items();
+    let branches = expr.branches();
+    match branch_at(items, branches, branches.len() - 1) {
+        Branch::Item(place) => measure_by(&items[place]),
+        Branch::Day(_) => Measure::Formula,
+        Branch::Number(_) | Branch::Unary(_, _) | Branch::Binary(_, _, _) | Branch::If(_, _, _) => {
+            Measure::Formula
+        }
     }
 }
 

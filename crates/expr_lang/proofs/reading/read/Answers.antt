@@ -1,10 +1,10 @@
-use Rattle.std.proofs.Common.{◌≡◌, ℕ, suc, ◌+◌, ◌-◌, ◌≤◌, length, drop, Result, Ok, Err, sym, ap, subst, ◌∙◌, arith}
+use Rattle.std.proofs.Common.{◌≡◌, ℕ, suc, ◌+◌, ◌-◌, length, drop, Result, Ok, Err, sym, ap, subst, ◌∙◌, arith}
 use Rattle.std.proofs.lemmas.List.{drop-drop, length-drop}
 use Rattle.expr_lang.specs.declared.reading.Reader.{Reader}
 use Rattle.dh_base.specs.Memory.{Answers}
 use Rattle.expr_lang.specs.Causes.{stop_of}
 use Rattle.expr_lang.specs.declared.reading.Nodes.{Nodes}
-use Rattle.expr_lang.specs.Reading.{blank_count, token_from, with_token, read_rest, go_on}
+use Rattle.expr_lang.specs.Reading.{blank_count, token_from, with_token, read_rest}
 use Rattle.expr_lang.proofs.Readings.{opened_token, step_ends, step_on}
 use Rattle.expr_lang.proofs.reading.read.Goals as goal
 
@@ -12,7 +12,7 @@ pub returns-then-at-text : goal.returns-then-at-text
 returns-then-at-text c =
     let s =
     step_ends c.args.place (c.loop-most.most - 1) c.loop-most.reader c.loop-most.at c.blanks-at.result c.args.text.now (c.blanks-at.ensures.count
-    ∙ ap blank_count c.rest.ensures) (omega arith) in
+    ∙ ap blank_count c.tail.ensures) (omega arith) in
     let e : suc (c.loop-most.most - 1) ≡ c.loop-most.most = omega arith in
     let same = sym s ∙ ap (λ (k : ℕ). read_rest c.args.place k c.loop-most.reader c.loop-most.at (drop c.loop-most.at c.args.text.now)) e
     ∙ c.loop-most.invariant.0 in
@@ -22,9 +22,9 @@ pub returns-in-Err : goal.returns-in-Err
 returns-in-Err c =
     let s =
     step_on c.args.place (c.loop-most.most - 1) c.loop-most.reader c.loop-most.at c.blanks-at.result c.args.text.now (c.blanks-at.ensures.count
-    ∙ ap blank_count c.rest.ensures) (Err c.in-Err.len) (omega (arith, ap length c.rest.ensures, length-drop c.loop-most.at c.args.text.now))
+    ∙ ap blank_count c.tail.ensures) (Err c.in-Err.len) (omega (arith, ap length c.tail.ensures, length-drop c.loop-most.at c.args.text.now))
     (c.in-Err.ensures.value
-    ∙ ap (token_from c.loop-most.reader.expect c.loop-most.reader.frames c.loop-most.reader.quoted c.args.place) c.rest-bytes.ensures) in
+    ∙ ap (token_from c.loop-most.reader.expect c.loop-most.reader.frames c.loop-most.reader.quoted c.args.place) c.tail-bytes.ensures) in
     let e : suc (c.loop-most.most - 1) ≡ c.loop-most.most = omega arith in
     sym c.loop-most.invariant.0 ∙ sym (ap (λ (k : ℕ). read_rest c.args.place k c.loop-most.reader c.loop-most.at (drop c.loop-most.at c.args.text.now)) e) ∙ s
 
@@ -32,9 +32,9 @@ pub loop-most-preserved : goal.loop-most-preserved
 loop-most-preserved c =
     let s =
     step_on c.args.place (c.loop-most.most - 1) c.loop-most.reader c.loop-most.at c.blanks-at.result c.args.text.now (c.blanks-at.ensures.count
-    ∙ ap blank_count c.rest.ensures) (Ok c.in-Ok.found) (omega (arith, ap length c.rest.ensures, length-drop c.loop-most.at c.args.text.now))
+    ∙ ap blank_count c.tail.ensures) (Ok c.in-Ok.found) (omega (arith, ap length c.tail.ensures, length-drop c.loop-most.at c.args.text.now))
     (c.in-Ok.ensures.value
-    ∙ ap (token_from c.loop-most.reader.expect c.loop-most.reader.frames c.loop-most.reader.quoted c.args.place) c.rest-bytes.ensures) in
+    ∙ ap (token_from c.loop-most.reader.expect c.loop-most.reader.frames c.loop-most.reader.quoted c.args.place) c.tail-bytes.ensures) in
     let e : suc (c.loop-most.most - 1) ≡ c.loop-most.most = omega arith in
     let same = sym s ∙ ap (λ (k : ℕ). read_rest c.args.place k c.loop-most.reader c.loop-most.at (drop c.loop-most.at c.args.text.now)) e
     ∙ c.loop-most.invariant.0 in
@@ -46,9 +46,9 @@ loop-most-preserved c =
           ∙ same,
       omega (
         arith,
-        ap length c.rest.ensures,
+        ap length c.tail.ensures,
         length-drop c.loop-most.at c.args.text.now,
-        ap length c.rest-bytes.ensures,
+        ap length c.tail-bytes.ensures,
         length-drop (c.loop-most.at + c.blanks-at.result) c.args.text.now,
         c.in-Ok.ensures.within,
       ),
