@@ -4,3 +4,4 @@ pub mod Stored
 pub mod Agreed
 pub mod Meanings
 pub mod Places
+pub mod Alone

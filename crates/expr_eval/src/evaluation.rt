@@ -1,9 +1,13 @@
 //! Running the postfix form.
 
-ghost use Rattle.std.specs.Prelude.{◌≡◌, ◌≤◌, ◌<◌, ◌∷◌, [], length, take, reverse, is_none, IfOk, IfSome};
+ghost use Rattle.std.specs.Prelude.{◌≡◌, ◌≤◌, ◌<◌, ◌∷◌, [], List, Option, length, take, reverse, is_none, IfOk, IfSome};
+ghost use Rattle.std.specs.Option.{unwrap_or};
+ghost use Rattle.dh_base.specs.declared.plain.Strategy.TheVariants.{Never};
+ghost use Rattle.dh_base.specs.Fractions.{Fraction};
+ghost use Rattle.expr_eval.specs.declared.value.Value.TheVariants as outcome;
 ghost use Rattle.expr_eval.specs.declared.code.Instr.TheVariants as instr;
 ghost use Rattle.std.specs.List.{list_any, list_all};
-ghost use Rattle.expr_eval.specs.Meaning.{best_of, skips, value_of_cell};
+ghost use Rattle.expr_eval.specs.Meaning.{best_of, skips, value_of_cell, zero_fraction};
 ghost use Rattle.expr_eval.specs.Given.{entry_at};
 ghost use Rattle.expr_eval.specs.Code.{Go, top_cell, under, put_on, act as step_of, Comes, run, top_value, next_best_of, passed_to};
 ghost use Rattle.expr_eval.specs.Correct.{form_outcome};
@@ -252,6 +256,15 @@ fn only_load(code: &[Instr]) -> Option<usize>
         Instr::Load(n) => Some(*n),
         _ => None,
     }
+}
+
+/// The item that is all of a form, by its place among the entries. Without a strategy the form then gives its entry, or 0 where that is
+/// missing: who evaluates the form for many lists of entries needs no list.
+pub fn only_item(form: &Postfix) -> Option<usize>
+    ensures { (entries : List (Option Fraction)) → IfSome result (λ n. form_outcome form.now Never entries
+        ≡ outcome.Number (unwrap_or (entry_at entries n) zero_fraction)) }
+{
+    only_load(&form.code)
 }
 
 /// The value of the code. One item alone is most of what is evaluated for each event, and needs no stack.

@@ -10,6 +10,6 @@ mod value;
 
 pub use code::Postfix;
 pub use compiling::compile;
-pub use evaluation::eval;
+pub use evaluation::{eval, only_item};
 pub use indicator::{PiCode, PiFault, PiItem, PiValue};
 pub use value::Value;

@@ -35,7 +35,6 @@ use Rattle.cell_values.proofs.ReorderLemmas.{filter-permutation}
 use Rattle.program_cells.specs.Cells.{is_on_some, is_event_in, cell_events, is_enrolled_on, is_enrolled_at, cell_enrollments, alone, subjects_by}
 use Rattle.program_cells.specs.Cells.{indicator_cell, cell_value}
 use Rattle.program_cells.specs.Code.{measure_in, IsCodeOf}
-use Rattle.program_cells.specs.Places.{items_of}
 use Rattle.program_cells.specs.Sampled.{Sampled}
 use Rattle.program_cells.specs.declared.measure.Measure.TheVariants as measure
 use Rattle.program_cells.specs.Enrollments.{is_enrolled_in, first_is, together, enrollments}
@@ -50,7 +49,6 @@ use Rattle.program_cells.specs.declared.plan.ProgramPlan.{ProgramPlan}
 use Rattle.program_cells.specs.declared.plan.Subjects.{Subjects}
 use Rattle.program_cells.specs.declared.plan.Subjects.TheVariants as subjects
 use Rattle.program_cells.specs.declared.days.Days.{Days}
-use Rattle.program_cells.proofs.PlaceLemmas.{items-are}
 use Rattle.program_cells.proofs.OrderLemmas.{event_total, whole_total, whole_same, enrolled_total, enrolled_same, in_order_permutation}
 use Rattle.program_cells.proofs.OrderLemmas.{in_order_sorted, rising_events}
 
@@ -293,13 +291,6 @@ pub events_made : (r : Records) (user : ℕ) (all : List EventRow) (periods : Li
     → IfOk result (AreEventSubjects plan.code events) → IfOk result (AreSubjects r user all periods plan)
 events_made r user all periods plan events (Ok kept) over during is = events_subjects r user all periods plan events kept over during is
 events_made r user all periods plan events (Err e) over during is = tt
-
--- the items of the members that pass, if memory suffices
-pub items_made : {X T Y : Type 0} (view : T → Y) (of : X → Y) (test : X → Bool) (xs : List X) (items : List T) (result : Result (Vec T) Memory)
-    → map view items ≡ map of xs → IfOk result (λ kept. kept.items ≡ items_of test xs items)
-    → IfOk result (λ kept. map view kept.items ≡ map of (filter test xs))
-items_made view of test xs items (Ok kept) are is = items-are of view test xs items kept.items are is
-items_made view of test xs items (Err e) are is = tt
 
 -- the plan of the indicator with a number
 pub planned_at : (r : Records) (user : ℕ) (all : List EventRow) (n : ℕ) (indicator : ProgramIndicator) (result : Result ProgramPlan Memory)

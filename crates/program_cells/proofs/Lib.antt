@@ -10,3 +10,4 @@ pub mod PlaceLemmas
 pub mod SumLemmas
 pub mod JoinLemmas
 pub mod MeasureLemmas
+pub mod TallyLemmas

@@ -1,7 +1,14 @@
 -- What a form gives is what its indicator means.
-use Rattle.std.proofs.Common.{◌≡◌, ◌∙◌, Bool, List, [], ◌∷◌, ◌++◌, map, Option, Some, None, refl, sym, ap}
+use Rattle.std.proofs.Common.{◌≡◌, ◌∙◌, ℕ, zero, suc, Bool, List, [], ◌∷◌, ◌++◌, map, Option, Some, None, refl, sym, ap}
+use Rattle.std.specs.Option.{unwrap_or}
+use Rattle.dh_base.specs.Fractions.{Fraction}
+use Rattle.expr_eval.specs.declared.value.Value.TheVariants as value
+use Rattle.expr_eval.specs.Correct.{Means, form_outcome}
+use Rattle.expr_eval.specs.Given.{given_by, entry_at}
+use Rattle.expr_eval.specs.Meaning.{meaning, zero_fraction}
+use Rattle.program_cells.specs.Sampled.{item_sample}
 use Rattle.std.proofs.Math.Path.{fun_ext}
-use Rattle.std.specs.Prelude.{option_and_then, option_map}
+use Rattle.std.specs.Prelude.{option_and_then, option_map, slice_get, IfSome}
 use Rattle.dh_base.specs.declared.plain.AggType.{AggType}
 use Rattle.dh_base.specs.declared.plain.Strategy.TheVariants.{Never}
 use Rattle.expr_lang.specs.declared.expr.Expr.{Expr}
@@ -12,9 +19,6 @@ use Rattle.expr_eval.specs.declared.indicator.PiCode.{PiCode}
 use Rattle.expr_eval.specs.declared.indicator.PiItem.{PiItem}
 use Rattle.expr_eval.specs.declared.indicator.PiValue.{PiValue}
 use Rattle.expr_eval.specs.declared.indicator.PiValue.TheVariants as taken
-use Rattle.expr_eval.specs.Correct.{Means}
-use Rattle.expr_eval.specs.Given.{given_by}
-use Rattle.expr_eval.specs.Meaning.{meaning}
 use Rattle.meta_parts.specs.declared.held.Records.{Records}
 use Rattle.meta_parts.specs.declared.records.ProgramIndicator.{ProgramIndicator}
 use Rattle.table_rows.specs.declared.event.EventRow.{EventRow}
@@ -92,3 +96,32 @@ samples_meant code events formula =
     ap (option_and_then (aggregated code.aggregation)) (alone_are code events)
     ∙ ap (λ which. value_over which code.aggregation (passes_form code.filter code.filter_items) (sample_form code.value code.value_items) (map alone events))
     (sym formula)
+
+-- what is given for the item at a place
+entry_here : {B : Type 0} (of : B → Option Fraction) (items : List B) (n : ℕ) (item : B) → slice_get items n ≡ Some item
+    → entry_at (map of items) n ≡ of item
+entry_here of [] n item at = absurd (cc)
+entry_here of (x ∷ xs) zero item at = ap (λ o. option_and_then of o) at
+entry_here of (x ∷ xs) (suc n) item at = entry_here of xs n item at
+
+-- the sample of a form that is an item alone
+pub item_valued : {R : Type 0} (view : R → PiItem) (form : Postfix) (items : List PiItem) (n : ℕ) (found : Option R) (event : EventRow)
+    → ((entries : List (Option Fraction)) → form_outcome form Never entries ≡ value.Number (unwrap_or (entry_at entries n) zero_fraction))
+    → IfSome found (λ item. slice_get items n ≡ Some (view item))
+    → IfSome found (λ item. sample_by (form_value form items (event ∷ [])) ≡ item_sample (view item) event)
+item_valued view form items n None event gives at = tt
+item_valued view form items n (Some item) event gives at =
+    ap sample_by (gives (map (item_in (event ∷ [])) items))
+    ∙ ap (λ entry. Some (unwrap_or entry zero_fraction ∷ [])) (entry_here (item_in (event ∷ [])) items n (view item) at)
+
+-- the same of a code without a filter
+pub item_sampled : {R : Type 0} (view : R → PiItem) (code : PiCode) (form : Postfix) (items : List PiItem) (found : Option R) (event : EventRow)
+    → code.value ≡ taken.Formula form → code.filter ≡ None → items ≡ code.value_items
+    → IfSome found (λ item. sample_by (form_value form items (event ∷ [])) ≡ item_sample (view item) event)
+    → IfSome found (λ item. sample_alone code event ≡ item_sample (view item) event)
+unfolding sample_alone
+item_sampled view code form items None event is none same gives = tt
+item_sampled view code form items (Some item) event is none same gives =
+    ap (λ filter. if_passing (passes_form filter code.filter_items (event ∷ [])) (sample_form code.value code.value_items (event ∷ []))) none
+    ∙ ap (λ own. sample_form own code.value_items (event ∷ [])) is
+    ∙ ap (λ its. sample_by (form_value form its (event ∷ []))) (sym same) ∙ gives

@@ -7,4 +7,5 @@ pub mod Cells
 pub mod Days
 pub mod Places
 pub mod Sampled
+pub mod Tally
 pub mod Kept

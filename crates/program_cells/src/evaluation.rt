@@ -11,12 +11,15 @@ ghost use Rattle.std.specs.Prelude.{List};
 ghost use Rattle.table_rows.specs.declared.event.EventRow.{EventRow};
 ghost use Rattle.program_cells.specs.declared.measure.Measure.TheVariants as measure;
 ghost use Rattle.program_cells.specs.Cells.{alone};
+ghost use Rattle.program_cells.specs.Tally.{taken_at};
 ghost use Rattle.program_cells.specs.Code.{measure_in, form_value, passes_form, sample_form, sample_alone, gathered, code_value, IsCodeOf};
 
 use crate::counting::count;
 use crate::items::{likely_samples, list_items};
 use crate::measure::{Measure, push_ids};
+use crate::placed::items_at;
 use crate::samples::aggregate;
+use crate::tally::value_by_tally;
 use dh_base::frac::Frac;
 use dh_base::items::Items;
 use dh_base::memory::Memory;
@@ -273,7 +276,7 @@ fn aggregate_samples(
 }
 
 /// The same by the samples of events that are at hand.
-pub(crate) fn value_of_samples(
+fn value_of_samples(
     alloc: Global,
     code: &PiCode,
     found: &[Option<Option<Frac>>],
@@ -285,4 +288,38 @@ pub(crate) fn value_of_samples(
 {
     let value = aggregate_samples(alloc, code, found)?;
     told(value)
+}
+
+/// The same by a list of the samples at these places.
+fn value_by_list(
+    alloc: Global,
+    code: &PiCode,
+    samples: &[Option<Option<Frac>>],
+    places: &[usize],
+) -> Result<Option<Frac>, PiFault>
+    ensures { (r : Records) (indicator : ProgramIndicator) (events : List EventRow) → IsCodeOf r indicator code.now
+        → measure_in code.now.value ≡ measure.Formula
+        → taken_at samples.now places.now ≡ map (sample_alone code.now) events
+        → Values result (program_value r indicator (map alone events)) }
+{
+    let found = items_at(alloc, samples, places)?;
+    value_of_samples(alloc, code, &found)
+}
+
+/// The same by the samples at these places.
+pub(crate) fn value_at(
+    alloc: Global,
+    code: &PiCode,
+    samples: &[Option<Option<Frac>>],
+    places: &[usize],
+) -> Result<Option<Frac>, PiFault>
+    ensures { (r : Records) (indicator : ProgramIndicator) (events : List EventRow) → IsCodeOf r indicator code.now
+        → measure_in code.now.value ≡ measure.Formula
+        → taken_at samples.now places.now ≡ map (sample_alone code.now) events
+        → Values result (program_value r indicator (map alone events)) }
+{
+    match value_by_tally(code.aggregation, samples, places) {
+        Some(value) => told(value),
+        None => value_by_list(alloc, code, samples, places),
+    }
 }

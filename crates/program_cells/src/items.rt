@@ -205,7 +205,7 @@ fn enrolled_day(subject: &[EventRow]) -> Option<Frac>
 
 /// The value of an item in a subject, if the subject has it.
 #[tactic(auto, unfolding(crate::specs::Items::item_in))]
-fn item(subject: &[EventRow], item: &PiItem) -> Option<Frac>
+pub(crate) fn item(subject: &[EventRow], item: &PiItem) -> Option<Frac>
     ensures { result ≡ item_in subject.now item.now }
 {
     match item {

@@ -16,6 +16,7 @@ mod plan;
 mod sampled;
 mod samples;
 mod seen;
+mod tally;
 mod under;
 
 pub use placed::PlacedEvents;

@@ -6,7 +6,7 @@ ghost use Rattle.dh_sharing.specs.Ranges.{is_within};
 ghost use Rattle.table_rows.specs.declared.event.EventRow.{EventRow};
 ghost use Rattle.program_cells.specs.Cells.{alone};
 ghost use Rattle.program_cells.specs.Kept.{is_placed_in};
-ghost use Rattle.program_cells.specs.Places.{ArePlaces, order_of, places_from, items_of};
+ghost use Rattle.program_cells.specs.Places.{ArePlaces, order_of, places_from};
 
 use crate::joined::joined_places;
 use crate::under::{events_in, places_in};
@@ -38,12 +38,22 @@ impl<'a> Model for PlacedEvents<'a> {
     ghost invariant = { λ placed. ArePlaces order_of (map (λ event. event.now) placed.events.items) placed.places.items };
 }
 
-fn empty_lists(alloc: Global, count: u32) -> Result<Vec<Items<usize>>, Memory>
+/// An empty list with room for so many places.
+fn empty_list(alloc: Global, room: usize) -> Result<Items<usize>, Memory>
+    ensures { IfOk result (λ list. list ≡ []) }
+{
+    let list = Vec::with_capacity(alloc, room)?;
+    Ok(Items::from(list))
+}
+
+/// An empty list for each unit, with room for so many places.
+fn empty_lists(alloc: Global, count: u32, room: usize) -> Result<Vec<Items<usize>>, Memory>
     ensures { IfOk result (λ lists. ArePlaces order_of [] lists.items) }
 {
     let mut lists = Vec::new(alloc);
     for _unit in 0..count {
-        lists.push(Items::new(alloc))?;
+        let list = empty_list(alloc, room)?;
+        lists.push(list)?;
     }
     Ok(lists)
 }
@@ -72,7 +82,8 @@ fn put(lists: &mut Vec<Items<usize>>, event: &EventRow, at: usize) -> Result<(),
 fn places_of(alloc: Global, events: &[&EventRow], count: u32) -> Result<Vec<Items<usize>>, Memory>
     ensures { IfOk result (λ places. ArePlaces order_of (map (λ event. event.now) events.now) places.items) }
 {
-    let mut places = empty_lists(alloc, count)?;
+    let room = events.len() / (count as usize + 1);
+    let mut places = empty_lists(alloc, count, room)?;
     for at in 0..events.len() {
         put(&mut places, events[at], at)?;
     }
@@ -201,7 +212,11 @@ fn put_item<T: Copy>(kept: &mut Vec<T>, items: &[T], place: usize) -> Result<(),
 }
 
 /// The items at these places.
-fn items_at<T: Copy>(alloc: Global, items: &[T], places: &[usize]) -> Result<Vec<T>, Memory>
+pub(crate) fn items_at<T: Copy>(
+    alloc: Global,
+    items: &[T],
+    places: &[usize],
+) -> Result<Vec<T>, Memory>
     ensures { IfOk result (λ kept. kept.items ≡ filter_map (slice_get items.now) places.now) }
 {
     let mut kept = Vec::with_capacity(alloc, places.len())?;
@@ -211,29 +226,9 @@ fn items_at<T: Copy>(alloc: Global, items: &[T], places: &[usize]) -> Result<Vec
     Ok(kept)
 }
 
-/// Of a list with an item for each event, the items of those whose units lie in the ranges.
-fn items_within<T: Copy>(
-    alloc: Global,
-    events: &[&EventRow],
-    places: &[Items<usize>],
-    ranges: &ViewRanges,
-    items: &[T],
-) -> Result<Vec<T>, Memory>
-    requires { ArePlaces order_of (map (λ event. event.now) events.now) places.now }
-    ensures { IfOk result (λ kept. kept.items ≡ items_of (is_placed_in ranges.now) (map (λ event. event.now) events.now) items.now) }
-{
-    match own_places(places, ranges.parts()) {
-        Some(own) => items_at(alloc, items, own),
-        None => {
-            let own = places_of_several(alloc, events, places, ranges)?;
-            items_at(alloc, items, &own)
-        }
-    }
-}
-
 impl<'a> PlacedEvents<'a> {
-    ghost use Rattle.std.specs.Prelude.{◌≡◌, [], map, IfOk};
-    ghost use Rattle.program_cells.specs.Places.{items_of};
+    ghost use Rattle.std.specs.Prelude.{◌≡◌, [], map, IfOk, IfSome};
+    ghost use Rattle.program_cells.specs.Places.{places_from};
     ghost use Rattle.std.specs.List.{filter};
     ghost use Rattle.program_cells.specs.Cells.{alone};
     ghost use Rattle.program_cells.specs.Kept.{is_placed_in};
@@ -278,15 +273,21 @@ impl<'a> PlacedEvents<'a> {
         &self.events
     }
 
-    /// Of a list with an item for each event, the items of those whose units lie in the ranges.
-    pub(crate) fn items_within<T: Copy>(
+    /// The places of the events whose units lie in the ranges, if one list has them all.
+    pub(crate) fn own_places(&self, ranges: &ViewRanges) -> Option<&[usize]>
+        ensures { IfSome result (λ own. own.now ≡ places_from 0 (is_placed_in ranges.now) self.now) }
+    {
+        own_places(&self.places, ranges.parts())
+    }
+
+    /// The places of the events whose units lie in the ranges.
+    pub(crate) fn places_within(
         &self,
         alloc: Global,
         ranges: &ViewRanges,
-        items: &[T],
-    ) -> Result<Vec<T>, Memory>
-        ensures { IfOk result (λ kept. kept.items ≡ items_of (is_placed_in ranges.now) self.now items.now) }
+    ) -> Result<Vec<usize>, Memory>
+        ensures { IfOk result (λ own. own.items ≡ places_from 0 (is_placed_in ranges.now) self.now) }
     {
-        items_within(alloc, &self.events, &self.places, ranges, items)
+        places_of_several(alloc, &self.events, &self.places, ranges)
     }
 }

@@ -19,7 +19,7 @@ ghost use Rattle.table_rows.specs.declared.event.EventRow.{EventRow};
 
 use crate::coding::code_of;
 use crate::enrolled::{enrolled_during, enrollments};
-use crate::evaluation::{value_of_samples, value_over};
+use crate::evaluation::value_over;
 use crate::placed::PlacedEvents;
 use crate::sampled::SampledEvents;
 use crate::seen::events_during;
@@ -28,6 +28,7 @@ use cell_values::{CellPeriods, CellUnits, Source};
 use dh_base::frac::Frac;
 use dh_base::items::Items;
 use dh_base::memory::Memory;
+use dh_metadata::metadata::Metadata;
 use expr_eval::{PiCode, PiFault, PiValue};
 use meta_parts::kind::Kind;
 use meta_parts::names::AnalyticsType;
@@ -116,13 +117,25 @@ fn placed_during<'a, S: RowStore>(
     PlacedEvents::of(alloc, events, source.meta.count(Kind::OrganisationUnit))
 }
 
+// Where the cells have fewer than one in so many of the units, the samples of all events aren't worth working out.
+const MANY: usize = 8;
+
+/// Whether cells of so many units are those of few among all.
+fn are_few(units: usize, meta: &Metadata) -> bool {
+    units < meta.count(Kind::OrganisationUnit) as usize / MANY
+}
+
 fn event_subjects<'a>(
     alloc: Global,
     code: &'a PiCode,
     events: PlacedEvents<'a>,
+    are_few: bool,
 ) -> Result<Subjects<'a>, Memory>
     ensures { IfOk result (AreEventSubjects code.now events.entry) }
 {
+    if are_few {
+        return Ok(Subjects::Events(events));
+    }
     match &code.value {
         PiValue::Formula(form) => {
             let sampled = SampledEvents::of(alloc, code, form, events)?;
@@ -132,13 +145,15 @@ fn event_subjects<'a>(
     }
 }
 
-/// The subjects of a plan in some periods that the user sees.
+/// The subjects of a plan in some periods that the user sees. In how many units all cells lie only decides whether the samples of events
+/// are worked out at once, or by each cell.
 #[tactic(auto, using(crate::proofs::CellLemmas::events_made))]
 pub fn subjects_during<'a, S: RowStore>(
     alloc: Global,
     source: &Source<'a, S>,
     plan: &'a ProgramPlan,
     periods: &CellPeriods,
+    units: usize,
 ) -> Result<Subjects<'a>, Memory>
     requires { IsSeer source.now.meta.now source.now.seer.now }
     ensures { IfOk result (AreSubjects source.now.meta.now source.now.seer.now.user (S.events source.now.store.now) periods.now plan.now) }
@@ -146,7 +161,7 @@ pub fn subjects_during<'a, S: RowStore>(
     match plan.over {
         AnalyticsType::Event => {
             let events = placed_during(alloc, source, plan.code.program, periods)?;
-            event_subjects(alloc, &plan.code, events)
+            event_subjects(alloc, &plan.code, events, are_few(units, source.meta))
         }
         AnalyticsType::Enrollment => {
             let kept = enrolled_during(alloc, periods.periods(), plan.enrollments.as_slice())?;
@@ -157,16 +172,14 @@ pub fn subjects_during<'a, S: RowStore>(
 
 fn value_of_sampled(
     alloc: Global,
-    code: &PiCode,
     sampled: &SampledEvents<'_>,
     units: &CellUnits,
 ) -> Result<Option<Frac>, PiFault>
-    ensures { (r : Records) (indicator : ProgramIndicator) → IsCodeOf r indicator code.now → sampled.now.code ≡ code.now
-        → measure_in code.now.value ≡ measure.Formula
+    ensures { (r : Records) (indicator : ProgramIndicator) → IsCodeOf r indicator sampled.now.code
+        → measure_in sampled.now.code.value ≡ measure.Formula
         → Values result (program_value r indicator (map alone (filter (is_placed_in units.now.asked) sampled.now.events))) }
 {
-    let own = sampled.within(alloc, &units.asked)?;
-    value_of_samples(alloc, code, &own)
+    sampled.value_within(alloc, &units.asked)
 }
 
 fn value_of_events(
@@ -210,7 +223,7 @@ pub fn value(
 {
     match subjects {
         Subjects::Events(events) => value_of_events(alloc, &plan.code, events, units),
-        Subjects::Samples(sampled) => value_of_sampled(alloc, &plan.code, sampled, units),
+        Subjects::Samples(sampled) => value_of_sampled(alloc, sampled, units),
         Subjects::Enrollments(kept) => {
             value_of_enrollments(alloc, &plan.code, kept.as_slice(), units)
         }

@@ -1,15 +1,26 @@
 //! What a program indicator takes of each event of some periods, worked out once for the cells of all units.
-ghost use Rattle.std.specs.Prelude.{◌≡◌, map, option_map, IfOk};
+ghost use Rattle.std.specs.Prelude.{◌≡◌, ◌∷◌, [], Some, map, option_map, slice_get, IfOk, IfSome};
 ghost use Rattle.std.specs.Option.{option_to_list};
 ghost use Rattle.expr_eval.specs.declared.indicator.PiValue.TheVariants as taken;
-ghost use Rattle.program_cells.specs.Code.{sample_alone};
+ghost use Rattle.program_cells.specs.Code.{form_value, measure_in, sample_alone, IsCodeOf};
+ghost use Rattle.program_cells.specs.Value.{sample_by, program_value, Values};
+ghost use Rattle.std.specs.List.{filter};
+ghost use Rattle.program_cells.specs.Sampled.{item_sample};
+ghost use Rattle.table_rows.specs.declared.event.EventRow.{EventRow};
+ghost use Rattle.program_cells.specs.Cells.{alone};
+ghost use Rattle.program_cells.specs.Kept.{is_placed_in};
+ghost use Rattle.program_cells.specs.declared.measure.Measure.TheVariants as measure;
+ghost use Rattle.meta_parts.specs.declared.held.Records.{Records};
+ghost use Rattle.meta_parts.specs.declared.records.ProgramIndicator.{ProgramIndicator};
 
-use crate::evaluation::sample;
+use crate::evaluation::{sample, value_at};
+use crate::items::item as item_in;
 use crate::placed::PlacedEvents;
+use crate::samples::whole;
 use dh_base::frac::Frac;
 use dh_base::memory::Memory;
 use dh_sharing::ranges::ViewRanges;
-use expr_eval::{PiCode, Postfix};
+use expr_eval::{PiCode, PiFault, PiItem, Postfix, only_item as only_place};
 use std::alloc::Global;
 use std::marker::Model;
 use std::slice::from_ref;
@@ -37,8 +48,59 @@ impl<'a> Model for SampledEvents<'a> {
     ghost invariant = { λ sampled. map (option_map option_to_list) sampled.samples.items ≡ map (sample_alone sampled.code.now) sampled.events };
 }
 
-/// The sample of each event alone.
-fn samples_of(
+fn item_at<'a>(items: &'a [PiItem], place: usize) -> Option<&'a PiItem>
+    ensures { IfSome result (λ item. slice_get items.now place ≡ Some item.now) }
+{
+    if place < items.len() {
+        Some(&items[place])
+    } else {
+        None
+    }
+}
+
+/// The item that a form is alone.
+fn item_of<'a>(items: &'a [PiItem], form: &Postfix) -> Option<&'a PiItem>
+    ensures { (event : EventRow) → IfSome result (λ item. sample_by (form_value form.now items.now (event ∷ [])) ≡ item_sample item.now event) }
+{
+    let place = only_place(form)?;
+    item_at(items, place)
+}
+
+/// The item that is the sample of each event alone, if no more is to be worked out.
+fn only_item<'a>(code: &'a PiCode, form: &Postfix) -> Option<&'a PiItem>
+    requires { code.now.value ≡ taken.Formula form.now }
+    ensures { (event : EventRow) → IfSome result (λ item. sample_alone code.now event ≡ item_sample item.now event) }
+{
+    match &code.filter {
+        Some(_) => None,
+        None => item_of(code.value_items.as_slice(), form),
+    }
+}
+
+/// The value of an item in an event, or 0.
+fn sample_of_item(item: &PiItem, event: &EventRow) -> Option<Option<Frac>>
+    ensures { option_map option_to_list result ≡ item_sample item.now event.now }
+{
+    Some(Some(item_in(from_ref(event), item).unwrap_or(whole(0))))
+}
+
+/// The value of an item in each event alone.
+fn samples_of_item(
+    alloc: Global,
+    item: &PiItem,
+    events: &[&EventRow],
+) -> Result<Vec<Option<Option<Frac>>>, Memory>
+    ensures { IfOk result (λ samples. map (option_map option_to_list) samples.items ≡ map (item_sample item.now) (map (λ event. event.now) events.now)) }
+{
+    let mut samples = Vec::with_capacity(alloc, events.len())?;
+    for event in events {
+        samples.push(sample_of_item(item, event))?;
+    }
+    Ok(samples)
+}
+
+/// The sample of each event alone, as the form gives it.
+fn samples_by_form(
     alloc: Global,
     code: &PiCode,
     form: &Postfix,
@@ -55,6 +117,22 @@ fn samples_of(
     Ok(samples)
 }
 
+/// The sample of each event alone.
+fn samples_of(
+    alloc: Global,
+    code: &PiCode,
+    form: &Postfix,
+    events: &[&EventRow],
+) -> Result<Vec<Option<Option<Frac>>>, Memory>
+    requires { code.now.value ≡ taken.Formula form.now }
+    ensures { IfOk result (λ samples. map (option_map option_to_list) samples.items ≡ map (sample_alone code.now) (map (λ event. event.now) events.now)) }
+{
+    match only_item(code, form) {
+        Some(item) => samples_of_item(alloc, item, events),
+        None => samples_by_form(alloc, code, form, events),
+    }
+}
+
 #[tactic(auto, unfolding(crate::specs::Code::sample_alone))]
 fn sample_of(
     alloc: Global,
@@ -69,13 +147,51 @@ fn sample_of(
     sample(alloc, code, form, entries, from_ref(event))
 }
 
+/// The value over those of the events whose units lie in the ranges, where no list has the places of them all.
+fn value_of_several(
+    alloc: Global,
+    code: &PiCode,
+    events: &PlacedEvents<'_>,
+    samples: &[Option<Option<Frac>>],
+    ranges: &ViewRanges,
+) -> Result<Option<Frac>, PiFault>
+    requires { map (option_map option_to_list) samples.now ≡ map (sample_alone code.now) events.now }
+    ensures { (r : Records) (indicator : ProgramIndicator) → IsCodeOf r indicator code.now → measure_in code.now.value ≡ measure.Formula
+        → Values result (program_value r indicator (map alone (filter (is_placed_in ranges.now) events.now))) }
+{
+    let places = events.places_within(alloc, ranges)?;
+    value_at(alloc, code, samples, &places)
+}
+
+/// The value over those of the events whose units lie in the ranges.
+fn value_within(
+    alloc: Global,
+    code: &PiCode,
+    events: &PlacedEvents<'_>,
+    samples: &[Option<Option<Frac>>],
+    ranges: &ViewRanges,
+) -> Result<Option<Frac>, PiFault>
+    requires { map (option_map option_to_list) samples.now ≡ map (sample_alone code.now) events.now }
+    ensures { (r : Records) (indicator : ProgramIndicator) → IsCodeOf r indicator code.now → measure_in code.now.value ≡ measure.Formula
+        → Values result (program_value r indicator (map alone (filter (is_placed_in ranges.now) events.now))) }
+{
+    match events.own_places(ranges) {
+        Some(places) => value_at(alloc, code, samples, places),
+        None => value_of_several(alloc, code, events, samples, ranges),
+    }
+}
+
 impl<'a> SampledEvents<'a> {
-    ghost use Rattle.std.specs.Prelude.{◌≡◌, map, option_map, IfOk};
+    ghost use Rattle.std.specs.Prelude.{◌≡◌, map, IfOk};
     ghost use Rattle.std.specs.List.{filter};
-    ghost use Rattle.std.specs.Option.{option_to_list};
     ghost use Rattle.expr_eval.specs.declared.indicator.PiValue.TheVariants as taken;
-    ghost use Rattle.program_cells.specs.Code.{sample_alone};
+    ghost use Rattle.program_cells.specs.Cells.{alone};
+    ghost use Rattle.program_cells.specs.Code.{measure_in, IsCodeOf};
     ghost use Rattle.program_cells.specs.Kept.{is_placed_in};
+    ghost use Rattle.program_cells.specs.Value.{Values, program_value};
+    ghost use Rattle.program_cells.specs.declared.measure.Measure.TheVariants as measure;
+    ghost use Rattle.meta_parts.specs.declared.held.Records.{Records};
+    ghost use Rattle.meta_parts.specs.declared.records.ProgramIndicator.{ProgramIndicator};
 
     /// These events, with the samples of a form.
     pub(crate) fn of(
@@ -96,15 +212,15 @@ impl<'a> SampledEvents<'a> {
         })
     }
 
-    /// The samples of the events whose units lie in the ranges.
-    pub(crate) fn within(
+    /// The value over the events whose units lie in the ranges.
+    pub(crate) fn value_within(
         &self,
         alloc: Global,
         ranges: &ViewRanges,
-    ) -> Result<Vec<Option<Option<Frac>>>, Memory>
-        ensures { IfOk result (λ kept. map (option_map option_to_list) kept.items
-            ≡ map (sample_alone self.now.code) (filter (is_placed_in ranges.now) self.now.events)) }
+    ) -> Result<Option<Frac>, PiFault>
+        ensures { (r : Records) (indicator : ProgramIndicator) → IsCodeOf r indicator self.now.code → measure_in self.now.code.value ≡ measure.Formula
+            → Values result (program_value r indicator (map alone (filter (is_placed_in ranges.now) self.now.events))) }
     {
-        self.events.items_within(alloc, ranges, &self.samples)
+        value_within(alloc, self.code, &self.events, &self.samples, ranges)
     }
 }

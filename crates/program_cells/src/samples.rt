@@ -9,7 +9,7 @@ use dh_base::frac::Frac;
 use dh_base::plain::{AggType, NumFault};
 use std::cmp::Ordering;
 
-fn unless_fault(answer: Result<Frac, NumFault>) -> Option<Frac>
+pub(crate) fn unless_fault(answer: Result<Frac, NumFault>) -> Option<Frac>
     ensures { result ≡ unless_fault answer }
 {
     match answer {
@@ -36,8 +36,8 @@ const LIMIT: u128 = 1 << 127;
 
 /// A whole number.
 #[derive(Clone, Copy)]
-struct WholeSum {
-    number: i128,
+pub(crate) struct WholeSum {
+    pub number: i128,
 }
 
 fn total(sum: &WholeSum, more: i128) -> Option<WholeSum>
@@ -50,7 +50,7 @@ fn total(sum: &WholeSum, more: i128) -> Option<WholeSum>
 }
 
 /// A whole number more, if the sample is one and the sum isn't too wide.
-fn with_whole(sum: &WholeSum, sample: Frac) -> Option<WholeSum>
+pub(crate) fn with_whole(sum: &WholeSum, sample: Frac) -> Option<WholeSum>
     requires { unsigned_abs sum.now.number < 2 ^ 127 }
     ensures next { IfSome result (λ next. unless_fault (add_of (fraction_of sum.now.number 1) sample) ≡ Some (fraction_of next.number 1)) }
     ensures fits { IfSome result (λ next. unsigned_abs next.number < 2 ^ 127) }
@@ -170,7 +170,7 @@ fn best(greatest: bool, samples: &[Frac]) -> Option<Option<Frac>>
     Some(best)
 }
 
-fn some_of(number: Option<Frac>) -> Option<Option<Frac>>
+pub(crate) fn some_of(number: Option<Frac>) -> Option<Option<Frac>>
     ensures { result ≡ some_of number }
 {
     match number {

@@ -104,3 +104,21 @@ pub fn unit_parts(
     }
     Ok(parts)
 }
+
+/// In how many units the cells of these lie, counted for each of them.
+pub fn units_within(units: &[UnitPart]) -> usize {
+    let mut count: usize = 0;
+    for unit in units {
+        count = count.saturating_add(size_of(unit.units.asked.parts()));
+    }
+    count
+}
+
+/// How many numbers ranges hold.
+fn size_of(ranges: &[(u32, u32)]) -> usize {
+    let mut size: usize = 0;
+    for range in ranges {
+        size = size.saturating_add(range.1.saturating_sub(range.0) as usize);
+    }
+    size
+}

@@ -149,12 +149,13 @@ fn no_subjects<'a>(alloc: Global) -> Subjects<'a> {
     Subjects::Events(PlacedEvents::none(alloc))
 }
 
-/// What is made of a plan once for some periods.
+/// What is made of a plan once for some periods. In how many units the cells lie decides no more than the way.
 pub fn plan_groups<'a, S: RowStore>(
     alloc: Global,
     source: &Source<'a, S>,
     plan: &'a Plan,
     periods: &CellPeriods,
+    units: usize,
 ) -> Result<PlanGroups<'a>, Memory>
     requires seer { IsSeer source.now.meta.now source.now.seer.now }
     ensures { IfOk result (λ groups. ArePlanGroups source.now.meta.now source.now.seer.now.user
@@ -193,7 +194,7 @@ pub fn plan_groups<'a, S: RowStore>(
             })
         }
         Plan::Program(plan) => {
-            let subjects = subjects_during(alloc, source, plan, periods)?;
+            let subjects = subjects_during(alloc, source, plan, periods, units)?;
             Ok(PlanGroups {
                 own: Items::new(alloc),
                 over: Items::new(alloc),

@@ -14,7 +14,7 @@ use crate::arithmetic::CellValue;
 use crate::asking::Asking;
 use crate::body_rows::AnswerRow;
 use crate::cells::{cell_value, value_text};
-use crate::parts::{PeriodPart, UnitPart};
+use crate::parts::{PeriodPart, UnitPart, units_within};
 use crate::plans::{Plan, PlanGroups, plan_groups, plan_of};
 use dh_base::items::Items;
 use dh_base::memory::Memory;
@@ -191,7 +191,8 @@ fn write_period<S: RowStore>(
         (S.regs asking.now.source.now.store.now)))
         item.now.place item.now.dx.now (unit_slots asking.now.query.now) (period_slot part.now)) }
 {
-    let groups = plan_groups(alloc, asking.source, item.plan, &part.periods)?;
+    let units = units_within(asking.units);
+    let groups = plan_groups(alloc, asking.source, item.plan, &part.periods, units)?;
     let period = PeriodItem {
         part,
         groups: &groups,

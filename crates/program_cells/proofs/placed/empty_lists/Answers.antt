@@ -7,4 +7,4 @@ loop-unit-init c = none-yet order_of c.new-lists.result.items c.new-lists.ensure
 
 pub loop-unit-preserved : goal.loop-unit-preserved
 loop-unit-preserved c =
-    empty-more order_of c.loop-unit.lists.items c.push.new.self.items c.new.result c.new.ensures c.in_ok-push.ensures.items c.loop-unit.invariant
+    empty-more order_of c.loop-unit.lists.items c.push.new.self.items c.in_ok-list.list c.in_ok-list.ensures c.in_ok-push.ensures.items c.loop-unit.invariant

@@ -1,8 +1,11 @@
-use Rattle.std.proofs.Common.{◌∙◌, map, ap, sym}
+use Rattle.std.proofs.Common.{◌≡◌, ◌∙◌, map, ap, sym, subst}
 use Rattle.std.specs.List.{filter}
 use Rattle.program_cells.specs.Cells.{alone}
 use Rattle.program_cells.specs.Enrollments.{first_is}
 use Rattle.program_cells.specs.Kept.{is_placed_in, subjects_in}
+use Rattle.expr_eval.specs.declared.indicator.PiCode.{PiCode}
+use Rattle.program_cells.specs.Code.{measure_in, IsCodeOf}
+use Rattle.program_cells.specs.declared.measure.Measure.TheVariants as measure
 use Rattle.program_cells.proofs.CellLemmas.{cell_meant, sampled_meant}
 use Rattle.program_cells.proofs.plan.value.Goals as goal
 
@@ -16,7 +19,9 @@ returns-in-Events c r user n periods all is subjects units not =
 pub returns-in-Samples : goal.returns-in-Samples
 returns-in-Samples c r user n periods all is subjects units not =
     sampled_meant r user n periods c.args.units.now all c.args.plan.now c.args.subjects.now c.in-Samples.sampled c.value_of_sampled.result is subjects
-    units not c.in-Samples.is (λ indicator code same formula. c.value_of_sampled.ensures r indicator code same formula)
+    units not c.in-Samples.is
+    (λ indicator code same formula. c.value_of_sampled.ensures r indicator (subst (λ form. IsCodeOf r indicator form) (sym same) code)
+    (subst (λ (form : PiCode). measure_in form.value ≡ measure.Formula) (sym same) formula))
 
 pub returns-in-Enrollments : goal.returns-in-Enrollments
 returns-in-Enrollments c r user n periods all is subjects units not =

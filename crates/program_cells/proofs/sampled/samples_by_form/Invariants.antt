@@ -2,7 +2,7 @@ use Rattle.std.proofs.Common.{◌≡◌, map, take}
 use Rattle.std.specs.Prelude.{option_map}
 use Rattle.std.specs.Option.{option_to_list}
 use Rattle.program_cells.specs.Code.{sample_alone}
-use Rattle.program_cells.proofs.sampled.samples_of.Given as goal
+use Rattle.program_cells.proofs.sampled.samples_by_form.Given as goal
 
 abbrev pub invariant-loop-event : goal.invariant-loop-event
 invariant-loop-event l =

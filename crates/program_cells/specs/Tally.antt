@@ -1,0 +1,31 @@
+-- What samples come to, one after the other.
+use Rattle.std.specs.Prelude.{◌+◌, ◌==◌, if◌then◌else◌, Some, None, ℕ, ℤ, List, length, map, Option, option_map, option_and_then, slice_get}
+use Rattle.std.specs.List.{filter_map}
+use Rattle.std.specs.Option.{option_to_list}
+use Rattle.dh_base.specs.Fractions.{Fraction, fraction_of, div_of}
+use Rattle.program_cells.specs.Code.{gathered}
+use Rattle.program_cells.specs.Value.{sum_from, some_of, unless_fault, whole}
+use Rattle.dh_base.specs.declared.plain.AggType.{AggType}
+use Rattle.dh_base.specs.declared.plain.AggType.TheVariants as kind
+
+-- the samples at these places
+unfoldable pub taken_at : List (Option (Option Fraction)) → List ℕ → List (Option (List Fraction))
+taken_at samples places = map (option_map option_to_list) (filter_map (slice_get samples) places)
+
+-- the sum of a whole number and of samples after it, if none of these is too wide
+unfoldable pub summed : ℤ → List (Option (List Fraction)) → Option Fraction
+summed sum taken = option_and_then (sum_from (fraction_of sum 1)) (gathered taken)
+
+-- how many samples there are with so many before them, if none is too wide
+unfoldable pub numbered : ℕ → List (Option (List Fraction)) → Option ℕ
+numbered count taken = option_map (λ xs. count + length xs) (gathered taken)
+
+-- the one number of samples, where their sum and their number tell it
+abbrev pub by_sum : AggType → Fraction → ℕ → Option (Option (Option Fraction))
+by_sum kind.Sum sum count = Some (Some (Some sum))
+by_sum kind.Average sum count = Some (some_of (unless_fault (div_of sum (whole count))))
+by_sum kind.Count sum count = Some (Some (Some (whole count)))
+by_sum _ sum count = None
+
+unfoldable pub tallied : AggType → Fraction → ℕ → Option (Option (Option Fraction))
+tallied by sum count = if count == 0 then Some (Some None) else by_sum by sum count
