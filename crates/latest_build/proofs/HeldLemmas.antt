@@ -38,7 +38,7 @@ use Rattle.latest_build.specs.Held.{Held, place_in, row_in, held_with, held_at, 
 use Rattle.latest_build.specs.Places.{value_at, value_place, value_places}
 use Rattle.latest_build.proofs.CoverLemmas.{one-place}
 use Rattle.latest_build.proofs.KeyLemmas.{inside, value-one}
-use Rattle.latest_build.proofs.ListLemmas.{in-given, in-given-all}
+use Rattle.latest_build.proofs.ListLemmas.{in-given}
 
 -- ---- a list in the order of its places
 
@@ -98,7 +98,7 @@ map-same : {X : Type 0} (xs : List X) → map (λ x. x) xs ≡ xs
 map-same [] = refl
 map-same (x ∷ xs) = ap (λ ys. x ∷ ys) (map-same xs)
 
-places-are : (held : List Held) → places_held held ≡ in_order place_cmp (λ p. p) (map place_in held)
+pub places-are : (held : List Held) → places_held held ≡ in_order place_cmp (λ p. p) (map place_in held)
 places-are held =
     put-keys place_cmp place_in row_in [] [] held refl
     ∙ keys-keyed place_cmp (λ p. p) (put_all place_cmp (λ p. p) [] (map place_in held)) (put_all-keyed place_cmp (λ p. p) one-place [] (map place_in held) tt)
@@ -132,11 +132,11 @@ or-none : {A : Type 0} (o : Option A) → option_or o None ≡ o
 or-none None = refl
 or-none (Some a) = refl
 
-abbrev last : RowPlace → List Held → Option (Option Row)
+abbrev pub last : RowPlace → List Held → Option (Option Row)
 last = last_at place_cmp place_total one-place place_in row_in
 
 -- something is put at the place of each
-last-some : (h : Held) (hs : List Held) → IsIn h hs → (row : Option Row) × (last h.place hs ≡ Some row)
+pub last-some : (h : Held) (hs : List Held) → IsIn h hs → (row : Option Row) × (last h.place hs ≡ Some row)
 last-some h [] none = absurd none
 last-some h (g ∷ hs) (inl same) = by_rest (last h.place hs)
   where
@@ -174,7 +174,7 @@ module _ (r : Records) (facts : Facts) where
       let by = held-by key h e in
       ap (option_map (value_at r facts key)) by.are ∙ ap (λ (g : Held). Some g.place) by.is
 
-  own-row : (key : ValueKey) (h : Held) → at key ≡ Some h → (x : Row) → h.row ≡ Some x → place_of x ≡ h.place
+  pub own-row : (key : ValueKey) (h : Held) → at key ≡ Some h → (x : Row) → h.row ≡ Some x → place_of x ≡ h.place
   unfolding held_with values.row_with
   own-row key h e x given =
       let by = held-by key h e in
@@ -201,7 +201,7 @@ module _ (r : Records) (facts : Facts) where
 
   -- ---- the places
 
-  places-of : (keys : List ValueKey) → map place_in (filter_map at keys) ≡ filter_map (value_place r facts) keys
+  pub places-of : (keys : List ValueKey) → map place_in (filter_map at keys) ≡ filter_map (value_place r facts) keys
   unfolding held_at held_with value_place
   places-of [] = refl
   places-of (k ∷ ks) = by_objects (values.objects_of r k) (places-of ks)
@@ -212,18 +212,18 @@ module _ (r : Records) (facts : Facts) where
       by_objects None rest = rest
       by_objects (Some o) rest = ap (λ ps. value_at r facts k o ∷ ps) rest
 
-  pub places-list : (keys : List ValueKey) → places_held (filter_map at keys) ≡ value_places r facts keys
-  unfolding value_places
-  places-list keys = places-are (filter_map at keys) ∙ ap (in_order place_cmp (λ p. p)) (places-of keys)
+  -- ---- the rows of any list that puts last at each place what the keys hold
 
-  -- ---- the rows
+  abbrev pub IsOwn : Held → Type 0
+  IsOwn h = (x : Row) → h.row ≡ Some x → place_of x ≡ h.place
 
-  module _ (stands : StandsTree r facts) (keys : List ValueKey) where
+  module _ (stands : StandsTree r facts) (keys : List ValueKey) (put : List Held) (owns : AllByRecursion IsOwn put)
+      (alike : (q : RowPlace) → last q put ≡ last q (filter_map at keys)) where
     abbrev held : List Held
     held = filter_map at keys
 
     abbrev entries : List (RowPlace × Option Row)
-    entries = entries_of held
+    entries = entries_of put
 
     one-held : (a b : ValueKey) (h g : Held) → at a ≡ Some h → at b ≡ Some g → h.place ≡ g.place → h ≡ g
     one-held a b h g left right same =
@@ -231,47 +231,45 @@ module _ (r : Records) (facts : Facts) where
         inside h g (sym left ∙ ap at keys_same ∙ right)
 
     in-place : InPlace place_cmp place_total one-place place_of entries
-    in-place =
-        put-in_place place_cmp place_total one-place place_of place_in row_in [] held
-        (in-given-all at (λ h. (x : Row) → h.row ≡ Some x → place_of x ≡ h.place) own-row keys) tt
+    in-place = put-in_place place_cmp place_total one-place place_of place_in row_in [] put owns tt
 
     sorted : IsStrictlySortedBy place_cmp (keys_of entries)
     unfolding IsStrictlySortedBy
-    sorted = put-sorted place_cmp place_total one-place place_in row_in [] held tt
+    sorted = put-sorted place_cmp place_total one-place place_in row_in [] put tt
 
     stands-at : (q : RowPlace) → lookup (is_at (place_cmp q)) entries ≡ last q held
-    stands-at q = put-lookup place_cmp place_total one-place place_in row_in q [] held ∙ or-none (last q held)
+    stands-at q = put-lookup place_cmp place_total one-place place_in row_in q [] put ∙ or-none (last q put) ∙ alike q
 
     at-own : (k : ValueKey) (h : Held) → IsIn k keys → at k ≡ Some h → last h.place held ≡ Some h.row
     at-own k h there is =
-        let put = last-some h held (given-in at k h is keys there) in
-        let found = last-in place_cmp place_total one-place place_in row_in h.place held put.0 put.1 in
+        let there_last = last-some h held (given-in at k h is keys there) in
+        let found = last-in place_cmp place_total one-place place_in row_in h.place held there_last.0 there_last.1 in
         let of = in-given at keys found.x found.there in
         let same = one-held k of.a h found.x is of.is found.at in
-        put.1 ∙ ap Some (sym found.is ∙ ap row_in (sym same))
+        there_last.1 ∙ ap Some (sym found.is ∙ ap row_in (sym same))
 
-    to : (x : Row) → IsIn x (filter_map (values.row_of r facts) keys) → IsIn x (rows_held held)
+    to : (x : Row) → IsIn x (filter_map (values.row_of r facts) keys) → IsIn x (rows_held put)
     to x is =
         let k = in-given (values.row_of r facts) keys x is in
         let h = held-row k.a x k.is in
         found-row place_cmp place_total one-place place_of h.0.place x entries (stands-at h.0.place ∙ at-own k.a h.0 k.there h.1 ∙ ap Some h.2)
 
-    from : (x : Row) → IsIn x (rows_held held) → IsIn x (filter_map (values.row_of r facts) keys)
+    from : (x : Row) → IsIn x (rows_held put) → IsIn x (filter_map (values.row_of r facts) keys)
     from x there =
         let found = last-in place_cmp place_total one-place place_in row_in (place_of x) held (Some x)
         (sym (stands-at (place_of x)) ∙ row-found place_cmp place_total one-place place_of x entries in-place sorted there) in
         let of = in-given at keys found.x found.there in
         given-in (values.row_of r facts) of.a x (row-held of.a found.x of.is x found.is) keys of.there
 
-    own : (x y : Row) → IsIn x (rows_held held) → IsIn y (rows_held held) → key_of x ≡ key_of y → x ≡ y
+    own : (x y : Row) → IsIn x (rows_held put) → IsIn y (rows_held put) → key_of x ≡ key_of y → x ≡ y
     own x y here there same =
         let left = row-found place_cmp place_total one-place place_of x entries in-place sorted here in
         let right = row-found place_cmp place_total one-place place_of y entries in-place sorted there in
         let one : place_of x ≡ place_of y = ap (λ (k : RowKey). place_at k.group k.order) same in
         inside x y (inside (Some x) (Some y) (sym left ∙ ap (λ p. lookup (is_at (place_cmp p)) entries) one ∙ right))
 
-    pub rows-list : in_order key_cmp key_of (rows_held held) ≡ values.rows_of r facts keys
+    pub rows-list : in_order key_cmp key_of (rows_held put) ≡ values.rows_of r facts keys
     rows-list =
-        rows-are r facts stands keys (in_order key_cmp key_of (rows_held held)) (in_order-sorted key_cmp key_of key_total same-key (rows_held held))
-        (λ x is. in_order-has key_cmp key_of key_total same-key (λ x. IsIn x (rows_held held)) own (rows_held held) x (each-member (rows_held held)) (to x is))
-        (λ x is. from x (in_order-from key_cmp key_of key_total same-key (λ x. IsIn x (rows_held held)) own (rows_held held) x is))
+        rows-are r facts stands keys (in_order key_cmp key_of (rows_held put)) (in_order-sorted key_cmp key_of key_total same-key (rows_held put))
+        (λ x is. in_order-has key_cmp key_of key_total same-key (λ x. IsIn x (rows_held put)) own (rows_held put) x (each-member (rows_held put)) (to x is))
+        (λ x is. from x (in_order-from key_cmp key_of key_total same-key (λ x. IsIn x (rows_held put)) own (rows_held put) x is))

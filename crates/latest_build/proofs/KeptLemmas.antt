@@ -56,7 +56,7 @@ use Rattle.latest_build.proofs.TrackerLemmas.{named-touched, under-enrollment, u
 -- ---- what is said of a key that no write of a list names
 
 module _ {A : Type 0} (of : Said → Option A) where
-  last-append : (xs ys : List Said) → last_said of (xs ++ ys) ≡ option_or (last_said of ys) (last_said of xs)
+  pub last-append : (xs ys : List Said) → last_said of (xs ++ ys) ≡ option_or (last_said of ys) (last_said of xs)
   last-append [] ys = by_last (last_said of ys)
     where
       by_last : (o : Option A) → o ≡ option_or o None
@@ -159,7 +159,7 @@ unnamed : {K : Type 0} (named : Write → Option K) (k : K) (writes : List Write
 unnamed named k writes out w there is = out (given-in named w k is writes there)
 
 module _ (base writes : List Write) where
-  value-same : (key : ValueKey) → (IsIn key (values_named writes) → ⊥) → (facts_in (base ++ writes)).value key ≡ (facts_in base).value key
+  pub value-same : (key : ValueKey) → (IsIn key (values_named writes) → ⊥) → (facts_in (base ++ writes)).value key ≡ (facts_in base).value key
   unfolding facts_in
   value-same key out =
       ap (λ o. unwrap_or o None) (still (of_value key) base writes (λ w there. value-none key w (unnamed value_named key writes out w there)))

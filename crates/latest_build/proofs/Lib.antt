@@ -9,3 +9,4 @@ pub mod KeptLemmas
 pub mod LeadLemmas
 pub mod OverLemmas
 pub mod HeldLemmas
+pub mod ToldLemmas

@@ -4,3 +4,4 @@ pub mod Touches
 pub mod Found
 pub mod Leads
 pub mod Held
+pub mod Told

@@ -14,7 +14,8 @@ ghost use Rattle.latest_build.specs.Leads.{LeadsFrom};
 ghost use Rattle.latest_build.specs.Touches.{touched_by};
 ghost use Rattle.dh_base.specs.declared.limits.TheConstants.{MOST_RECORDS};
 
-use crate::build::latest_of;
+use crate::build::{Asked, latest_with, units_stand};
+use crate::held::held_rows;
 use crate::named::keys_touched;
 use dh_base::memory::Memory;
 use dh_changes::change::Change;
@@ -48,15 +49,14 @@ fn latest_of_last(
     ensures touched { IfOk result (λ latest. latest.touched ≡ touched_by meta.now (facts world.now)
         (writes_of (take base.now.base_cut (map arc_value changes.now))) (writes_of (map arc_value last.now))) }
 {
+    units_stand(meta);
     let touched = keys_touched(alloc, meta, world, base, last)?;
-    let latest = latest_of(
-        alloc,
-        meta,
-        world,
-        changes,
-        &touched.keys(),
-        base.base_cut(),
-    )?;
+    let held = held_rows(alloc, meta, world, last, &touched.values, touched.named)?;
+    let asked = Asked {
+        keys: touched.keys(),
+        from: base.base_cut(),
+    };
+    let latest = latest_with(alloc, meta, world, changes, &asked, held)?;
     Ok(latest)
 }
 

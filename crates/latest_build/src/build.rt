@@ -13,7 +13,7 @@ ghost use Rattle.table_build.specs.Log.{writes_of, is_of_days};
 ghost use Rattle.table_build.specs.Values.{rows_of};
 ghost use Rattle.table_latest.specs.Later.{LeadsTo};
 ghost use Rattle.latest_build.specs.Covers.{Covers};
-ghost use Rattle.latest_build.specs.Places.{held_by, touched_of};
+ghost use Rattle.latest_build.specs.Places.{held_by, touched_of, value_places};
 ghost use Rattle.dh_base.specs.declared.limits.TheConstants.{MOST_RECORDS};
 
 use crate::held::{HeldRows, held_rows};
@@ -61,6 +61,45 @@ fn store_of(
     with_sums(alloc, rows, events, regs, Vec::new(alloc))
 }
 
+/// The keys of a latest part, and after how many of the changes its own begin.
+#[derive(Clone, Copy)]
+pub(crate) struct Asked<'a> {
+    pub keys: LogKeys<'a>,
+    pub from: u64,
+}
+
+/// The latest part of keys whose values' places and rows are made.
+pub(crate) fn latest_with(
+    alloc: Global,
+    meta: &Metadata,
+    world: &World,
+    changes: &[Arc<Change>],
+    asked: &Asked<'_>,
+    held: HeldRows,
+) -> Result<Latest, Memory>
+    requires held { facts world.now ≡ facts_in (writes_of (map arc_value changes.now)) }
+    requires few { length (writes_of (map arc_value changes.now)) ≤ MOST_RECORDS }
+    requires days { IsTrue (list_all is_of_days (writes_of (map arc_value changes.now))) }
+    requires places { held.places.items ≡ value_places meta.now (facts world.now) asked.now.keys.values.now }
+    requires rows { held.rows.items ≡ rows_of meta.now (facts world.now) asked.now.keys.values.now }
+    ensures touched { IfOk result (λ latest. latest.touched
+        ≡ touched_of meta.now (facts world.now) asked.now.keys.values.now asked.now.keys.events.now asked.now.keys.regs.now) }
+    ensures holds { IfOk result (λ latest. latest.holds
+        ≡ held_by meta.now (facts world.now) asked.now.keys.values.now asked.now.keys.events.now asked.now.keys.regs.now) }
+    ensures leads { IfOk result (λ latest. (base : List Write) → Covers meta.now (facts_in base)
+        (facts world.now) asked.now.keys.values.now asked.now.keys.events.now asked.now.keys.regs.now
+        → LeadsTo (contents_in (listed_in meta.now base)) latest (contents_in (listed_in meta.now (writes_of (map arc_value changes.now))))) }
+    ensures from { IfOk result (λ latest. latest.from ≡ asked.now.from) }
+    ensures to { IfOk result (λ latest. latest.to ≡ length changes.now) }
+{
+    units_stand(meta);
+    let HeldRows { places, rows } = held;
+    let store = store_of(alloc, meta, world, changes, &asked.keys, &rows)?;
+    drop(rows);
+    let touched = touched_keys(alloc, meta, world, &asked.keys, places)?;
+    Ok(Latest::of(touched, store, asked.from, changes.len() as u64))
+}
+
 /// The latest part of these keys: what each holds after the changes, of which `from` stand in the base. Where the keys are all
 /// that changed, tables under it stand for the changes.
 pub fn latest_of(
@@ -83,9 +122,7 @@ pub fn latest_of(
     ensures to { IfOk result (λ latest. latest.to ≡ length changes.now) }
 {
     units_stand(meta);
-    let HeldRows { places, rows } = held_rows(alloc, meta, world, keys.values)?;
-    let store = store_of(alloc, meta, world, changes, keys, &rows)?;
-    drop(rows);
-    let touched = touched_keys(alloc, meta, world, keys, places)?;
-    Ok(Latest::of(touched, store, from, changes.len() as u64))
+    let held = held_rows(alloc, meta, world, &changes[..0], keys.values, 0)?;
+    let asked = Asked { keys: *keys, from };
+    latest_with(alloc, meta, world, changes, &asked, held)
 }

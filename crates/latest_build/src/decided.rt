@@ -1,12 +1,12 @@
 //! The values whose approval changes decide.
-ghost use Rattle.std.specs.Prelude.{◌≡◌, [], map, OnOk, IfOk};
+ghost use Rattle.std.specs.Prelude.{◌≡◌, [], length, map, OnOk, IfOk};
 ghost use Rattle.std.specs.Arc.{arc_value};
 ghost use Rattle.std.specs.List.{filter};
 ghost use Rattle.dh_changes.specs.declared.change.Write.TheVariants as write;
 ghost use Rattle.record_index.specs.Facts.{facts_in};
 ghost use Rattle.record_index.specs.World.{facts};
 ghost use Rattle.year_tables.specs.Parts.{rows_together};
-ghost use Rattle.table_build.specs.Log.{writes_of};
+ghost use Rattle.table_build.specs.Log.{writes_of, values_named};
 ghost use Rattle.latest_build.specs.Found.{decided_by, values_sought};
 ghost use Rattle.latest_build.specs.Touches as known;
 
@@ -120,17 +120,27 @@ fn values_decided(
     decided_by(alloc, meta, base, &approvals)
 }
 
+/// Keys of values that writes touch: as many as `named` are those that the writes name, in their order.
+#[derive(Drop)]
+pub(crate) struct TouchedValues {
+    pub keys: Vec<ValueKey>,
+    pub named: usize,
+}
+
 /// The keys of values that the last of the changes touch, after those that the base stands for.
 pub(crate) fn values_touched(
     alloc: Global,
     meta: &Metadata,
     base: &Tables,
     last: &[Arc<Change>],
-) -> Result<Vec<ValueKey>, Memory>
-    ensures { IfOk result (λ keys. keys.items ≡ values_sought meta.now (rows_together base.now.parts) (writes_of (map arc_value last.now))) }
+) -> Result<TouchedValues, Memory>
+    ensures keys { IfOk result (λ touched. touched.keys.items
+        ≡ values_sought meta.now (rows_together base.now.parts) (writes_of (map arc_value last.now))) }
+    ensures named { IfOk result (λ touched. touched.named ≡ length (values_named (writes_of (map arc_value last.now)))) }
 {
     let mut keys = values_of(alloc, last)?;
+    let named = keys.len();
     let mut decided = values_decided(alloc, meta, base, last)?;
     keys.append(&mut decided)?;
-    Ok(keys)
+    Ok(TouchedValues { keys, named })
 }

@@ -1,26 +1,32 @@
 //! The places of values' keys in tables, and the rows there. Each key's objects are looked up once, for both; a stable sort by places
-//! brings both into order.
-ghost use Rattle.std.specs.Prelude.{◌≡◌, ◌<◌, ◌++◌, ◌∷◌, [], true, length, Some, OnOk, IfOk, IfSome};
-ghost use Rattle.std.specs.List.{filter_map};
+//! brings both into order. What a key holds that the last writes name is what the last of them says, so it isn't looked up.
+ghost use Rattle.std.specs.Prelude.{◌≡◌, ◌<◌, ◌≤◌, ◌++◌, ◌∷◌, [], List, true, length, map, take, drop, Some, None, OnOk, IfOk, IfSome};
+ghost use Rattle.std.specs.Arc.{arc_value};
+ghost use Rattle.std.specs.List.{filter_map, cons_option};
 ghost use Rattle.std.specs.Ordering.{is_eq};
+ghost use Rattle.dh_changes.specs.declared.change.Write.{Write as LogWrite};
 ghost use Rattle.org_tree.specs.Units.{IsTree};
 ghost use Rattle.dh_metadata.specs.Objects.{find_of};
 ghost use Rattle.dh_records.specs.Access.{tree};
 ghost use Rattle.dh_records.specs.Approved.{approved_at};
 ghost use Rattle.meta_parts.specs.declared.kind.Kind.TheVariants.{CategoryOptionCombo};
+ghost use Rattle.record_index.specs.Facts.{facts_in};
 ghost use Rattle.record_index.specs.World.{facts};
 ghost use Rattle.table_rows.specs.Order.{row_cmp, key_cmp};
 ghost use Rattle.table_rows.specs.Rows.{key_of};
 ghost use Rattle.table_rows.specs.Store.{rises};
 ghost use Rattle.table_build.specs.Last.{is_again};
+ghost use Rattle.table_build.specs.Log.{writes_of, values_named};
 ghost use Rattle.table_build.specs.Ordered.{in_order, put_all};
 ghost use Rattle.table_build.specs.Values as values;
 ghost use Rattle.table_latest.specs.Keys.{place_cmp};
 ghost use Rattle.latest_build.specs.Held as known;
 ghost use Rattle.latest_build.specs.Places.{value_places};
+ghost use Rattle.latest_build.specs.Told.{held_as, held_told, held_by_write};
 
 use dh_base::memory::Memory;
 use dh_base::uid::Uid;
+use dh_changes::change::{Change, Write};
 use dh_changes::keys::ValueKey;
 use dh_metadata::metadata::Metadata;
 use dh_records::access::tree_of;
@@ -31,6 +37,7 @@ use record_index::world::World;
 use std::alloc::Global;
 use std::collections::BTreeMap;
 use std::marker::Model;
+use std::sync::Arc;
 use table_build::values::ValueObjects;
 use table_latest::{RowPlace, place_of};
 use table_rows::{Row, RowKey};
@@ -173,7 +180,43 @@ fn row_with(
     }
 }
 
-#[tactic(auto, unfolding(crate::specs::Held::held_with, table_build::specs::Values::row_with))]
+// What a write leaves that sets a value to this text.
+#[tactic(auto, unfolding(crate::specs::Told::held_as, table_build::specs::Values::row_with))]
+fn set_with(
+    meta: &Metadata,
+    world: &World,
+    key: &ValueKey,
+    text: &[u8],
+    objects: ValueObjects,
+) -> HeldRow
+    requires of { values.objects_of meta.now key.now ≡ Some objects }
+    requires element { objects.element < length meta.now.data_elements }
+    requires unit { objects.unit < length meta.now.organisation_units }
+    ensures { result ≡ held_as meta.now (facts world.now) key.now (Some text.now) objects }
+{
+    let row = row_with(meta, world, key, text, objects);
+    HeldRow {
+        row,
+        is_there: true,
+    }
+}
+
+// What is left where there is no value.
+#[tactic(auto, unfolding(crate::specs::Told::held_as, table_build::specs::Values::row_with))]
+fn cleared_with(meta: &Metadata, world: &World, key: &ValueKey, objects: ValueObjects) -> HeldRow
+    requires of { values.objects_of meta.now key.now ≡ Some objects }
+    requires element { objects.element < length meta.now.data_elements }
+    requires unit { objects.unit < length meta.now.organisation_units }
+    ensures { result ≡ held_as meta.now (facts world.now) key.now None objects }
+{
+    let row = row_with(meta, world, key, &[], objects);
+    HeldRow {
+        row,
+        is_there: false,
+    }
+}
+
+#[tactic(auto, unfolding(crate::specs::Held::held_with, crate::specs::Told::held_as))]
 fn held_with(meta: &Metadata, world: &World, key: &ValueKey, objects: ValueObjects) -> HeldRow
     requires of { values.objects_of meta.now key.now ≡ Some objects }
     requires element { objects.element < length meta.now.data_elements }
@@ -181,15 +224,29 @@ fn held_with(meta: &Metadata, world: &World, key: &ValueKey, objects: ValueObjec
     ensures { result ≡ known.held_with meta.now (facts world.now) key.now objects }
 {
     match world.value(key) {
-        Some(text) => HeldRow {
-            row: row_with(meta, world, key, text, objects),
-            is_there: true,
-        },
-        None => HeldRow {
-            row: row_with(meta, world, key, &[], objects),
-            is_there: false,
-        },
+        Some(text) => set_with(meta, world, key, text, objects),
+        None => cleared_with(meta, world, key, objects),
     }
+}
+
+// The objects of a key, whose option combination is then the one that was looked up last.
+fn objects_next(
+    last: &mut Option<KnownCombo>,
+    meta: &Metadata,
+    key: &ValueKey,
+) -> Option<ValueObjects>
+    requires { IfSome last.old (λ combo. find_of meta.now CategoryOptionCombo combo.id ≡ Some combo.number) }
+    ensures value { result ≡ values.objects_of meta.now key.now }
+    ensures element { IfSome result (λ objects. objects.element < length meta.now.data_elements) }
+    ensures unit { IfSome result (λ objects. objects.unit < length meta.now.organisation_units) }
+    ensures last { IfSome last.new (λ combo. find_of meta.now CategoryOptionCombo combo.id ≡ Some combo.number) }
+{
+    let objects = objects_of(meta, key, last)?;
+    *last = Some(KnownCombo {
+        id: key.combo,
+        number: objects.combo,
+    });
+    Some(objects)
 }
 
 #[tactic(auto, unfolding(crate::specs::Held::held_at))]
@@ -204,30 +261,152 @@ fn put_key(
     ensures put { OnOk result (held.new.items ≡ held.old.items ++ filter_map (known.held_at meta.now (facts world.now)) (key.now ∷ [])) }
     ensures last { OnOk result (IfSome last.new (λ combo. find_of meta.now CategoryOptionCombo combo.id ≡ Some combo.number)) }
 {
-    if let Some(objects) = objects_of(meta, key, last) {
-        *last = Some(KnownCombo {
-            id: key.combo,
-            number: objects.combo,
-        });
+    if let Some(objects) = objects_next(last, meta, key) {
         held.push(held_with(meta, world, key, objects))?;
     }
     Ok(())
 }
 
+#[tactic(auto, unfolding(crate::specs::Told::held_told))]
+fn put_set(
+    held: &mut Vec<HeldRow>,
+    last: &mut Option<KnownCombo>,
+    meta: &Metadata,
+    world: &World,
+    key: &ValueKey,
+    text: &[u8],
+) -> Result<(), Memory>
+    requires { IfSome last.old (λ combo. find_of meta.now CategoryOptionCombo combo.id ≡ Some combo.number) }
+    ensures put { OnOk result (held.new.items ≡ held.old.items ++ cons_option (held_told meta.now (facts world.now) key.now (Some text.now)) []) }
+    ensures last { OnOk result (IfSome last.new (λ combo. find_of meta.now CategoryOptionCombo combo.id ≡ Some combo.number)) }
+{
+    if let Some(objects) = objects_next(last, meta, key) {
+        held.push(set_with(meta, world, key, text, objects))?;
+    }
+    Ok(())
+}
+
+#[tactic(auto, unfolding(crate::specs::Told::held_told))]
+fn put_cleared(
+    held: &mut Vec<HeldRow>,
+    last: &mut Option<KnownCombo>,
+    meta: &Metadata,
+    world: &World,
+    key: &ValueKey,
+) -> Result<(), Memory>
+    requires { IfSome last.old (λ combo. find_of meta.now CategoryOptionCombo combo.id ≡ Some combo.number) }
+    ensures put { OnOk result (held.new.items ≡ held.old.items ++ cons_option (held_told meta.now (facts world.now) key.now None) []) }
+    ensures last { OnOk result (IfSome last.new (λ combo. find_of meta.now CategoryOptionCombo combo.id ≡ Some combo.number)) }
+{
+    if let Some(objects) = objects_next(last, meta, key) {
+        held.push(cleared_with(meta, world, key, objects))?;
+    }
+    Ok(())
+}
+
+#[tactic(auto, unfolding(crate::specs::Told::held_by_write))]
+fn put_write(
+    held: &mut Vec<HeldRow>,
+    last: &mut Option<KnownCombo>,
+    meta: &Metadata,
+    world: &World,
+    write: &Write,
+) -> Result<(), Memory>
+    requires { IfSome last.old (λ combo. find_of meta.now CategoryOptionCombo combo.id ≡ Some combo.number) }
+    ensures put { OnOk result (held.new.items ≡ held.old.items ++ filter_map (held_by_write meta.now (facts world.now)) (write.now ∷ [])) }
+    ensures last { OnOk result (IfSome last.new (λ combo. find_of meta.now CategoryOptionCombo combo.id ≡ Some combo.number)) }
+{
+    match write {
+        Write::ValueSet { key, value } => put_set(held, last, meta, world, key, value.as_slice()),
+        Write::ValueCleared { key } => put_cleared(held, last, meta, world, key),
+        _ => Ok(()),
+    }
+}
+
+fn put_writes(
+    held: &mut Vec<HeldRow>,
+    last: &mut Option<KnownCombo>,
+    meta: &Metadata,
+    world: &World,
+    writes: &[Write],
+) -> Result<(), Memory>
+    requires { IfSome last.old (λ combo. find_of meta.now CategoryOptionCombo combo.id ≡ Some combo.number) }
+    ensures put { OnOk result (held.new.items ≡ held.old.items ++ filter_map (held_by_write meta.now (facts world.now)) writes.now) }
+    ensures last { OnOk result (IfSome last.new (λ combo. find_of meta.now CategoryOptionCombo combo.id ≡ Some combo.number)) }
+{
+    for write in writes {
+        put_write(held, last, meta, world, write)?;
+    }
+    Ok(())
+}
+
+fn put_change(
+    held: &mut Vec<HeldRow>,
+    last: &mut Option<KnownCombo>,
+    meta: &Metadata,
+    world: &World,
+    change: &Change,
+) -> Result<(), Memory>
+    requires { IfSome last.old (λ combo. find_of meta.now CategoryOptionCombo combo.id ≡ Some combo.number) }
+    ensures put { OnOk result (held.new.items ≡ held.old.items ++ filter_map (held_by_write meta.now (facts world.now)) change.now.writes) }
+    ensures last { OnOk result (IfSome last.new (λ combo. find_of meta.now CategoryOptionCombo combo.id ≡ Some combo.number)) }
+{
+    put_writes(held, last, meta, world, change.writes.as_slice())
+}
+
+fn put_changes(
+    held: &mut Vec<HeldRow>,
+    last: &mut Option<KnownCombo>,
+    meta: &Metadata,
+    world: &World,
+    changes: &[Arc<Change>],
+) -> Result<(), Memory>
+    requires { IfSome last.old (λ combo. find_of meta.now CategoryOptionCombo combo.id ≡ Some combo.number) }
+    ensures put { OnOk result (held.new.items
+        ≡ held.old.items ++ filter_map (held_by_write meta.now (facts world.now)) (writes_of (map arc_value changes.now))) }
+    ensures last { OnOk result (IfSome last.new (λ combo. find_of meta.now CategoryOptionCombo combo.id ≡ Some combo.number)) }
+{
+    for change in changes {
+        put_change(held, last, meta, world, &**change)?;
+    }
+    Ok(())
+}
+
+fn put_keys(
+    held: &mut Vec<HeldRow>,
+    last: &mut Option<KnownCombo>,
+    meta: &Metadata,
+    world: &World,
+    keys: &[ValueKey],
+) -> Result<(), Memory>
+    requires { IfSome last.old (λ combo. find_of meta.now CategoryOptionCombo combo.id ≡ Some combo.number) }
+    ensures { OnOk result (held.new.items ≡ held.old.items ++ filter_map (known.held_at meta.now (facts world.now)) keys.now) }
+{
+    for key in keys {
+        put_key(held, last, meta, world, key)?;
+    }
+    Ok(())
+}
+
+// What the writes of changes say, then what keys hold that stand after those that the writes name.
 fn held_of(
     alloc: Global,
     meta: &Metadata,
     world: &World,
+    last: &[Arc<Change>],
     keys: &[ValueKey],
+    named: usize,
 ) -> Result<Vec<HeldRow>, Memory>
-    ensures { IfOk result (λ held. held.items ≡ filter_map (known.held_at meta.now (facts world.now)) keys.now) }
+    requires { named ≤ length keys.now }
+    ensures { IfOk result (λ held. held.items ≡ filter_map (held_by_write meta.now (facts world.now)) (writes_of (map arc_value last.now))
+        ++ filter_map (known.held_at meta.now (facts world.now)) (drop named keys.now)) }
 {
     let mut held = Vec::new(alloc);
     held.reserve(keys.len())?;
-    let mut last = None;
-    for key in keys {
-        put_key(&mut held, &mut last, meta, world, key)?;
-    }
+    let mut combo = None;
+    put_changes(&mut held, &mut combo, meta, world, last)?;
+    let (_, more) = keys.split_at(named);
+    put_keys(&mut held, &mut combo, meta, world, more)?;
     Ok(held)
 }
 
@@ -243,19 +422,24 @@ fn row_in(held: &HeldRow) -> Option<Row>
     if held.is_there { Some(held.row) } else { None }
 }
 
-// What the keys hold in the order of their places. Of several with one place all are one.
+// What the writes say and the other keys hold, in the order of the places. Of several with one place the last counts.
 fn held_in_order(
     alloc: Global,
     meta: &Metadata,
     world: &World,
+    last: &[Arc<Change>],
     keys: &[ValueKey],
+    named: usize,
 ) -> Result<Vec<HeldRow>, Memory>
-    ensures places { IfOk result (λ held. known.places_last held.items
-        ≡ known.places_held (filter_map (known.held_at meta.now (facts world.now)) keys.now)) }
-    ensures rows { IfOk result (λ held. known.rows_last held.items
-        ≡ known.rows_held (filter_map (known.held_at meta.now (facts world.now)) keys.now)) }
+    requires { named ≤ length keys.now }
+    ensures places { IfOk result (λ held. known.places_last held.items ≡ known.places_held
+        (filter_map (held_by_write meta.now (facts world.now)) (writes_of (map arc_value last.now))
+        ++ filter_map (known.held_at meta.now (facts world.now)) (drop named keys.now))) }
+    ensures rows { IfOk result (λ held. known.rows_last held.items ≡ known.rows_held
+        (filter_map (held_by_write meta.now (facts world.now)) (writes_of (map arc_value last.now))
+        ++ filter_map (known.held_at meta.now (facts world.now)) (drop named keys.now))) }
 {
-    let mut held = held_of(alloc, meta, world, keys)?;
+    let mut held = held_of(alloc, meta, world, last, keys, named)?;
     held.sort_by_key(|row| place_in(row))?;
     Ok(held)
 }
@@ -377,19 +561,24 @@ fn rows_from(alloc: Global, held: &[HeldRow]) -> Result<HeldRows, Memory>
     Ok(HeldRows { places, rows })
 }
 
-/// The places of these keys and the rows of what they hold.
+/// The places of these keys and the rows of what they hold. Of the keys as many as `named` are those that the last writes name.
 pub(crate) fn held_rows(
     alloc: Global,
     meta: &Metadata,
     world: &World,
+    last: &[Arc<Change>],
     keys: &[ValueKey],
+    named: usize,
 ) -> Result<HeldRows, Memory>
     requires tree { IsTree (tree (facts world.now) meta.now) }
     requires numbers { length (tree (facts world.now) meta.now) ≡ length meta.now.organisation_units }
+    requires within { named ≤ length keys.now }
+    requires named { take named keys.now ≡ values_named (writes_of (map arc_value last.now)) }
     ensures places { IfOk result (λ held. held.places.items ≡ value_places meta.now (facts world.now) keys.now) }
-    ensures rows { IfOk result (λ held. held.rows.items ≡ values.rows_of meta.now (facts world.now) keys.now) }
+    ensures rows { IfOk result (λ held. (before : List LogWrite) → facts world.now ≡ facts_in (before ++ writes_of (map arc_value last.now))
+        → held.rows.items ≡ values.rows_of meta.now (facts world.now) keys.now) }
 {
-    let held = held_in_order(alloc, meta, world, keys)?;
+    let held = held_in_order(alloc, meta, world, last, keys, named)?;
     let rows = rows_from(alloc, &held)?;
     Ok(rows)
 }

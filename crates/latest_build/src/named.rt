@@ -1,5 +1,5 @@
 //! The keys that changes touch.
-ghost use Rattle.std.specs.Prelude.{◌≡◌, ◌++◌, List, Option, map, OnOk, IfOk};
+ghost use Rattle.std.specs.Prelude.{◌≡◌, ◌++◌, List, Option, length, map, OnOk, IfOk};
 ghost use Rattle.std.specs.Arc.{arc_value};
 ghost use Rattle.std.specs.List.{filter_map};
 ghost use Rattle.dh_changes.specs.declared.change.Write.{Write as LogWrite};
@@ -14,7 +14,7 @@ ghost use Rattle.latest_build.specs.Places.{value_places};
 ghost use Rattle.latest_build.specs.Touches.{approvals_named, events_touched, values_touched};
 
 use crate::build::units_stand;
-use crate::decided::values_touched;
+use crate::decided::{TouchedValues, values_touched};
 use crate::touched::LogKeys;
 use crate::tracker::events_touched;
 use dh_base::memory::Memory;
@@ -112,6 +112,8 @@ pub struct NamedKeys {
     pub values: Vec<ValueKey>,
     pub events: Vec<Uid>,
     pub regs: Vec<RegKey>,
+    // how many of the values the writes themselves name; these stand first
+    pub(crate) named: usize,
 }
 
 impl NamedKeys {
@@ -146,6 +148,21 @@ pub(crate) fn approvals_of(
     named_in(alloc, changes)
 }
 
+fn keys_of(values: TouchedValues, events: Vec<Uid>, regs: Vec<RegKey>) -> NamedKeys
+    ensures values { result.values.items ≡ values.keys.items }
+    ensures named { result.named ≡ values.named }
+    ensures events { result.events.items ≡ events.items }
+    ensures regs { result.regs.items ≡ regs.items }
+{
+    let TouchedValues { keys, named } = values;
+    NamedKeys {
+        values: keys,
+        events,
+        regs,
+        named,
+    }
+}
+
 /// The keys that the last of the changes touch, after those that the base stands for, by what the world holds after all: the values
 /// that they name and those of the base whose approval they decide, the registrations that they name, and the events that they name
 /// or that hang on what they name. What isn't among these is after all changes as it was after any of the last.
@@ -157,6 +174,7 @@ pub fn keys_touched(
     last: &[Arc<Change>],
 ) -> Result<NamedKeys, Memory>
     ensures values { IfOk result (λ keys. keys.values.items ≡ values_sought meta.now (rows_together base.now.parts) (writes_of (map arc_value last.now))) }
+    ensures named { IfOk result (λ keys. keys.named ≡ length (values_named (writes_of (map arc_value last.now)))) }
     ensures events { IfOk result (λ keys. keys.events.items ≡ events_touched (facts world.now) (writes_of (map arc_value last.now))) }
     ensures regs { IfOk result (λ keys. keys.regs.items ≡ regs_named (writes_of (map arc_value last.now))) }
     ensures same { IfOk result (λ keys. (start : List LogWrite) → rows_together base.now.parts ≡ (listed_in meta.now start).rows
@@ -171,9 +189,5 @@ pub fn keys_touched(
     let values = values_touched(alloc, meta, base, last)?;
     let events = events_touched(alloc, world, last)?;
     let regs: Vec<RegKey> = named_in(alloc, last)?;
-    Ok(NamedKeys {
-        values,
-        events,
-        regs,
-    })
+    Ok(keys_of(values, events, regs))
 }

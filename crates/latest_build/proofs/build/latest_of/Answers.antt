@@ -1,19 +1,11 @@
-use Rattle.std.proofs.Common.{◌∙◌, map, subst, sym}
+use Rattle.std.proofs.Common.{◌∙◌, ap, map, sym}
+use Rattle.std.proofs.lemmas.List.{append-nil}
 use Rattle.std.specs.Arc.{arc_value}
-use Rattle.record_index.specs.World.{facts}
+use Rattle.record_index.specs.Facts.{facts_in}
 use Rattle.table_build.specs.Log.{writes_of}
-use Rattle.table_latest.specs.Latest.{AreInOrder}
-use Rattle.latest_build.proofs.CoverLemmas.{leads-held, touched-ordered}
 use Rattle.latest_build.proofs.build.latest_of.Goals as goal
 
-pub of-requires : goal.of-requires
-of-requires c =
-    subst AreInOrder (sym c.in_ok-touched.ensures)
-    (touched-ordered c.args.meta.now (facts c.args.world.now) c.args.keys.now.values.now c.args.keys.now.events.now c.args.keys.now.regs.now)
-
-pub returns-clause-leads : goal.returns-clause-leads
-returns-clause-leads c =
-    leads-held c.args.meta.now (writes_of (map arc_value c.args.changes.now)) (facts c.args.world.now) c.requires.held (c.units_stand.ensures.tree (facts
-    c.args.world.now))
-    (c.units_stand.ensures.numbers (facts c.args.world.now)) c.args.keys.now.values.now c.args.keys.now.events.now c.args.keys.now.regs.now c.of.result
-    (c.of.ensures.touched ∙ c.in_ok-touched.ensures) (c.of.ensures.holds ∙ c.in_ok-store.ensures)
+pub latest_with-requires-clause-rows : goal.latest_with-requires-clause-rows
+latest_with-requires-clause-rows c =
+    let all = writes_of (map arc_value c.args.changes.now) in
+    c.in_ok-held.ensures.rows all (c.requires.held ∙ ap facts_in (sym (append-nil all)))

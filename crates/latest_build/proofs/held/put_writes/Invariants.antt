@@ -4,10 +4,11 @@ use Rattle.std.specs.List.{filter_map}
 use Rattle.dh_metadata.specs.Objects.{find_of}
 use Rattle.meta_parts.specs.declared.kind.Kind.TheVariants.{CategoryOptionCombo}
 use Rattle.record_index.specs.World.{facts}
-use Rattle.latest_build.specs.Held.{held_at}
-use Rattle.latest_build.proofs.held.held_of.Given as goal
+use Rattle.latest_build.specs.Told.{held_by_write}
+use Rattle.latest_build.proofs.held.put_writes.Given as goal
 
-abbrev pub invariant-loop-key : goal.invariant-loop-key
-invariant-loop-key l =
-    (filter_map (held_at l.meta (facts l.world)) l.keys ≡ l.held.items ++ filter_map (held_at l.meta (facts l.world)) (drop l.key-index l.keys))
+abbrev pub invariant-loop-write : goal.invariant-loop-write
+invariant-loop-write l =
+    (l.fn.held.items ++ filter_map (held_by_write l.meta (facts l.world)) l.writes
+    ≡ l.held.items ++ filter_map (held_by_write l.meta (facts l.world)) (drop l.write-index l.writes))
     × IfSome l.last (λ combo. find_of l.meta CategoryOptionCombo combo.id ≡ Some combo.number)
