@@ -1,8 +1,8 @@
 //! Builders of the parts of years: that they run at the same time, and where their parts stand.
 ghost use Rattle.std.specs.Prelude.{◌≡◌};
 
-use build_workers::{Builder, Gate, Meeting, OpenGate, build_each};
 use dh_base::memory::Memory;
+use shared_engine::{Builder, Gate, Meeting, OpenGate, build_each};
 use std::alloc::Global;
 use std::process::Abort;
 use std::thread::Threads;

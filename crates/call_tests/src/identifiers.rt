@@ -1,7 +1,7 @@
 //! Identifiers by place.
 
 use dh_base::uid::Uid;
-use meta_parts::ids::index::UidIndex;
+use dh_metadata::ids::index::UidIndex;
 use std::alloc::Global;
 
 fn place(alloc: Global) -> Option<u32> {

@@ -5,8 +5,8 @@ use dh_changes::change::{Change, Write};
 use dh_changes::keys::ValueKey;
 use dh_changes::text::Text;
 use dh_changes::tracker::Event;
+use dh_changes::world::World;
 use dh_periods::Period;
-use record_index::world::World;
 use std::alloc::Global;
 use std::process::Abort;
 

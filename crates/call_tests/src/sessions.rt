@@ -3,10 +3,11 @@ use dh_base::memory::Memory;
 use dh_base::plain::CutKind;
 use dh_outside::{MemLink, MemSink, MemSource};
 use http_wire::Request;
-use request_session::{Ended, Machine, Reply, serve_link, serve_requests, whole_reply};
+use request_session::{
+    Ended, Machine, Reply, serve_link, serve_requests, update_body, whole_reply,
+};
 use std::alloc::Global;
 use std::test::Fail;
-use wire_replies::update_body;
 
 // Answers each request with its path.
 #[derive(Drop)]
@@ -17,7 +18,7 @@ impl Machine for Paths {
 
     ghost step = { λ _ _ _ _ _. ⊤ };
 
-    #[tactic(auto, using(wire_replies::proofs::HeadLemmas::ok_status))]
+    #[tactic(auto, using(request_session::proofs::HeadLemmas::ok_status))]
     fn reply(&mut self, alloc: Global, request: &Request, keep: bool) -> Result<Reply, Memory> {
         let body = request.path.as_slice().to_vec(alloc)?;
         Ok(whole_reply(200, None, None, keep, body))

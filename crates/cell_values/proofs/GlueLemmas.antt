@@ -12,9 +12,9 @@ use Rattle.dh_base.specs.Fractions.{Fraction}
 use Rattle.dh_sharing.specs.Ranges.{AreApart}
 use Rattle.dh_sharing.specs.declared.access.Right.TheVariants.{Read}
 use Rattle.dh_periods.specs.declared.name.PeriodName.{PeriodName}
-use Rattle.meta_parts.specs.declared.held.Records.{Records}
-use Rattle.meta_parts.specs.declared.records.Element.{Element}
-use Rattle.meta_parts.specs.declared.kind.Kind.TheVariants.{DataElement}
+use Rattle.dh_metadata.specs.declared.held.Records.{Records}
+use Rattle.dh_metadata.specs.declared.records.Element.{Element}
+use Rattle.dh_metadata.specs.declared.kind.Kind.TheVariants.{DataElement}
 use Rattle.dh_metadata.specs.Approval.{unit_rows}
 use Rattle.dh_metadata.specs.Users.{may_of}
 use Rattle.table_rows.specs.declared.row.Row.{Row}

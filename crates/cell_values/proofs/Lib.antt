@@ -1,3 +1,11 @@
+pub mod UnitPlaceLemmas
+pub mod DueSpanLemmas
+pub mod CountLemmas
+pub mod AssignedLemmas
+pub mod PeriodLemmas
+pub mod ReportLemmas
+pub mod ReportingLemmas
+pub mod SeenLemmas
 pub mod PlaceLemmas
 pub mod CutLemmas
 pub mod RightLemmas

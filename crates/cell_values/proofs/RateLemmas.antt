@@ -11,16 +11,16 @@ use Rattle.std.specs.List.{filter}
 use Rattle.dh_base.specs.Fractions.{Fraction}
 use Rattle.dh_base.specs.declared.plain.Rate.{Rate}
 use Rattle.dh_periods.specs.declared.name.PeriodName.{PeriodName}
-use Rattle.meta_parts.specs.declared.held.Records.{Records}
-use Rattle.meta_parts.specs.declared.records.DataSet.{DataSet}
+use Rattle.dh_metadata.specs.declared.held.Records.{Records}
+use Rattle.dh_metadata.specs.declared.records.DataSet.{DataSet}
 use Rattle.table_rows.specs.declared.event.RegRow.{RegRow}
 use Rattle.table_rows.specs.Cells.{how_many, times}
 use Rattle.table_rows.specs.Groups.{each_once}
 use Rattle.table_rows.proofs.ShuffleLemmas.{Tells, closed-permutation, closed-filter, closed-map, closed-once}
-use Rattle.rate_items.specs.declared.reports.Report.{Report}
-use Rattle.rate_items.specs.Rates.{report_of, same_report, is_counted, is_report_in, reports_of, reported, units_due, periods_due, rate_with, rate_of}
-use Rattle.rate_items.specs.contracts.reports.ReportOrd.TheImpl.Laws as report
-use Rattle.rate_items.proofs.ReportLemmas.{report_cmp}
+use Rattle.cell_values.specs.declared.reports.Report.{Report}
+use Rattle.cell_values.specs.Reporting.{report_of, same_report, is_counted, is_report_in, reports_of, reported, units_due, periods_due, rate_with, rate_of}
+use Rattle.cell_values.specs.contracts.reports.ReportOrd.TheImpl.Laws as report
+use Rattle.cell_values.proofs.ReportLemmas.{report_cmp}
 
 -- ---- reports told apart
 

@@ -7,15 +7,15 @@ use Rattle.dh_base.specs.Fractions.{Fraction}
 use Rattle.dh_periods.specs.declared.name.PeriodName.{PeriodName}
 use Rattle.expr_lang.specs.declared.tree.Item.{Item}
 use Rattle.expr_lang.specs.declared.tree.Item.TheVariants as item
-use Rattle.meta_parts.specs.declared.held.Records.{Records}
-use Rattle.meta_parts.specs.declared.kind.Kind.TheVariants as kind
-use Rattle.meta_parts.specs.declared.records.Element.{Element}
+use Rattle.dh_metadata.specs.declared.held.Records.{Records}
+use Rattle.dh_metadata.specs.declared.kind.Kind.TheVariants as kind
+use Rattle.dh_metadata.specs.declared.records.Element.{Element}
 use Rattle.dh_metadata.specs.Objects.{find_of}
 use Rattle.table_rows.specs.declared.sample.Sample.{Sample}
 use Rattle.table_rows.specs.Values.{value_by}
 use Rattle.table_rows.proofs.OrderFreeLemmas.{value_by-permutation}
 use Rattle.table_rows.proofs.ShuffleLemmas.{IsClosed, closed-permutation, closed-filter}
-use Rattle.rate_items.specs.Rates.{rate_of}
+use Rattle.cell_values.specs.Reporting.{rate_of}
 use Rattle.cell_values.specs.Seen.{SeenRecords, SameSeen}
 use Rattle.cell_values.specs.Cells.{Cell, cell_of, lies_in, samples_of, days_in, aggregate_of}
 use Rattle.cell_values.specs.Items.{named_combo, element_value, item_value_of}

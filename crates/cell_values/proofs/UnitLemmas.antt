@@ -9,7 +9,7 @@ use Rattle.org_tree.specs.Count.{count_below}
 use Rattle.org_tree.specs.Units.{UnitRow, IsTree, order_of}
 use Rattle.org_tree.proofs.CountLemmas.{count_below-agree}
 use Rattle.org_tree.proofs.OrderLemmas.{order-lt}
-use Rattle.meta_parts.specs.declared.held.Records.{Records}
+use Rattle.dh_metadata.specs.declared.held.Records.{Records}
 use Rattle.dh_metadata.specs.Approval.{unit_rows}
 use Rattle.dh_metadata.specs.Linked.{AreBelow}
 use Rattle.cell_values.specs.Cuts.{HoldsBoth}

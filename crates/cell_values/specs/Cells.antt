@@ -6,8 +6,8 @@ use Rattle.dh_periods.specs.declared.name.PeriodName.{PeriodName}
 use Rattle.dh_periods.specs.Calendar.{unix_day}
 use Rattle.dh_periods.specs.Days.{is_day_in, is_inside}
 use Rattle.org_tree.specs.Count.{count_below}
-use Rattle.meta_parts.specs.declared.held.Records.{Records}
-use Rattle.meta_parts.specs.declared.records.Element.{Element}
+use Rattle.dh_metadata.specs.declared.held.Records.{Records}
+use Rattle.dh_metadata.specs.declared.records.Element.{Element}
 use Rattle.dh_metadata.specs.Approval.{unit_rows}
 use Rattle.table_rows.specs.declared.sample.Sample.{Sample}
 use Rattle.table_rows.specs.Values.{value_by}

@@ -1,7 +1,7 @@
 -- What a seer is made of.
 use Rattle.std.specs.Prelude.{◌≡◌, ℕ, ◌<◌, Bool, ◌&&◌, List, length}
 use Rattle.dh_sharing.specs.Ranges.{is_within}
-use Rattle.meta_parts.specs.declared.held.Records.{Records}
+use Rattle.dh_metadata.specs.declared.held.Records.{Records}
 use Rattle.dh_metadata.specs.Approval.{unit_rows}
 use Rattle.dh_metadata.specs.Linked.{AreBelow}
 use Rattle.cell_values.specs.declared.cell.CellUnits.{CellUnits}

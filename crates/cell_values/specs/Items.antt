@@ -5,14 +5,14 @@ use Rattle.dh_periods.specs.declared.name.PeriodName.{PeriodName}
 use Rattle.expr_lang.specs.declared.tree.Item.{Item}
 use Rattle.expr_lang.specs.declared.tree.Item.TheVariants as item
 use Rattle.org_tree.specs.Count.{count_below}
-use Rattle.meta_parts.specs.declared.held.Records.{Records}
-use Rattle.meta_parts.specs.declared.kind.Kind.TheVariants as kind
-use Rattle.meta_parts.specs.declared.records.Constant.{Constant}
-use Rattle.meta_parts.specs.declared.records.UnitGroup.{UnitGroup}
+use Rattle.dh_metadata.specs.declared.held.Records.{Records}
+use Rattle.dh_metadata.specs.declared.kind.Kind.TheVariants as kind
+use Rattle.dh_metadata.specs.declared.records.Constant.{Constant}
+use Rattle.dh_metadata.specs.declared.records.UnitGroup.{UnitGroup}
 use Rattle.dh_metadata.specs.Approval.{unit_rows}
 use Rattle.dh_metadata.specs.Objects.{find_of}
 use Rattle.table_rows.specs.declared.sample.Sample.{Sample}
-use Rattle.rate_items.specs.Rates.{rate_of}
+use Rattle.cell_values.specs.Reporting.{rate_of}
 use Rattle.cell_values.specs.Places.{is_at_some}
 use Rattle.cell_values.specs.Seen.{SeenRecords}
 use Rattle.cell_values.specs.Cells.{cell_of, days_in, aggregate_of}

@@ -1,3 +1,7 @@
+pub mod UnitPlaces
+pub mod Reporting
+pub mod Counts
+pub mod Prepared
 pub mod Places
 pub mod Cuts
 pub mod Seen

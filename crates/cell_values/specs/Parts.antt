@@ -9,8 +9,8 @@ use Rattle.dh_base.specs.Fractions.{Fraction}
 use Rattle.dh_sharing.specs.declared.access.Right.TheVariants.{Read}
 use Rattle.dh_sharing.specs.Ranges.{is_within}
 use Rattle.dh_periods.specs.declared.name.PeriodName.{PeriodName}
-use Rattle.meta_parts.specs.declared.held.Records.{Records}
-use Rattle.meta_parts.specs.declared.kind.Kind.TheVariants.{DataElement}
+use Rattle.dh_metadata.specs.declared.held.Records.{Records}
+use Rattle.dh_metadata.specs.declared.kind.Kind.TheVariants.{DataElement}
 use Rattle.dh_metadata.specs.Users.{may_of}
 use Rattle.table_rows.specs.declared.row.Row.{Row}
 use Rattle.table_rows.specs.declared.row.Group.{Group}

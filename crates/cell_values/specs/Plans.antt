@@ -7,9 +7,9 @@ use Rattle.dh_sharing.specs.declared.access.Right.TheVariants.{Read}
 use Rattle.dh_periods.specs.declared.name.PeriodName.{PeriodName}
 use Rattle.expr_lang.specs.declared.tree.Item.{Item}
 use Rattle.expr_lang.specs.declared.tree.Item.TheVariants as item
-use Rattle.meta_parts.specs.declared.held.Records.{Records}
-use Rattle.meta_parts.specs.declared.kind.Kind.TheVariants as kind
-use Rattle.meta_parts.specs.declared.records.Element.{Element}
+use Rattle.dh_metadata.specs.declared.held.Records.{Records}
+use Rattle.dh_metadata.specs.declared.kind.Kind.TheVariants as kind
+use Rattle.dh_metadata.specs.declared.records.Element.{Element}
 use Rattle.dh_metadata.specs.Objects.{find_of}
 use Rattle.dh_metadata.specs.Users.{may_of}
 use Rattle.table_rows.specs.declared.row.Row.{Row}

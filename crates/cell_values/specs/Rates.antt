@@ -1,9 +1,9 @@
 -- What is worked out once for a reporting rate, before its cells.
 use Rattle.std.specs.Prelude.{ℕ, List}
-use Rattle.meta_parts.specs.declared.held.Records.{Records}
+use Rattle.dh_metadata.specs.declared.held.Records.{Records}
 use Rattle.table_rows.specs.declared.event.RegRow.{RegRow}
 use Rattle.table_rows.specs.Events.{regs_of}
-use Rattle.rate_items.specs.Prepared.{AreReports}
+use Rattle.cell_values.specs.Prepared.{AreReports}
 use Rattle.cell_values.specs.declared.rates.RatePlan.{RatePlan}
 use Rattle.cell_values.specs.Seen.{seen_regs}
 

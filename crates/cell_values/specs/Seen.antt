@@ -5,10 +5,10 @@ use Rattle.std.specs.Option.{option_map_or}
 use Rattle.dh_base.specs.declared.plain.Need.{Need}
 use Rattle.dh_base.specs.declared.plain.Need.TheVariants.{All}
 use Rattle.dh_sharing.specs.declared.access.Right.TheVariants.{Read, DataRead}
-use Rattle.meta_parts.specs.declared.held.Records.{Records}
-use Rattle.meta_parts.specs.declared.kind.Kind.TheVariants as kind
-use Rattle.meta_parts.specs.declared.records.OptionCombo.{OptionCombo}
-use Rattle.meta_parts.specs.Workflows.{workflow_of}
+use Rattle.dh_metadata.specs.declared.held.Records.{Records}
+use Rattle.dh_metadata.specs.declared.kind.Kind.TheVariants as kind
+use Rattle.dh_metadata.specs.declared.records.OptionCombo.{OptionCombo}
+use Rattle.dh_metadata.specs.Workflows.{workflow_of}
 use Rattle.dh_metadata.specs.Approval.{unit_rows, need_of}
 use Rattle.dh_metadata.specs.Users.{may_of, view_units_of}
 use Rattle.table_rows.specs.declared.event.EventRow.{EventRow}

@@ -7,9 +7,9 @@ ghost use Rattle.cell_values.specs.Plans.{is_group_read, inside};
 
 use crate::cell::Operand;
 use crate::seer::Seer;
+use dh_metadata::kind::Kind;
 use dh_metadata::metadata::Metadata;
 use dh_periods::Period;
-use meta_parts::kind::Kind;
 use std::alloc::{AllocError, Global};
 use table_rows::Group;
 

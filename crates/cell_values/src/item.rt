@@ -2,7 +2,7 @@
 ghost use Rattle.std.specs.Prelude.{◌≡◌, ◌<◌, length, map, pos, option_and_then, Some, None, IfOk, IfSome};
 ghost use Rattle.std.specs.List.{All};
 ghost use Rattle.dh_base.specs.Fractions.{fraction_of};
-ghost use Rattle.meta_parts.specs.declared.kind.Kind.TheVariants as kind;
+ghost use Rattle.dh_metadata.specs.declared.kind.Kind.TheVariants as kind;
 ghost use Rattle.dh_metadata.specs.Linked.{AreBelow};
 ghost use Rattle.dh_metadata.specs.Objects.{find_of};
 ghost use Rattle.cell_values.specs.Held.{IsSeer, AreCellUnits};
@@ -21,9 +21,9 @@ use dh_base::frac::Frac;
 use dh_base::items::Items;
 use dh_base::memory::Memory;
 use dh_base::uid::Uid;
+use dh_metadata::kind::Kind;
 use dh_metadata::metadata::Metadata;
 use expr_lang::Item;
-use meta_parts::kind::Kind;
 use std::alloc::Global;
 use table_rows::{Group, RowStore};
 

@@ -1,19 +1,19 @@
 //! Reporting rates over the registrations that a user sees.
 ghost use Rattle.std.specs.Prelude.{◌≡◌, ◌<◌, List, length, IfOk};
 ghost use Rattle.dh_periods.specs.declared.name.PeriodName.{PeriodName};
-ghost use Rattle.rate_items.specs.Prepared.{IsDue, IsPrepared};
-ghost use Rattle.rate_items.specs.Rates.{rate_of};
+ghost use Rattle.cell_values.specs.Prepared.{IsDue, IsPrepared};
+ghost use Rattle.cell_values.specs.Reporting.{rate_of};
 ghost use Rattle.cell_values.specs.Held.{IsSeer, AreCellUnits};
 ghost use Rattle.cell_values.specs.Rates.{IsRatePlan};
 ghost use Rattle.cell_values.specs.Seen.{seen_regs};
 
 use crate::cell::{CellPeriods, CellUnits, Source};
 use crate::seer::Seer;
+use crate::{Due, Reports};
 use dh_base::frac::Frac;
 use dh_base::memory::Memory;
 use dh_base::plain::Rate;
 use dh_metadata::metadata::Metadata;
-use rate_items::{Due, Reports};
 use std::alloc::{AllocError, Global};
 use table_rows::{RegRow, RowStore};
 

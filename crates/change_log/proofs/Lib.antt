@@ -1,1 +1,11 @@
+pub mod TextLengths
+pub mod Sizes
+pub mod Counting
+pub mod WordCodecs
+pub mod Growing
+pub mod Codecs
+pub mod Frames
+pub mod Fits
+pub mod Logs
+pub mod Calendar
 pub mod LogLemmas

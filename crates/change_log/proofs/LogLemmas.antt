@@ -8,10 +8,10 @@ use Rattle.std.proofs.lemmas.List.{append-nil, length-append}
 use Rattle.std.specs.Int.{w32, to_be_bytes}
 use Rattle.std.proofs.lemmas.List.Elements.{All-append}
 use Rattle.dh_changes.specs.declared.change.Change.{Change}
-use Rattle.change_bytes.specs.Bytes.{change_bytes, body_bytes}
-use Rattle.change_bytes.specs.Forms.{WriteFits}
-use Rattle.change_bytes.specs.Log.{log_bytes}
-use Rattle.change_bytes.proofs.Logs.{log-more}
+use Rattle.change_log.specs.Bytes.{change_bytes, body_bytes}
+use Rattle.change_log.specs.Forms.{WriteFits}
+use Rattle.change_log.specs.LogBytes.{log_bytes}
+use Rattle.change_log.proofs.Logs.{log-more}
 use Rattle.change_log.specs.declared.limits.AppendFault.{AppendFault}
 use Rattle.change_log.specs.declared.limits.AppendFault.TheVariants.{LogFull, StoreFault, Memory}
 use Rattle.change_log.specs.declared.limits.Limits.{Limits}

@@ -4,10 +4,10 @@ use Rattle.std.specs.Arc.{arc_value}
 use Rattle.std.specs.Io.KnownBytes.{append_known}
 use Rattle.dh_outside.specs.Faults.{Rose}
 use Rattle.dh_changes.specs.declared.change.Change.{Change}
-use Rattle.change_bytes.specs.Log.{log_bytes}
-use Rattle.record_index.specs.World.{facts}
-use Rattle.record_index.specs.Said.{said_by}
-use Rattle.record_index.specs.Facts.{facts_in}
+use Rattle.change_log.specs.LogBytes.{log_bytes}
+use Rattle.dh_changes.specs.World.{facts}
+use Rattle.dh_changes.specs.Said.{said_by}
+use Rattle.dh_changes.specs.Facts.{facts_in}
 use Rattle.change_log.specs.declared.limits.Limits.{Limits}
 use Rattle.change_log.specs.declared.limits.AppendFault.{AppendFault}
 use Rattle.change_log.specs.declared.limits.AppendFault.TheVariants.{LogFull, StoreFault, Memory}

@@ -1,2 +1,11 @@
+pub mod Words
+pub mod ReadWords
+pub mod Given
+pub mod Fields
+pub mod Bytes
+pub mod Forms
+pub mod Reading
+pub mod Decoded
+pub mod LogBytes
 pub mod Log
 pub mod Held

@@ -5,9 +5,9 @@ use Rattle.std.specs.Io.KnownBytes.{append_known}
 use Rattle.dh_outside.specs.Faults.{Rose}
 use Rattle.dh_changes.specs.declared.change.Change.{Change}
 use Rattle.dh_changes.specs.declared.change.Write.{Write}
-use Rattle.change_bytes.specs.Bytes.{change_bytes}
-use Rattle.change_bytes.specs.Forms.{WriteFits}
-use Rattle.change_bytes.specs.Log.{log_bytes}
+use Rattle.change_log.specs.Bytes.{change_bytes}
+use Rattle.change_log.specs.Forms.{WriteFits}
+use Rattle.change_log.specs.LogBytes.{log_bytes}
 use Rattle.change_log.specs.declared.limits.Limits.{Limits}
 use Rattle.change_log.specs.declared.limits.AppendFault.{AppendFault}
 use Rattle.change_log.specs.declared.limits.AppendFault.TheVariants.{LogFull, StoreFault, Memory}

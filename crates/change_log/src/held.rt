@@ -2,18 +2,18 @@
 ghost use Rattle.std.specs.Prelude.{◌≡◌, ◌≤◌, ◌<◌, ◌+◌, ◌++◌, ◌∷◌, ◌^◌, ℕ, [], length, None, IfOk, OnOk};
 ghost use Rattle.std.specs.Arc.{arc_value};
 ghost use Rattle.std.specs.List.{All};
-ghost use Rattle.change_bytes.specs.Bytes.{change_bytes};
-ghost use Rattle.change_bytes.specs.Forms.{WriteFits};
+ghost use Rattle.change_log.specs.Bytes.{change_bytes};
+ghost use Rattle.change_log.specs.Forms.{WriteFits};
 ghost use Rattle.change_log.specs.Log.{over, passed, Appends, AreLimits};
 ghost use Rattle.change_log.specs.Held.{changes_of, seen, IsHeld, IsKept, HasRoom, Keeps};
 ghost use Rattle.dh_base.specs.declared.limits.TheConstants.{MOST_LOG_BYTES};
 
 use crate::limits::{AppendFault, Limits};
-use change_bytes::{encode, encoded_len, log_grows};
+use crate::{encode, encoded_len, log_grows};
 use dh_base::memory::Memory;
 use dh_changes::change::Change;
+use dh_changes::world::World;
 use dh_outside::{KeepFault, Keeper};
-use record_index::world::World;
 use std::alloc::Global;
 use std::sync::Arc;
 

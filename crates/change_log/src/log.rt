@@ -2,9 +2,9 @@
 ghost use Rattle.std.specs.Prelude.{◌≡◌, ◌<◌, [], map, length};
 ghost use Rattle.std.specs.Arc.{arc_value};
 ghost use Rattle.std.specs.List.{All};
-ghost use Rattle.change_bytes.specs.Forms.{WriteFits};
-ghost use Rattle.record_index.specs.World.{facts};
-ghost use Rattle.record_index.specs.Facts.{facts_in};
+ghost use Rattle.change_log.specs.Forms.{WriteFits};
+ghost use Rattle.dh_changes.specs.World.{facts};
+ghost use Rattle.dh_changes.specs.Facts.{facts_in};
 ghost use Rattle.change_log.specs.Log.{writes_of, IsWhole, AreLimits, Appends, NeverFails};
 
 use crate::held::{Held, bring, count_of, nothing_held};
@@ -12,8 +12,8 @@ use crate::limits::{AppendFault, Limits};
 use dh_base::items::Items;
 use dh_base::uid::Uid;
 use dh_changes::change::{Change, Write};
+use dh_changes::world::World;
 use dh_outside::Keeper;
-use record_index::world::World;
 use std::alloc::Global;
 use std::marker::Model;
 use std::sync::Arc;

@@ -1,16 +1,16 @@
 -- What comes of an act on an approval: the write, or the first refusal of its verb.
 use Rattle.std.specs.Prelude.{ℕ, ◌+◌, cond, List, Option, None, Some, option_map, slice_get, option_and_then, Result, Ok, Err}
 use Rattle.std.specs.Option.{option_or}
-use Rattle.meta_parts.specs.declared.held.Records.{Records}
-use Rattle.meta_parts.specs.declared.kind.Kind.TheVariants.{OrganisationUnit, Workflow}
+use Rattle.dh_metadata.specs.declared.held.Records.{Records}
+use Rattle.dh_metadata.specs.declared.kind.Kind.TheVariants.{OrganisationUnit, Workflow}
 use Rattle.dh_metadata.specs.Approval.{levels_at}
 use Rattle.dh_metadata.specs.Objects.{find_of}
 use Rattle.dh_changes.specs.declared.keys.ApprovalKey.{ApprovalKey}
 use Rattle.dh_changes.specs.declared.change.Write.{Write}
 use Rattle.dh_changes.specs.declared.change.Write.TheVariants as write
-use Rattle.record_index.specs.Facts.{Facts}
-use Rattle.record_index.specs.declared.said.ApprovalState.{ApprovalState}
-use Rattle.record_index.specs.declared.said.ApprovalState.TheVariants as state
+use Rattle.dh_changes.specs.Facts.{Facts}
+use Rattle.dh_changes.specs.declared.said.ApprovalState.{ApprovalState}
+use Rattle.dh_changes.specs.declared.said.ApprovalState.TheVariants as state
 use Rattle.dh_records.specs.declared.approved.Scope.{Scope}
 use Rattle.dh_approvals.specs.declared.act.Verb.{Verb}
 use Rattle.dh_approvals.specs.declared.act.Verb.TheVariants as verb

@@ -4,10 +4,10 @@ use Rattle.std.specs.List.{list_any}
 use Rattle.std.specs.Option.{option_map_or}
 use lib.Chars.{codes}
 use Rattle.org_tree.specs.Units.{UnitRow, is_under}
-use Rattle.meta_parts.specs.declared.held.Records.{Records}
-use Rattle.meta_parts.specs.declared.records.User.{User}
+use Rattle.dh_metadata.specs.declared.held.Records.{Records}
+use Rattle.dh_metadata.specs.declared.records.User.{User}
 use Rattle.dh_metadata.specs.Users.{has_authority}
-use Rattle.record_index.specs.Facts.{Facts}
+use Rattle.dh_changes.specs.Facts.{Facts}
 use Rattle.dh_records.specs.Access.{tree}
 use Rattle.dh_approvals.specs.declared.act.Verb.{Verb}
 use Rattle.dh_approvals.specs.declared.act.Verb.TheVariants.{Approve, Unapprove, Accept, Unaccept}

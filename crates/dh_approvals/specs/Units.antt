@@ -3,13 +3,13 @@ use Rattle.std.specs.Prelude.{ℕ, zero, suc, ◌==◌, ◌&&◌, Bool, true, fa
 use Rattle.std.specs.Option.{option_map_or, option_or}
 use Rattle.org_tree.specs.Count.{first_below}
 use Rattle.org_tree.specs.Units.{is_under, level_of, ancestor_of}
-use Rattle.meta_parts.specs.declared.held.Records.{Records}
-use Rattle.meta_parts.specs.declared.records.DataSet.{DataSet}
-use Rattle.meta_parts.specs.declared.records.Unit.{Unit}
+use Rattle.dh_metadata.specs.declared.held.Records.{Records}
+use Rattle.dh_metadata.specs.declared.records.DataSet.{DataSet}
+use Rattle.dh_metadata.specs.declared.records.Unit.{Unit}
 use Rattle.dh_metadata.specs.Sets.{is_assigned}
-use Rattle.record_index.specs.Facts.{Facts}
-use Rattle.record_index.specs.declared.said.ApprovalState.{ApprovalState}
-use Rattle.record_index.specs.declared.said.ApprovalState.TheVariants as state
+use Rattle.dh_changes.specs.Facts.{Facts}
+use Rattle.dh_changes.specs.declared.said.ApprovalState.{ApprovalState}
+use Rattle.dh_changes.specs.declared.said.ApprovalState.TheVariants as state
 use Rattle.dh_records.specs.Access.{tree}
 use Rattle.dh_records.specs.Approved.{key_of, is_approved_as}
 use Rattle.dh_records.specs.declared.approved.Scope.{Scope}

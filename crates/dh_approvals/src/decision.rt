@@ -1,7 +1,7 @@
 //! What comes of an act on an approval.
 
 ghost use Rattle.std.specs.Prelude.{◌≡◌, ◌<◌, length};
-ghost use Rattle.record_index.specs.World.{facts};
+ghost use Rattle.dh_changes.specs.World.{facts};
 ghost use Rattle.dh_metadata.specs.Linked.{IsBelow};
 ghost use Rattle.dh_approvals.specs.Decisions as known;
 
@@ -11,11 +11,11 @@ use crate::search::{Asking, Sought, Wanted, first_sought};
 use crate::units::{id_of, nearest_above};
 use dh_changes::change::Write;
 use dh_changes::keys::ApprovalKey;
+use dh_changes::said::ApprovalState;
+use dh_changes::world::World;
+use dh_metadata::kind::Kind;
 use dh_metadata::metadata::Metadata;
 use dh_records::approved::Scope;
-use meta_parts::kind::Kind;
-use record_index::said::ApprovalState;
-use record_index::world::World;
 
 // The first reporting unit under this one, at the next position, in such a state.
 fn below(asking: &Asking<'_>, position: u8, unit: u32, wanted: Wanted) -> Option<u32>

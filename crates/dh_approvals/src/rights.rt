@@ -4,14 +4,14 @@ ghost use Rattle.std.specs.Prelude.{◌≡◌, ◌<◌, ◌==◌, ◌&&◌, not,
 ghost use Rattle.std.specs.List.{list_any};
 ghost use Rattle.org_tree.specs.Units.{is_under};
 ghost use Rattle.dh_metadata.specs.Linked.{AreBelow};
-ghost use Rattle.record_index.specs.World.{facts};
+ghost use Rattle.dh_changes.specs.World.{facts};
 ghost use Rattle.dh_approvals.specs.Rights as known;
 
 use crate::act::Verb;
+use dh_changes::world::World;
 use dh_metadata::metadata::Metadata;
 use dh_records::access::tree_of;
 use org_tree::tree::Tree;
-use record_index::world::World;
 
 fn is_own(captures: &[u32], unit: u32) -> bool
     ensures { result ≡ known.is_own captures.now unit }

@@ -4,19 +4,19 @@ ghost use Rattle.std.specs.Prelude.{◌≡◌, ◌<◌, ◌&&◌, is_some, lengt
 ghost use Rattle.org_tree.specs.Count.{first_below};
 ghost use Rattle.org_tree.specs.Units.{is_under};
 ghost use Rattle.dh_metadata.specs.Sets.{is_assigned};
-ghost use Rattle.record_index.specs.World.{facts};
+ghost use Rattle.dh_changes.specs.World.{facts};
 ghost use Rattle.dh_metadata.specs.Linked.{IsBelow};
 ghost use Rattle.dh_records.specs.Access as log;
 ghost use Rattle.dh_approvals.specs.Units as units;
 
 use crate::units::state_at;
+use dh_changes::said::ApprovalState;
+use dh_changes::world::World;
+use dh_metadata::kind::Kind;
 use dh_metadata::metadata::Metadata;
 use dh_records::access::tree_of;
 use dh_records::approved::Scope;
-use meta_parts::kind::Kind;
 use org_tree::tree::Tree;
-use record_index::said::ApprovalState;
-use record_index::world::World;
 
 /// Which states of an approval are looked for.
 #[derive(Clone, Copy)]

@@ -1,7 +1,7 @@
 //! The states of a unit's approval and of those above it.
 
 ghost use Rattle.std.specs.Prelude.{◌≡◌, ◌<◌, IsTrue, length};
-ghost use Rattle.record_index.specs.World.{facts};
+ghost use Rattle.dh_changes.specs.World.{facts};
 ghost use Rattle.dh_metadata.specs.Linked.{IsBelow};
 ghost use Rattle.dh_records.specs.Approved.{counts, is_approved_as};
 ghost use Rattle.dh_approvals.specs.Units as known;
@@ -9,11 +9,11 @@ ghost use Rattle.dh_approvals.specs.Units as known;
 use crate::search::Asking;
 use dh_base::uid::Uid;
 use dh_changes::keys::ApprovalKey;
+use dh_changes::said::ApprovalState;
+use dh_changes::world::World;
 use dh_metadata::metadata::Metadata;
 use dh_records::access::tree_of;
 use dh_records::approved::Scope;
-use record_index::said::ApprovalState;
-use record_index::world::World;
 
 /// The identifier of a unit.
 pub fn id_of(meta: &Metadata, unit: u32) -> Uid

@@ -1,1 +1,6 @@
 pub mod KeyLemmas
+pub mod MapLemmas
+pub mod IndexLemmas
+pub mod HangingLemmas
+pub mod OrderLemmas
+pub mod FactsLemmas

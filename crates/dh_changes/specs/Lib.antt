@@ -1,2 +1,9 @@
 pub mod Keys
 pub mod Text
+pub mod Said
+pub mod Hanging
+pub mod Maps
+pub mod Holds
+pub mod Facts
+pub mod Index
+pub mod World

@@ -1,3 +1,8 @@
+pub mod PlacesLemmas
+pub mod DistinctLemmas
+pub mod CutLemmas
+pub mod PlaceLemmas
+pub mod TokenLemmas
 pub mod LinkLemmas
 pub mod MemberLemmas
 pub mod HolderLemmas

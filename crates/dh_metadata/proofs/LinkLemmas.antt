@@ -3,10 +3,10 @@ use Rattle.std.proofs.Common.{◌≡◌, ◌<◌, ◌++◌, ◌∷◌, [], ℕ, 
 use Rattle.std.proofs.Common.{slice_get}
 use Rattle.std.proofs.lemmas.Option.{slice_get_read}
 use Rattle.std.specs.Option.{option_to_list}
-use Rattle.meta_parts.specs.declared.held.Records.{Records}
-use Rattle.meta_parts.specs.declared.records.DataSet.{DataSet}
+use Rattle.dh_metadata.specs.declared.held.Records.{Records}
+use Rattle.dh_metadata.specs.declared.records.DataSet.{DataSet}
 use Rattle.dh_metadata.specs.Linked.{Each, IsBelow}
-use Rattle.meta_parts.specs.Workflows.{has_element, workflows_by}
+use Rattle.dh_metadata.specs.Workflows.{has_element, workflows_by}
 
 -- what holds of each object of a list holds of the one at a place
 pub linked_at : {A : Type 0} (Holds : A → Type 0) (objects : List A) (n : ℕ) (x : A) → Each Holds objects → n < length objects → x ≡ get_or objects n x

@@ -11,10 +11,10 @@ use Rattle.std.specs.declared.alloc.Global.{Global}
 use Rattle.std.specs.Cmp.Lexicographic.{nat_list_eq_equiv, bytes_decides}
 use Rattle.std.proofs.lemmas.List.{take_more, length-append}
 use Rattle.std.proofs.lemmas.Bool.{ltb-true, ltb-false}
-use Rattle.meta_parts.specs.Places.{same_id}
+use Rattle.dh_metadata.specs.Places.{same_id}
 use Rattle.dh_metadata.specs.Linked.{AreBelow, IsBelow}
 use Rattle.dh_sharing.specs.declared.rule.UserFacts.{UserFacts}
-use Rattle.meta_parts.specs.declared.held.Records.{Records}
+use Rattle.dh_metadata.specs.declared.held.Records.{Records}
 use Rattle.dh_metadata.specs.Users.{user_in, facts_of, AreTokens, TakesToken, AreFactsUpto}
 
 below_tail : (end x : ℕ) (xs : List ℕ) → AreBelow end (x ∷ xs) → AreBelow end xs

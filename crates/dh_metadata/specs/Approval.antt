@@ -5,12 +5,12 @@ use lib.Chars.{codes}
 use Rattle.dh_base.specs.declared.plain.Need.{Need}
 use Rattle.dh_base.specs.declared.plain.Need.TheVariants.{All, Upto}
 use Rattle.org_tree.specs.Units.{UnitRow, level_of}
-use Rattle.meta_parts.specs.declared.held.Records.{Records}
-use Rattle.meta_parts.specs.declared.records.Workflow.{Workflow}
+use Rattle.dh_metadata.specs.declared.held.Records.{Records}
+use Rattle.dh_metadata.specs.declared.records.Workflow.{Workflow}
 use Rattle.dh_metadata.specs.Users.{has_authority, view_units_of}
-use Rattle.meta_parts.specs.Rows.{tree_rows}
-use Rattle.meta_parts.specs.Rows as rows
-use Rattle.meta_parts.specs.Positions.{positions_of}
+use Rattle.dh_metadata.specs.Rows.{tree_rows}
+use Rattle.dh_metadata.specs.Rows as rows
+use Rattle.dh_metadata.specs.Positions.{positions_of}
 
 -- a unit's identifier and its parent
 abbrev pub unit_rows : Records → List UnitRow

@@ -7,7 +7,7 @@ use Rattle.dh_metadata.specs.Members.{AreHolders, AreSortedCopies}
 use Rattle.dh_metadata.specs.Objects.{HaveIds}
 use Rattle.dh_metadata.specs.Sets.{element_lists, unit_lists, set_ids, by_id}
 use Rattle.dh_metadata.specs.Users.{AreTokens, AreFacts}
-use Rattle.meta_parts.specs.Workflows.{AreWorkflows}
+use Rattle.dh_metadata.specs.Workflows.{AreWorkflows}
 
 -- each reference names an object, and each list has for each object what its name says
 pub record IsHeld (meta : Inside) : Type 0 where

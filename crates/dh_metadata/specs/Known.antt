@@ -1,10 +1,10 @@
 -- What is known of records before they are asked.
 use Rattle.std.specs.Prelude.{◌≡◌, ℤ, ◌<◌, ◌≤◌, ◌^◌, List, length, map}
-use Rattle.meta_parts.specs.declared.held.Records.{Records}
-use Rattle.meta_parts.specs.declared.kind.Kind.{Kind}
-use Rattle.meta_parts.specs.declared.structure.Structure.{Structure}
-use Rattle.meta_parts.specs.Positions.{positions_of}
-use Rattle.meta_parts.specs.Workflows.{AreWorkflows}
+use Rattle.dh_metadata.specs.declared.held.Records.{Records}
+use Rattle.dh_metadata.specs.declared.kind.Kind.{Kind}
+use Rattle.dh_metadata.specs.declared.structure.Structure.{Structure}
+use Rattle.dh_metadata.specs.Positions.{positions_of}
+use Rattle.dh_metadata.specs.Workflows.{AreWorkflows}
 use Rattle.dh_metadata.specs.declared.made.Made.{Made}
 use Rattle.dh_metadata.specs.declared.sets.SetLists.{SetLists}
 use Rattle.dh_metadata.specs.Approval.{unit_rows, option_combo_rows, tree_level}

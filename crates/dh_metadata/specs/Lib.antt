@@ -1,3 +1,13 @@
+pub mod Names
+pub mod Keys
+pub mod BuiltIn
+pub mod Places
+pub mod Ids
+pub mod Cut
+pub mod Causes
+pub mod Workflows
+pub mod Positions
+pub mod Rows
 pub mod Objects
 pub mod Linked
 pub mod Members

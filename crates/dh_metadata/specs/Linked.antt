@@ -1,24 +1,24 @@
 -- References that name objects.
 use Rattle.std.specs.Prelude.{◌≡◌, ℕ, ◌<◌, List, length, map, slice_get, slice_index_or, Option, Some, IfSome}
 use Rattle.dh_sharing.specs.declared.rule.Sharing.{Sharing}
-use Rattle.meta_parts.specs.declared.held.Records.{Records}
-use Rattle.meta_parts.specs.declared.records.Unit.{Unit}
-use Rattle.meta_parts.specs.declared.records.UnitGroup.{UnitGroup}
-use Rattle.meta_parts.specs.declared.records.CategoryOption.{CategoryOption}
-use Rattle.meta_parts.specs.declared.records.Category.{Category}
-use Rattle.meta_parts.specs.declared.records.CategoryCombo.{CategoryCombo}
-use Rattle.meta_parts.specs.declared.records.OptionCombo.{OptionCombo}
-use Rattle.meta_parts.specs.declared.records.Element.{Element}
-use Rattle.meta_parts.specs.declared.records.Workflow.{Workflow}
-use Rattle.meta_parts.specs.declared.records.DataSet.{DataSet}
-use Rattle.meta_parts.specs.declared.records.Indicator.{Indicator}
-use Rattle.meta_parts.specs.declared.records.Rule.{Rule}
-use Rattle.meta_parts.specs.declared.records.EntityType.{EntityType}
-use Rattle.meta_parts.specs.declared.records.Program.{Program}
-use Rattle.meta_parts.specs.declared.records.Stage.{Stage}
-use Rattle.meta_parts.specs.declared.records.ProgramIndicator.{ProgramIndicator}
-use Rattle.meta_parts.specs.declared.records.User.{User}
-use Rattle.meta_parts.specs.declared.records.UserGroup.{UserGroup}
+use Rattle.dh_metadata.specs.declared.held.Records.{Records}
+use Rattle.dh_metadata.specs.declared.records.Unit.{Unit}
+use Rattle.dh_metadata.specs.declared.records.UnitGroup.{UnitGroup}
+use Rattle.dh_metadata.specs.declared.records.CategoryOption.{CategoryOption}
+use Rattle.dh_metadata.specs.declared.records.Category.{Category}
+use Rattle.dh_metadata.specs.declared.records.CategoryCombo.{CategoryCombo}
+use Rattle.dh_metadata.specs.declared.records.OptionCombo.{OptionCombo}
+use Rattle.dh_metadata.specs.declared.records.Element.{Element}
+use Rattle.dh_metadata.specs.declared.records.Workflow.{Workflow}
+use Rattle.dh_metadata.specs.declared.records.DataSet.{DataSet}
+use Rattle.dh_metadata.specs.declared.records.Indicator.{Indicator}
+use Rattle.dh_metadata.specs.declared.records.Rule.{Rule}
+use Rattle.dh_metadata.specs.declared.records.EntityType.{EntityType}
+use Rattle.dh_metadata.specs.declared.records.Program.{Program}
+use Rattle.dh_metadata.specs.declared.records.Stage.{Stage}
+use Rattle.dh_metadata.specs.declared.records.ProgramIndicator.{ProgramIndicator}
+use Rattle.dh_metadata.specs.declared.records.User.{User}
+use Rattle.dh_metadata.specs.declared.records.UserGroup.{UserGroup}
 
 -- each number of a list is below the end
 pub record AreBelow (end : ℕ) (numbers : List ℕ) : Type 0 where

@@ -8,12 +8,12 @@ use lib.Chars.{codes}
 use Rattle.dh_sharing.specs.declared.access.Right.{Right}
 use Rattle.dh_sharing.specs.declared.rule.UserFacts.{UserFacts}
 use Rattle.dh_sharing.specs.Rule.{may}
-use Rattle.meta_parts.specs.declared.kind.Kind.{Kind}
-use Rattle.meta_parts.specs.declared.held.Records.{Records}
-use Rattle.meta_parts.specs.declared.records.Role.{Role}
-use Rattle.meta_parts.specs.declared.records.User.{User}
-use Rattle.meta_parts.specs.declared.records.UserGroup.{UserGroup}
-use Rattle.meta_parts.specs.Places.{same_id}
+use Rattle.dh_metadata.specs.declared.kind.Kind.{Kind}
+use Rattle.dh_metadata.specs.declared.held.Records.{Records}
+use Rattle.dh_metadata.specs.declared.records.Role.{Role}
+use Rattle.dh_metadata.specs.declared.records.User.{User}
+use Rattle.dh_metadata.specs.declared.records.UserGroup.{UserGroup}
+use Rattle.dh_metadata.specs.Places.{same_id}
 use Rattle.dh_metadata.specs.Members.{holders}
 use Rattle.dh_metadata.specs.Objects.{sharing_of}
 

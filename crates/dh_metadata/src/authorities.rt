@@ -5,8 +5,8 @@ ghost use Rattle.std.specs.List.{list_any};
 ghost use Rattle.std.specs.Prelude.{bytes_eq};
 ghost use Rattle.dh_metadata.specs.Users.{role_has, is_granted};
 
+use crate::records::{Role, User};
 use dh_base::items::Items;
-use meta_parts::records::{Role, User};
 
 fn is_one_of(authorities: &[Items<u8>], authority: &[u8]) -> bool
     ensures { result ≡ list_any (λ own. bytes_eq own authority.now) authorities.now }

@@ -3,9 +3,9 @@
 ghost use Rattle.std.specs.Prelude.{◌≡◌, ◌<◌, ◌^◌, [], length, IfOk};
 ghost use Rattle.dh_metadata.specs.Sets.{put_by_id, by_id, set_ids};
 
+use crate::records::DataSet;
 use dh_base::memory::Memory;
 use dh_base::uid::Uid;
-use meta_parts::records::DataSet;
 use std::alloc::Global;
 use std::collections::BTreeMap;
 

@@ -6,13 +6,13 @@ ghost use Rattle.dh_metadata.specs.Members.{AreHolders};
 ghost use Rattle.dh_metadata.specs.Users.{all_authority, is_granted, user_lists, facts_of, AreFacts};
 
 use crate::authorities::is_granted;
+use crate::held::Records;
 use crate::holders::holders;
 use crate::members::group_users;
+use crate::records::{Role, User, UserGroup};
 use dh_base::items::Items;
 use dh_base::memory::Memory;
 use dh_sharing::rule::UserFacts;
-use meta_parts::held::Records;
-use meta_parts::records::{Role, User, UserGroup};
 use std::alloc::Global;
 
 #[tactic(auto, unfolding(crate::specs::Users::all_authority))]

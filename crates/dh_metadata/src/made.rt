@@ -4,13 +4,13 @@ ghost use Rattle.std.specs.Prelude.{◌<◌, ◌^◌, length, IfOk};
 ghost use Rattle.dh_metadata.specs.Known.{AreMade};
 
 use crate::facts::facts;
+use crate::held::Records;
 use crate::levels::all_tree_levels;
 use crate::sets::{SetLists, set_lists};
 use crate::tokens::token_users;
 use dh_base::items::Items;
 use dh_base::memory::Memory;
 use dh_sharing::rule::UserFacts;
-use meta_parts::held::Records;
 use std::alloc::Global;
 use std::collections::HashMap;
 

@@ -5,9 +5,9 @@ ghost use Rattle.std.specs.List.Sorted.{IsStrictlyIncreasing};
 ghost use Rattle.dh_metadata.specs.Members.{has, IsSortedCopy, AreSortedCopies};
 ghost use Rattle.dh_metadata.specs.Sets.{element_lists, unit_lists};
 
+use crate::records::{DataSet, UserGroup};
 use dh_base::items::Items;
 use dh_base::memory::Memory;
-use meta_parts::records::{DataSet, UserGroup};
 use std::alloc::Global;
 
 /// The same numbers once, ascending.

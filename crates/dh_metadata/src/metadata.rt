@@ -8,12 +8,21 @@ ghost use Rattle.dh_metadata.specs.Linked.{IsLinkedUserGroup};
 ghost use Rattle.dh_metadata.specs.Objects.{count_of, find_of, is_shared, sharing_of, HaveIds};
 ghost use Rattle.dh_metadata.specs.Sets.{has_element, is_assigned, sets_with};
 ghost use Rattle.dh_metadata.specs.Users.{facts_of, has_authority, may_of, user_of, view_units_of};
-ghost use Rattle.meta_parts.specs.Workflows.{workflow_of};
+ghost use Rattle.dh_metadata.specs.Workflows.{workflow_of};
 
 use crate::authorities::is_granted;
+use crate::held::Records;
+use crate::ids::Ids;
+use crate::kind::Kind;
 use crate::made::{Made, make};
 use crate::members::has;
 use crate::needs::{least_level, need_from};
+use crate::records::{
+    ApprovalLevel, Attribute, Category, CategoryCombo, CategoryOption, Constant, DataSet, Element,
+    EntityType, Indicator, IndicatorType, OptionCombo, Program, ProgramIndicator, Role, Rule,
+    Stage, Unit, UnitGroup, User, UserGroup, Workflow,
+};
+use crate::structure::Structure;
 use dh_base::items::Items;
 use dh_base::memory::Memory;
 use dh_base::plain::Need;
@@ -21,15 +30,6 @@ use dh_base::uid::Uid;
 use dh_categories::combos::Combos;
 use dh_sharing::access::Right;
 use dh_sharing::rule::{Sharing, UserFacts, may};
-use meta_parts::held::Records;
-use meta_parts::ids::Ids;
-use meta_parts::kind::Kind;
-use meta_parts::records::{
-    ApprovalLevel, Attribute, Category, CategoryCombo, CategoryOption, Constant, DataSet, Element,
-    EntityType, Indicator, IndicatorType, OptionCombo, Program, ProgramIndicator, Role, Rule,
-    Stage, Unit, UnitGroup, User, UserGroup, Workflow,
-};
-use meta_parts::structure::Structure;
 use org_tree::tree::Tree;
 use std::alloc::Global;
 use std::collections::HashMap;
@@ -53,7 +53,7 @@ pub struct Metadata {
 }
 
 impl Model for Metadata {
-    ghost use Rattle.meta_parts.specs.declared.held.Records.{Records};
+    ghost use Rattle.dh_metadata.specs.declared.held.Records.{Records};
     ghost use Rattle.expr_lang.specs.contracts.expr.Expr as expression;
     ghost use Rattle.std.specs.Coded.{codes};
 

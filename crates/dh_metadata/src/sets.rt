@@ -4,11 +4,11 @@ ghost use Rattle.std.specs.Prelude.{◌<◌, ◌^◌, length, IfOk};
 ghost use Rattle.dh_metadata.specs.Known.{AreSetLists};
 
 use crate::by_id::by_id;
+use crate::held::Records;
 use crate::holders::holders;
 use crate::members::{set_elements, set_units};
 use dh_base::items::Items;
 use dh_base::memory::Memory;
-use meta_parts::held::Records;
 use std::alloc::Global;
 
 /// Of each data set its elements and its units, each list ascending, and of each element the data sets

@@ -1,7 +1,7 @@
 -- What logs leave of rights and the tree: all of them leave the same today.
 use Rattle.std.proofs.Common.{◌≡◌, ℕ, length, refl}
-use Rattle.meta_parts.specs.declared.held.Records.{Records}
-use Rattle.record_index.specs.Facts.{Facts}
+use Rattle.dh_metadata.specs.declared.held.Records.{Records}
+use Rattle.dh_changes.specs.Facts.{Facts}
 use Rattle.dh_records.specs.Access.{access, tree, meta_after, IsAfter}
 
 -- metadata after two logs are the same

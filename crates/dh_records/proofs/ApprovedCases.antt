@@ -8,16 +8,16 @@ use Rattle.dh_periods.specs.declared.name.PeriodName.{PeriodName}
 use Rattle.dh_periods.specs.Days.{first_day, last_day}
 use Rattle.dh_periods.specs.Places.{containing_of}
 use Rattle.org_tree.specs.Units.{ancestor_of, level_of, level_within, climb}
-use Rattle.meta_parts.specs.declared.names.ValueType.{ValueType}
-use Rattle.meta_parts.specs.declared.held.Records.{Records}
-use Rattle.meta_parts.specs.declared.records.Unit.{Unit}
-use Rattle.meta_parts.specs.declared.records.Element.{Element}
-use Rattle.meta_parts.specs.declared.records.ApprovalLevel.{ApprovalLevel}
-use Rattle.meta_parts.specs.declared.records.Workflow.{Workflow}
-use Rattle.meta_parts.specs.declared.records.DataSet.{DataSet}
-use Rattle.meta_parts.specs.Positions.{positions_of, ordered}
-use Rattle.record_index.specs.Facts.{Facts}
-use Rattle.record_index.specs.declared.said.ApprovalState.TheVariants as state
+use Rattle.dh_metadata.specs.declared.names.ValueType.{ValueType}
+use Rattle.dh_metadata.specs.declared.held.Records.{Records}
+use Rattle.dh_metadata.specs.declared.records.Unit.{Unit}
+use Rattle.dh_metadata.specs.declared.records.Element.{Element}
+use Rattle.dh_metadata.specs.declared.records.ApprovalLevel.{ApprovalLevel}
+use Rattle.dh_metadata.specs.declared.records.Workflow.{Workflow}
+use Rattle.dh_metadata.specs.declared.records.DataSet.{DataSet}
+use Rattle.dh_metadata.specs.Positions.{positions_of, ordered}
+use Rattle.dh_changes.specs.Facts.{Facts}
+use Rattle.dh_changes.specs.declared.said.ApprovalState.TheVariants as state
 use Rattle.dh_changes.specs.declared.keys.ApprovalKey.{ApprovalKey}
 use Rattle.dh_changes.specs.declared.keys.ValueKey.{ValueKey}
 use Rattle.dh_records.specs.Access.{tree}

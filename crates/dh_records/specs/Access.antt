@@ -2,11 +2,11 @@
 use Rattle.std.specs.Prelude.{◌≡◌, ℕ, Bool, List, length}
 use Rattle.dh_sharing.specs.declared.access.Right.{Right}
 use Rattle.org_tree.specs.Units.{UnitRow}
-use Rattle.meta_parts.specs.declared.held.Records.{Records}
-use Rattle.meta_parts.specs.declared.kind.Kind.{Kind}
+use Rattle.dh_metadata.specs.declared.held.Records.{Records}
+use Rattle.dh_metadata.specs.declared.kind.Kind.{Kind}
 use Rattle.dh_metadata.specs.Approval.{unit_rows}
 use Rattle.dh_metadata.specs.Users.{may_of}
-use Rattle.record_index.specs.Facts.{Facts}
+use Rattle.dh_changes.specs.Facts.{Facts}
 
 -- the user has the right to the object: no write changes how the metadata shares it
 unfoldable pub access : Facts → Records → ℕ → Right → Kind → ℕ → Bool

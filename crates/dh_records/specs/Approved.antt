@@ -6,17 +6,17 @@ use Rattle.org_tree.specs.Units.{ancestor_of}
 use Rattle.dh_periods.specs.declared.name.PeriodName.{PeriodName}
 use Rattle.dh_periods.specs.Days.{first_day, last_day}
 use Rattle.dh_periods.specs.Places.{containing_of}
-use Rattle.meta_parts.specs.declared.held.Records.{Records}
-use Rattle.meta_parts.specs.declared.records.Unit.{Unit}
-use Rattle.meta_parts.specs.declared.records.Workflow.{Workflow}
+use Rattle.dh_metadata.specs.declared.held.Records.{Records}
+use Rattle.dh_metadata.specs.declared.records.Unit.{Unit}
+use Rattle.dh_metadata.specs.declared.records.Workflow.{Workflow}
 use Rattle.dh_metadata.specs.Approval.{levels_at}
-use Rattle.meta_parts.specs.Workflows.{workflow_of}
+use Rattle.dh_metadata.specs.Workflows.{workflow_of}
 use Rattle.dh_metadata.specs.Objects.{find_of}
-use Rattle.meta_parts.specs.declared.kind.Kind.TheVariants.{OrganisationUnit, DataElement}
-use Rattle.record_index.specs.Facts.{Facts}
+use Rattle.dh_metadata.specs.declared.kind.Kind.TheVariants.{OrganisationUnit, DataElement}
+use Rattle.dh_changes.specs.Facts.{Facts}
 use Rattle.dh_records.specs.Access.{tree}
-use Rattle.record_index.specs.declared.said.ApprovalState.{ApprovalState}
-use Rattle.record_index.specs.declared.said.ApprovalState.TheVariants as state
+use Rattle.dh_changes.specs.declared.said.ApprovalState.{ApprovalState}
+use Rattle.dh_changes.specs.declared.said.ApprovalState.TheVariants as state
 use Rattle.dh_changes.specs.declared.keys.ApprovalKey.{ApprovalKey}
 use Rattle.dh_changes.specs.declared.keys.ValueKey.{ValueKey}
 use Rattle.dh_records.specs.declared.approved.Scope.{Scope}

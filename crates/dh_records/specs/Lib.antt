@@ -1,5 +1,5 @@
 pub mod Values
 pub mod Approved
 pub mod Access
-pub use Rattle.record_index.specs.Facts
-pub use Rattle.record_index.specs.World
+pub use Rattle.dh_changes.specs.Facts
+pub use Rattle.dh_changes.specs.World

@@ -7,8 +7,8 @@ use Rattle.std.specs.List.{list_any}
 use lib.Chars.{codes}
 use Rattle.dh_base.specs.Decimals.{decimal_of, is_point}
 use Rattle.dh_periods.specs.Civil.{civil_of}
-use Rattle.meta_parts.specs.declared.names.ValueType.{ValueType}
-use Rattle.meta_parts.specs.declared.names.ValueType.TheVariants as value_type
+use Rattle.dh_metadata.specs.declared.names.ValueType.{ValueType}
+use Rattle.dh_metadata.specs.declared.names.ValueType.TheVariants as value_type
 
 -- the values of the type are numbers
 abbrev pub is_numeric : ValueType → Bool

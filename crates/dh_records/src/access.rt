@@ -1,15 +1,15 @@
 //! Rights and the tree of the units, after the writes of a log.
 ghost use Rattle.std.specs.Prelude.{◌≡◌, ◌<◌, true, length};
 ghost use Rattle.dh_metadata.specs.Objects.{count_of, is_shared};
-ghost use Rattle.record_index.specs.Facts.{Facts};
-ghost use Rattle.record_index.specs.World.{facts};
+ghost use Rattle.dh_changes.specs.Facts.{Facts};
+ghost use Rattle.dh_changes.specs.World.{facts};
 ghost use Rattle.dh_records.specs.Access as known;
 
+use dh_changes::world::World;
+use dh_metadata::kind::Kind;
 use dh_metadata::metadata::Metadata;
 use dh_sharing::access::Right;
-use meta_parts::kind::Kind;
 use org_tree::tree::Tree;
-use record_index::world::World;
 
 /// Whether the user has the right to the object of this number, after the writes of the log.
 #[tactic(auto, unfolding(crate::specs::Access::access))]

@@ -1,16 +1,16 @@
 //! Up to which position values are approved.
 ghost use Rattle.std.specs.Prelude.{◌≡◌, ◌<◌, ◌≤◌, length};
-ghost use Rattle.record_index.specs.World.{facts};
+ghost use Rattle.dh_changes.specs.World.{facts};
 ghost use Rattle.dh_records.specs.Approved as known;
 
 use crate::access::tree_of;
 use dh_base::uid::Uid;
 use dh_changes::keys::{ApprovalKey, ValueKey};
+use dh_changes::said::ApprovalState;
+use dh_changes::world::World;
+use dh_metadata::kind::Kind;
 use dh_metadata::metadata::Metadata;
 use dh_periods::{Period, containing};
-use meta_parts::kind::Kind;
-use record_index::said::ApprovalState;
-use record_index::world::World;
 
 /// What an approval is of, beside its unit.
 #[derive(Clone, Copy, PartialEq, Eq)]

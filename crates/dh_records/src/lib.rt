@@ -8,7 +8,7 @@ pub mod value;
 
 pub use dh_changes::change::{Change, Write};
 pub use dh_changes::keys::{ApprovalKey, RegKey, ValueKey};
+pub use dh_changes::outcome::{BodyFault, Conflict, ImportStrategy, Verdict, Who};
+pub use dh_changes::said::ApprovalState;
 pub use dh_changes::tracker::{Enrollment, Entity, Event};
-pub use record_index::outcome::{BodyFault, Conflict, ImportStrategy, Verdict, Who};
-pub use record_index::said::ApprovalState;
-pub use record_index::world::World;
+pub use dh_changes::world::World;

@@ -6,7 +6,7 @@ ghost use Rattle.dh_base.specs.Decimals.{is_point};
 ghost use Rattle.dh_records.specs.Values.{is_numeric, integer_of, number_if, is_up_to, is_true, is_false, truth_of, boolean_of, number_of};
 
 use dh_base::decimal::{Micros, read_decimal};
-use meta_parts::names::ValueType;
+use dh_metadata::names::ValueType;
 
 /// Whether the values of the type are numbers.
 pub fn is_numeric(value_type: ValueType) -> bool

@@ -4,8 +4,8 @@ ghost use Rattle.std.specs.Prelude.{◌≡◌, IsTrue, is_some};
 ghost use Rattle.dh_records.specs.Values.{is_short, is_numeric, number_of, fits};
 
 use crate::number::{is_false, is_true, number_of};
+use dh_metadata::names::ValueType;
 use dh_periods::civil;
-use meta_parts::names::ValueType;
 
 /// The most bytes of a value of TEXT.
 const MOST_BYTES: usize = 1_024;

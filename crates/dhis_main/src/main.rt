@@ -13,9 +13,9 @@ mod words;
 
 use crate::run::{Network, refuse_word, run};
 use crate::status::Status;
-use build_workers::OpenGate;
 use dh_outside::{RealFiles, StdIn, StdOut, SystemClock};
 use net_doors::TcpDoor;
+use shared_engine::OpenGate;
 use std::alloc::{AllocError, Global};
 use std::env::FillError;
 use std::io;

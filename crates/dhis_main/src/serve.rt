@@ -5,10 +5,10 @@ ghost use Rattle.dhis_main.specs.Shown.{side, folder};
 ghost use Rattle.dhis_main.specs.Serve.{status_by, ServeRuns};
 
 use crate::status::{Outcome, Status};
-use build_workers::Gate;
 use dh_base::limits::MOST_INPUT_BYTES;
 use dh_outside::{Clock, FileFault, FileSet, Sink};
 use net_doors::{End, Listener};
+use shared_engine::Gate;
 use shared_server::{Finished, ServeEnd, Setup, refuse_long, serve_over};
 use std::sync::Wait;
 use std::thread::Threads;

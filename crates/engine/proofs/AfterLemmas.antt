@@ -1,8 +1,8 @@
 -- What logs of changes leave of rights and the tree.
 use Rattle.std.proofs.Common.{◌≡◌, ◌<◌, ℕ, List, length, sym, subst}
 use Rattle.dh_changes.specs.declared.change.Change.{Change}
-use Rattle.meta_parts.specs.declared.held.Records.{Records}
-use Rattle.record_index.specs.Facts.{Facts, facts_in}
+use Rattle.dh_metadata.specs.declared.held.Records.{Records}
+use Rattle.dh_changes.specs.Facts.{Facts, facts_in}
 use Rattle.dh_records.specs.Access as known
 use Rattle.dh_records.proofs.AccessLaws as laws
 use Rattle.change_log.specs.Log.{writes_of}

@@ -7,7 +7,7 @@ use Rattle.std.proofs.lemmas.List.Elements.{recursion_from_All}
 use Rattle.dh_changes.specs.declared.change.Change.{Change}
 use Rattle.dh_changes.specs.declared.change.Write.{Write}
 use Rattle.dh_changes.specs.declared.change.Write.TheVariants as write
-use Rattle.change_bytes.specs.Forms.{WriteFits, IsDay}
+use Rattle.change_log.specs.Forms.{WriteFits, IsDay}
 use Rattle.change_log.specs.Log.{writes_of}
 use Rattle.table_rows.specs.Events.{is_day_if_any}
 use Rattle.table_build.specs.Log as rows

@@ -5,7 +5,7 @@ use Rattle.std.proofs.lemmas.Bool.Decides.{nat_tests}
 use Rattle.std.proofs.Math.Nat.{le-max_left}
 use Rattle.dh_base.specs.declared.plain.CutKind.{CutKind}
 use Rattle.dh_base.specs.declared.plain.CutKind.TheVariants.{Full, Latest}
-use Rattle.meta_parts.specs.declared.held.Records.{Records}
+use Rattle.dh_metadata.specs.declared.held.Records.{Records}
 use Rattle.change_log.specs.declared.limits.Limits.{Limits}
 use Rattle.engine.specs.declared.machine.Staged.{Staged}
 use Rattle.engine.specs.Machine.{State, start, Act, IsReply, next, staged_of, has_ticket, is_begun, kind_of, number_in, number_of}

@@ -1,3 +1,7 @@
+pub mod StatusLemmas
+pub mod SummaryLemmas
+pub mod ApprovalLemmas
+mod ReportLemmas
 pub mod AfterLemmas
 pub mod Steps
 pub mod Days

@@ -9,10 +9,10 @@ use Rattle.dh_base.specs.declared.memory.Memory.{Memory}
 use Rattle.dh_base.specs.declared.plain.CutKind.{CutKind}
 use Rattle.dh_base.specs.declared.plain.CutKind.TheVariants.{Full, Latest}
 use Rattle.dh_changes.specs.declared.change.Change.{Change}
-use Rattle.meta_parts.specs.declared.held.Records.{Records}
+use Rattle.dh_metadata.specs.declared.held.Records.{Records}
 use Rattle.change_log.specs.declared.limits.Limits.{Limits}
-use Rattle.change_requests.specs.Requests.{Asked}
-use Rattle.change_requests.specs.declared.request.Judged.{Judged}
+use Rattle.engine.specs.Requests.{Asked}
+use Rattle.engine.specs.declared.request.Judged.{Judged}
 use Rattle.engine.specs.declared.machine.Staged.{Staged}
 use Rattle.engine.specs.declared.machine.Report.{Report}
 use Rattle.engine.specs.declared.machine.ChangeFault.{ChangeFault}

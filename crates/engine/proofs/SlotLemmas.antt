@@ -5,11 +5,11 @@ use Rattle.std.specs.Arc.{arc_value}
 use Rattle.std.specs.Global.{Vec}
 use Rattle.std.specs.List.{All}
 use Rattle.dh_base.specs.declared.plain.CutKind.{CutKind}
-use Rattle.change_bytes.specs.Forms.{WriteFits}
+use Rattle.change_log.specs.Forms.{WriteFits}
 use Rattle.dh_changes.specs.declared.change.Change.{Change}
-use Rattle.meta_parts.specs.declared.held.Records.{Records}
+use Rattle.dh_metadata.specs.declared.held.Records.{Records}
 use Rattle.table_rows.specs.Store.{contents_in}
-use Rattle.year_tables.specs.Parts.{YearPart, part_of}
+use Rattle.table_sums.specs.YearParts.{YearPart, part_of}
 use Rattle.table_build.specs.declared.slots.Slot.{Slot}
 use Rattle.table_build.specs.Listed.{listed_in}
 use Rattle.engine.specs.declared.machine.Cut.{Cut}

@@ -9,9 +9,9 @@ use Rattle.std.proofs.lemmas.Bool.Decides.{nat_tests}
 use Rattle.std.proofs.lemmas.List.{length-take-le, take_all}
 use Rattle.dh_base.specs.declared.plain.CutKind.TheVariants.{Full, Latest}
 use Rattle.dh_changes.specs.declared.change.Change.{Change}
-use Rattle.meta_parts.specs.declared.held.Records.{Records}
+use Rattle.dh_metadata.specs.declared.held.Records.{Records}
 use Rattle.table_rows.specs.Store.{contents_in}
-use Rattle.year_tables.specs.Parts.{YearPart, YearParts, together, years_in}
+use Rattle.table_sums.specs.YearParts.{YearPart, YearParts, together, years_in}
 use Rattle.table_build.specs.Values.{rows_of}
 use Rattle.table_build.specs.Events.{events_of, places_of}
 use Rattle.table_build.specs.Regs.{regs_of}
@@ -23,7 +23,7 @@ use Rattle.table_build.specs.declared.slots.Slot.{Slot}
 use Rattle.table_latest.specs.Latest.{LatestPart}
 use Rattle.latest_build.specs.Leads.{LeadsFrom}
 use Rattle.latest_build.specs.Touches.{touched_by}
-use Rattle.record_index.specs.Facts.{Facts, facts_in}
+use Rattle.dh_changes.specs.Facts.{Facts, facts_in}
 use Rattle.change_log.specs.declared.limits.Limits.{Limits}
 use Rattle.change_log.specs.Log.{writes_of}
 use Rattle.engine.specs.declared.machine.Staged.{Staged}

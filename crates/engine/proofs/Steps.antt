@@ -10,16 +10,16 @@ use Rattle.std.proofs.lemmas.List.{length-append, take-append-le, take-append-dr
 use Rattle.std.proofs.lemmas.List.Elements.{All-take, All-drop}
 use Rattle.dh_base.specs.declared.codes.Refusal.{Refusal}
 use Rattle.dh_changes.specs.declared.change.Change.{Change}
-use Rattle.change_bytes.specs.Forms.{WriteFits}
-use Rattle.record_index.specs.Facts.{Facts, facts_in}
-use Rattle.meta_parts.specs.declared.held.Records.{Records}
+use Rattle.change_log.specs.Forms.{WriteFits}
+use Rattle.dh_changes.specs.Facts.{Facts, facts_in}
+use Rattle.dh_metadata.specs.declared.held.Records.{Records}
 use Rattle.change_log.specs.declared.limits.Limits.{Limits}
 use Rattle.change_log.specs.Log.{LogSeen, IsWhole, Appends, with_change, writes_of, passed, over}
 use Rattle.dh_base.specs.Memory.{IsCause}
-use Rattle.change_requests.specs.declared.request.JudgeFault.{JudgeFault}
-use Rattle.change_requests.specs.declared.request.JudgeFault.TheVariants as judge
-use Rattle.change_requests.specs.Requests.{Asked, judged, judged_by, maker_of, cause_of}
-use Rattle.change_requests.specs.declared.request.Judged.{Judged}
+use Rattle.engine.specs.declared.request.JudgeFault.{JudgeFault}
+use Rattle.engine.specs.declared.request.JudgeFault.TheVariants as judge
+use Rattle.engine.specs.Requests.{Asked, judged, judged_by, maker_of, cause_of}
+use Rattle.engine.specs.declared.request.Judged.{Judged}
 use Rattle.engine.specs.Histories.{IsInOrder}
 use Rattle.engine.specs.Machine.{State, Step, StepBy, IsReplyBy, log_by, has_writes, grown, judged_in, change_of, change_lacks, report_of}
 use Rattle.engine.specs.Machine.Act.{changed}

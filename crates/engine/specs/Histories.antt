@@ -1,6 +1,6 @@
 -- Histories: the calls from the start on, each with its reply.
 use Rattle.std.specs.Prelude.{◌≡◌, ◌≤◌, [], ◌∷◌, ℕ, List, length, take, slice_get, Some, IfSome, Ok, Err, ◌≢◌}
-use Rattle.meta_parts.specs.declared.held.Records.{Records}
+use Rattle.dh_metadata.specs.declared.held.Records.{Records}
 use Rattle.change_log.specs.declared.limits.Limits.{Limits}
 use Rattle.engine.specs.declared.machine.Staged.{Staged}
 use Rattle.engine.specs.Machine.{State, start, Act, IsReply, next}

@@ -5,12 +5,12 @@ use Rattle.dh_base.specs.declared.codes.Code.TheVariants.{F22}
 use Rattle.dh_base.specs.declared.codes.Refusal.{Refusal}
 use Rattle.dh_base.specs.declared.memory.Memory.{Memory}
 use Rattle.dh_changes.specs.declared.change.Change.{Change}
-use Rattle.meta_parts.specs.declared.held.Records.{Records}
-use Rattle.record_index.specs.declared.outcome.Who.TheVariants.{Loader}
+use Rattle.dh_metadata.specs.declared.held.Records.{Records}
+use Rattle.dh_changes.specs.declared.outcome.Who.TheVariants.{Loader}
 use Rattle.change_log.specs.declared.limits.Limits.{Limits}
-use Rattle.change_requests.specs.Requests.{Asked}
-use Rattle.change_requests.specs.declared.request.ChangeRequest.{ChangeRequest}
-use Rattle.change_requests.specs.declared.request.Judged.{Judged}
+use Rattle.engine.specs.Requests.{Asked}
+use Rattle.engine.specs.declared.request.ChangeRequest.{ChangeRequest}
+use Rattle.engine.specs.declared.request.Judged.{Judged}
 use Rattle.engine.specs.declared.machine.Report.{Report}
 use Rattle.engine.specs.declared.machine.ChangeFault.{ChangeFault}
 use Rattle.engine.specs.declared.machine.ChangeFault.TheVariants as change

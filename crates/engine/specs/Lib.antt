@@ -1,3 +1,6 @@
+pub mod Summary
+pub mod Requests
+pub mod Report
 pub mod Machine
 pub mod Histories
 pub mod Tables

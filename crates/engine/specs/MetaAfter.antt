@@ -1,8 +1,8 @@
 -- Metadata with rights and the tree of the units as changes leave them.
 use Rattle.std.specs.Prelude.{List, take}
 use Rattle.dh_changes.specs.declared.change.Change.{Change}
-use Rattle.meta_parts.specs.declared.held.Records.{Records}
-use Rattle.record_index.specs.Facts.{facts_in}
+use Rattle.dh_metadata.specs.declared.held.Records.{Records}
+use Rattle.dh_changes.specs.Facts.{facts_in}
 use Rattle.dh_records.specs.Access as known
 use Rattle.change_log.specs.Log.{writes_of}
 use Rattle.engine.specs.Seen.{Seen}

@@ -11,15 +11,15 @@ use Rattle.dh_base.specs.declared.plain.CutKind.{CutKind}
 use Rattle.dh_base.specs.declared.plain.CutKind.TheVariants.{Full, Latest}
 use Rattle.dh_outside.specs.Faults.{Rose}
 use Rattle.dh_changes.specs.declared.change.Change.{Change}
-use Rattle.meta_parts.specs.declared.held.Records.{Records}
-use Rattle.change_bytes.specs.Forms.{WriteFits}
-use Rattle.change_bytes.specs.Log.{log_bytes}
+use Rattle.dh_metadata.specs.declared.held.Records.{Records}
+use Rattle.change_log.specs.Forms.{WriteFits}
+use Rattle.change_log.specs.LogBytes.{log_bytes}
 use Rattle.change_log.specs.declared.limits.Limits.{Limits}
 use Rattle.change_log.specs.Log.{LogSeen, IsWhole, writes_of}
-use Rattle.change_requests.specs.declared.request.JudgeFault.{JudgeFault}
-use Rattle.change_requests.specs.declared.request.JudgeFault.TheVariants as judge
-use Rattle.change_requests.specs.Requests.{Asked}
-use Rattle.change_requests.specs.declared.request.Judged.{Judged}
+use Rattle.engine.specs.declared.request.JudgeFault.{JudgeFault}
+use Rattle.engine.specs.declared.request.JudgeFault.TheVariants as judge
+use Rattle.engine.specs.Requests.{Asked}
+use Rattle.engine.specs.declared.request.Judged.{Judged}
 use Rattle.engine.specs.declared.updates.LatestUpdate.{LatestUpdate}
 use Rattle.engine.specs.declared.updates.Shown.{Shown}
 use Rattle.engine.specs.declared.machine.Staged.{Staged}
@@ -37,7 +37,7 @@ use Rattle.engine.specs.Machine.{after_swap, swap_lacks, IsLookReply, look_lacks
 use Rattle.table_build.specs.Listed.{listed_in}
 use Rattle.table_build.specs.Slots.{AreSlots}
 use Rattle.table_build.specs.declared.slots.Slot.{Slot}
-use Rattle.year_tables.specs.Parts.{YearPart, part_of}
+use Rattle.table_sums.specs.YearParts.{YearPart, part_of}
 use Rattle.dh_base.specs.declared.limits.TheConstants.{MOST_RECORDS}
 use Rattle.table_latest.specs.Latest.{LatestPart}
 use Rattle.engine.specs.Tables.{Served, tables_of, years_of}

@@ -1,13 +1,13 @@
 -- When tables that are served stand for the first changes of a log.
 use Rattle.std.specs.Prelude.{◌≡◌, ◌≤◌, ℕ, List, length, take, drop, Option, None, Some}
 use Rattle.dh_changes.specs.declared.change.Change.{Change}
-use Rattle.meta_parts.specs.declared.held.Records.{Records}
+use Rattle.dh_metadata.specs.declared.held.Records.{Records}
 use Rattle.table_rows.specs.Store.{contents_in}
-use Rattle.year_tables.specs.Parts.{together, years_in}
+use Rattle.table_sums.specs.YearParts.{together, years_in}
 use Rattle.table_latest.specs.Latest.{LatestPart}
 use Rattle.latest_build.specs.Leads.{LeadsFrom}
 use Rattle.latest_build.specs.Touches.{touched_by}
-use Rattle.record_index.specs.Facts.{facts_in}
+use Rattle.dh_changes.specs.Facts.{facts_in}
 use Rattle.change_log.specs.Log.{writes_of}
 use Rattle.engine.specs.Tables.{Served, tables_of}
 

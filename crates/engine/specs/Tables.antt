@@ -1,9 +1,9 @@
 -- The tables of changes, and tables as they are served.
 use Rattle.std.specs.Prelude.{ℤ, List, [], Option, None, Some, option_map}
 use Rattle.dh_changes.specs.declared.change.Change.{Change}
-use Rattle.meta_parts.specs.declared.held.Records.{Records}
+use Rattle.dh_metadata.specs.declared.held.Records.{Records}
 use Rattle.table_rows.specs.Store.{Contents, Listed, contents_in}
-use Rattle.year_tables.specs.Parts.{YearPart, YearParts, rows_together, events_together, regs_together, years_in}
+use Rattle.table_sums.specs.YearParts.{YearPart, YearParts, rows_together, events_together, regs_together, years_in}
 use Rattle.table_build.specs.Listed.{listed_in}
 use Rattle.table_latest.specs.Latest.{LatestPart, Overlaid, rows_over, events_over, regs_over}
 use Rattle.change_log.specs.Log.{writes_of}

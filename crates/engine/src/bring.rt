@@ -1,6 +1,6 @@
 //! A change, from the request to the log.
 ghost use Rattle.std.specs.List.{All};
-ghost use Rattle.change_bytes.specs.Forms.{WriteFits};
+ghost use Rattle.change_log.specs.Forms.{WriteFits};
 ghost use Rattle.std.specs.Prelude.{◌≡◌};
 ghost use Rattle.change_log.specs.Log.{IsWhole, NeverFails};
 ghost use Rattle.value_import.specs.Outcomes.{IsKnown};
@@ -10,12 +10,12 @@ ghost use Rattle.engine.specs.Seen.{seen_of, state_of, AreParts, Puts, Brings, B
 
 use crate::machine::{ChangeFault, Report};
 use crate::updates::Shown;
+use crate::{ChangeRequest, JudgeFault, Judged, judge, maker_of};
 use change_log::{AppendFault, ChangeLog};
-use change_requests::{ChangeRequest, JudgeFault, Judged, judge, maker_of};
 use dh_base::uid::Uid;
+use dh_changes::outcome::Who;
 use dh_metadata::metadata::Metadata;
 use dh_outside::Keeper;
-use record_index::outcome::Who;
 use std::alloc::Global;
 
 // Puts the writes last in the log, if there are any.

@@ -12,23 +12,23 @@ ghost use Rattle.engine.specs.Stands.{Stands};
 ghost use Rattle.engine.specs.Tables.{no_tables, tables_of};
 ghost use Rattle.engine.specs.Seen.{IsSound, Brought, BeginsPart, IsCutOf, IsPartOf, Lays, part_after, part_without, update_in, published_in};
 
+use crate::ChangeRequest;
 use crate::bring::change;
 use crate::machine::{ChangeFault, Cut, CutFault, LookFault, Report, Staged, Standing, View};
 use crate::served::serve_none;
 use crate::swaps::swap;
 use crate::updates::{Shown, cut, drop_staged, hand_in, look, staged_of};
 use change_log::{ChangeLog, Limits};
-use change_requests::ChangeRequest;
 use dh_base::memory::Memory;
 use dh_base::plain::CutKind;
+use dh_changes::outcome::Who;
 use dh_metadata::metadata::Metadata;
 use dh_outside::Keeper;
 use dh_records::access;
-use record_index::outcome::Who;
 use std::alloc::Global;
 use std::marker::Model;
 use std::sync::Arc;
-use year_tables::Partition;
+use table_sums::Partition;
 
 fn ticket_of(staged: Option<Staged>) -> Option<u64>
     ensures { result ≡ option_map (λ update. update.ticket) staged }

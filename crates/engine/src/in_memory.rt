@@ -6,19 +6,19 @@ ghost use Rattle.table_rows.specs.Store.{contents_in};
 ghost use Rattle.engine.specs.Tables.{tables_of};
 ghost use Rattle.engine.specs.InMemory.{started, loading, full_refusal, IsRefusalBy, Loads};
 
+use crate::ChangeRequest;
 use crate::engine::Engine;
 use crate::machine::{ChangeFault, Report};
 use crate::tables::Tables;
 use change_log::Limits;
-use change_requests::ChangeRequest;
 use dh_base::codes::{Code, Refusal};
 use dh_base::items::Items;
 use dh_base::limits::{MOST_LOG_BYTES, MOST_RECORDS, MOST_UPDATES};
 use dh_base::memory::Memory;
 use dh_base::plain::CutKind;
+use dh_changes::outcome::Who;
 use dh_metadata::metadata::Metadata;
 use dh_outside::{KeepFault, Keeper};
-use record_index::outcome::Who;
 use std::alloc::Global;
 use std::sync::Arc;
 

@@ -1,7 +1,7 @@
 //! What follows from the definition of the machine alone.
 ghost use Rattle.std.specs.Prelude.{◌≡◌, ◌≤◌, true, ℕ, List, Some, take};
 ghost use Rattle.dh_base.specs.declared.plain.CutKind.{CutKind};
-ghost use Rattle.meta_parts.specs.declared.held.Records.{Records};
+ghost use Rattle.dh_metadata.specs.declared.held.Records.{Records};
 ghost use Rattle.change_log.specs.declared.limits.Limits.{Limits};
 ghost use Rattle.engine.specs.declared.machine.Staged.{Staged};
 ghost use Rattle.engine.specs.Machine.{State, Act, staged_of, is_begun, kind_of, number_of};

@@ -2,12 +2,12 @@
 ghost use Rattle.std.specs.Prelude.{◌≡◌, ◌≤◌, [], length, map, take, option_map, IfOk};
 ghost use Rattle.std.specs.Arc.{arc_value};
 ghost use Rattle.std.specs.List.{All};
-ghost use Rattle.change_bytes.specs.Forms.{WriteFits};
+ghost use Rattle.change_log.specs.Forms.{WriteFits};
 ghost use Rattle.change_log.specs.Log.{writes_of};
-ghost use Rattle.record_index.specs.Facts.{facts_in};
-ghost use Rattle.record_index.specs.World.{facts};
+ghost use Rattle.dh_changes.specs.Facts.{facts_in};
+ghost use Rattle.dh_changes.specs.World.{facts};
 ghost use Rattle.table_rows.specs.Store.{contents_in};
-ghost use Rattle.year_tables.specs.Parts.{together, years_in};
+ghost use Rattle.table_sums.specs.YearParts.{together, years_in};
 ghost use Rattle.engine.specs.Stands.{GoesOn, GoesTo, LiesOver, Stands};
 ghost use Rattle.engine.specs.Tables.{listed_under, no_tables, tables_of};
 ghost use Rattle.dh_base.specs.declared.limits.TheConstants.{MOST_RECORDS};
@@ -15,13 +15,13 @@ ghost use Rattle.dh_base.specs.declared.limits.TheConstants.{MOST_RECORDS};
 use crate::tables::{Tables, base_of_first, tables_from};
 use dh_base::memory::Memory;
 use dh_changes::change::Change;
+use dh_changes::world::World;
 use dh_metadata::metadata::Metadata;
 use latest_build::{build_latest, tables_over};
-use record_index::world::World;
 use std::alloc::Global;
 use std::sync::Arc;
 use table_latest::{Latest as LatestPart, Overlay};
-use year_tables::Tables as YearTables;
+use table_sums::Tables as YearTables;
 
 // The yearly parts under a latest part, if there is one.
 fn laid_over(

@@ -2,11 +2,11 @@
 ghost use Rattle.std.specs.Prelude.{◌≡◌, ◌≤◌, length, map, take, option_map, IfOk};
 ghost use Rattle.std.specs.Arc.{arc_value};
 ghost use Rattle.std.specs.List.{All};
-ghost use Rattle.change_bytes.specs.Forms.{WriteFits};
+ghost use Rattle.change_log.specs.Forms.{WriteFits};
 ghost use Rattle.change_log.specs.Log.{writes_of};
 ghost use Rattle.table_build.specs.Listed.{listed_in};
 ghost use Rattle.table_build.specs.Slots.{AreSlots};
-ghost use Rattle.year_tables.specs.Parts.{part_of, together, years_in};
+ghost use Rattle.table_sums.specs.YearParts.{part_of, together, years_in};
 ghost use Rattle.engine.specs.Seen.{FitSlots, IsPartOf};
 ghost use Rattle.engine.specs.Tables.{served_from, tables_of, years_of};
 ghost use Rattle.dh_base.specs.declared.limits.TheConstants.{MOST_RECORDS};
@@ -24,7 +24,7 @@ use table_build::reading::Reading;
 use table_build::slots::{Slot, build_with};
 use table_latest::{Latest as LatestPart, Overlay};
 use table_rows::{EventRow, Group, RegRow, Row, RowStore, Sum};
-use year_tables::{Partition, Tables as YearTables};
+use table_sums::{Partition, Tables as YearTables};
 
 /// The tables, as a store of rows: yearly parts, and a latest part over them if there is one.
 #[derive(Drop)]

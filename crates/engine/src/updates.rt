@@ -3,15 +3,15 @@ ghost use Rattle.std.specs.Prelude.{◌≡◌, ◌≤◌, ◌<◌, ◌^◌, ◌+
 ghost use Rattle.std.specs.Arc.{arc_value};
 ghost use Rattle.std.specs.List.{All};
 ghost use Rattle.dh_changes.specs.declared.change.Change.{Change};
-ghost use Rattle.change_bytes.specs.Forms.{WriteFits};
-ghost use Rattle.meta_parts.specs.declared.held.Records.{Records};
+ghost use Rattle.change_log.specs.Forms.{WriteFits};
+ghost use Rattle.dh_metadata.specs.declared.held.Records.{Records};
 ghost use Rattle.change_log.specs.Log.{writes_of};
 ghost use Rattle.change_log.specs.declared.limits.Limits.{Limits as LogLimits};
 ghost use Rattle.engine.specs.Machine.{by_kind, has_ticket, kind_by, number_in, after_drop};
 ghost use Rattle.table_build.specs.Listed.{listed_in};
 ghost use Rattle.table_build.specs.Slots.{AreSlots};
-ghost use Rattle.record_index.specs.Facts.{facts_in};
-ghost use Rattle.record_index.specs.World.{facts};
+ghost use Rattle.dh_changes.specs.Facts.{facts_in};
+ghost use Rattle.dh_changes.specs.World.{facts};
 ghost use Rattle.engine.specs.Tables.{tables_of, years_of};
 ghost use Rattle.table_rows.specs.Store.{contents_in};
 ghost use Rattle.engine.specs.Histories.{IsInOrder};
@@ -28,13 +28,13 @@ use dh_base::items::Items;
 use dh_base::memory::Memory;
 use dh_base::plain::CutKind;
 use dh_changes::change::Change;
+use dh_changes::world::World;
 use dh_metadata::metadata::Metadata;
-use record_index::world::World;
 use std::alloc::Global;
 use std::sync::Arc;
 use table_build::slots::{Plan, Slot, plan_of, put_part};
 use table_latest::Latest as LatestPart;
-use year_tables::Partition;
+use table_sums::Partition;
 
 /// A latest update that is begun, with its part.
 #[derive(Drop)]

@@ -6,8 +6,8 @@ use Rattle.json_read.specs.Bytes.{document_of}
 use Rattle.json_read.specs.Forms.{Formed, and_then, or_fault}
 use Rattle.json_read.specs.declared.fault.FormFault.{FormFault}
 use Rattle.json_read.specs.declared.fault.FormFault.TheVariants as form
-use Rattle.record_index.specs.declared.outcome.BodyFault.{BodyFault}
-use Rattle.record_index.specs.declared.outcome.BodyFault.TheVariants as fault
+use Rattle.dh_changes.specs.declared.outcome.BodyFault.{BodyFault}
+use Rattle.dh_changes.specs.declared.outcome.BodyFault.TheVariants as fault
 
 -- what a body stands for; the path of a body that isn't JSON is empty
 abbrev pub body_of : {A : Type 0} → (Data → Formed A) → List ℕ → Formed A

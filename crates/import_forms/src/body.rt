@@ -4,8 +4,8 @@ ghost use Rattle.std.specs.Prelude.{◌≡◌, []};
 ghost use Rattle.import_forms.specs.Bodies.{Told};
 
 use dh_base::items::Items;
+use dh_changes::outcome::BodyFault;
 use json_read::fault::FormFault;
-use record_index::outcome::BodyFault;
 use std::alloc::Global;
 
 /// The fault of a body that isn't JSON.

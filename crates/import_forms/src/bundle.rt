@@ -13,11 +13,11 @@ use crate::event::BundleEvent;
 use crate::lists::list_at;
 use dh_base::items::Items;
 use dh_base::memory::Memory;
+use dh_changes::outcome::{BodyFault, ImportStrategy};
 use json::{Scratch, Value};
 use json_read::fault::FormFault;
 use json_read::form::require_object;
 use json_read::read::read;
-use record_index::outcome::{BodyFault, ImportStrategy};
 use std::alloc::Global;
 
 /// How a bundle is to be imported.

@@ -10,12 +10,12 @@ use crate::body::{fault_of, no_document};
 use crate::text::{held_text_in, truth_in};
 use dh_base::items::Items;
 use dh_base::memory::Memory;
+use dh_changes::outcome::BodyFault;
 use dh_changes::text::Text;
 use json::{Scratch, Value};
 use json_read::fault::FormFault;
 use json_read::form::{ReadJson, require_object, required_list};
 use json_read::read::read;
-use record_index::outcome::BodyFault;
 use std::alloc::Global;
 
 /// A complete data set registration, as it stands in the body.

@@ -10,13 +10,13 @@ use crate::body::{fault_of, no_document};
 use crate::text::{held_text_in, held_written_in, text_at, truth_in};
 use dh_base::items::Items;
 use dh_base::memory::Memory;
+use dh_changes::outcome::{BodyFault, ImportStrategy};
 use dh_changes::text::Text;
 use json::{Scratch, Value};
 use json_read::fault::FormFault;
 use json_read::form::{ReadJson, field_or, read_list, require_object};
 use json_read::look::is_null;
 use json_read::read::read;
-use record_index::outcome::{BodyFault, ImportStrategy};
 use std::alloc::Global;
 
 /// How a set is to be imported.

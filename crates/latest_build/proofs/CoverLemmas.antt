@@ -13,8 +13,8 @@ use Rattle.dh_changes.specs.declared.change.Write.{Write}
 use Rattle.dh_changes.specs.declared.keys.ValueKey.{ValueKey}
 use Rattle.dh_changes.specs.declared.keys.RegKey.{RegKey}
 use Rattle.org_tree.specs.Units.{IsTree, UnitRow, order_of}
-use Rattle.meta_parts.specs.declared.held.Records.{Records}
-use Rattle.record_index.specs.Facts.{Facts, facts_in}
+use Rattle.dh_metadata.specs.declared.held.Records.{Records}
+use Rattle.dh_changes.specs.Facts.{Facts, facts_in}
 use Rattle.dh_records.specs.Access.{tree}
 use Rattle.dh_base.specs.Limits.{is_day}
 use Rattle.table_rows.specs.declared.event.EventRow.{EventRow}
@@ -26,8 +26,8 @@ use Rattle.table_rows.proofs.OrderLemmas.{row_total}
 use Rattle.table_rows.proofs.RiseLemmas.{sorted_from_rises}
 use Rattle.table_rows.proofs.RunLemmas.{every-filter}
 use Rattle.table_rows.proofs.StoreLemmas.{store-holds}
-use Rattle.year_tables.proofs.PartLemmas.{event_total, reg_total}
-use Rattle.year_tables.proofs.YearLemmas.{each-true}
+use Rattle.table_sums.proofs.YearPartLemmas.{event_total, reg_total}
+use Rattle.table_sums.proofs.YearLemmas.{each-true}
 use Rattle.table_build.specs.declared.values.ValueObjects.{ValueObjects}
 use Rattle.table_build.specs.declared.regs.RegObjects.{RegObjects}
 use Rattle.table_build.specs.Listed.{listed_in}

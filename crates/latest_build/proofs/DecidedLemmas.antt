@@ -14,16 +14,16 @@ use Rattle.dh_periods.specs.declared.name.PeriodName.{PeriodName}
 use Rattle.dh_periods.specs.Days.{first_day, last_day}
 use Rattle.dh_periods.specs.Places.{containing_of}
 use Rattle.org_tree.specs.Units.{ancestor_of}
-use Rattle.meta_parts.specs.declared.held.Records.{Records}
-use Rattle.meta_parts.specs.declared.kind.Kind.TheVariants.{DataElement, OrganisationUnit}
-use Rattle.meta_parts.specs.declared.records.Unit.{Unit as OrgUnit}
-use Rattle.meta_parts.specs.declared.records.Workflow.{Workflow}
-use Rattle.meta_parts.specs.Workflows.{workflow_of}
+use Rattle.dh_metadata.specs.declared.held.Records.{Records}
+use Rattle.dh_metadata.specs.declared.kind.Kind.TheVariants.{DataElement, OrganisationUnit}
+use Rattle.dh_metadata.specs.declared.records.Unit.{Unit as OrgUnit}
+use Rattle.dh_metadata.specs.declared.records.Workflow.{Workflow}
+use Rattle.dh_metadata.specs.Workflows.{workflow_of}
 use Rattle.dh_metadata.specs.Approval.{levels_at, unit_rows}
 use Rattle.dh_metadata.specs.Objects.{find_of}
-use Rattle.record_index.specs.declared.said.ApprovalState.TheVariants as state
-use Rattle.record_index.specs.Said.{said_by, last_said, of_approval}
-use Rattle.record_index.specs.Facts.{Facts, facts_in}
+use Rattle.dh_changes.specs.declared.said.ApprovalState.TheVariants as state
+use Rattle.dh_changes.specs.Said.{said_by, last_said, of_approval}
+use Rattle.dh_changes.specs.Facts.{Facts, facts_in}
 use Rattle.dh_records.specs.declared.approved.Scope.{Scope}
 use Rattle.dh_records.specs.Access.{tree}
 use Rattle.dh_records.specs.Approved.{approved_at, approved_by, approved_by_element, approved_in, approved_of, counts, is_approved, is_approved_as}

@@ -26,23 +26,23 @@ use Rattle.org_tree.specs.Units.{IsTree, UnitRow, ancestor_of, climb, id_at, is_
 use Rattle.org_tree.proofs.CountLemmas.{first_below_tells}
 use Rattle.org_tree.proofs.WayLemmas.{under-itself}
 use Rattle.org_tree.proofs.OrderLemmas.{order-differs, order-lt, under-interval, under-parent, under-trans}
-use Rattle.meta_parts.specs.Places.{place_of}
-use Rattle.meta_parts.proofs.PlaceLemmas.{place_of-at}
-use Rattle.meta_parts.proofs.DistinctLemmas.{place_of-below}
-use Rattle.meta_parts.specs.declared.held.Records.{Records}
-use Rattle.meta_parts.specs.declared.kind.Kind.{Kind}
-use Rattle.meta_parts.specs.declared.kind.Kind.TheVariants.{DataElement, OrganisationUnit, CategoryOptionCombo}
-use Rattle.meta_parts.specs.declared.records.Element.{Element}
-use Rattle.meta_parts.specs.declared.records.OptionCombo.{OptionCombo}
-use Rattle.meta_parts.specs.declared.records.Unit.{Unit as OrgUnit}
-use Rattle.meta_parts.specs.declared.records.Workflow.{Workflow}
-use Rattle.meta_parts.specs.Workflows.{workflow_of}
+use Rattle.dh_metadata.specs.Places.{place_of}
+use Rattle.dh_metadata.proofs.PlaceLemmas.{place_of-at}
+use Rattle.dh_metadata.proofs.DistinctLemmas.{place_of-below}
+use Rattle.dh_metadata.specs.declared.held.Records.{Records}
+use Rattle.dh_metadata.specs.declared.kind.Kind.{Kind}
+use Rattle.dh_metadata.specs.declared.kind.Kind.TheVariants.{DataElement, OrganisationUnit, CategoryOptionCombo}
+use Rattle.dh_metadata.specs.declared.records.Element.{Element}
+use Rattle.dh_metadata.specs.declared.records.OptionCombo.{OptionCombo}
+use Rattle.dh_metadata.specs.declared.records.Unit.{Unit as OrgUnit}
+use Rattle.dh_metadata.specs.declared.records.Workflow.{Workflow}
+use Rattle.dh_metadata.specs.Workflows.{workflow_of}
 use Rattle.dh_metadata.specs.Approval.{levels_at, unit_rows}
 use Rattle.dh_metadata.specs.Objects.{find_of, ids_of}
-use Rattle.record_index.specs.declared.said.ApprovalState.{ApprovalState}
-use Rattle.record_index.specs.declared.said.ApprovalState.TheVariants as state
-use Rattle.record_index.specs.Said.{same_id, said_by, last_said, of_approval}
-use Rattle.record_index.specs.Facts.{Facts, facts_in}
+use Rattle.dh_changes.specs.declared.said.ApprovalState.{ApprovalState}
+use Rattle.dh_changes.specs.declared.said.ApprovalState.TheVariants as state
+use Rattle.dh_changes.specs.Said.{same_id, said_by, last_said, of_approval}
+use Rattle.dh_changes.specs.Facts.{Facts, facts_in}
 use Rattle.dh_records.specs.Access.{tree}
 use Rattle.dh_records.specs.Approved.{approved_at, approved_by, approved_by_element, approved_in, approved_of, counts, is_approved, is_approved_as}
 use Rattle.dh_records.specs.Approved.{is_approved_at, key_of, least_position, scope_of}

@@ -12,8 +12,8 @@ use Rattle.std.specs.BTreeMap.{insert_entry, is_at}
 use Rattle.std.specs.Map.{keys_of, values_of, lookup}
 use Rattle.dh_periods.proofs.TextLemmas.{and_then-some, map-some}
 use Rattle.dh_changes.specs.declared.keys.ValueKey.{ValueKey}
-use Rattle.meta_parts.specs.declared.held.Records.{Records}
-use Rattle.record_index.specs.Facts.{Facts}
+use Rattle.dh_metadata.specs.declared.held.Records.{Records}
+use Rattle.dh_changes.specs.Facts.{Facts}
 use Rattle.table_rows.specs.declared.row.Row.{Row}
 use Rattle.table_rows.specs.declared.row.RowKey.{RowKey}
 use Rattle.table_rows.specs.Rows.{key_of}

@@ -17,11 +17,11 @@ use Rattle.dh_changes.specs.declared.tracker.Event.{Event}
 use Rattle.dh_changes.specs.declared.tracker.Enrollment.{Enrollment}
 use Rattle.dh_changes.specs.Keys.{same_value_key, same_approval_key, same_reg_key}
 use Rattle.dh_changes.proofs.KeyLemmas.{same_value_key-Decides, same_approval_key-Decides, same_reg_key-Decides}
-use Rattle.meta_parts.specs.declared.held.Records.{Records}
-use Rattle.record_index.specs.declared.said.ApprovalState.TheVariants as state
-use Rattle.record_index.specs.declared.said.Said.{Said}
-use Rattle.record_index.specs.Said.{same_id, said_by, last_said, of_approval, of_enrollment, of_entity, of_event, of_registration, of_value}
-use Rattle.record_index.specs.Facts.{Facts, facts_in}
+use Rattle.dh_metadata.specs.declared.held.Records.{Records}
+use Rattle.dh_changes.specs.declared.said.ApprovalState.TheVariants as state
+use Rattle.dh_changes.specs.declared.said.Said.{Said}
+use Rattle.dh_changes.specs.Said.{same_id, said_by, last_said, of_approval, of_enrollment, of_entity, of_event, of_registration, of_value}
+use Rattle.dh_changes.specs.Facts.{Facts, facts_in}
 use Rattle.org_tree.specs.Units.{IsTree, UnitRow, order_of}
 use Rattle.dh_metadata.specs.Approval.{unit_rows}
 use Rattle.dh_records.specs.Access.{tree}

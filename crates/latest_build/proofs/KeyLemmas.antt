@@ -10,14 +10,14 @@ use Rattle.dh_changes.specs.declared.keys.RegKey.{RegKey}
 use Rattle.dh_changes.specs.declared.tracker.Event.{Event}
 use Rattle.org_tree.specs.Units.{order_of}
 use Rattle.org_tree.proofs.OrderLemmas.{order-differs, order-lt}
-use Rattle.meta_parts.proofs.DistinctLemmas.{place_of-below}
-use Rattle.meta_parts.proofs.PlaceLemmas.{place_of-at}
-use Rattle.meta_parts.specs.declared.held.Records.{Records}
-use Rattle.meta_parts.specs.declared.records.Unit.{Unit as OrgUnit}
-use Rattle.meta_parts.specs.declared.kind.Kind.{Kind}
-use Rattle.meta_parts.specs.declared.kind.Kind.TheVariants.{DataElement, DataSet, OrganisationUnit, CategoryOptionCombo}
+use Rattle.dh_metadata.proofs.DistinctLemmas.{place_of-below}
+use Rattle.dh_metadata.proofs.PlaceLemmas.{place_of-at}
+use Rattle.dh_metadata.specs.declared.held.Records.{Records}
+use Rattle.dh_metadata.specs.declared.records.Unit.{Unit as OrgUnit}
+use Rattle.dh_metadata.specs.declared.kind.Kind.{Kind}
+use Rattle.dh_metadata.specs.declared.kind.Kind.TheVariants.{DataElement, DataSet, OrganisationUnit, CategoryOptionCombo}
 use Rattle.dh_metadata.specs.Objects.{ids_of, find_of}
-use Rattle.record_index.specs.Facts.{Facts, facts_in}
+use Rattle.dh_changes.specs.Facts.{Facts, facts_in}
 use Rattle.dh_records.specs.Access.{tree}
 use Rattle.table_rows.specs.declared.row.Row.{Row}
 use Rattle.table_rows.specs.declared.event.EventRow.{EventRow}

@@ -10,9 +10,9 @@ use Rattle.dh_changes.specs.declared.keys.RegKey.{RegKey}
 use Rattle.dh_changes.specs.declared.tracker.Event.{Event}
 use Rattle.dh_changes.specs.Keys.{same_value_key, same_reg_key}
 use Rattle.dh_changes.proofs.KeyLemmas.{same_value_key-Decides, same_reg_key-Decides}
-use Rattle.record_index.specs.declared.said.Said.{Said}
-use Rattle.record_index.specs.Said.{same_id, said_by, last_said, of_event, of_registration, of_value}
-use Rattle.record_index.specs.Facts.{facts_in}
+use Rattle.dh_changes.specs.declared.said.Said.{Said}
+use Rattle.dh_changes.specs.Said.{same_id, said_by, last_said, of_event, of_registration, of_value}
+use Rattle.dh_changes.specs.Facts.{facts_in}
 use Rattle.table_build.specs.Log.{value_named, reg_named, event_named, values_named, regs_named, events_named}
 use Rattle.table_build.proofs.KeyLemmas.{given-in}
 use Rattle.table_build.proofs.MemberLemmas.{IsIn}

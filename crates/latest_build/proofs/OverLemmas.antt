@@ -10,15 +10,15 @@ use Rattle.dh_changes.specs.declared.change.Change.{Change}
 use Rattle.dh_changes.specs.declared.change.Write.{Write}
 use Rattle.dh_changes.specs.declared.keys.ValueKey.{ValueKey}
 use Rattle.org_tree.specs.Units.{IsTree}
-use Rattle.meta_parts.specs.declared.held.Records.{Records}
-use Rattle.record_index.specs.Facts.{Facts, facts_in}
+use Rattle.dh_metadata.specs.declared.held.Records.{Records}
+use Rattle.dh_changes.specs.Facts.{Facts, facts_in}
 use Rattle.dh_records.specs.Access.{tree}
 use Rattle.table_rows.specs.declared.row.Row.{Row}
 use Rattle.table_rows.specs.declared.event.EventRow.{EventRow}
 use Rattle.table_rows.specs.declared.event.RegRow.{RegRow}
 use Rattle.table_rows.specs.Store.{Contents, Listed, contents_in, is_store, rises}
 use Rattle.table_rows.proofs.StoreLemmas.{store-holds}
-use Rattle.year_tables.proofs.AscendingLemmas.{every-to}
+use Rattle.table_sums.proofs.AscendingLemmas.{every-to}
 use Rattle.table_build.specs.Listed.{listed_in}
 use Rattle.table_build.specs.Log.{is_of_days, values_named, writes_of}
 use Rattle.table_build.specs.Values as values

@@ -1,5 +1,6 @@
 -- What writes say at the places of values is at last what the keys hold, so that what they hold needn't be looked up.
-use Rattle.std.proofs.Common.{◌≡◌, ◌∙◌, ◌≤◌, arith, length, ℕ, Bool, true, false, cond, List, [], ◌∷◌, ◌++◌, inl, inr, Option, Some, None, map, take, drop, refl, sym, ap}
+use Rattle.std.proofs.Common.{◌≡◌, ◌∙◌, ◌≤◌, arith, length, ℕ, Bool, true, false, cond, List, [], ◌∷◌, ◌++◌, inl, inr, Option, Some, None, map, take, drop}
+use Rattle.std.proofs.Common.{refl, sym, ap}
 use Rattle.std.specs.Prelude.{option_map}
 use Rattle.std.specs.List.{AllByRecursion, filter_map, cons_option}
 use Rattle.std.specs.Option.{option_or, unwrap_or}
@@ -13,9 +14,9 @@ use Rattle.dh_changes.specs.declared.change.Write.TheVariants as write
 use Rattle.dh_changes.specs.declared.keys.ValueKey.{ValueKey}
 use Rattle.dh_changes.specs.Keys.{same_value_key}
 use Rattle.dh_changes.proofs.KeyLemmas.{same_value_key-Decides}
-use Rattle.meta_parts.specs.declared.held.Records.{Records}
-use Rattle.record_index.specs.Facts.{Facts, facts_in}
-use Rattle.record_index.specs.Said.{said_by, last_said, of_value}
+use Rattle.dh_metadata.specs.declared.held.Records.{Records}
+use Rattle.dh_changes.specs.Facts.{Facts, facts_in}
+use Rattle.dh_changes.specs.Said.{said_by, last_said, of_value}
 use Rattle.table_rows.specs.declared.row.Row.{Row}
 use Rattle.table_rows.specs.Rows.{key_of}
 use Rattle.table_rows.specs.Order.{key_cmp}
@@ -218,7 +219,8 @@ module _ (r : Records) (facts : Facts) where
   alike base [] more held q = refl
   alike base (w ∷ ws) more held q = by_write w held (alike (base ++ w ∷ []) ws more (held ∙ ap facts_in (sym (append_assoc base (w ∷ []) ws))))
     where
-      by_write : (w : Write) → facts ≡ facts_in (base ++ w ∷ ws) → Alike ws more → last q (told (w ∷ ws) more) ≡ last q (filter_map at (values_named (w ∷ ws) ++ more))
+      by_write : (w : Write) → facts ≡ facts_in (base ++ w ∷ ws) → Alike ws more
+          → last q (told (w ∷ ws) more) ≡ last q (filter_map at (values_named (w ∷ ws) ++ more))
       by_write (write.ValueSet key text) held rest =
           value-step base ws more (write.ValueSet key text) key (Some text) (same-said key (Some text)) held rest q
       by_write (write.ValueCleared key) held rest =
@@ -240,7 +242,8 @@ module _ (r : Records) (facts : Facts) where
       → take named keys ≡ values_named ws
       → in_order key_cmp key_of (rows_held (told ws (drop named keys))) ≡ values.rows_of r facts keys
   rows-told stands base ws held keys named are =
-      rows-list r facts stands (values_named ws ++ drop named keys) (told ws (drop named keys)) (own-all ws (drop named keys)) (alike base ws (drop named keys) held)
+      rows-list r facts stands (values_named ws ++ drop named keys) (told ws (drop named keys)) (own-all ws (drop named keys))
+      (alike base ws (drop named keys) held)
       ∙ ap (λ l. values.rows_of r facts (l ++ drop named keys)) (sym are) ∙ ap (values.rows_of r facts) (take-append-drop named keys)
 
 -- ---- keys that begin with those that writes name

@@ -12,14 +12,14 @@ use Rattle.dh_changes.specs.declared.change.Write.{Write}
 use Rattle.dh_changes.specs.declared.change.Write.TheVariants as write
 use Rattle.dh_changes.specs.declared.tracker.Event.{Event}
 use Rattle.dh_changes.specs.declared.tracker.Enrollment.{Enrollment}
-use Rattle.record_index.specs.declared.said.Said.{Said}
-use Rattle.record_index.specs.declared.said.Said.TheVariants as said
-use Rattle.record_index.specs.Hanging.{hangs_on, hanging, event_parent, enrollment_parent}
-use Rattle.record_index.specs.Hanging as index
-use Rattle.record_index.specs.Said.{same_id, said_by, last_said, of_enrollment, of_entity, of_event}
-use Rattle.record_index.specs.Facts.{Facts, facts_in, all_named, event_in, enrollment_in}
-use Rattle.record_index.specs.Facts as log
-use Rattle.record_index.proofs.OrderLemmas.{in_order-is}
+use Rattle.dh_changes.specs.declared.said.Said.{Said}
+use Rattle.dh_changes.specs.declared.said.Said.TheVariants as said
+use Rattle.dh_changes.specs.Hanging.{hangs_on, hanging, event_parent, enrollment_parent}
+use Rattle.dh_changes.specs.Hanging as index
+use Rattle.dh_changes.specs.Said.{same_id, said_by, last_said, of_enrollment, of_entity, of_event}
+use Rattle.dh_changes.specs.Facts.{Facts, facts_in, all_named, event_in, enrollment_in}
+use Rattle.dh_changes.specs.Facts as log
+use Rattle.dh_changes.proofs.OrderLemmas.{in_order-is}
 use Rattle.table_rows.specs.Cells.{gathered}
 use Rattle.table_build.specs.Log.{event_named, writes_of}
 use Rattle.table_build.specs.Ordered.{in_order}

@@ -13,16 +13,16 @@ use Rattle.dh_periods.specs.Keys.{same_period}
 use Rattle.dh_periods.specs.Places.{containing_of}
 use Rattle.org_tree.specs.Count.{first_below}
 use Rattle.org_tree.specs.Units.{UnitRow, order_of, size_of}
-use Rattle.meta_parts.specs.declared.held.Records.{Records}
-use Rattle.meta_parts.specs.declared.kind.Kind.TheVariants.{OrganisationUnit, CategoryOptionCombo}
-use Rattle.meta_parts.specs.declared.records.Element.{Element}
-use Rattle.meta_parts.specs.declared.records.OptionCombo.{OptionCombo}
-use Rattle.meta_parts.specs.declared.records.Unit.{Unit}
-use Rattle.meta_parts.specs.declared.records.Workflow.{Workflow}
-use Rattle.meta_parts.specs.Workflows.{workflow_of}
+use Rattle.dh_metadata.specs.declared.held.Records.{Records}
+use Rattle.dh_metadata.specs.declared.kind.Kind.TheVariants.{OrganisationUnit, CategoryOptionCombo}
+use Rattle.dh_metadata.specs.declared.records.Element.{Element}
+use Rattle.dh_metadata.specs.declared.records.OptionCombo.{OptionCombo}
+use Rattle.dh_metadata.specs.declared.records.Unit.{Unit}
+use Rattle.dh_metadata.specs.declared.records.Workflow.{Workflow}
+use Rattle.dh_metadata.specs.Workflows.{workflow_of}
 use Rattle.dh_metadata.specs.Approval.{unit_rows}
 use Rattle.dh_metadata.specs.Objects.{find_of}
-use Rattle.record_index.specs.Said.{same_id}
+use Rattle.dh_changes.specs.Said.{same_id}
 use Rattle.table_rows.specs.declared.row.Group.{Group}
 use Rattle.table_rows.specs.declared.row.Row.{Row}
 use Rattle.table_rows.specs.Cells.{gathered}

@@ -3,8 +3,8 @@ use Rattle.std.specs.Prelude.{cond, List, [], ◌∷◌, Option, None, Some, opt
 use Rattle.std.specs.List.{filter_map, cons_option}
 use Rattle.std.specs.Map.{keys_of, values_of}
 use Rattle.dh_changes.specs.declared.keys.ValueKey.{ValueKey}
-use Rattle.meta_parts.specs.declared.held.Records.{Records}
-use Rattle.record_index.specs.Facts.{Facts}
+use Rattle.dh_metadata.specs.declared.held.Records.{Records}
+use Rattle.dh_changes.specs.Facts.{Facts}
 use Rattle.table_rows.specs.declared.row.Row.{Row}
 use Rattle.table_build.specs.declared.values.ValueObjects.{ValueObjects}
 use Rattle.table_build.specs.Last.{is_again}

@@ -1,7 +1,7 @@
 -- Tables of which changes a latest part leads on.
 use Rattle.std.specs.Prelude.{ℕ, ◌≤◌, List, length, take}
 use Rattle.dh_changes.specs.declared.change.Change.{Change}
-use Rattle.meta_parts.specs.declared.held.Records.{Records}
+use Rattle.dh_metadata.specs.declared.held.Records.{Records}
 use Rattle.table_rows.specs.Store.{contents_in}
 use Rattle.table_build.specs.Listed.{listed_in}
 use Rattle.table_build.specs.Log.{writes_of}

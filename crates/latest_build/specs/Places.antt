@@ -6,8 +6,8 @@ use Rattle.std.specs.Ordering.{nat_cmp}
 use Rattle.dh_changes.specs.declared.keys.ValueKey.{ValueKey}
 use Rattle.dh_changes.specs.declared.keys.RegKey.{RegKey}
 use Rattle.org_tree.specs.Units.{order_of}
-use Rattle.meta_parts.specs.declared.held.Records.{Records}
-use Rattle.record_index.specs.Facts.{Facts}
+use Rattle.dh_metadata.specs.declared.held.Records.{Records}
+use Rattle.dh_changes.specs.Facts.{Facts}
 use Rattle.dh_records.specs.Access.{tree}
 use Rattle.table_rows.specs.declared.event.EventRow.{EventRow}
 use Rattle.table_rows.specs.Store.{Contents}

@@ -6,8 +6,8 @@ use Rattle.dh_changes.specs.declared.change.Write.{Write}
 use Rattle.dh_changes.specs.declared.change.Write.TheVariants as write
 use Rattle.dh_changes.specs.declared.keys.ApprovalKey.{ApprovalKey}
 use Rattle.dh_changes.specs.declared.keys.ValueKey.{ValueKey}
-use Rattle.meta_parts.specs.declared.held.Records.{Records}
-use Rattle.record_index.specs.Facts.{Facts, facts_in}
+use Rattle.dh_metadata.specs.declared.held.Records.{Records}
+use Rattle.dh_changes.specs.Facts.{Facts, facts_in}
 use Rattle.dh_records.specs.Approved.{approved_at}
 use Rattle.table_rows.specs.Cells.{gathered}
 use Rattle.table_build.specs.Log.{values_named, regs_named}

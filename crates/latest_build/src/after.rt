@@ -3,10 +3,10 @@ ghost use Rattle.std.specs.Prelude.{◌≡◌, ◌≤◌, ◌++◌, List, length
 ghost use Rattle.std.specs.Arc.{arc_value};
 ghost use Rattle.std.specs.List.{list_all};
 ghost use Rattle.dh_changes.specs.declared.change.Write.{Write};
-ghost use Rattle.record_index.specs.Facts.{facts_in};
-ghost use Rattle.record_index.specs.World.{facts};
+ghost use Rattle.dh_changes.specs.Facts.{facts_in};
+ghost use Rattle.dh_changes.specs.World.{facts};
 ghost use Rattle.table_rows.specs.Store.{contents_in};
-ghost use Rattle.year_tables.specs.Parts.{rows_together, together};
+ghost use Rattle.table_sums.specs.YearParts.{rows_together, together};
 ghost use Rattle.table_build.specs.Listed.{listed_in};
 ghost use Rattle.table_build.specs.Log.{writes_of, is_of_days};
 ghost use Rattle.table_latest.specs.Later.{LeadsTo};
@@ -19,12 +19,12 @@ use crate::held::held_rows;
 use crate::named::keys_touched;
 use dh_base::memory::Memory;
 use dh_changes::change::Change;
+use dh_changes::world::World;
 use dh_metadata::metadata::Metadata;
-use record_index::world::World;
 use std::alloc::Global;
 use std::sync::Arc;
 use table_latest::Latest;
-use year_tables::Tables;
+use table_sums::Tables;
 
 // The latest part of the last of the changes: it leads from the tables of all but some of these.
 fn latest_of_last(

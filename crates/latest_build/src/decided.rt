@@ -3,9 +3,9 @@ ghost use Rattle.std.specs.Prelude.{◌≡◌, [], length, map, OnOk, IfOk};
 ghost use Rattle.std.specs.Arc.{arc_value};
 ghost use Rattle.std.specs.List.{filter};
 ghost use Rattle.dh_changes.specs.declared.change.Write.TheVariants as write;
-ghost use Rattle.record_index.specs.Facts.{facts_in};
-ghost use Rattle.record_index.specs.World.{facts};
-ghost use Rattle.year_tables.specs.Parts.{rows_together};
+ghost use Rattle.dh_changes.specs.Facts.{facts_in};
+ghost use Rattle.dh_changes.specs.World.{facts};
+ghost use Rattle.table_sums.specs.YearParts.{rows_together};
 ghost use Rattle.table_build.specs.Log.{writes_of, values_named};
 ghost use Rattle.latest_build.specs.Found.{decided_by, values_sought};
 ghost use Rattle.latest_build.specs.Touches as known;
@@ -16,12 +16,12 @@ use dh_base::items::Items;
 use dh_base::memory::Memory;
 use dh_changes::change::{Change, Write};
 use dh_changes::keys::{ApprovalKey, ValueKey};
+use dh_changes::world::World;
 use dh_metadata::metadata::Metadata;
 use dh_records::approved::approved_at;
-use record_index::world::World;
 use std::alloc::Global;
 use std::sync::Arc;
-use year_tables::Tables;
+use table_sums::Tables;
 
 fn approvals(alloc: Global, keys: &[ApprovalKey]) -> Result<Vec<Write>, Memory>
     ensures { IfOk result (λ writes. writes.items ≡ map write.Approve keys.now) }

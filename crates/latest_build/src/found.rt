@@ -2,19 +2,19 @@
 ghost use Rattle.std.specs.Prelude.{◌≡◌, ◌<◌, ◌++◌, length, OnOk, IfOk};
 ghost use Rattle.std.specs.List.{filter_map};
 ghost use Rattle.table_rows.specs.Cells.{gathered};
-ghost use Rattle.year_tables.specs.Parts.{rows_together};
+ghost use Rattle.table_sums.specs.YearParts.{rows_together};
 ghost use Rattle.latest_build.specs.Found as known;
 
 use dh_base::memory::Memory;
 use dh_base::plain::Need;
 use dh_base::uid::Uid;
 use dh_changes::keys::{ApprovalKey, ValueKey};
+use dh_metadata::kind::Kind;
 use dh_metadata::metadata::Metadata;
 use dh_periods::{Period, PeriodType, containing};
-use meta_parts::kind::Kind;
 use std::alloc::Global;
 use table_rows::{Group, Row, RowStore};
-use year_tables::Tables;
+use table_sums::Tables;
 
 /// The attribute combination of an approval, and the places of its unit and all under it, the end not counted.
 #[derive(Clone, Copy)]

@@ -3,12 +3,12 @@ ghost use Rattle.std.specs.Prelude.{◌≡◌, ◌++◌, List, Option, length, m
 ghost use Rattle.std.specs.Arc.{arc_value};
 ghost use Rattle.std.specs.List.{filter_map};
 ghost use Rattle.dh_changes.specs.declared.change.Write.{Write as LogWrite};
-ghost use Rattle.record_index.specs.Facts.{facts_in};
-ghost use Rattle.record_index.specs.World.{facts};
+ghost use Rattle.dh_changes.specs.Facts.{facts_in};
+ghost use Rattle.dh_changes.specs.World.{facts};
 ghost use Rattle.table_build.specs.Log.{writes_of, values_named, regs_named};
 ghost use Rattle.latest_build.specs.Covers.{Covers};
 ghost use Rattle.table_build.specs.Listed.{listed_in};
-ghost use Rattle.year_tables.specs.Parts.{rows_together};
+ghost use Rattle.table_sums.specs.YearParts.{rows_together};
 ghost use Rattle.latest_build.specs.Found.{values_sought};
 ghost use Rattle.latest_build.specs.Places.{value_places};
 ghost use Rattle.latest_build.specs.Touches.{approvals_named, events_touched, values_touched};
@@ -21,11 +21,11 @@ use dh_base::memory::Memory;
 use dh_base::uid::Uid;
 use dh_changes::change::{Change, Write};
 use dh_changes::keys::{ApprovalKey, RegKey, ValueKey};
+use dh_changes::world::World;
 use dh_metadata::metadata::Metadata;
-use record_index::world::World;
 use std::alloc::Global;
 use std::sync::Arc;
-use year_tables::Tables;
+use table_sums::Tables;
 
 // A key that a write may name.
 trait Named {

@@ -3,7 +3,7 @@ ghost use Rattle.std.specs.Prelude.{◌≡◌, ◌≤◌, length, map, take, IsT
 ghost use Rattle.std.specs.Arc.{arc_value};
 ghost use Rattle.std.specs.List.{list_all};
 ghost use Rattle.table_rows.specs.Store.{contents_in};
-ghost use Rattle.year_tables.specs.Parts.{together, years_in};
+ghost use Rattle.table_sums.specs.YearParts.{together, years_in};
 ghost use Rattle.table_build.specs.Listed.{listed_in};
 ghost use Rattle.table_build.specs.Log.{writes_of, is_of_days};
 ghost use Rattle.table_latest.specs.Latest.{overlaid};
@@ -18,7 +18,7 @@ use std::alloc::Global;
 use std::sync::Arc;
 use table_latest::{Latest, Overlay};
 use table_rows::RowStore;
-use year_tables::Tables;
+use table_sums::Tables;
 
 fn shared_tables(tables: &Arc<Tables>) -> Result<Arc<Tables>, Memory>
     ensures { IfOk result (λ shared. arc_value shared ≡ arc_value tables.now) }

@@ -1,7 +1,7 @@
 //! The events that the writes of changes touch.
 ghost use Rattle.std.specs.Prelude.{◌≡◌, ◌++◌, ◌∷◌, [], map, OnOk, IfOk};
 ghost use Rattle.std.specs.Arc.{arc_value};
-ghost use Rattle.record_index.specs.World.{facts};
+ghost use Rattle.dh_changes.specs.World.{facts};
 ghost use Rattle.table_build.specs.Log.{writes_of};
 ghost use Rattle.table_rows.specs.Cells.{gathered};
 ghost use Rattle.latest_build.specs.Touches as known;
@@ -9,7 +9,7 @@ ghost use Rattle.latest_build.specs.Touches as known;
 use dh_base::memory::Memory;
 use dh_base::uid::Uid;
 use dh_changes::change::{Change, Write};
-use record_index::world::World;
+use dh_changes::world::World;
 use std::alloc::Global;
 use std::sync::Arc;
 

@@ -3,7 +3,7 @@ use Rattle.std.proofs.Common.{◌≡◌, ℕ, List, Result, subst}
 use Rattle.serde_json.specs.Data.{Data}
 use Rattle.json_read.specs.Given.{Gives}
 use Rattle.json_read.specs.declared.fault.FormFault.{FormFault}
-use Rattle.meta_parts.specs.BuiltIn.{default_combo}
+use Rattle.dh_metadata.specs.BuiltIn.{default_combo}
 use Rattle.meta_forms.specs.Fields.{reference_or_at}
 
 -- the combination that a call answers is the default one

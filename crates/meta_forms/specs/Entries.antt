@@ -8,7 +8,7 @@ use Rattle.dh_base.specs.Decimals.{decimal_of}
 use Rattle.dh_base.specs.declared.plain.Strategy.{Strategy}
 use Rattle.dh_base.specs.declared.plain.Strategy.TheVariants as strategy
 use Rattle.json_read.specs.Forms.{Formed, and_then, or_fault, object_of, text_of, truth_of, field_of, field_or_of, listed_of}
-use Rattle.meta_parts.specs.Names.{strategy_named}
+use Rattle.dh_metadata.specs.Names.{strategy_named}
 use Rattle.meta_forms.specs.Fields.{name_of_table, reference_at, optional_reference_at}
 use Rattle.meta_forms.specs.declared.entry.SetElement.{SetElement}
 use Rattle.meta_forms.specs.declared.entry.ProgramAttribute.{ProgramAttribute}

@@ -7,7 +7,7 @@ use Rattle.json_read.specs.Forms as forms
 use Rattle.json_read.specs.Forms.{Formed, and_then, at_step, or_fault, found_of, field_of, identifier_of}
 use Rattle.json_read.specs.declared.fault.FormFault.{FormFault}
 use Rattle.json_read.specs.declared.fault.FormFault.TheVariants as fault
-use Rattle.meta_parts.specs.BuiltIn.{is_built_in}
+use Rattle.dh_metadata.specs.BuiltIn.{is_built_in}
 use Rattle.meta_forms.specs.Fields.{name_of}
 
 -- the number of a place, or that memory ran out

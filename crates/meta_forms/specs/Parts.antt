@@ -2,35 +2,35 @@
 use Rattle.std.specs.Prelude.{ℕ, Bool, List, codes, Ok}
 use Rattle.serde_json.specs.Data.{Data}
 use Rattle.json_read.specs.Forms.{Formed, and_then, object_of}
-use Rattle.meta_parts.specs.declared.parts.MetaParts.{MetaParts}
+use Rattle.dh_metadata.specs.declared.parts.MetaParts.{MetaParts}
 use Rattle.meta_forms.specs.Both.{◌⊗◌}
 use Rattle.meta_forms.specs.Objects.{objects_at}
 use Rattle.meta_forms.specs.Entries.{tokens_of, acceptance_of}
 use Rattle.meta_forms.specs.Table.{unit_of, unit_group_of, category_option_of, category_of, category_combo_of, option_combo_of, element_of}
 use Rattle.meta_forms.specs.Table.{approval_level_of, workflow_of, data_set_of, constant_object_of, indicator_type_of, indicator_of, rule_of, entity_type_of}
 use Rattle.meta_forms.specs.Table.{tracked_attribute_of, program_of, stage_of, program_indicator_of, role_of, user_of, user_group_of}
-use Rattle.meta_parts.specs.declared.raw.RawUnit.{RawUnit}
-use Rattle.meta_parts.specs.declared.raw.RawUnitGroup.{RawUnitGroup}
-use Rattle.meta_parts.specs.declared.raw.RawCategoryOption.{RawCategoryOption}
-use Rattle.meta_parts.specs.declared.raw.RawCategory.{RawCategory}
-use Rattle.meta_parts.specs.declared.raw.RawCategoryCombo.{RawCategoryCombo}
-use Rattle.meta_parts.specs.declared.raw.RawOptionCombo.{RawOptionCombo}
-use Rattle.meta_parts.specs.declared.raw.RawElement.{RawElement}
-use Rattle.meta_parts.specs.declared.raw.RawApprovalLevel.{RawApprovalLevel}
-use Rattle.meta_parts.specs.declared.raw.RawWorkflow.{RawWorkflow}
-use Rattle.meta_parts.specs.declared.raw.RawDataSet.{RawDataSet}
-use Rattle.meta_parts.specs.declared.raw.RawConstant.{RawConstant}
-use Rattle.meta_parts.specs.declared.raw.RawIndicatorType.{RawIndicatorType}
-use Rattle.meta_parts.specs.declared.raw.RawIndicator.{RawIndicator}
-use Rattle.meta_parts.specs.declared.raw.RawRule.{RawRule}
-use Rattle.meta_parts.specs.declared.raw.RawEntityType.{RawEntityType}
-use Rattle.meta_parts.specs.declared.raw.RawAttribute.{RawAttribute}
-use Rattle.meta_parts.specs.declared.raw.RawProgram.{RawProgram}
-use Rattle.meta_parts.specs.declared.raw.RawStage.{RawStage}
-use Rattle.meta_parts.specs.declared.raw.RawProgramIndicator.{RawProgramIndicator}
-use Rattle.meta_parts.specs.declared.raw.RawRole.{RawRole}
-use Rattle.meta_parts.specs.declared.raw.RawUser.{RawUser}
-use Rattle.meta_parts.specs.declared.raw.RawUserGroup.{RawUserGroup}
+use Rattle.dh_metadata.specs.declared.raw.RawUnit.{RawUnit}
+use Rattle.dh_metadata.specs.declared.raw.RawUnitGroup.{RawUnitGroup}
+use Rattle.dh_metadata.specs.declared.raw.RawCategoryOption.{RawCategoryOption}
+use Rattle.dh_metadata.specs.declared.raw.RawCategory.{RawCategory}
+use Rattle.dh_metadata.specs.declared.raw.RawCategoryCombo.{RawCategoryCombo}
+use Rattle.dh_metadata.specs.declared.raw.RawOptionCombo.{RawOptionCombo}
+use Rattle.dh_metadata.specs.declared.raw.RawElement.{RawElement}
+use Rattle.dh_metadata.specs.declared.raw.RawApprovalLevel.{RawApprovalLevel}
+use Rattle.dh_metadata.specs.declared.raw.RawWorkflow.{RawWorkflow}
+use Rattle.dh_metadata.specs.declared.raw.RawDataSet.{RawDataSet}
+use Rattle.dh_metadata.specs.declared.raw.RawConstant.{RawConstant}
+use Rattle.dh_metadata.specs.declared.raw.RawIndicatorType.{RawIndicatorType}
+use Rattle.dh_metadata.specs.declared.raw.RawIndicator.{RawIndicator}
+use Rattle.dh_metadata.specs.declared.raw.RawRule.{RawRule}
+use Rattle.dh_metadata.specs.declared.raw.RawEntityType.{RawEntityType}
+use Rattle.dh_metadata.specs.declared.raw.RawAttribute.{RawAttribute}
+use Rattle.dh_metadata.specs.declared.raw.RawProgram.{RawProgram}
+use Rattle.dh_metadata.specs.declared.raw.RawStage.{RawStage}
+use Rattle.dh_metadata.specs.declared.raw.RawProgramIndicator.{RawProgramIndicator}
+use Rattle.dh_metadata.specs.declared.raw.RawRole.{RawRole}
+use Rattle.dh_metadata.specs.declared.raw.RawUser.{RawUser}
+use Rattle.dh_metadata.specs.declared.raw.RawUserGroup.{RawUserGroup}
 
 -- the units, and what categories are made of
 abbrev pub Hierarchy : Type 0

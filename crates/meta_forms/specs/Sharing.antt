@@ -6,7 +6,7 @@ use Rattle.serde_json.specs.Find.{get, as_object}
 use Rattle.dh_sharing.specs.Access.{access_of}
 use Rattle.dh_sharing.specs.declared.access.Access.{Access}
 use Rattle.json_read.specs.Forms.{Formed, and_then, or_fault, at_step, object_of, identifier_of, field_of, field_or_of, optional_of}
-use Rattle.meta_parts.specs.declared.raw.RawSharing.{RawSharing}
+use Rattle.dh_metadata.specs.declared.raw.RawSharing.{RawSharing}
 use Rattle.meta_forms.specs.Fields.{name_of_table}
 
 -- the access `rwrw----`

@@ -7,43 +7,43 @@ use Rattle.dh_base.specs.declared.plain.Strategy.{Strategy}
 use Rattle.dh_periods.specs.declared.kind.PeriodType.{PeriodType}
 use Rattle.dh_periods.specs.Types.{type_named}
 use Rattle.json_read.specs.Forms.{Formed, text_of, truth_of, field_of, field_or_of, optional_of, listed_of}
-use Rattle.meta_parts.specs.BuiltIn.{default_combo}
-use Rattle.meta_parts.specs.Names.{value_type_named, aggregation_named, operator_named, program_type_named, analytics_type_named}
-use Rattle.meta_parts.specs.declared.names.ValueType.{ValueType}
-use Rattle.meta_parts.specs.declared.names.ValueType.TheVariants as value_type
-use Rattle.meta_parts.specs.declared.names.AnalyticsType.{AnalyticsType}
-use Rattle.meta_parts.specs.declared.names.AnalyticsType.TheVariants as analytics
-use Rattle.meta_parts.specs.declared.names.Operator.{Operator}
-use Rattle.meta_parts.specs.declared.names.ProgramType.{ProgramType}
-use Rattle.meta_parts.specs.declared.raw.RawSharing.{RawSharing}
+use Rattle.dh_metadata.specs.BuiltIn.{default_combo}
+use Rattle.dh_metadata.specs.Names.{value_type_named, aggregation_named, operator_named, program_type_named, analytics_type_named}
+use Rattle.dh_metadata.specs.declared.names.ValueType.{ValueType}
+use Rattle.dh_metadata.specs.declared.names.ValueType.TheVariants as value_type
+use Rattle.dh_metadata.specs.declared.names.AnalyticsType.{AnalyticsType}
+use Rattle.dh_metadata.specs.declared.names.AnalyticsType.TheVariants as analytics
+use Rattle.dh_metadata.specs.declared.names.Operator.{Operator}
+use Rattle.dh_metadata.specs.declared.names.ProgramType.{ProgramType}
+use Rattle.dh_metadata.specs.declared.raw.RawSharing.{RawSharing}
 use Rattle.meta_forms.specs.declared.entry.ConstantValue.{ConstantValue}
 use Rattle.meta_forms.specs.Both.{◌⊗◌}
 use Rattle.meta_forms.specs.Objects.{named_form}
 use Rattle.meta_forms.specs.Fields.{reference_at, reference_or_at, optional_reference_at, references_at, name_of_table, name_or_other, whole_of}
 use Rattle.meta_forms.specs.Entries.{set_elements_of, attributes_of, stage_elements_of, side_of, constant_form}
 use Rattle.meta_forms.specs.Sharing.{sharing_of}
-use Rattle.meta_parts.specs.declared.raw.RawUnit.{RawUnit}
-use Rattle.meta_parts.specs.declared.raw.RawUnitGroup.{RawUnitGroup}
-use Rattle.meta_parts.specs.declared.raw.RawCategoryOption.{RawCategoryOption}
-use Rattle.meta_parts.specs.declared.raw.RawCategory.{RawCategory}
-use Rattle.meta_parts.specs.declared.raw.RawCategoryCombo.{RawCategoryCombo}
-use Rattle.meta_parts.specs.declared.raw.RawOptionCombo.{RawOptionCombo}
-use Rattle.meta_parts.specs.declared.raw.RawElement.{RawElement}
-use Rattle.meta_parts.specs.declared.raw.RawApprovalLevel.{RawApprovalLevel}
-use Rattle.meta_parts.specs.declared.raw.RawWorkflow.{RawWorkflow}
-use Rattle.meta_parts.specs.declared.raw.RawDataSet.{RawDataSet}
-use Rattle.meta_parts.specs.declared.raw.RawConstant.{RawConstant}
-use Rattle.meta_parts.specs.declared.raw.RawIndicatorType.{RawIndicatorType}
-use Rattle.meta_parts.specs.declared.raw.RawIndicator.{RawIndicator}
-use Rattle.meta_parts.specs.declared.raw.RawRule.{RawRule}
-use Rattle.meta_parts.specs.declared.raw.RawEntityType.{RawEntityType}
-use Rattle.meta_parts.specs.declared.raw.RawAttribute.{RawAttribute}
-use Rattle.meta_parts.specs.declared.raw.RawProgram.{RawProgram}
-use Rattle.meta_parts.specs.declared.raw.RawStage.{RawStage}
-use Rattle.meta_parts.specs.declared.raw.RawProgramIndicator.{RawProgramIndicator}
-use Rattle.meta_parts.specs.declared.raw.RawRole.{RawRole}
-use Rattle.meta_parts.specs.declared.raw.RawUser.{RawUser}
-use Rattle.meta_parts.specs.declared.raw.RawUserGroup.{RawUserGroup}
+use Rattle.dh_metadata.specs.declared.raw.RawUnit.{RawUnit}
+use Rattle.dh_metadata.specs.declared.raw.RawUnitGroup.{RawUnitGroup}
+use Rattle.dh_metadata.specs.declared.raw.RawCategoryOption.{RawCategoryOption}
+use Rattle.dh_metadata.specs.declared.raw.RawCategory.{RawCategory}
+use Rattle.dh_metadata.specs.declared.raw.RawCategoryCombo.{RawCategoryCombo}
+use Rattle.dh_metadata.specs.declared.raw.RawOptionCombo.{RawOptionCombo}
+use Rattle.dh_metadata.specs.declared.raw.RawElement.{RawElement}
+use Rattle.dh_metadata.specs.declared.raw.RawApprovalLevel.{RawApprovalLevel}
+use Rattle.dh_metadata.specs.declared.raw.RawWorkflow.{RawWorkflow}
+use Rattle.dh_metadata.specs.declared.raw.RawDataSet.{RawDataSet}
+use Rattle.dh_metadata.specs.declared.raw.RawConstant.{RawConstant}
+use Rattle.dh_metadata.specs.declared.raw.RawIndicatorType.{RawIndicatorType}
+use Rattle.dh_metadata.specs.declared.raw.RawIndicator.{RawIndicator}
+use Rattle.dh_metadata.specs.declared.raw.RawRule.{RawRule}
+use Rattle.dh_metadata.specs.declared.raw.RawEntityType.{RawEntityType}
+use Rattle.dh_metadata.specs.declared.raw.RawAttribute.{RawAttribute}
+use Rattle.dh_metadata.specs.declared.raw.RawProgram.{RawProgram}
+use Rattle.dh_metadata.specs.declared.raw.RawStage.{RawStage}
+use Rattle.dh_metadata.specs.declared.raw.RawProgramIndicator.{RawProgramIndicator}
+use Rattle.dh_metadata.specs.declared.raw.RawRole.{RawRole}
+use Rattle.dh_metadata.specs.declared.raw.RawUser.{RawUser}
+use Rattle.dh_metadata.specs.declared.raw.RawUserGroup.{RawUserGroup}
 
 -- organisationUnits: parent (none)
 unfoldable pub unit_made : ℕ → List ℕ → List ℕ → Option (List ℕ) → RawUnit
@@ -197,7 +197,13 @@ data_set_fields json =
     ⊗ sharing_of json
 
 unfoldable pub data_set_made : ℕ → List ℕ → List ℕ → DataSetFields → RawDataSet
-data_set_made place id name (((((period_type, data_set_elements), organisation_units), category_combo), (((workflow, open_future_periods), expiry_days), timely_days)), sharing) = record {
+data_set_made place id name (
+  (
+    (((period_type, data_set_elements), organisation_units), category_combo),
+    (((workflow, open_future_periods), expiry_days), timely_days),
+  ),
+  sharing,
+) = record {
   place = place;
   id = id;
   name = name;

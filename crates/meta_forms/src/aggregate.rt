@@ -13,13 +13,13 @@ use crate::sharing::sharing;
 use dh_base::items::Items;
 use dh_base::plain::AggType;
 use dh_base::uid::Uid;
+use dh_metadata::built_in::default_combo;
+use dh_metadata::names::ValueType;
+use dh_metadata::raw::{RawApprovalLevel, RawDataSet, RawElement, RawSharing, RawWorkflow};
 use dh_periods::PeriodType;
 use json::Value;
 use json_read::fault::FormFault;
 use json_read::form::field_or;
-use meta_parts::built_in::default_combo;
-use meta_parts::names::ValueType;
-use meta_parts::raw::{RawApprovalLevel, RawDataSet, RawElement, RawSharing, RawWorkflow};
 use std::alloc::Global;
 
 type ElementFields = ((((ValueType, AggType), Uid), bool), RawSharing);

@@ -13,12 +13,12 @@ use crate::sharing::sharing;
 use dh_base::items::Items;
 use dh_base::plain::Strategy;
 use dh_base::uid::Uid;
+use dh_metadata::names::Operator;
+use dh_metadata::raw::{RawConstant, RawIndicator, RawIndicatorType, RawRule, RawSharing};
 use dh_periods::PeriodType;
 use json::Value;
 use json_read::fault::FormFault;
 use json_read::form::{field, field_or};
-use meta_parts::names::Operator;
-use meta_parts::raw::{RawConstant, RawIndicator, RawIndicatorType, RawRule, RawSharing};
 use std::alloc::Global;
 
 impl ReadObject for RawConstant {

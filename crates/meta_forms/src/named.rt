@@ -9,15 +9,15 @@ ghost use Rattle.meta_forms.specs.Fields.{named_in, name_of_table, listed_or, na
 
 use crate::path::{at_key, found_at};
 use dh_base::plain::{AggType, Strategy};
+use dh_metadata::names::{
+    AnalyticsType, Operator, ProgramType, ValueType, aggregation_named, analytics_type_named,
+    operator_named, program_type_named, strategy_named, value_type_named,
+};
 use dh_periods::PeriodType;
 use dh_sharing::access::Access;
 use json::Value;
 use json_read::fault::FormFault;
 use json_read::look::{member, text};
-use meta_parts::names::{
-    AnalyticsType, Operator, ProgramType, ValueType, aggregation_named, analytics_type_named,
-    operator_named, program_type_named, strategy_named, value_type_named,
-};
 use std::alloc::Global;
 
 /// A value that a file writes as a name of a table.
@@ -31,7 +31,7 @@ pub trait Named: Sized + Drop {
 }
 
 impl Named for ValueType {
-    ghost use Rattle.meta_parts.specs.Names.{value_type_named};
+    ghost use Rattle.dh_metadata.specs.Names.{value_type_named};
 
     ghost meaning = { value_type_named };
 
@@ -41,7 +41,7 @@ impl Named for ValueType {
 }
 
 impl Named for AggType {
-    ghost use Rattle.meta_parts.specs.Names.{aggregation_named};
+    ghost use Rattle.dh_metadata.specs.Names.{aggregation_named};
 
     ghost meaning = { aggregation_named };
 
@@ -51,7 +51,7 @@ impl Named for AggType {
 }
 
 impl Named for Strategy {
-    ghost use Rattle.meta_parts.specs.Names.{strategy_named};
+    ghost use Rattle.dh_metadata.specs.Names.{strategy_named};
 
     ghost meaning = { strategy_named };
 
@@ -61,7 +61,7 @@ impl Named for Strategy {
 }
 
 impl Named for Operator {
-    ghost use Rattle.meta_parts.specs.Names.{operator_named};
+    ghost use Rattle.dh_metadata.specs.Names.{operator_named};
 
     ghost meaning = { operator_named };
 
@@ -71,7 +71,7 @@ impl Named for Operator {
 }
 
 impl Named for ProgramType {
-    ghost use Rattle.meta_parts.specs.Names.{program_type_named};
+    ghost use Rattle.dh_metadata.specs.Names.{program_type_named};
 
     ghost meaning = { program_type_named };
 
@@ -81,7 +81,7 @@ impl Named for ProgramType {
 }
 
 impl Named for AnalyticsType {
-    ghost use Rattle.meta_parts.specs.Names.{analytics_type_named};
+    ghost use Rattle.dh_metadata.specs.Names.{analytics_type_named};
 
     ghost meaning = { analytics_type_named };
 

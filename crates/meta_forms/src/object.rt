@@ -12,11 +12,11 @@ use crate::field::name;
 use crate::path::{here, seen_from};
 use dh_base::items::Items;
 use dh_base::uid::Uid;
+use dh_metadata::built_in::is_built_in;
 use json::Value;
 use json_read::fault::FormFault;
 use json_read::form::{field, require_object};
 use json_read::look::{items, member};
-use meta_parts::built_in::is_built_in;
 use std::alloc::{AllocError, Global};
 
 /// A record of an object that stands at a place of a key's list and has an identifier and a name.

@@ -10,16 +10,16 @@ use crate::entry::{acceptance_required, tokens};
 use crate::object::objects;
 use dh_base::items::Items;
 use dh_base::uid::Uid;
-use json::Value;
-use json_read::fault::FormFault;
-use json_read::form::require_object;
-use meta_parts::parts::MetaParts;
-use meta_parts::raw::{
+use dh_metadata::parts::MetaParts;
+use dh_metadata::raw::{
     RawApprovalLevel, RawAttribute, RawCategory, RawCategoryCombo, RawCategoryOption, RawConstant,
     RawDataSet, RawElement, RawEntityType, RawIndicator, RawIndicatorType, RawOptionCombo,
     RawProgram, RawProgramIndicator, RawRole, RawRule, RawStage, RawUnit, RawUnitGroup, RawUser,
     RawUserGroup, RawWorkflow,
 };
+use json::Value;
+use json_read::fault::FormFault;
+use json_read::form::require_object;
 use std::alloc::Global;
 
 // The units, and what categories are made of.

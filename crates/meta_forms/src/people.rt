@@ -5,10 +5,10 @@ use crate::field::references;
 use crate::object::ReadObject;
 use dh_base::items::Items;
 use dh_base::uid::Uid;
+use dh_metadata::raw::{RawRole, RawUser, RawUserGroup};
 use json::Value;
 use json_read::fault::FormFault;
 use json_read::form::listed;
-use meta_parts::raw::{RawRole, RawUser, RawUserGroup};
 use std::alloc::Global;
 
 impl ReadObject for RawRole {

@@ -11,12 +11,12 @@ use crate::named::{named_at, named_or};
 use crate::path::{at_key, seen_from};
 use dh_base::items::Items;
 use dh_base::uid::Uid;
+use dh_metadata::raw::RawSharing;
 use dh_sharing::access::Access;
 use json::Value;
 use json_read::fault::FormFault;
 use json_read::form::{field, optional, require_object};
 use json_read::look::{self, member};
-use meta_parts::raw::RawSharing;
 use std::alloc::{AllocError, Global};
 use std::collections::BTreeMap;
 

@@ -6,12 +6,12 @@ use crate::object::ReadObject;
 use crate::sharing::sharing;
 use dh_base::items::Items;
 use dh_base::uid::Uid;
-use json::Value;
-use json_read::fault::FormFault;
-use meta_parts::raw::{
+use dh_metadata::raw::{
     RawCategory, RawCategoryCombo, RawCategoryOption, RawOptionCombo, RawSharing, RawUnit,
     RawUnitGroup,
 };
+use json::Value;
+use json_read::fault::FormFault;
 use std::alloc::Global;
 
 impl ReadObject for RawUnit {

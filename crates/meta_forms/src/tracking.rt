@@ -13,13 +13,13 @@ use crate::sharing::sharing;
 use dh_base::items::Items;
 use dh_base::plain::AggType;
 use dh_base::uid::Uid;
+use dh_metadata::names::{AnalyticsType, ProgramType, ValueType};
+use dh_metadata::raw::{
+    RawAttribute, RawEntityType, RawProgram, RawProgramIndicator, RawSharing, RawStage,
+};
 use json::Value;
 use json_read::fault::FormFault;
 use json_read::form::{field, optional};
-use meta_parts::names::{AnalyticsType, ProgramType, ValueType};
-use meta_parts::raw::{
-    RawAttribute, RawEntityType, RawProgram, RawProgramIndicator, RawSharing, RawStage,
-};
 use std::alloc::Global;
 
 impl ReadObject for RawEntityType {
@@ -53,8 +53,8 @@ impl ReadObject for RawAttribute {
     ghost use Rattle.json_read.specs.Forms.{field_of};
     ghost use Rattle.std.specs.Prelude.{codes};
     ghost use Rattle.meta_forms.specs.Fields.{name_or_other};
-    ghost use Rattle.meta_parts.specs.Names.{value_type_named};
-    ghost use Rattle.meta_parts.specs.declared.names.ValueType.TheVariants as value_type;
+    ghost use Rattle.dh_metadata.specs.Names.{value_type_named};
+    ghost use Rattle.dh_metadata.specs.declared.names.ValueType.TheVariants as value_type;
     ghost use Rattle.meta_forms.specs.Table.{tracked_attribute_made};
 
     ghost form = { field_of (codes "valueType") (name_or_other value_type_named value_type.Text) };

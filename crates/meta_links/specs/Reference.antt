@@ -2,10 +2,10 @@
 use Rattle.std.specs.Prelude.{ℕ, ◌+◌, Bool, List, [], ◌∷◌, ◌++◌, cond, is_some, Option, None, Some}
 use Rattle.std.specs.Option.{unwrap_or}
 use Rattle.std.specs.Fmt.{decimal}
-use Rattle.meta_parts.specs.Places.{place_of}
-use Rattle.meta_parts.specs.Keys.{key_of}
-use Rattle.meta_parts.specs.declared.kind.Kind.{Kind}
-use Rattle.meta_parts.specs.Ids.{ids_at}
+use Rattle.dh_metadata.specs.Places.{place_of}
+use Rattle.dh_metadata.specs.Keys.{key_of}
+use Rattle.dh_metadata.specs.declared.kind.Kind.{Kind}
+use Rattle.dh_metadata.specs.Ids.{ids_at}
 
 -- a reference names an object of a kind by its identifier, and stands at a path of the file
 pub record Reference : Type 0 where

@@ -4,33 +4,33 @@ use Rattle.std.specs.List.{flat_map}
 use Rattle.std.specs.Fmt.{decimal}
 use lib.Chars.{codes}
 use Rattle.dh_sharing.specs.declared.access.Access.{Access}
-use Rattle.meta_parts.specs.declared.raw.RawUnit.{RawUnit}
-use Rattle.meta_parts.specs.declared.raw.RawUnitGroup.{RawUnitGroup}
-use Rattle.meta_parts.specs.declared.raw.RawCategoryOption.{RawCategoryOption}
-use Rattle.meta_parts.specs.declared.raw.RawCategory.{RawCategory}
-use Rattle.meta_parts.specs.declared.raw.RawCategoryCombo.{RawCategoryCombo}
-use Rattle.meta_parts.specs.declared.raw.RawOptionCombo.{RawOptionCombo}
-use Rattle.meta_parts.specs.declared.raw.RawElement.{RawElement}
-use Rattle.meta_parts.specs.declared.raw.RawApprovalLevel.{RawApprovalLevel}
-use Rattle.meta_parts.specs.declared.raw.RawWorkflow.{RawWorkflow}
-use Rattle.meta_parts.specs.declared.raw.RawDataSet.{RawDataSet}
-use Rattle.meta_parts.specs.declared.raw.RawConstant.{RawConstant}
-use Rattle.meta_parts.specs.declared.raw.RawIndicatorType.{RawIndicatorType}
-use Rattle.meta_parts.specs.declared.raw.RawIndicator.{RawIndicator}
-use Rattle.meta_parts.specs.declared.raw.RawRule.{RawRule}
-use Rattle.meta_parts.specs.declared.raw.RawEntityType.{RawEntityType}
-use Rattle.meta_parts.specs.declared.raw.RawAttribute.{RawAttribute}
-use Rattle.meta_parts.specs.declared.raw.RawProgram.{RawProgram}
-use Rattle.meta_parts.specs.declared.raw.RawStage.{RawStage}
-use Rattle.meta_parts.specs.declared.raw.RawProgramIndicator.{RawProgramIndicator}
-use Rattle.meta_parts.specs.declared.raw.RawRole.{RawRole}
-use Rattle.meta_parts.specs.declared.raw.RawUser.{RawUser}
-use Rattle.meta_parts.specs.declared.raw.RawUserGroup.{RawUserGroup}
-use Rattle.meta_parts.specs.declared.raw.RawSharing.{RawSharing}
-use Rattle.meta_parts.specs.declared.parts.MetaParts.{MetaParts}
-use Rattle.meta_parts.specs.declared.kind.Kind.{Kind}
-use Rattle.meta_parts.specs.declared.kind.Kind.TheVariants as kind
-use Rattle.meta_parts.specs.Ids.{kinds}
+use Rattle.dh_metadata.specs.declared.raw.RawUnit.{RawUnit}
+use Rattle.dh_metadata.specs.declared.raw.RawUnitGroup.{RawUnitGroup}
+use Rattle.dh_metadata.specs.declared.raw.RawCategoryOption.{RawCategoryOption}
+use Rattle.dh_metadata.specs.declared.raw.RawCategory.{RawCategory}
+use Rattle.dh_metadata.specs.declared.raw.RawCategoryCombo.{RawCategoryCombo}
+use Rattle.dh_metadata.specs.declared.raw.RawOptionCombo.{RawOptionCombo}
+use Rattle.dh_metadata.specs.declared.raw.RawElement.{RawElement}
+use Rattle.dh_metadata.specs.declared.raw.RawApprovalLevel.{RawApprovalLevel}
+use Rattle.dh_metadata.specs.declared.raw.RawWorkflow.{RawWorkflow}
+use Rattle.dh_metadata.specs.declared.raw.RawDataSet.{RawDataSet}
+use Rattle.dh_metadata.specs.declared.raw.RawConstant.{RawConstant}
+use Rattle.dh_metadata.specs.declared.raw.RawIndicatorType.{RawIndicatorType}
+use Rattle.dh_metadata.specs.declared.raw.RawIndicator.{RawIndicator}
+use Rattle.dh_metadata.specs.declared.raw.RawRule.{RawRule}
+use Rattle.dh_metadata.specs.declared.raw.RawEntityType.{RawEntityType}
+use Rattle.dh_metadata.specs.declared.raw.RawAttribute.{RawAttribute}
+use Rattle.dh_metadata.specs.declared.raw.RawProgram.{RawProgram}
+use Rattle.dh_metadata.specs.declared.raw.RawStage.{RawStage}
+use Rattle.dh_metadata.specs.declared.raw.RawProgramIndicator.{RawProgramIndicator}
+use Rattle.dh_metadata.specs.declared.raw.RawRole.{RawRole}
+use Rattle.dh_metadata.specs.declared.raw.RawUser.{RawUser}
+use Rattle.dh_metadata.specs.declared.raw.RawUserGroup.{RawUserGroup}
+use Rattle.dh_metadata.specs.declared.raw.RawSharing.{RawSharing}
+use Rattle.dh_metadata.specs.declared.parts.MetaParts.{MetaParts}
+use Rattle.dh_metadata.specs.declared.kind.Kind.{Kind}
+use Rattle.dh_metadata.specs.declared.kind.Kind.TheVariants as kind
+use Rattle.dh_metadata.specs.Ids.{kinds}
 use Rattle.meta_links.specs.Reference.{Reference, step, field_path, one, optional, each, several, several_in}
 
 -- users or user groups that an object is shared with, by their keys

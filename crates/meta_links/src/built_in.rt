@@ -4,8 +4,8 @@ ghost use Rattle.meta_links.specs.Held.{built_in_combo, built_in_option_combo};
 
 use dh_base::items::Items;
 use dh_base::memory::Memory;
-use meta_parts::built_in::{default_combo, default_option_combo};
-use meta_parts::records::{CategoryCombo, OptionCombo};
+use dh_metadata::built_in::{default_combo, default_option_combo};
+use dh_metadata::records::{CategoryCombo, OptionCombo};
 use std::alloc::Global;
 
 /// The default category combination alone.

@@ -5,15 +5,15 @@ ghost use lib.Chars.{codes};
 ghost use Rattle.meta_links.specs.Reference.{step, field_path, one, optional, several, several_in, number_of};
 ghost use Rattle.meta_links.specs.Table.{set_element, set_elements};
 ghost use Rattle.meta_links.specs.Told.{after};
-ghost use Rattle.meta_parts.specs.declared.kind.Kind.TheVariants as kind;
+ghost use Rattle.dh_metadata.specs.declared.kind.Kind.TheVariants as kind;
 
 use crate::path::{Field, Inner, entry_path, field_path, inner_path, key_path};
 use crate::unknown::Unknown;
 use dh_base::items::Items;
 use dh_base::memory::Memory;
 use dh_base::uid::Uid;
-use meta_parts::ids::Ids;
-use meta_parts::kind::Kind;
+use dh_metadata::ids::Ids;
+use dh_metadata::kind::Kind;
 use std::alloc::Global;
 
 /// The number of the object that a field names.

@@ -12,14 +12,14 @@ use crate::link_each::{link_all, link_beside};
 use crate::unknown::Unknown;
 use dh_base::items::Items;
 use dh_base::memory::Memory;
-use dh_sharing::rule::Sharing;
-use meta_parts::ids::Ids;
-use meta_parts::parts::MetaParts;
-use meta_parts::records::{
+use dh_metadata::ids::Ids;
+use dh_metadata::parts::MetaParts;
+use dh_metadata::records::{
     ApprovalLevel, Attribute, Category, CategoryCombo, CategoryOption, Constant, DataSet, Element,
     EntityType, IndicatorLinks, IndicatorType, OptionCombo, Program, ProgramIndicatorLinks, Role,
     Stage, Unit, UnitGroup, User, UserGroup, Workflow,
 };
+use dh_sharing::rule::Sharing;
 use std::alloc::Global;
 
 /// Units, unit groups, category options and categories.

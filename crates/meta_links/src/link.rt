@@ -17,9 +17,9 @@ use crate::tokens::link_tokens;
 use crate::unknown::Unknown;
 use dh_base::items::Items;
 use dh_base::memory::Memory;
-use meta_parts::held::Links;
-use meta_parts::ids::Ids;
-use meta_parts::parts::MetaParts;
+use dh_metadata::held::Links;
+use dh_metadata::ids::Ids;
+use dh_metadata::parts::MetaParts;
 use std::alloc::Global;
 
 // Units, combinations, data sets, rules, programs, users and tokens, as they were linked.

@@ -7,7 +7,7 @@ ghost use Rattle.meta_links.specs.Told.{after};
 use crate::unknown::Unknown;
 use dh_base::items::Items;
 use dh_base::memory::Memory;
-use meta_parts::ids::Ids;
+use dh_metadata::ids::Ids;
 use std::alloc::Global;
 
 /// An object whose references are looked up.

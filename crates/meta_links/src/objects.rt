@@ -17,20 +17,20 @@ use crate::path::Field;
 use crate::sharing::sharing;
 use crate::unknown::Unknown;
 use dh_base::memory::Memory;
-use dh_sharing::rule::Sharing;
-use meta_parts::ids::Ids;
-use meta_parts::kind::Kind;
-use meta_parts::raw::{
+use dh_metadata::ids::Ids;
+use dh_metadata::kind::Kind;
+use dh_metadata::raw::{
     RawApprovalLevel, RawAttribute, RawCategory, RawCategoryCombo, RawCategoryOption, RawConstant,
     RawDataSet, RawElement, RawEntityType, RawIndicator, RawIndicatorType, RawOptionCombo,
     RawProgram, RawProgramIndicator, RawRole, RawRule, RawStage, RawUnit, RawUnitGroup, RawUser,
     RawUserGroup, RawWorkflow,
 };
-use meta_parts::records::{
+use dh_metadata::records::{
     ApprovalLevel, Attribute, Category, CategoryCombo, CategoryOption, Constant, DataSet, Element,
     EntityType, IndicatorLinks, IndicatorType, OptionCombo, Program, ProgramIndicatorLinks, Role,
     Stage, Unit, UnitGroup, User, UserGroup, Workflow,
 };
+use dh_sharing::rule::Sharing;
 use std::alloc::Global;
 
 impl Link for RawUnit {

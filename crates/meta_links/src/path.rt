@@ -4,7 +4,7 @@ ghost use Rattle.std.specs.Fmt.{decimal};
 ghost use Rattle.meta_links.specs.Reference.{step, field_path};
 ghost use lib.Chars.{codes};
 
-use meta_parts::kind::Kind;
+use dh_metadata::kind::Kind;
 use std::alloc::{AllocError, Global};
 
 /// A field of an object: the object's kind, its place in its list, and the field's name.

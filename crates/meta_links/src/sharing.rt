@@ -11,11 +11,11 @@ use crate::unknown::Unknown;
 use dh_base::items::Items;
 use dh_base::memory::Memory;
 use dh_base::uid::Uid;
+use dh_metadata::ids::Ids;
+use dh_metadata::kind::Kind;
+use dh_metadata::raw::RawSharing;
 use dh_sharing::access::Access;
 use dh_sharing::rule::Sharing;
-use meta_parts::ids::Ids;
-use meta_parts::kind::Kind;
-use meta_parts::raw::RawSharing;
 use std::alloc::Global;
 
 /// How the object of a kind at a place is shared.

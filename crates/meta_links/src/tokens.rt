@@ -5,7 +5,7 @@ ghost use lib.Chars.{codes};
 ghost use Rattle.meta_links.specs.Reference.{step, one, number_of};
 ghost use Rattle.meta_links.specs.Table.{token_references};
 ghost use Rattle.meta_links.specs.Told.{after};
-ghost use Rattle.meta_parts.specs.declared.kind.Kind.TheVariants as kind;
+ghost use Rattle.dh_metadata.specs.declared.kind.Kind.TheVariants as kind;
 
 use crate::copies::copy_of;
 use crate::path::token_path;
@@ -13,8 +13,8 @@ use crate::unknown::Unknown;
 use dh_base::items::Items;
 use dh_base::memory::Memory;
 use dh_base::uid::Uid;
-use meta_parts::ids::Ids;
-use meta_parts::kind::Kind;
+use dh_metadata::ids::Ids;
+use dh_metadata::kind::Kind;
 use std::alloc::Global;
 
 #[tactic(auto, unfolding(crate::specs::Reference::one, crate::specs::Reference::number_of, crate::specs::Reference::first_unknown, crate::specs::Told::after))]

@@ -7,17 +7,17 @@ use Rattle.std.specs.Option.{option_or, option_map_or}
 use Rattle.std.proofs.lemmas.List.{length-map}
 use Rattle.std.proofs.lemmas.Bool.{cases_lt, lt-ltb}
 use Rattle.std.proofs.Math.ListN.{get_or-append}
-use Rattle.meta_parts.specs.Places.{repeat_of}
-use Rattle.meta_parts.proofs.DistinctLemmas.{repeat_of-differ}
+use Rattle.dh_metadata.specs.Places.{repeat_of}
+use Rattle.dh_metadata.proofs.DistinctLemmas.{repeat_of-differ}
 use Rattle.org_tree.specs.Units.{HasOwnIds, id_at}
 use Rattle.dh_categories.specs.Single.{CombosBelow}
-use Rattle.meta_parts.specs.declared.kind.Kind.{Kind}
-use Rattle.meta_parts.specs.declared.kind.Kind.TheVariants as kind
-use Rattle.meta_parts.specs.declared.parts.MetaParts.{MetaParts}
-use Rattle.meta_parts.specs.declared.held.Records.{Records}
-use Rattle.meta_parts.specs.declared.raw.RawUnit.{RawUnit}
-use Rattle.meta_parts.specs.declared.raw.RawOptionCombo.{RawOptionCombo}
-use Rattle.meta_parts.specs.Ids.{ids_of, ids_in, ids_at, kinds, joined, all_ids, repeated, user_of_repeated, twice_of}
+use Rattle.dh_metadata.specs.declared.kind.Kind.{Kind}
+use Rattle.dh_metadata.specs.declared.kind.Kind.TheVariants as kind
+use Rattle.dh_metadata.specs.declared.parts.MetaParts.{MetaParts}
+use Rattle.dh_metadata.specs.declared.held.Records.{Records}
+use Rattle.dh_metadata.specs.declared.raw.RawUnit.{RawUnit}
+use Rattle.dh_metadata.specs.declared.raw.RawOptionCombo.{RawOptionCombo}
+use Rattle.dh_metadata.specs.Ids.{ids_of, ids_in, ids_at, kinds, joined, all_ids, repeated, user_of_repeated, twice_of}
 use Rattle.meta_links.specs.Reference.{Reference, one, several, number_of, field_path}
 use Rattle.meta_links.specs.Table.{option_combo_references, references_in, token_references, references}
 use Rattle.meta_links.specs.Held.{numbers_of, unit_held, unit_group_held, category_option_held, category_held, category_combo_held, option_combo_held}
@@ -25,12 +25,12 @@ use Rattle.meta_links.specs.Held.{element_held, approval_level_held, workflow_he
 use Rattle.meta_links.specs.Held.{rule_held, entity_type_held, attribute_held, program_held, stage_held, program_indicator_held, role_held, user_held}
 use Rattle.meta_links.specs.Held.{user_group_held, built_in_combo, built_in_option_combo, links_of}
 use lib.Chars.{codes}
-use Rattle.meta_parts.specs.Rows.{tree_rows, option_combo_rows}
+use Rattle.dh_metadata.specs.Rows.{tree_rows, option_combo_rows}
 use Rattle.meta_rules.specs.declared.limits.LimitFault.{LimitFault}
 use Rattle.meta_rules.specs.declared.limits.LimitFault.TheVariants as limit
 use Rattle.meta_rules.specs.Limits.{limits, objects_of, passes, first_passed}
-use Rattle.meta_exprs.specs.Days.{days_of}
-use Rattle.meta_exprs.specs.Objects.{made_of, indicator_in, rule_in, program_indicator_in}
+use Rattle.meta_rules.specs.Days.{days_of}
+use Rattle.meta_rules.specs.Objects.{made_of, indicator_in, rule_in, program_indicator_in}
 use Rattle.dh_metadata.specs.Objects.{HaveIds, count_of}
 use Rattle.dh_metadata.specs.Known.{AreFew}
 use Rattle.dh_metadata.specs.Linked.{Each}

@@ -5,13 +5,13 @@ use Rattle.std.specs.Prelude.{slice_get, slice_index_or}
 use Rattle.std.specs.Fmt.{decimal}
 use Rattle.std.specs.Option.{unwrap_or}
 use Rattle.std.specs.List.{flat_map}
-use Rattle.meta_parts.specs.Places.{place_of}
-use Rattle.meta_parts.proofs.DistinctLemmas.{place_of-below}
+use Rattle.dh_metadata.specs.Places.{place_of}
+use Rattle.dh_metadata.proofs.DistinctLemmas.{place_of-below}
 use Rattle.dh_sharing.specs.declared.access.Access.{Access}
-use Rattle.meta_parts.specs.declared.kind.Kind.{Kind}
-use Rattle.meta_parts.specs.declared.kind.Kind.TheVariants as kind
-use Rattle.meta_parts.specs.declared.raw.RawSharing.{RawSharing}
-use Rattle.meta_parts.specs.Ids.{ids_at}
+use Rattle.dh_metadata.specs.declared.kind.Kind.{Kind}
+use Rattle.dh_metadata.specs.declared.kind.Kind.TheVariants as kind
+use Rattle.dh_metadata.specs.declared.raw.RawSharing.{RawSharing}
+use Rattle.dh_metadata.specs.Ids.{ids_at}
 use Rattle.meta_links.specs.Reference.{Reference, is_known, first_unknown, one, optional, each, several, several_in, number_of, step, field_path}
 use Rattle.meta_links.specs.Table.{entries, sharing_references, set_elements}
 use Rattle.meta_links.specs.Held.{numbers_of, shared_with, sharing_held}

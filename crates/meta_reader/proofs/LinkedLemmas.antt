@@ -5,29 +5,29 @@ use Rattle.std.specs.Fmt.{decimal}
 use Rattle.std.specs.List.{flat_map}
 use lib.Chars.{codes}
 use Rattle.dh_sharing.specs.declared.rule.Sharing.{Sharing}
-use Rattle.meta_parts.specs.declared.kind.Kind.{Kind}
-use Rattle.meta_parts.specs.declared.kind.Kind.TheVariants as kind
-use Rattle.meta_parts.specs.declared.parts.MetaParts.{MetaParts}
-use Rattle.meta_parts.specs.declared.held.Records.{Records}
-use Rattle.meta_parts.specs.declared.raw.RawUnit.{RawUnit}
-use Rattle.meta_parts.specs.declared.raw.RawUnitGroup.{RawUnitGroup}
-use Rattle.meta_parts.specs.declared.raw.RawCategoryOption.{RawCategoryOption}
-use Rattle.meta_parts.specs.declared.raw.RawCategory.{RawCategory}
-use Rattle.meta_parts.specs.declared.raw.RawCategoryCombo.{RawCategoryCombo}
-use Rattle.meta_parts.specs.declared.raw.RawOptionCombo.{RawOptionCombo}
-use Rattle.meta_parts.specs.declared.raw.RawElement.{RawElement}
-use Rattle.meta_parts.specs.declared.raw.RawWorkflow.{RawWorkflow}
-use Rattle.meta_parts.specs.declared.raw.RawDataSet.{RawDataSet}
-use Rattle.meta_parts.specs.declared.raw.RawIndicator.{RawIndicator}
-use Rattle.meta_parts.specs.declared.raw.RawRule.{RawRule}
-use Rattle.meta_parts.specs.declared.raw.RawEntityType.{RawEntityType}
-use Rattle.meta_parts.specs.declared.raw.RawProgram.{RawProgram}
-use Rattle.meta_parts.specs.declared.raw.RawStage.{RawStage}
-use Rattle.meta_parts.specs.declared.raw.RawProgramIndicator.{RawProgramIndicator}
-use Rattle.meta_parts.specs.declared.raw.RawUser.{RawUser}
-use Rattle.meta_parts.specs.declared.raw.RawUserGroup.{RawUserGroup}
-use Rattle.meta_parts.specs.declared.raw.RawSharing.{RawSharing}
-use Rattle.meta_parts.specs.Ids.{ids_at, kinds}
+use Rattle.dh_metadata.specs.declared.kind.Kind.{Kind}
+use Rattle.dh_metadata.specs.declared.kind.Kind.TheVariants as kind
+use Rattle.dh_metadata.specs.declared.parts.MetaParts.{MetaParts}
+use Rattle.dh_metadata.specs.declared.held.Records.{Records}
+use Rattle.dh_metadata.specs.declared.raw.RawUnit.{RawUnit}
+use Rattle.dh_metadata.specs.declared.raw.RawUnitGroup.{RawUnitGroup}
+use Rattle.dh_metadata.specs.declared.raw.RawCategoryOption.{RawCategoryOption}
+use Rattle.dh_metadata.specs.declared.raw.RawCategory.{RawCategory}
+use Rattle.dh_metadata.specs.declared.raw.RawCategoryCombo.{RawCategoryCombo}
+use Rattle.dh_metadata.specs.declared.raw.RawOptionCombo.{RawOptionCombo}
+use Rattle.dh_metadata.specs.declared.raw.RawElement.{RawElement}
+use Rattle.dh_metadata.specs.declared.raw.RawWorkflow.{RawWorkflow}
+use Rattle.dh_metadata.specs.declared.raw.RawDataSet.{RawDataSet}
+use Rattle.dh_metadata.specs.declared.raw.RawIndicator.{RawIndicator}
+use Rattle.dh_metadata.specs.declared.raw.RawRule.{RawRule}
+use Rattle.dh_metadata.specs.declared.raw.RawEntityType.{RawEntityType}
+use Rattle.dh_metadata.specs.declared.raw.RawProgram.{RawProgram}
+use Rattle.dh_metadata.specs.declared.raw.RawStage.{RawStage}
+use Rattle.dh_metadata.specs.declared.raw.RawProgramIndicator.{RawProgramIndicator}
+use Rattle.dh_metadata.specs.declared.raw.RawUser.{RawUser}
+use Rattle.dh_metadata.specs.declared.raw.RawUserGroup.{RawUserGroup}
+use Rattle.dh_metadata.specs.declared.raw.RawSharing.{RawSharing}
+use Rattle.dh_metadata.specs.Ids.{ids_at, kinds}
 use Rattle.meta_links.specs.Reference.{Reference, one, optional, each, several, several_in, number_of, step, field_path}
 use Rattle.meta_links.specs.Table.{entries, sharing_references, set_element, set_elements, unit_references, unit_group_references}
 use Rattle.meta_links.specs.Table.{category_option_references, category_references, category_combo_references, option_combo_references, element_references}
@@ -38,8 +38,8 @@ use Rattle.meta_links.specs.Held.{numbers_of, shared_with, sharing_held, unit_he
 use Rattle.meta_links.specs.Held.{category_combo_held, option_combo_held, element_held, workflow_held, data_set_held, indicator_held, rule_held}
 use Rattle.meta_links.specs.Held.{entity_type_held, program_held, stage_held, program_indicator_held, user_held, user_group_held, built_in_combo}
 use Rattle.meta_links.specs.Held.{built_in_option_combo, links_of}
-use Rattle.meta_exprs.specs.Days.{days_of}
-use Rattle.meta_exprs.specs.Objects.{made_of, indicator_in, rule_in, program_indicator_in}
+use Rattle.meta_rules.specs.Days.{days_of}
+use Rattle.meta_rules.specs.Objects.{made_of, indicator_in, rule_in, program_indicator_in}
 use Rattle.dh_metadata.specs.Objects.{count_of}
 use Rattle.dh_metadata.specs.Linked.{AreBelow, IsBelow, Each, IsLinked, IsLinkedSharing, IsLinkedUnit, IsLinkedUnitGroup, IsLinkedOption, IsLinkedCategory}
 use Rattle.dh_metadata.specs.Linked.{IsLinkedCombo, IsLinkedOptionCombo, IsLinkedElement, IsLinkedWorkflow, IsLinkedDataSet, IsLinkedIndicator, IsLinkedRule}

@@ -6,19 +6,19 @@ use Rattle.std.proofs.lemmas.List.{length-map}
 use Rattle.dh_base.specs.Memory.{IsFirst, Finds}
 use Rattle.org_tree.specs.Units.{HasOwnIds}
 use Rattle.dh_categories.specs.Single.{CombosBelow}
-use Rattle.meta_parts.specs.declared.parts.MetaParts.{MetaParts}
-use Rattle.meta_parts.specs.declared.held.Links.{Links}
-use Rattle.meta_parts.specs.declared.held.Records.{Records}
-use Rattle.meta_parts.specs.Ids.{ids_of, twice_of}
+use Rattle.dh_metadata.specs.declared.parts.MetaParts.{MetaParts}
+use Rattle.dh_metadata.specs.declared.held.Links.{Links}
+use Rattle.dh_metadata.specs.declared.held.Records.{Records}
+use Rattle.dh_metadata.specs.Ids.{ids_of, twice_of}
 use Rattle.meta_links.specs.Table.{references}
 use Rattle.meta_links.specs.Reference.{first_unknown}
 use Rattle.meta_links.specs.Held.{links_of, indicator_held, rule_held, program_indicator_held}
-use Rattle.meta_parts.specs.declared.structure.Structure.{Structure}
-use Rattle.meta_parts.specs.Rows.{tree_rows, option_combo_rows}
+use Rattle.dh_metadata.specs.declared.structure.Structure.{Structure}
+use Rattle.dh_metadata.specs.Rows.{tree_rows, option_combo_rows}
 use Rattle.meta_rules.specs.Held.{IsHeld}
 use Rattle.meta_rules.specs.Limits.{first_passed}
 use Rattle.meta_rules.specs.declared.limits.LimitFault.{LimitFault}
-use Rattle.meta_exprs.specs.Stages.{stages_broken}
+use Rattle.meta_rules.specs.Stages.{stages_broken}
 use Rattle.dh_metadata.specs.Objects.{HaveIds}
 use Rattle.dh_metadata.specs.Known.{AreFew, HaveRules}
 use Rattle.dh_metadata.specs.Linked.{IsLinked}

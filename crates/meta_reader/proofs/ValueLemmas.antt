@@ -2,8 +2,8 @@
 use Rattle.std.proofs.Common.{◌≡◌, ◌∙◌, Option, Some, None, sym, ap, subst}
 use Rattle.std.specs.Prelude.{Result, Ok, Err}
 use Rattle.dh_base.specs.Memory.{IsCause, IsFirst, Answers, Finds}
-use Rattle.meta_parts.specs.declared.parts.MetaParts.{MetaParts}
-use Rattle.meta_parts.specs.declared.held.Records.{Records}
+use Rattle.dh_metadata.specs.declared.parts.MetaParts.{MetaParts}
+use Rattle.dh_metadata.specs.declared.held.Records.{Records}
 use Rattle.meta_reader.specs.declared.file_fault.FileFault.{FileFault}
 use Rattle.meta_reader.specs.declared.file_fault.FileFault.TheVariants as file
 use Rattle.meta_reader.specs.declared.fault.MetaFault.{MetaFault}

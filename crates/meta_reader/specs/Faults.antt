@@ -1,21 +1,21 @@
 -- The first fault of what a metadata file says.
 use Rattle.std.specs.Prelude.{ℕ, ℤ, List, map, Option, None, Some, Result, Ok, Err, option_map}
 use Rattle.std.specs.Option.{option_or}
-use Rattle.meta_parts.specs.declared.parts.MetaParts.{MetaParts}
-use Rattle.meta_parts.specs.declared.held.Links.{Links}
-use Rattle.meta_parts.specs.declared.held.Records.{Records}
-use Rattle.meta_parts.specs.Ids.{ids_of, twice_of}
+use Rattle.dh_metadata.specs.declared.parts.MetaParts.{MetaParts}
+use Rattle.dh_metadata.specs.declared.held.Links.{Links}
+use Rattle.dh_metadata.specs.declared.held.Records.{Records}
+use Rattle.dh_metadata.specs.Ids.{ids_of, twice_of}
 use Rattle.meta_links.specs.Reference.{first_unknown}
 use Rattle.meta_links.specs.Table.{references}
 use Rattle.meta_rules.specs.declared.fault.RuleFault.{RuleFault}
 use Rattle.meta_rules.specs.declared.limits.LimitFault.{LimitFault}
 use Rattle.meta_rules.specs.Held.{rules_broken}
-use Rattle.meta_parts.specs.Positions.{positions_of}
+use Rattle.dh_metadata.specs.Positions.{positions_of}
 use Rattle.meta_rules.specs.Limits.{first_passed}
-use Rattle.meta_exprs.specs.declared.fault.ExprFault.{ExprFault}
-use Rattle.meta_exprs.specs.Names.{KindIds}
-use Rattle.meta_exprs.specs.All.{expressions_unread, expressions_of}
-use Rattle.meta_exprs.specs.Stages.{stages_broken}
+use Rattle.meta_rules.specs.declared.expr_fault.ExprFault.{ExprFault}
+use Rattle.meta_rules.specs.Names.{KindIds}
+use Rattle.meta_rules.specs.All.{expressions_unread, expressions_of}
+use Rattle.meta_rules.specs.Stages.{stages_broken}
 use Rattle.meta_reader.specs.declared.fault.MetaFault.{MetaFault}
 use Rattle.meta_reader.specs.declared.fault.MetaFault.TheVariants as fault
 use Rattle.meta_reader.specs.declared.fault.Which.TheVariants as which

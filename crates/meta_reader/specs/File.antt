@@ -4,7 +4,7 @@ use Rattle.std.specs.Option.{option_map_or}
 use Rattle.serde_json.specs.Data.{Data}
 use Rattle.json_read.specs.Bytes.{document_of}
 use Rattle.json_read.specs.Forms.{Formed}
-use Rattle.meta_parts.specs.declared.parts.MetaParts.{MetaParts}
+use Rattle.dh_metadata.specs.declared.parts.MetaParts.{MetaParts}
 use Rattle.meta_forms.specs.Parts.{parts_of}
 use Rattle.meta_reader.specs.declared.file_fault.FileFault.{FileFault}
 use Rattle.meta_reader.specs.declared.file_fault.FileFault.TheVariants as fault

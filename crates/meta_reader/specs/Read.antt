@@ -1,7 +1,7 @@
 -- Reading a metadata file.
 use Rattle.std.specs.Prelude.{ℕ, List, Result, Ok, Err}
-use Rattle.meta_parts.specs.declared.parts.MetaParts.{MetaParts}
-use Rattle.meta_parts.specs.declared.held.Records.{Records}
+use Rattle.dh_metadata.specs.declared.parts.MetaParts.{MetaParts}
+use Rattle.dh_metadata.specs.declared.held.Records.{Records}
 use Rattle.meta_reader.specs.declared.file_fault.FileFault.{FileFault}
 use Rattle.meta_reader.specs.declared.file_fault.FileFault.TheVariants as file
 use Rattle.meta_reader.specs.declared.fault.MetaFault.{MetaFault}

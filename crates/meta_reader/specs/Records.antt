@@ -1,11 +1,11 @@
 -- What metadata has of a file.
-use Rattle.meta_parts.specs.declared.parts.MetaParts.{MetaParts}
-use Rattle.meta_parts.specs.declared.held.Links.{Links}
-use Rattle.meta_parts.specs.declared.held.Records.{Records}
-use Rattle.meta_exprs.specs.declared.all.Unread.{Unread}
-use Rattle.meta_exprs.specs.declared.all.Expressions.{Expressions}
-use Rattle.meta_exprs.specs.All.{expressions_of}
-use Rattle.meta_parts.specs.Ids.{ids_of}
+use Rattle.dh_metadata.specs.declared.parts.MetaParts.{MetaParts}
+use Rattle.dh_metadata.specs.declared.held.Links.{Links}
+use Rattle.dh_metadata.specs.declared.held.Records.{Records}
+use Rattle.meta_rules.specs.declared.all.Unread.{Unread}
+use Rattle.meta_rules.specs.declared.all.Expressions.{Expressions}
+use Rattle.meta_rules.specs.All.{expressions_of}
+use Rattle.dh_metadata.specs.Ids.{ids_of}
 use Rattle.meta_links.specs.Held.{links_of}
 
 -- the references of the objects with expressions

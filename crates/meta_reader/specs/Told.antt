@@ -1,7 +1,7 @@
 -- Faults of the steps as those of the file.
 use Rattle.std.specs.Prelude.{ℕ, List, Option, None, Some}
-use Rattle.meta_parts.specs.declared.ids.fault.IdsFault.{IdsFault}
-use Rattle.meta_parts.specs.declared.ids.fault.IdsFault.TheVariants as ids
+use Rattle.dh_metadata.specs.declared.ids.fault.IdsFault.{IdsFault}
+use Rattle.dh_metadata.specs.declared.ids.fault.IdsFault.TheVariants as ids
 use Rattle.meta_links.specs.declared.fault.LinkFault.{LinkFault}
 use Rattle.meta_links.specs.declared.fault.LinkFault.TheVariants as link
 use Rattle.meta_reader.specs.declared.fault.MetaFault.{MetaFault}

@@ -3,7 +3,7 @@
 ghost use Rattle.std.specs.Prelude.{◌≡◌, None};
 ghost use Rattle.std.specs.Option.{option_or};
 ghost use Rattle.dh_base.specs.Memory.{Answers, Finds};
-ghost use Rattle.meta_parts.specs.Ids.{ids_of, twice_of};
+ghost use Rattle.dh_metadata.specs.Ids.{ids_of, twice_of};
 ghost use Rattle.meta_links.specs.Held.{links_of};
 ghost use Rattle.meta_links.specs.Reference.{first_unknown};
 ghost use Rattle.meta_links.specs.Table.{references};
@@ -13,11 +13,11 @@ ghost use Rattle.meta_reader.specs.Records.{links_in, records_in};
 
 use crate::fault::MetaFault;
 use crate::steps::{late, linked, numbered, tried};
+use dh_metadata::held::{Links, Records};
+use dh_metadata::ids::Ids;
 use dh_metadata::metadata::Metadata;
-use meta_parts::held::{Links, Records};
-use meta_parts::ids::Ids;
-use meta_parts::parts::MetaParts;
-use meta_parts::structure::Structure;
+use dh_metadata::parts::MetaParts;
+use dh_metadata::structure::Structure;
 use std::alloc::Global;
 
 #[tactic(auto, using(crate::proofs::ReadyLemmas::late_met, crate::proofs::ReadyLemmas::ready))]

@@ -6,11 +6,11 @@ ghost use Rattle.meta_reader.specs.File.{shaped_of, file_of, file_cause};
 
 use crate::file_fault::FileFault;
 use dh_base::limits::MOST_INPUT_BYTES;
+use dh_metadata::parts::MetaParts;
 use json::{Scratch, Value};
 use json_read::fault::FormFault;
 use json_read::read::read;
 use meta_forms::parts::read_parts;
-use meta_parts::parts::MetaParts;
 use std::alloc::Global;
 
 /// The most bytes of a file.

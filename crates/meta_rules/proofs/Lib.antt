@@ -1,2 +1,5 @@
 pub mod SeenLemmas
 pub mod LevelLemmas
+pub mod ReadLemmas
+pub mod MadeLemmas
+pub mod StageLemmas

@@ -8,10 +8,10 @@ use Rattle.std.proofs.lemmas.List.{length-set, take_more, get_or-map}
 use Rattle.std.proofs.lemmas.List.Folds.{list_any_more}
 use Rattle.org_tree.specs.Count.{first_below}
 use Rattle.org_tree.proofs.CountLemmas.{first_below-agree, first_below_tells}
-use Rattle.meta_parts.specs.declared.records.DataSet.{DataSet}
+use Rattle.dh_metadata.specs.declared.records.DataSet.{DataSet}
 use Rattle.meta_rules.specs.declared.workflows.Seen.{Seen}
 use Rattle.meta_rules.specs.declared.workflows.Seen.TheVariants.{Nothing, One, Several}
-use Rattle.meta_parts.specs.Workflows.{workflow_by, workflows_by, workflow_of, AreWorkflows}
+use Rattle.dh_metadata.specs.Workflows.{workflow_by, workflows_by, workflow_of, AreWorkflows}
 use Rattle.meta_rules.specs.Workflows.{have_several, is_torn}
 use Rattle.meta_rules.specs.Seen.{met, all_met, one_seen, is_several, seen_at, several_at, TakesEntries, TakesSet, HaveSeen}
 

@@ -4,10 +4,10 @@ use Rattle.std.specs.Option.{option_map_or}
 use Rattle.dh_categories.specs.Combos.{first_bad}
 use Rattle.dh_categories.specs.declared.fault.ComboFault.{ComboFault}
 use Rattle.dh_categories.specs.declared.fault.ComboFault.TheVariants.{Bad, Memory}
-use Rattle.meta_parts.specs.declared.records.Category.{Category}
-use Rattle.meta_parts.specs.declared.records.CategoryCombo.{CategoryCombo}
-use Rattle.meta_parts.specs.declared.records.OptionCombo.{OptionCombo}
-use Rattle.meta_parts.specs.Rows.{option_combo_rows}
+use Rattle.dh_metadata.specs.declared.records.Category.{Category}
+use Rattle.dh_metadata.specs.declared.records.CategoryCombo.{CategoryCombo}
+use Rattle.dh_metadata.specs.declared.records.OptionCombo.{OptionCombo}
+use Rattle.dh_metadata.specs.Rows.{option_combo_rows}
 use Rattle.meta_rules.specs.declared.fault.BrokenRule.TheVariants as rule
 use Rattle.meta_rules.specs.declared.fault.RuleFault.{RuleFault}
 use Rattle.meta_rules.specs.declared.fault.RuleError.{RuleError}

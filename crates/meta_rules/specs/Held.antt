@@ -1,16 +1,16 @@
 -- The rules between objects in their order, and what is handed on where they are kept.
 use Rattle.std.specs.Prelude.{◌≡◌, ℕ, ℤ, List, map, length, Option}
 use Rattle.std.specs.Option.{option_or}
-use Rattle.meta_parts.specs.declared.parts.MetaParts.{MetaParts}
-use Rattle.meta_parts.specs.declared.held.Links.{Links}
-use Rattle.meta_parts.specs.declared.structure.Structure.{Structure}
+use Rattle.dh_metadata.specs.declared.parts.MetaParts.{MetaParts}
+use Rattle.dh_metadata.specs.declared.held.Links.{Links}
+use Rattle.dh_metadata.specs.declared.structure.Structure.{Structure}
 use Rattle.meta_rules.specs.declared.fault.RuleFault.{RuleFault}
 use Rattle.meta_rules.specs.Trees.{tree_broken}
-use Rattle.meta_parts.specs.Rows.{tree_rows, option_combo_rows}
+use Rattle.dh_metadata.specs.Rows.{tree_rows, option_combo_rows}
 use Rattle.meta_rules.specs.Categories.{combo_broken}
-use Rattle.meta_parts.specs.Workflows.{AreWorkflows}
+use Rattle.dh_metadata.specs.Workflows.{AreWorkflows}
 use Rattle.meta_rules.specs.Workflows.{workflow_broken}
-use Rattle.meta_parts.specs.Positions.{positions_of}
+use Rattle.dh_metadata.specs.Positions.{positions_of}
 use Rattle.meta_rules.specs.Levels.{levels_broken}
 use Rattle.meta_rules.specs.Overrides.{override_broken}
 

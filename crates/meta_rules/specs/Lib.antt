@@ -8,3 +8,9 @@ pub mod Ordered
 pub mod Overrides
 pub mod Limits
 pub mod Held
+pub mod Names
+pub mod Days
+pub mod Read
+pub mod Objects
+pub mod All
+pub mod Stages

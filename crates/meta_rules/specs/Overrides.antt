@@ -2,9 +2,9 @@
 use Rattle.std.specs.Prelude.{ℕ, Bool, false, not, List, length, Option, option_map, is_some, slice_get, bytes_eq}
 use Rattle.std.specs.Option.{option_map_or}
 use Rattle.org_tree.specs.Count.{first_below}
-use Rattle.meta_parts.specs.declared.raw.RawElement.{RawElement}
-use Rattle.meta_parts.specs.declared.raw.RawDataSet.{RawDataSet}
-use Rattle.meta_parts.specs.declared.records.DataSet.{DataSet}
+use Rattle.dh_metadata.specs.declared.raw.RawElement.{RawElement}
+use Rattle.dh_metadata.specs.declared.raw.RawDataSet.{RawDataSet}
+use Rattle.dh_metadata.specs.declared.records.DataSet.{DataSet}
 use Rattle.meta_rules.specs.declared.fault.BrokenRule.TheVariants as rule
 use Rattle.meta_rules.specs.declared.fault.RuleFault.{RuleFault}
 use Rattle.meta_rules.specs.Faults.{breaks}

@@ -1,10 +1,10 @@
 -- What is kept of an element's workflows while data sets are read.
 use Rattle.std.specs.Prelude.{◌≡◌, ℕ, ◌<◌, Bool, true, false, cond, ◌==◌, List, [], ◌∷◌, length, Option, None, Some, slice_index_or}
 use Rattle.std.specs.List.{list_any}
-use Rattle.meta_parts.specs.declared.records.DataSet.{DataSet}
+use Rattle.dh_metadata.specs.declared.records.DataSet.{DataSet}
 use Rattle.meta_rules.specs.declared.workflows.Seen.{Seen}
 use Rattle.meta_rules.specs.declared.workflows.Seen.TheVariants.{Nothing, One, Several}
-use Rattle.meta_parts.specs.Workflows.{workflow_by, workflows_by}
+use Rattle.dh_metadata.specs.Workflows.{workflow_by, workflows_by}
 
 abbrev pub met : Seen → ℕ → Seen
 met Nothing workflow = One workflow

@@ -3,8 +3,8 @@ use Rattle.std.specs.Prelude.{ℕ, List, Option, None, option_map, slice_get}
 use Rattle.org_tree.specs.Faults.{tree_fault}
 use Rattle.org_tree.specs.declared.fault.TreeFault.{TreeFault}
 use Rattle.org_tree.specs.declared.fault.TreeFault.TheVariants.{NoParent, NoRoot, TwoRoots, Loop, TooDeep, Memory}
-use Rattle.meta_parts.specs.declared.records.Unit.{Unit}
-use Rattle.meta_parts.specs.Rows.{tree_rows}
+use Rattle.dh_metadata.specs.declared.records.Unit.{Unit}
+use Rattle.dh_metadata.specs.Rows.{tree_rows}
 use Rattle.meta_rules.specs.declared.fault.BrokenRule.TheVariants as rule
 use Rattle.meta_rules.specs.declared.fault.RuleFault.{RuleFault}
 use Rattle.meta_rules.specs.declared.fault.RuleError.{RuleError}

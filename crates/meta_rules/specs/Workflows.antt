@@ -2,9 +2,9 @@
 use Rattle.std.specs.Prelude.{ℕ, Bool, false, not, ◌==◌, List, [], ◌∷◌, length, Option, option_map, slice_get}
 use Rattle.std.specs.List.{list_any}
 use Rattle.org_tree.specs.Count.{first_below}
-use Rattle.meta_parts.specs.declared.records.Element.{Element}
-use Rattle.meta_parts.specs.declared.records.DataSet.{DataSet}
-use Rattle.meta_parts.specs.Workflows.{workflows_by}
+use Rattle.dh_metadata.specs.declared.records.Element.{Element}
+use Rattle.dh_metadata.specs.declared.records.DataSet.{DataSet}
+use Rattle.dh_metadata.specs.Workflows.{workflows_by}
 use Rattle.meta_rules.specs.declared.fault.BrokenRule.TheVariants as rule
 use Rattle.meta_rules.specs.declared.fault.RuleFault.{RuleFault}
 use Rattle.meta_rules.specs.Faults.{breaks}

@@ -5,7 +5,7 @@ ghost use Rattle.dh_categories.specs.Combos.{shown_combo, shown_combos, shown_op
 ghost use Rattle.dh_categories.specs.Single.{CombosBelow};
 ghost use Rattle.dh_base.specs.Memory.{Finds};
 ghost use Rattle.meta_rules.specs.Faults.{rule_cause};
-ghost use Rattle.meta_parts.specs.Rows.{option_combo_rows};
+ghost use Rattle.dh_metadata.specs.Rows.{option_combo_rows};
 ghost use Rattle.meta_rules.specs.Categories.{options_of, combo_lists, option_combo_id, combo_error, rows_broken, combo_broken};
 
 use crate::fault::{BrokenRule, RuleError, RuleFault};
@@ -13,7 +13,7 @@ use dh_base::memory::Memory;
 use dh_base::uid::Uid;
 use dh_categories::combos::Combos;
 use dh_categories::fault::ComboFault;
-use meta_parts::records::{Category, CategoryCombo, OptionCombo};
+use dh_metadata::records::{Category, CategoryCombo, OptionCombo};
 use std::alloc::{AllocError, Global};
 
 fn options(alloc: Global, categories: &[Category], place: u32) -> Result<Vec<u32>, AllocError>

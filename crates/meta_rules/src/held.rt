@@ -3,11 +3,11 @@
 ghost use Rattle.std.specs.Prelude.{◌≡◌, ◌^◌, ◌<◌, length};
 ghost use Rattle.dh_categories.specs.Single.{CombosBelow};
 ghost use Rattle.org_tree.specs.Units.{HasOwnIds};
-ghost use Rattle.meta_parts.specs.Rows.{option_combo_rows};
+ghost use Rattle.dh_metadata.specs.Rows.{option_combo_rows};
 ghost use Rattle.dh_base.specs.Memory.{Finds};
 ghost use Rattle.meta_rules.specs.Faults.{rule_cause};
 ghost use Rattle.meta_rules.specs.Held.{approvals_broken, AreApprovals, rules_broken, IsHeld};
-ghost use Rattle.meta_parts.specs.Rows.{tree_rows};
+ghost use Rattle.dh_metadata.specs.Rows.{tree_rows};
 
 use crate::combos::combos_of;
 use crate::fault::RuleError;
@@ -16,9 +16,9 @@ use crate::overrides::first_override;
 use crate::tree::tree_of;
 use crate::workflows::workflows_of;
 use dh_base::items::Items;
-use meta_parts::held::Links;
-use meta_parts::parts::MetaParts;
-use meta_parts::structure::Structure;
+use dh_metadata::held::Links;
+use dh_metadata::parts::MetaParts;
+use dh_metadata::structure::Structure;
 use std::alloc::Global;
 
 /// The workflows and their positions, if the data sets name no other combinations than their elements have.

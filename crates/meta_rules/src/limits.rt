@@ -5,8 +5,8 @@ ghost use Rattle.std.specs.List.{list_any};
 ghost use Rattle.meta_rules.specs.Limits.{limit_text, objects_of, most_of, passes, first_passed};
 
 use dh_base::items::Items;
-use meta_parts::kind::Kind;
-use meta_parts::parts::MetaParts;
+use dh_metadata::kind::Kind;
+use dh_metadata::parts::MetaParts;
 
 /// A limit that is passed.
 #[derive(Clone, Copy, PartialEq, Eq)]

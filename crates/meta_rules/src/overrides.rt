@@ -6,8 +6,8 @@ ghost use Rattle.meta_rules.specs.Overrides.{differs, entry_overrides, set_overr
 
 use crate::fault::{BrokenRule, RuleFault};
 use dh_base::uid::Uid;
-use meta_parts::raw::{RawDataSet, RawElement};
-use meta_parts::records::DataSet;
+use dh_metadata::raw::{RawDataSet, RawElement};
+use dh_metadata::records::DataSet;
 
 /// Whether the combination that is named for an element is another one than its own.
 fn differs(elements: &[RawElement], element: u32, named: Option<Uid>) -> bool

@@ -4,12 +4,12 @@ ghost use Rattle.std.specs.Prelude.{◌≡◌, ◌⊎◌, ◌^◌, ◌<◌, Some
 ghost use Rattle.org_tree.specs.Units.{HasOwnIds};
 ghost use Rattle.dh_base.specs.Memory.{Finds};
 ghost use Rattle.meta_rules.specs.Faults.{rule_cause};
-ghost use Rattle.meta_parts.specs.Rows.{tree_rows};
+ghost use Rattle.dh_metadata.specs.Rows.{tree_rows};
 ghost use Rattle.meta_rules.specs.Trees.{id_at, tree_uid, tree_error, tree_broken};
 
 use crate::fault::{BrokenRule, RuleError, RuleFault};
 use dh_base::uid::Uid;
-use meta_parts::records::Unit;
+use dh_metadata::records::Unit;
 use org_tree::fault::TreeFault;
 use org_tree::tree::Tree;
 use std::alloc::{AllocError, Global};

@@ -5,11 +5,11 @@ ghost use Rattle.org_tree.specs.Count.{first_below};
 ghost use Rattle.dh_base.specs.Memory.{Finds};
 ghost use Rattle.meta_rules.specs.Faults.{rule_cause};
 ghost use Rattle.meta_rules.specs.Seen.{met, one_seen, several_at, TakesEntries, TakesSet, HaveSeen};
-ghost use Rattle.meta_parts.specs.Workflows.{AreWorkflows};
+ghost use Rattle.dh_metadata.specs.Workflows.{AreWorkflows};
 ghost use Rattle.meta_rules.specs.Workflows.{torn_fault, workflow_broken};
 
 use crate::fault::{BrokenRule, RuleError, RuleFault};
-use meta_parts::records::{DataSet, Element};
+use dh_metadata::records::{DataSet, Element};
 use std::alloc::{AllocError, Global};
 
 /// The workflows that the data sets with an element name, as far as they were seen.

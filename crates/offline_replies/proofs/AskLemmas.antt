@@ -6,11 +6,11 @@ use Rattle.dh_base.specs.Memory.{IsCause}
 use Rattle.dh_base.specs.declared.codes.Refusal.{Refusal}
 use Rattle.dh_base.specs.declared.memory.Memory.{Memory}
 use Rattle.dh_changes.specs.declared.change.Change.{Change}
-use Rattle.meta_parts.specs.declared.held.Records.{Records}
-use Rattle.query_forms.specs.declared.plain.Dx.{Dx}
-use Rattle.query_forms.specs.declared.plain.DxKind.{DxKind}
-use Rattle.query_forms.specs.declared.plain.DxKind.TheVariants as dx
-use Rattle.query_forms.specs.declared.plain.Query.{Query}
+use Rattle.dh_metadata.specs.declared.held.Records.{Records}
+use Rattle.query_lang.specs.declared.plain.Dx.{Dx}
+use Rattle.query_lang.specs.declared.plain.DxKind.{DxKind}
+use Rattle.query_lang.specs.declared.plain.DxKind.TheVariants as dx
+use Rattle.query_lang.specs.declared.plain.Query.{Query}
 use Rattle.dh_metadata.specs.Objects.{count_of}
 use Rattle.query_lang.specs.Askable.{kind_of, IsAsked, IsAskable}
 use Rattle.query_answer.specs.Asked.{can_answer_kind, can_answer_dx, CanAnswer}

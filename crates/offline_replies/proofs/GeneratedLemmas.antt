@@ -1,6 +1,6 @@
 -- The report over what the metadata file says.
 use Rattle.std.proofs.Common.{◌≡◌, ℕ, ℤ, List, Result, Ok, Err, IfOk, refl, sym, subst, ap, ◌∙◌}
-use Rattle.meta_parts.specs.declared.held.Records.{Records}
+use Rattle.dh_metadata.specs.declared.held.Records.{Records}
 use Rattle.dh_base.specs.Memory.{Answers}
 use Rattle.meta_reader.specs.Faults.{meta_cause}
 use Rattle.meta_reader.specs.declared.fault.MetaFault.{MetaFault}

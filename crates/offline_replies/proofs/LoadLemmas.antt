@@ -5,9 +5,9 @@ use Rattle.dh_base.specs.declared.codes.Refusal.{Refusal}
 use Rattle.dh_base.specs.declared.memory.Memory.{Memory}
 use Rattle.dh_base.specs.declared.plain.CutKind.TheVariants.{Latest}
 use Rattle.dh_changes.specs.declared.change.Change.{Change}
-use Rattle.meta_parts.specs.declared.held.Records.{Records}
+use Rattle.dh_metadata.specs.declared.held.Records.{Records}
 use Rattle.change_log.specs.declared.limits.Limits.{Limits}
-use Rattle.change_requests.specs.Requests.{Asked}
+use Rattle.engine.specs.Requests.{Asked}
 use Rattle.engine.specs.declared.machine.Report.{Report}
 use Rattle.engine.specs.declared.machine.Staged.{Staged}
 use Rattle.engine.specs.Machine.{State, Step, kind_by, kind_of, number_of, with_staged, published_by}

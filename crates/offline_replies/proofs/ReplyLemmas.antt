@@ -1,7 +1,7 @@
 -- Replies by cases.
 use Rattle.std.proofs.Common.{◌≡◌, ◌∙◌, ℕ, ◌<◌, ◌≤◌, true, false, List, length, nat_lt, cond, Option, None, Some, refl, sym, ap, arith, Result, Ok, Err}
 use Rattle.std.proofs.Common.{IfOk}
-use Rattle.meta_parts.specs.declared.held.Records.{Records}
+use Rattle.dh_metadata.specs.declared.held.Records.{Records}
 use Rattle.json_read.specs.Bytes.{document_of}
 use Rattle.meta_reader.specs.File.{most_bytes, or_shape, shaped_of, file_of}
 use Rattle.meta_reader.specs.declared.file_fault.FileFault.TheVariants as file
@@ -21,7 +21,7 @@ use Rattle.offline_replies.specs.Steps.{IsOverParts, IsOverForm, IsOverDocument}
 use Rattle.dh_base.specs.declared.memory.Memory.{Memory}
 use Rattle.dh_base.specs.Memory.{Answers}
 use Rattle.meta_reader.specs.Faults.{metadata_of, meta_cause}
-use Rattle.meta_parts.specs.declared.parts.MetaParts.{MetaParts}
+use Rattle.dh_metadata.specs.declared.parts.MetaParts.{MetaParts}
 use Rattle.json_read.specs.Forms.{Formed}
 use Rattle.json_read.specs.Given.{Gives}
 use Rattle.json_read.specs.declared.fault.FormFault.{FormFault}

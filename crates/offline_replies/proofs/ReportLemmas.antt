@@ -5,7 +5,7 @@ use Rattle.dh_base.specs.declared.memory.Memory.{Memory}
 use Rattle.dh_periods.specs.declared.name.PeriodName.{PeriodName}
 use Rattle.dh_periods.specs.Texts.{period_of, read_name, read_ending}
 use Rattle.dh_periods.specs.Days.{is_listed}
-use Rattle.meta_parts.specs.declared.held.Records.{Records}
+use Rattle.dh_metadata.specs.declared.held.Records.{Records}
 use Rattle.table_rows.specs.declared.row.Row.{Row}
 use Rattle.cell_values.specs.Seen.{seen}
 use Rattle.cell_values.specs.Cells.{cell_of, aggregate_of}

@@ -5,15 +5,15 @@ use Rattle.dh_base.specs.declared.codes.Code.TheVariants.{F8}
 use Rattle.dh_base.specs.declared.codes.Refusal.{Refusal}
 use Rattle.dh_changes.specs.declared.change.Change.{Change}
 use Rattle.json_read.specs.Forms.{Formed}
-use Rattle.meta_parts.specs.declared.held.Records.{Records}
-use Rattle.meta_parts.specs.declared.kind.Kind.TheVariants.{User}
+use Rattle.dh_metadata.specs.declared.held.Records.{Records}
+use Rattle.dh_metadata.specs.declared.kind.Kind.TheVariants.{User}
 use Rattle.dh_metadata.specs.Objects.{find_of}
 use Rattle.meta_reader.specs.Line.{line_of}
 use Rattle.meta_reader.specs.declared.fault.MetaFault.TheVariants.{Shape}
 use Rattle.dh_periods.specs.Moment.{day_of}
-use Rattle.wire_replies.specs.Bodies.{error_text}
+use Rattle.request_session.specs.Bodies.{error_text}
 use Rattle.import_forms.specs.declared.set.SetValue.{SetValue}
-use Rattle.query_forms.specs.declared.plain.Query.{Query}
+use Rattle.query_lang.specs.declared.plain.Query.{Query}
 use Rattle.query_lang.specs.Query.{query_of}
 use Rattle.query_lang.specs.declared.query.TheConstants.{MOST_CELLS}
 use Rattle.cell_values.specs.Seen.{SeenRecords, seen_of}

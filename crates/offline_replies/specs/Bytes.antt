@@ -3,7 +3,7 @@ use Rattle.std.specs.Prelude.{ℕ, ℤ, List, [], Option, None, Some, Result, Ok
 use Rattle.serde_json.specs.Data.{Data}
 use Rattle.json_read.specs.Bytes.{document_of}
 use Rattle.json_read.specs.Forms.{Formed}
-use Rattle.meta_parts.specs.declared.held.Records.{Records}
+use Rattle.dh_metadata.specs.declared.held.Records.{Records}
 use Rattle.meta_reader.specs.Line.{line_of}
 use Rattle.meta_reader.specs.Read.{metadata_of_bytes}
 use Rattle.meta_reader.specs.declared.fault.MetaFault.{MetaFault}

@@ -1,6 +1,6 @@
 -- The report on a number of samples.
 use Rattle.std.specs.Prelude.{◌≡◌, ℕ, ℤ, List, [], Ok}
-use Rattle.meta_parts.specs.declared.held.Records.{Records}
+use Rattle.dh_metadata.specs.declared.held.Records.{Records}
 use Rattle.meta_reader.specs.Read.{metadata_of_bytes}
 use Rattle.offline_replies.specs.File.{sample_file}
 use Rattle.offline_replies.specs.Sets.{sample_sets}

@@ -2,12 +2,12 @@
 use Rattle.std.specs.Prelude.{ℤ, false, List, [], None, Result}
 use Rattle.dh_base.specs.declared.codes.Refusal.{Refusal}
 use Rattle.dh_changes.specs.declared.change.Change.{Change}
-use Rattle.meta_parts.specs.declared.held.Records.{Records}
-use Rattle.record_index.specs.declared.outcome.ImportStrategy.TheVariants.{CreateAndUpdate}
+use Rattle.dh_metadata.specs.declared.held.Records.{Records}
+use Rattle.dh_changes.specs.declared.outcome.ImportStrategy.TheVariants.{CreateAndUpdate}
 use Rattle.import_forms.specs.declared.set.SetValue.{SetValue}
 use Rattle.import_forms.specs.declared.set.ValueSet.{ValueSet}
-use Rattle.change_requests.specs.Requests.{Asked}
-use Rattle.change_requests.specs.declared.request.ChangeRequest.TheVariants.{Values}
+use Rattle.engine.specs.Requests.{Asked}
+use Rattle.engine.specs.declared.request.ChangeRequest.TheVariants.{Values}
 use Rattle.engine.specs.declared.machine.Report.{Report}
 use Rattle.engine.specs.Machine.{judged_in, log_by}
 use Rattle.engine.specs.InMemory.{largest, loading, outcome_of}

@@ -2,9 +2,9 @@
 use Rattle.std.specs.Prelude.{◌≡◌, ◌≤◌, ◌+◌, ℕ, ℤ, List, [], ◌∷◌, None, Result, Ok, Err}
 use Rattle.dh_base.specs.declared.codes.Refusal.{Refusal}
 use Rattle.dh_changes.specs.declared.change.Change.{Change}
-use Rattle.meta_parts.specs.declared.held.Records.{Records}
-use Rattle.change_requests.specs.Requests.{Asked}
-use Rattle.change_requests.specs.declared.request.ChangeRequest.TheVariants.{Values}
+use Rattle.dh_metadata.specs.declared.held.Records.{Records}
+use Rattle.engine.specs.Requests.{Asked}
+use Rattle.engine.specs.declared.request.ChangeRequest.TheVariants.{Values}
 use Rattle.engine.specs.declared.machine.Report.{Report}
 use Rattle.engine.specs.Machine.{judged_in, log_by}
 use Rattle.engine.specs.Seen.{Seen}

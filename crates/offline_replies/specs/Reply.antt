@@ -3,7 +3,7 @@ use Rattle.std.specs.Prelude.{◌≡◌, ℕ, List, [], ◌∷◌, ◌++◌, Opt
 use Rattle.dh_base.specs.declared.codes.Code.{Code}
 use Rattle.dh_base.specs.declared.codes.Code.TheVariants.{F18}
 use Rattle.dh_base.specs.declared.codes.Refusal.{Refusal}
-use Rattle.wire_replies.specs.Bodies.{error_text}
+use Rattle.request_session.specs.Bodies.{error_text}
 use Rattle.offline_replies.specs.declared.bundle.reply.Ending.TheVariants as ending
 use Rattle.offline_replies.specs.declared.bundle.reply.Reply.{Reply}
 

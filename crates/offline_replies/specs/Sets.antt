@@ -1,7 +1,7 @@
 -- Samples as data value sets.
 use Rattle.std.specs.Prelude.{ℕ, zero, suc, ◌+◌, ◌-◌, ◌/◌, min, false, List, [], ◌∷◌, map, None, Some}
 use Rattle.std.specs.Fmt.{decimal}
-use Rattle.record_index.specs.declared.outcome.ImportStrategy.TheVariants.{CreateAndUpdate}
+use Rattle.dh_changes.specs.declared.outcome.ImportStrategy.TheVariants.{CreateAndUpdate}
 use Rattle.import_forms.specs.declared.set.SetValue.{SetValue}
 use Rattle.import_forms.specs.declared.set.ValueSet.{ValueSet}
 use Rattle.offline_replies.specs.declared.samples.draws.Sample.{Sample}

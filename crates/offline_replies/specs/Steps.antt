@@ -6,7 +6,7 @@ use Rattle.json_read.specs.Given.{Gives}
 use Rattle.json_read.specs.declared.fault.FormFault.{FormFault}
 use Rattle.json_read.specs.declared.fault.FormFault.TheVariants as form
 use Rattle.meta_forms.specs.Parts.{parts_of}
-use Rattle.meta_parts.specs.declared.parts.MetaParts.{MetaParts}
+use Rattle.dh_metadata.specs.declared.parts.MetaParts.{MetaParts}
 use Rattle.meta_reader.specs.Faults.{metadata_of}
 use Rattle.meta_reader.specs.Line.{line_of}
 use Rattle.meta_reader.specs.declared.fault.MetaFault.TheVariants.{NotJson, Shape}

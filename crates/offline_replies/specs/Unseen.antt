@@ -2,7 +2,7 @@
 use Rattle.std.specs.Prelude.{◌≡◌, ℕ, ℤ, true, List, nat_eq, Some, Ok}
 use Rattle.json_read.specs.Bytes.{document_of}
 use Rattle.dh_periods.specs.Moment.{day_of}
-use Rattle.meta_parts.specs.declared.held.Records.{Records}
+use Rattle.dh_metadata.specs.declared.held.Records.{Records}
 use Rattle.meta_reader.specs.Read.{metadata_of_bytes}
 use Rattle.engine.specs.declared.machine.Report.{Report}
 use Rattle.cell_values.specs.Seen.{SeenRecords, SameSeen}

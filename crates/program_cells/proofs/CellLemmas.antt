@@ -16,10 +16,10 @@ use Rattle.expr_eval.specs.declared.indicator.PiFault.{PiFault}
 use Rattle.dh_periods.specs.declared.name.PeriodName.{PeriodName}
 use Rattle.dh_periods.proofs.HeldLemmas.{int_le-at}
 use Rattle.dh_sharing.specs.Ranges.{is_within}
-use Rattle.meta_parts.specs.declared.held.Records.{Records}
-use Rattle.meta_parts.specs.declared.names.AnalyticsType.{AnalyticsType}
-use Rattle.meta_parts.specs.declared.names.AnalyticsType.TheVariants as analytics
-use Rattle.meta_parts.specs.declared.records.ProgramIndicator.{ProgramIndicator}
+use Rattle.dh_metadata.specs.declared.held.Records.{Records}
+use Rattle.dh_metadata.specs.declared.names.AnalyticsType.{AnalyticsType}
+use Rattle.dh_metadata.specs.declared.names.AnalyticsType.TheVariants as analytics
+use Rattle.dh_metadata.specs.declared.records.ProgramIndicator.{ProgramIndicator}
 use Rattle.dh_metadata.specs.Approval.{unit_rows}
 use Rattle.table_rows.specs.declared.event.EventRow.{EventRow}
 use Rattle.table_rows.specs.Events.{event_cmp, is_event_of, events_of, has_days, is_day_if_any, have_days}

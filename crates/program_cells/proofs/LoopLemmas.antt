@@ -6,7 +6,7 @@ use Rattle.std.proofs.lemmas.List.{take_more}
 use Rattle.std.specs.Prelude.{option_and_then, option_map, if◌then◌else◌}
 use Rattle.std.specs.Option.{unwrap_or}
 use Rattle.dh_base.specs.Fractions.{Fraction, add_of}
-use Rattle.meta_parts.specs.Places.{is_one_of}
+use Rattle.dh_metadata.specs.Places.{is_one_of}
 use Rattle.program_cells.specs.Value.{if_passing, collected, sum_from, best_from, better_if_any, unless_fault, different_after}
 
 -- the rest of a list at a place

@@ -5,8 +5,8 @@ use Rattle.std.proofs.lemmas.Bool.Decides.{nat_tests}
 use Rattle.dh_periods.specs.declared.name.PeriodName.{PeriodName}
 use Rattle.dh_sharing.specs.declared.access.Right.TheVariants.{DataRead}
 use Rattle.dh_metadata.specs.Users.{may_of}
-use Rattle.meta_parts.specs.declared.held.Records.{Records}
-use Rattle.meta_parts.specs.declared.kind.Kind.TheVariants as kind
+use Rattle.dh_metadata.specs.declared.held.Records.{Records}
+use Rattle.dh_metadata.specs.declared.kind.Kind.TheVariants as kind
 use Rattle.table_rows.specs.declared.event.EventRow.{EventRow}
 use Rattle.cell_values.specs.Seen.{is_viewed, is_event_seen}
 use Rattle.program_cells.specs.Cells.{is_on_some}

@@ -19,8 +19,8 @@ use Rattle.expr_eval.specs.declared.indicator.PiCode.{PiCode}
 use Rattle.expr_eval.specs.declared.indicator.PiItem.{PiItem}
 use Rattle.expr_eval.specs.declared.indicator.PiValue.{PiValue}
 use Rattle.expr_eval.specs.declared.indicator.PiValue.TheVariants as taken
-use Rattle.meta_parts.specs.declared.held.Records.{Records}
-use Rattle.meta_parts.specs.declared.records.ProgramIndicator.{ProgramIndicator}
+use Rattle.dh_metadata.specs.declared.held.Records.{Records}
+use Rattle.dh_metadata.specs.declared.records.ProgramIndicator.{ProgramIndicator}
 use Rattle.table_rows.specs.declared.event.EventRow.{EventRow}
 use Rattle.program_cells.specs.Items.{named_item, item_in}
 use Rattle.program_cells.specs.Value.{passes_by, sample_by, item_value, subject_value, passes, sample, if_passing, collected, aggregated}

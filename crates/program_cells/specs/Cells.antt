@@ -4,10 +4,10 @@ use Rattle.std.specs.List.{filter, list_any}
 use Rattle.std.specs.Option.{option_map_or}
 use Rattle.dh_periods.specs.declared.name.PeriodName.{PeriodName}
 use Rattle.dh_periods.specs.Days.{is_day_in}
-use Rattle.meta_parts.specs.declared.held.Records.{Records}
-use Rattle.meta_parts.specs.declared.names.AnalyticsType.{AnalyticsType}
-use Rattle.meta_parts.specs.declared.names.AnalyticsType.TheVariants as analytics
-use Rattle.meta_parts.specs.declared.records.ProgramIndicator.{ProgramIndicator}
+use Rattle.dh_metadata.specs.declared.held.Records.{Records}
+use Rattle.dh_metadata.specs.declared.names.AnalyticsType.{AnalyticsType}
+use Rattle.dh_metadata.specs.declared.names.AnalyticsType.TheVariants as analytics
+use Rattle.dh_metadata.specs.declared.records.ProgramIndicator.{ProgramIndicator}
 use Rattle.dh_metadata.specs.Approval.{unit_rows}
 use Rattle.table_rows.specs.declared.event.EventRow.{EventRow}
 use Rattle.cell_values.specs.Places.{is_at_some}

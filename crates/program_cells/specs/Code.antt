@@ -11,8 +11,8 @@ use Rattle.expr_eval.specs.declared.indicator.PiValue.{PiValue}
 use Rattle.expr_eval.specs.declared.indicator.PiValue.TheVariants as taken
 use Rattle.expr_eval.specs.declared.value.Value.{Value}
 use Rattle.expr_eval.specs.Correct.{Means, form_outcome}
-use Rattle.meta_parts.specs.declared.held.Records.{Records}
-use Rattle.meta_parts.specs.declared.records.ProgramIndicator.{ProgramIndicator}
+use Rattle.dh_metadata.specs.declared.held.Records.{Records}
+use Rattle.dh_metadata.specs.declared.records.ProgramIndicator.{ProgramIndicator}
 use Rattle.table_rows.specs.declared.event.EventRow.{EventRow}
 use Rattle.program_cells.specs.declared.measure.Measure.{Measure}
 use Rattle.program_cells.specs.declared.measure.Measure.TheVariants as measure

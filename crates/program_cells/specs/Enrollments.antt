@@ -3,7 +3,7 @@ use Rattle.std.specs.Prelude.{ℕ, Bool, false, ◌&&◌, nat_eq, if◌then◌el
 use Rattle.std.specs.List.{filter}
 use Rattle.std.specs.Option.{is_some, option_eq, option_map_or}
 use Rattle.std.specs.Ordering.{int_eq}
-use Rattle.meta_parts.specs.Places.{same_id}
+use Rattle.dh_metadata.specs.Places.{same_id}
 use Rattle.table_rows.specs.declared.event.EventRow.{EventRow}
 use Rattle.program_cells.specs.Items.{first_of}
 use Rattle.program_cells.specs.Order.{enrolled_cmp, in_order}

@@ -9,9 +9,9 @@ use Rattle.expr_lang.specs.declared.tree.Item.TheVariants as item
 use Rattle.expr_eval.specs.declared.indicator.PiItem.{PiItem}
 use Rattle.expr_eval.specs.declared.indicator.PiItem.TheVariants as of_event
 use Rattle.expr_eval.specs.Meaning.{zero_fraction}
-use Rattle.meta_parts.specs.declared.held.Records.{Records}
-use Rattle.meta_parts.specs.declared.kind.Kind.TheVariants as kind
-use Rattle.meta_parts.specs.declared.records.Constant.{Constant}
+use Rattle.dh_metadata.specs.declared.held.Records.{Records}
+use Rattle.dh_metadata.specs.declared.kind.Kind.TheVariants as kind
+use Rattle.dh_metadata.specs.declared.records.Constant.{Constant}
 use Rattle.dh_metadata.specs.Objects.{find_of}
 use Rattle.table_rows.specs.declared.event.EventRow.{EventRow}
 use Rattle.table_rows.specs.declared.event.ItemValue.{ItemValue}

@@ -19,9 +19,9 @@ use Rattle.expr_eval.specs.declared.value.Value.{Value}
 use Rattle.expr_eval.specs.declared.value.Value.TheVariants as value
 use Rattle.expr_eval.specs.Meaning.{zero_fraction, meaning, takes_next}
 use Rattle.expr_eval.specs.Given.{given_by}
-use Rattle.meta_parts.specs.declared.held.Records.{Records}
-use Rattle.meta_parts.specs.declared.records.ProgramIndicator.{ProgramIndicator}
-use Rattle.meta_parts.specs.Places.{is_one_of}
+use Rattle.dh_metadata.specs.declared.held.Records.{Records}
+use Rattle.dh_metadata.specs.declared.records.ProgramIndicator.{ProgramIndicator}
+use Rattle.dh_metadata.specs.Places.{is_one_of}
 use Rattle.table_rows.specs.declared.event.EventRow.{EventRow}
 use Rattle.program_cells.specs.declared.measure.Measure.{Measure}
 use Rattle.program_cells.specs.declared.measure.Measure.TheVariants as measure

@@ -11,9 +11,9 @@ use crate::measure::{Measure, measure_of};
 use dh_base::items::Items;
 use dh_base::memory::Memory;
 use dh_metadata::metadata::Metadata;
+use dh_metadata::records::ProgramIndicator;
 use expr_eval::{PiCode, PiItem, PiValue, Postfix, compile};
 use expr_lang::Expr;
-use meta_parts::records::ProgramIndicator;
 use std::alloc::Global;
 
 fn value_of(alloc: Global, expr: &Expr) -> Result<PiValue, Memory>

@@ -2,7 +2,7 @@
 
 ghost use Rattle.std.specs.Prelude.{◌≡◌, ◌≤◌, ℕ, List, true, cond, if◌then◌else◌, IfOk, OnOk};
 ghost use Rattle.std.specs.HashSet.{contains};
-ghost use Rattle.meta_parts.specs.Places.{same_id};
+ghost use Rattle.dh_metadata.specs.Places.{same_id};
 ghost use Rattle.program_cells.specs.Value.{different, if_some, counted};
 
 use crate::samples::whole;

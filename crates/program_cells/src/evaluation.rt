@@ -2,8 +2,8 @@
 
 ghost use Rattle.std.specs.Prelude.{◌≡◌, ◌++◌, Some, map, option_map, option_and_then, IfOk, OnOk};
 ghost use Rattle.std.specs.Option.{option_to_list};
-ghost use Rattle.meta_parts.specs.declared.held.Records.{Records};
-ghost use Rattle.meta_parts.specs.declared.records.ProgramIndicator.{ProgramIndicator};
+ghost use Rattle.dh_metadata.specs.declared.held.Records.{Records};
+ghost use Rattle.dh_metadata.specs.declared.records.ProgramIndicator.{ProgramIndicator};
 ghost use Rattle.program_cells.specs.Items.{item_in};
 ghost use Rattle.program_cells.specs.Value.{passes_by, sample_by, if_passing, collected, aggregated, counted, ids_of, value_over, told, program_value, Values};
 ghost use Rattle.program_cells.specs.Value.{some_where};

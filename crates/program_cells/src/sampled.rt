@@ -10,8 +10,8 @@ ghost use Rattle.table_rows.specs.declared.event.EventRow.{EventRow};
 ghost use Rattle.program_cells.specs.Cells.{alone};
 ghost use Rattle.program_cells.specs.Kept.{is_placed_in};
 ghost use Rattle.program_cells.specs.declared.measure.Measure.TheVariants as measure;
-ghost use Rattle.meta_parts.specs.declared.held.Records.{Records};
-ghost use Rattle.meta_parts.specs.declared.records.ProgramIndicator.{ProgramIndicator};
+ghost use Rattle.dh_metadata.specs.declared.held.Records.{Records};
+ghost use Rattle.dh_metadata.specs.declared.records.ProgramIndicator.{ProgramIndicator};
 
 use crate::evaluation::{sample, value_at};
 use crate::items::item as item_in;
@@ -190,8 +190,8 @@ impl<'a> SampledEvents<'a> {
     ghost use Rattle.program_cells.specs.Kept.{is_placed_in};
     ghost use Rattle.program_cells.specs.Value.{Values, program_value};
     ghost use Rattle.program_cells.specs.declared.measure.Measure.TheVariants as measure;
-    ghost use Rattle.meta_parts.specs.declared.held.Records.{Records};
-    ghost use Rattle.meta_parts.specs.declared.records.ProgramIndicator.{ProgramIndicator};
+    ghost use Rattle.dh_metadata.specs.declared.held.Records.{Records};
+    ghost use Rattle.dh_metadata.specs.declared.records.ProgramIndicator.{ProgramIndicator};
 
     /// These events, with the samples of a form.
     pub(crate) fn of(

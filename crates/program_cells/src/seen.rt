@@ -4,17 +4,17 @@ ghost use Rattle.std.specs.List.{list_all};
 ghost use Rattle.cell_values.specs.Held.{IsSeer};
 ghost use Rattle.dh_sharing.specs.declared.access.Right.TheVariants as right;
 ghost use Rattle.dh_metadata.specs.Users.{may_of};
-ghost use Rattle.meta_parts.specs.declared.kind.Kind.TheVariants as kind;
+ghost use Rattle.dh_metadata.specs.declared.kind.Kind.TheVariants as kind;
 ghost use Rattle.program_cells.specs.Cells.{is_on_some};
 ghost use Rattle.program_cells.specs.Kept.{is_seen_during, seen_during, AreDuring};
 
 use crate::days::{days_of, is_on_some};
 use cell_values::{CellPeriods, Seer, Source};
 use dh_base::memory::Memory;
+use dh_metadata::kind::Kind;
 use dh_metadata::metadata::Metadata;
 use dh_periods::Period;
 use dh_sharing::access::Right;
-use meta_parts::kind::Kind;
 use std::alloc::Global;
 use table_rows::{EventRow, RowStore};
 

@@ -7,16 +7,16 @@ use Rattle.std.specs.Option.{option_map}
 use Rattle.std.proofs.lemmas.List.Elements.{All-nil, All-cons, All-append}
 use Rattle.serde_json.specs.Written.{compact_text}
 use Rattle.dh_periods.specs.declared.name.PeriodName.{PeriodName}
-use Rattle.meta_parts.specs.declared.held.Records.{Records}
+use Rattle.dh_metadata.specs.declared.held.Records.{Records}
 use Rattle.dh_metadata.specs.Linked.{AreBelow, IsBelow}
 use Rattle.dh_metadata.specs.Objects.{count_of}
 use Rattle.cell_values.specs.Seen.{SeenRecords}
 use Rattle.query_answer.specs.declared.arithmetic.CellValue.{CellValue}
 use Rattle.query_answer.specs.declared.arithmetic.CellValue.TheVariants as cell
-use Rattle.query_forms.specs.declared.plain.Dx.{Dx}
-use Rattle.query_forms.specs.declared.plain.DxKind.{DxKind}
-use Rattle.query_forms.specs.declared.plain.DxKind.TheVariants as dx_kind
-use Rattle.query_forms.specs.declared.plain.Query.{Query}
+use Rattle.query_lang.specs.declared.plain.Dx.{Dx}
+use Rattle.query_lang.specs.declared.plain.DxKind.{DxKind}
+use Rattle.query_lang.specs.declared.plain.DxKind.TheVariants as dx_kind
+use Rattle.query_lang.specs.declared.plain.Query.{Query}
 use Rattle.query_answer.specs.Body.{body_of, IsAnswer}
 use Rattle.query_answer.specs.Names.{IsThere, kind_of}
 use Rattle.query_answer.specs.BodyRows.{IsRow}

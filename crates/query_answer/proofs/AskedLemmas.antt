@@ -5,9 +5,9 @@ use Rattle.std.proofs.lemmas.Bool.{ltb-true}
 use Rattle.std.proofs.lemmas.List.{length-map, get_or-map}
 use Rattle.dh_metadata.specs.Linked.{AreBelow}
 use Rattle.dh_base.specs.declared.plain.Rate.{Rate}
-use Rattle.meta_parts.specs.declared.held.Records.{Records}
-use Rattle.query_forms.specs.declared.plain.Dx.{Dx}
-use Rattle.query_forms.specs.declared.plain.DxKind.TheVariants as dx_kind
+use Rattle.dh_metadata.specs.declared.held.Records.{Records}
+use Rattle.query_lang.specs.declared.plain.Dx.{Dx}
+use Rattle.query_lang.specs.declared.plain.DxKind.TheVariants as dx_kind
 use Rattle.query_answer.specs.Rows.{Slot, alone, slots}
 use Rattle.query_answer.specs.Asked.{can_answer_kind, can_answer_dx}
 

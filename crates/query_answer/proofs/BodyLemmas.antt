@@ -6,8 +6,8 @@ use Rattle.std.proofs.Math.Seq.{take-append_seam}
 use Rattle.serde_json.specs.Data.{Data, number, unsigned, string, array, object, Members, member, no_members}
 use Rattle.serde_json.specs.View.{items_of}
 use Rattle.serde_json.specs.Written.{compact_text, members_text}
-use Rattle.meta_parts.specs.declared.held.Records.{Records}
-use Rattle.query_forms.specs.declared.plain.Query.{Query}
+use Rattle.dh_metadata.specs.declared.held.Records.{Records}
+use Rattle.query_lang.specs.declared.plain.Query.{Query}
 use Rattle.query_answer.specs.declared.body_rows.AnswerRow.{AnswerRow}
 use Rattle.query_answer.specs.Texts.{in_quotes}
 use Rattle.query_answer.specs.Heads.{heads_of}

@@ -5,8 +5,8 @@ use Rattle.std.specs.Cmp.Lexicographic.{slice_cmp}
 use Rattle.serde_json.specs.Data.{Data, object, Members, no_members, member, put}
 use Rattle.serde_json.specs.View.{items_of}
 use Rattle.serde_json.specs.Written.{has_float, items_have_float, members_have_float}
-use Rattle.meta_parts.specs.declared.held.Records.{Records}
-use Rattle.query_forms.specs.declared.plain.Query.{Query}
+use Rattle.dh_metadata.specs.declared.held.Records.{Records}
+use Rattle.query_lang.specs.declared.plain.Query.{Query}
 use Rattle.query_answer.specs.Heads.{heads_of, dimension_of, value_column}
 use Rattle.query_answer.specs.Names.{ids_of, name_of, put_name, put_names, dimensions_of, meta_of, dx_named, unit_named, period_named}
 use Rattle.query_answer.specs.Body.{told_of}

@@ -3,7 +3,7 @@ use Rattle.std.proofs.Common.{◌≡◌, ◌∙◌, ℕ, ◌<◌, List, length, 
 use Rattle.std.specs.List.{All}
 use Rattle.std.proofs.lemmas.List.{length-map, get_or-map, map_push, take_more}
 use Rattle.dh_periods.specs.declared.name.PeriodName.{PeriodName}
-use Rattle.meta_parts.specs.declared.held.Records.{Records}
+use Rattle.dh_metadata.specs.declared.held.Records.{Records}
 use Rattle.query_answer.specs.declared.parts.PeriodPart.{PeriodPart}
 use Rattle.query_answer.specs.declared.parts.UnitPart.{UnitPart}
 use Rattle.query_answer.specs.Rows.{Slot}

@@ -4,11 +4,11 @@ use Rattle.std.specs.Option.{option_map_or}
 use Rattle.dh_base.specs.Fractions.{Fraction}
 use Rattle.dh_periods.specs.declared.name.PeriodName.{PeriodName}
 use Rattle.expr_lang.specs.declared.tree.Item.{Item}
-use Rattle.meta_parts.specs.declared.held.Records.{Records}
-use Rattle.meta_parts.specs.declared.records.Indicator.{Indicator}
+use Rattle.dh_metadata.specs.declared.held.Records.{Records}
+use Rattle.dh_metadata.specs.declared.records.Indicator.{Indicator}
 use Rattle.program_cells.specs.Cells.{cell_value as program_value}
 use Rattle.table_rows.specs.Store.{Contents}
-use Rattle.rate_items.specs.Rates.{rate_of}
+use Rattle.cell_values.specs.Reporting.{rate_of}
 use Rattle.cell_values.specs.declared.cell.Operand.{Operand}
 use Rattle.cell_values.specs.declared.rates.RateAsked.{RateAsked}
 use Rattle.cell_values.specs.declared.item.ItemPlan.{ItemPlan}
@@ -16,9 +16,9 @@ use Rattle.cell_values.specs.Seen.{SeenRecords, seen, seen_events, seen_regs, se
 use Rattle.cell_values.specs.Cells.{cell_of, aggregate_of}
 use Rattle.cell_values.specs.Items.{item_value_of}
 use Rattle.cell_values.specs.Plans.{planned_value, operand}
-use Rattle.query_forms.specs.declared.plain.Dx.{Dx}
-use Rattle.query_forms.specs.declared.plain.DxKind.{DxKind}
-use Rattle.query_forms.specs.declared.plain.DxKind.TheVariants as dx_kind
+use Rattle.query_lang.specs.declared.plain.Dx.{Dx}
+use Rattle.query_lang.specs.declared.plain.DxKind.{DxKind}
+use Rattle.query_lang.specs.declared.plain.DxKind.TheVariants as dx_kind
 use Rattle.query_answer.specs.declared.arithmetic.CellValue.TheVariants as cell
 use Rattle.query_answer.specs.Cells.{of_option, of_program, element_cell, rate_cell, indicator_cell, program_cell, cell_by, cell_value}
 

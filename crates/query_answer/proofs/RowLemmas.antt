@@ -17,8 +17,8 @@ use Rattle.serde_json.specs.Written.{compact_text, items_text}
 use Rattle.dh_periods.specs.declared.name.PeriodName.{PeriodName}
 use Rattle.dh_periods.specs.Keys.{same_period}
 use Rattle.dh_periods.proofs.KeyLemmas.{same_period-Decides}
-use Rattle.meta_parts.specs.declared.held.Records.{Records}
-use Rattle.query_forms.specs.declared.plain.Dx.{Dx}
+use Rattle.dh_metadata.specs.declared.held.Records.{Records}
+use Rattle.query_lang.specs.declared.plain.Dx.{Dx}
 use Rattle.query_answer.specs.declared.body_rows.AnswerRow.{AnswerRow}
 use Rattle.query_answer.specs.Texts.{texts_of, is_plain, in_quotes, more_texts}
 use Rattle.query_answer.specs.BodyRows.{dx_text, period_texts, unit_texts, row_of, rows_of}

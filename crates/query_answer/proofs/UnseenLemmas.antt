@@ -7,8 +7,8 @@ use Rattle.dh_base.specs.Fractions.{Fraction}
 use Rattle.dh_base.specs.declared.plain.Rate.{Rate}
 use Rattle.dh_periods.specs.declared.name.PeriodName.{PeriodName}
 use Rattle.expr_lang.specs.declared.tree.Item.{Item}
-use Rattle.meta_parts.specs.declared.held.Records.{Records}
-use Rattle.meta_parts.specs.declared.records.Indicator.{Indicator}
+use Rattle.dh_metadata.specs.declared.held.Records.{Records}
+use Rattle.dh_metadata.specs.declared.records.Indicator.{Indicator}
 use Rattle.program_cells.proofs.CellLemmas.{cell_value-permutation}
 use Rattle.cell_values.specs.Seen.{SeenRecords, SameSeen}
 use Rattle.cell_values.specs.Cells.{cell_of, days_in}
@@ -17,10 +17,10 @@ use Rattle.cell_values.proofs.RateLemmas.{rate_of-permutation}
 use Rattle.cell_values.proofs.ReorderLemmas.{aggregate_of-permutation, item_value_of-same}
 use Rattle.query_answer.specs.declared.arithmetic.CellValue.TheVariants as cell
 use Rattle.query_answer.specs.Value.{indicator_value_of}
-use Rattle.query_forms.specs.declared.plain.Dx.{Dx}
-use Rattle.query_forms.specs.declared.plain.DxKind.{DxKind}
-use Rattle.query_forms.specs.declared.plain.DxKind.TheVariants as dx_kind
-use Rattle.query_forms.specs.declared.plain.Query.{Query}
+use Rattle.query_lang.specs.declared.plain.Dx.{Dx}
+use Rattle.query_lang.specs.declared.plain.DxKind.{DxKind}
+use Rattle.query_lang.specs.declared.plain.DxKind.TheVariants as dx_kind
+use Rattle.query_lang.specs.declared.plain.Query.{Query}
 use Rattle.query_answer.specs.declared.body_rows.AnswerRow.{AnswerRow}
 use Rattle.serde_json.specs.Written.{compact_text}
 use Rattle.query_answer.specs.Body.{body_of}

@@ -3,8 +3,8 @@ use Rattle.std.specs.Prelude.{◌≡◌, ℕ, map, Option}
 use Rattle.dh_base.specs.Fractions.{Fraction}
 use Rattle.expr_lang.specs.declared.tree.Item.{Item}
 use Rattle.expr_lang.specs.Expr.{items_in}
-use Rattle.meta_parts.specs.declared.held.Records.{Records}
-use Rattle.meta_parts.specs.declared.records.Indicator.{Indicator}
+use Rattle.dh_metadata.specs.declared.held.Records.{Records}
+use Rattle.dh_metadata.specs.declared.records.Indicator.{Indicator}
 use Rattle.query_answer.specs.declared.sides.Sides.{Sides}
 use Rattle.query_answer.specs.Value.{AreSides, side_of, indicator_value_of, value_over}
 

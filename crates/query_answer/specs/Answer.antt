@@ -1,10 +1,10 @@
 -- The answer to a query.
 use Rattle.std.specs.Prelude.{ℕ, List, Option, Some, None, Result, Ok, Err, find}
 use Rattle.serde_json.specs.Written.{compact_text}
-use Rattle.meta_parts.specs.declared.held.Records.{Records}
+use Rattle.dh_metadata.specs.declared.held.Records.{Records}
 use Rattle.cell_values.specs.Seen.{SeenRecords}
-use Rattle.query_forms.specs.declared.plain.Dx.{Dx}
-use Rattle.query_forms.specs.declared.plain.Query.{Query}
+use Rattle.query_lang.specs.declared.plain.Dx.{Dx}
+use Rattle.query_lang.specs.declared.plain.Query.{Query}
 use Rattle.query_answer.specs.Body.{body_of}
 use Rattle.query_answer.specs.declared.whole.AnswerFault.{AnswerFault}
 use Rattle.query_answer.specs.declared.whole.AnswerFault.TheVariants as fault

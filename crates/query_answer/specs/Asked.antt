@@ -1,12 +1,12 @@
 -- Which queries are answered: those of data elements, their operands, indicators, program indicators and reporting rates.
 use Rattle.std.specs.Prelude.{ℕ, ◌<◌, Bool, nat_lt, length, IsTrue}
 use Rattle.std.specs.List.{list_all}
-use Rattle.meta_parts.specs.declared.held.Records.{Records}
+use Rattle.dh_metadata.specs.declared.held.Records.{Records}
 use Rattle.dh_metadata.specs.Linked.{AreBelow}
-use Rattle.query_forms.specs.declared.plain.Dx.{Dx}
-use Rattle.query_forms.specs.declared.plain.DxKind.{DxKind}
-use Rattle.query_forms.specs.declared.plain.DxKind.TheVariants as dx_kind
-use Rattle.query_forms.specs.declared.plain.Query.{Query}
+use Rattle.query_lang.specs.declared.plain.Dx.{Dx}
+use Rattle.query_lang.specs.declared.plain.DxKind.{DxKind}
+use Rattle.query_lang.specs.declared.plain.DxKind.TheVariants as dx_kind
+use Rattle.query_lang.specs.declared.plain.Query.{Query}
 
 -- the object of the item is there
 abbrev pub can_answer_kind : Records → ℕ → DxKind → Bool

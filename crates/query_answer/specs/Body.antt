@@ -3,8 +3,8 @@ use Rattle.std.specs.Prelude.{Bool, true, false, List, length, codes}
 use Rattle.std.specs.List.{All}
 use Rattle.serde_json.specs.Data.{Data, number, unsigned, array, object, member, no_members}
 use Rattle.serde_json.specs.View.{items_of}
-use Rattle.meta_parts.specs.declared.held.Records.{Records}
-use Rattle.query_forms.specs.declared.plain.Query.{Query}
+use Rattle.dh_metadata.specs.declared.held.Records.{Records}
+use Rattle.query_lang.specs.declared.plain.Query.{Query}
 use Rattle.query_answer.specs.declared.body_rows.AnswerRow.{AnswerRow}
 use Rattle.query_answer.specs.Heads.{heads_of}
 use Rattle.query_answer.specs.BodyRows.{IsRow, rows_of}

@@ -5,13 +5,13 @@ use Rattle.dh_base.specs.Decimals.{printed}
 use Rattle.dh_base.specs.Fractions.{Fraction}
 use Rattle.dh_base.specs.declared.plain.Rate.{Rate}
 use Rattle.dh_periods.specs.declared.name.PeriodName.{PeriodName}
-use Rattle.meta_parts.specs.declared.held.Records.{Records}
-use Rattle.meta_parts.specs.declared.records.Indicator.{Indicator}
-use Rattle.meta_parts.specs.declared.records.ProgramIndicator.{ProgramIndicator}
+use Rattle.dh_metadata.specs.declared.held.Records.{Records}
+use Rattle.dh_metadata.specs.declared.records.Indicator.{Indicator}
+use Rattle.dh_metadata.specs.declared.records.ProgramIndicator.{ProgramIndicator}
 use Rattle.table_rows.specs.declared.event.EventRow.{EventRow}
 use Rattle.table_rows.specs.declared.event.RegRow.{RegRow}
 use Rattle.table_rows.specs.declared.sample.Sample.{Sample}
-use Rattle.rate_items.specs.Rates.{rate_of}
+use Rattle.cell_values.specs.Reporting.{rate_of}
 use Rattle.program_cells.specs.Value.{ProgramValue, Number, NoValue, Wide}
 use Rattle.program_cells.specs.Cells.{cell_value as program_value}
 use Rattle.cell_values.specs.Seen.{SeenRecords}
@@ -20,9 +20,9 @@ use Rattle.cell_values.specs.Items.{item_value_of}
 use Rattle.query_answer.specs.declared.arithmetic.CellValue.{CellValue}
 use Rattle.query_answer.specs.declared.arithmetic.CellValue.TheVariants as cell
 use Rattle.query_answer.specs.Value.{indicator_value_of}
-use Rattle.query_forms.specs.declared.plain.Dx.{Dx}
-use Rattle.query_forms.specs.declared.plain.DxKind.{DxKind}
-use Rattle.query_forms.specs.declared.plain.DxKind.TheVariants as dx_kind
+use Rattle.query_lang.specs.declared.plain.Dx.{Dx}
+use Rattle.query_lang.specs.declared.plain.DxKind.{DxKind}
+use Rattle.query_lang.specs.declared.plain.DxKind.TheVariants as dx_kind
 
 abbrev pub of_option : Option Fraction → CellValue
 of_option None = cell.None

@@ -6,19 +6,19 @@ use Rattle.serde_json.specs.Data.{Data, array, object, Members, member, no_membe
 use Rattle.serde_json.specs.View.{items_of}
 use Rattle.dh_periods.specs.declared.name.PeriodName.{PeriodName}
 use Rattle.dh_periods.specs.Texts.{period_text}
-use Rattle.meta_parts.specs.declared.held.Records.{Records}
-use Rattle.meta_parts.specs.declared.kind.Kind.{Kind}
-use Rattle.meta_parts.specs.declared.kind.Kind.TheVariants as kind
-use Rattle.meta_parts.specs.declared.records.Unit.{Unit}
-use Rattle.meta_parts.specs.declared.records.Element.{Element}
-use Rattle.meta_parts.specs.declared.records.Indicator.{Indicator}
-use Rattle.meta_parts.specs.declared.records.ProgramIndicator.{ProgramIndicator}
+use Rattle.dh_metadata.specs.declared.held.Records.{Records}
+use Rattle.dh_metadata.specs.declared.kind.Kind.{Kind}
+use Rattle.dh_metadata.specs.declared.kind.Kind.TheVariants as kind
+use Rattle.dh_metadata.specs.declared.records.Unit.{Unit}
+use Rattle.dh_metadata.specs.declared.records.Element.{Element}
+use Rattle.dh_metadata.specs.declared.records.Indicator.{Indicator}
+use Rattle.dh_metadata.specs.declared.records.ProgramIndicator.{ProgramIndicator}
 use Rattle.dh_metadata.specs.Linked.{AreBelow}
 use Rattle.dh_metadata.specs.Objects.{count_of}
-use Rattle.query_forms.specs.declared.plain.Dx.{Dx}
-use Rattle.query_forms.specs.declared.plain.DxKind.{DxKind}
-use Rattle.query_forms.specs.declared.plain.DxKind.TheVariants as dx_kind
-use Rattle.query_forms.specs.declared.plain.Query.{Query}
+use Rattle.query_lang.specs.declared.plain.Dx.{Dx}
+use Rattle.query_lang.specs.declared.plain.DxKind.{DxKind}
+use Rattle.query_lang.specs.declared.plain.DxKind.TheVariants as dx_kind
+use Rattle.query_lang.specs.declared.plain.Query.{Query}
 use Rattle.query_answer.specs.Texts.{text_of_bytes}
 use Rattle.query_answer.specs.BodyRows.{unit_id}
 

@@ -2,9 +2,9 @@
 use Rattle.std.specs.Prelude.{◌≡◌, ℕ, false, List, map}
 use Rattle.std.specs.List.{All}
 use Rattle.dh_periods.specs.declared.name.PeriodName.{PeriodName}
-use Rattle.meta_parts.specs.declared.held.Records.{Records}
+use Rattle.dh_metadata.specs.declared.held.Records.{Records}
 use Rattle.cell_values.specs.Held.{AreCellUnits}
-use Rattle.query_forms.specs.declared.plain.Query.{Query}
+use Rattle.query_lang.specs.declared.plain.Query.{Query}
 use Rattle.query_answer.specs.declared.parts.PeriodPart.{PeriodPart}
 use Rattle.query_answer.specs.declared.parts.UnitPart.{UnitPart}
 use Rattle.query_answer.specs.Rows.{Slot, slot_of, period_slots, unit_slots}

@@ -3,17 +3,17 @@ use Rattle.std.specs.Prelude.{◌≡◌, ℕ, List, map, slice_get, Some, None}
 use Rattle.std.specs.List.{All}
 use Rattle.dh_periods.specs.declared.name.PeriodName.{PeriodName}
 use Rattle.expr_lang.specs.Expr.{items_in}
-use Rattle.meta_parts.specs.declared.held.Records.{Records}
-use Rattle.meta_parts.specs.declared.records.Indicator.{Indicator}
+use Rattle.dh_metadata.specs.declared.held.Records.{Records}
+use Rattle.dh_metadata.specs.declared.records.Indicator.{Indicator}
 use Rattle.table_rows.specs.Store.{Contents}
 use Rattle.cell_values.specs.declared.item.ItemPlan.{ItemPlan}
-use Rattle.rate_items.specs.Prepared.{IsDue}
+use Rattle.cell_values.specs.Prepared.{IsDue}
 use Rattle.program_cells.specs.Kept.{IsProgramPlan, AreSubjects}
 use Rattle.cell_values.specs.Rates.{IsRatePlan}
 use Rattle.cell_values.specs.Plans.{IsElementPlan, IsItemPlan, operand, inside, groups_inside}
 use Rattle.query_answer.specs.Value.{AreSides}
-use Rattle.query_forms.specs.declared.plain.Dx.{Dx}
-use Rattle.query_forms.specs.declared.plain.DxKind.TheVariants as dx_kind
+use Rattle.query_lang.specs.declared.plain.Dx.{Dx}
+use Rattle.query_lang.specs.declared.plain.DxKind.TheVariants as dx_kind
 use Rattle.query_answer.specs.declared.plans.IndicatorPlan.{IndicatorPlan}
 use Rattle.query_answer.specs.declared.plans.Plan.{Plan}
 use Rattle.query_answer.specs.declared.plans.Plan.TheVariants as plan

@@ -10,9 +10,9 @@ use Rattle.expr_eval.specs.declared.value.Value.{Value}
 use Rattle.expr_eval.specs.Meaning.{meaning}
 use Rattle.expr_eval.specs.Given.{given_by}
 use Rattle.expr_eval.specs.Correct.{Means, form_outcome}
-use Rattle.meta_parts.specs.declared.held.Records.{Records}
-use Rattle.meta_parts.specs.declared.records.Indicator.{Indicator}
-use Rattle.meta_parts.specs.declared.records.IndicatorType.{IndicatorType}
+use Rattle.dh_metadata.specs.declared.held.Records.{Records}
+use Rattle.dh_metadata.specs.declared.records.Indicator.{Indicator}
+use Rattle.dh_metadata.specs.declared.records.IndicatorType.{IndicatorType}
 use Rattle.query_answer.specs.declared.arithmetic.CellValue.{CellValue}
 use Rattle.query_answer.specs.declared.sides.Sides.{Sides}
 use Rattle.query_answer.specs.Scale.{of_sides}

@@ -4,9 +4,9 @@ ghost use Rattle.std.specs.Prelude.{◌≡◌};
 ghost use Rattle.std.specs.List.{list_all};
 ghost use Rattle.query_answer.specs.Asked.{can_answer_dx};
 
+use dh_metadata::kind::Kind;
 use dh_metadata::metadata::Metadata;
-use meta_parts::kind::Kind;
-use query_forms::{Dx, DxKind};
+use query_lang::{Dx, DxKind};
 
 #[tactic(auto, unfolding(crate::specs::Asked::can_answer_dx))]
 fn can_answer_dx(meta: &Metadata, dx: &Dx) -> bool

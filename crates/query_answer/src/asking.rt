@@ -2,7 +2,7 @@
 
 use crate::parts::{PeriodPart, UnitPart};
 use cell_values::Source;
-use query_forms::Query;
+use query_lang::Query;
 
 /// What a query is answered from, and its periods and units as its cells take them.
 #[derive(Drop)]

@@ -20,7 +20,7 @@ use crate::texts::push_more;
 use dh_base::items::Items;
 use dh_base::memory::Memory;
 use dh_metadata::metadata::Metadata;
-use query_forms::Query;
+use query_lang::Query;
 use serde_json::{Map, Value};
 use std::alloc::{AllocError, Global};
 

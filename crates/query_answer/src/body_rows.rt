@@ -12,7 +12,7 @@ use dh_base::items::Items;
 use dh_base::memory::Memory;
 use dh_metadata::metadata::Metadata;
 use dh_periods::Period;
-use query_forms::Dx;
+use query_lang::Dx;
 use std::alloc::Global;
 
 /// One row of an answer.

@@ -5,11 +5,11 @@ ghost use Rattle.dh_base.specs.Decimals.{printed};
 ghost use Rattle.dh_periods.specs.declared.name.PeriodName.{PeriodName};
 ghost use Rattle.program_cells.specs.Cells.{cell_value as program_value};
 ghost use Rattle.program_cells.specs.Kept.{IsProgramPlan, AreSubjects};
-ghost use Rattle.meta_parts.specs.declared.held.Records.{Records};
+ghost use Rattle.dh_metadata.specs.declared.held.Records.{Records};
 ghost use Rattle.program_cells.specs.Value.{ProgramValue, Values};
 ghost use Rattle.table_rows.specs.declared.event.EventRow.{EventRow};
-ghost use Rattle.rate_items.specs.Prepared.{IsDue, IsPrepared};
-ghost use Rattle.rate_items.specs.Rates.{rate_of};
+ghost use Rattle.cell_values.specs.Prepared.{IsDue, IsPrepared};
+ghost use Rattle.cell_values.specs.Reporting.{rate_of};
 ghost use Rattle.cell_values.specs.Held.{AreCellUnits};
 ghost use Rattle.cell_values.specs.Rates.{IsRatePlan};
 ghost use Rattle.cell_values.specs.Seen.{seen, seen_events, seen_regs, seen_of, contents_of};
@@ -25,18 +25,18 @@ use crate::parts::UnitPart;
 use crate::plans::{IndicatorPlan, Plan, PlanGroups};
 use crate::sides::indicator_value;
 use cell_values::{
-    CellPeriods, CellUnits, ElementPlan, RatePlan, Source, item_values, planned_rate, planned_value,
+    CellPeriods, CellUnits, Due, ElementPlan, RatePlan, Source, item_values, planned_rate,
+    planned_value,
 };
 use dh_base::frac::Frac;
 use dh_base::items::Items;
 use dh_base::memory::Memory;
 use dh_base::print::print_rounded;
 use dh_metadata::metadata::Metadata;
+use dh_metadata::records::Indicator;
 use expr_eval::PiFault;
-use meta_parts::records::Indicator;
 use program_cells::{ProgramPlan, Subjects, value};
-use query_forms::{Dx, DxKind};
-use rate_items::Due;
+use query_lang::{Dx, DxKind};
 use std::alloc::Global;
 use table_rows::{Group, RowStore};
 

@@ -14,7 +14,7 @@ use crate::texts::{push_text, text_value};
 use dh_base::memory::Memory;
 use dh_metadata::metadata::Metadata;
 use dh_periods::Period;
-use query_forms::{Dx, DxKind, Query};
+use query_lang::{Dx, DxKind, Query};
 use serde_json::{Map, Value, put};
 use std::alloc::{AllocError, Global};
 

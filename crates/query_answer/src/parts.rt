@@ -11,7 +11,7 @@ use cell_values::{CellPeriods, CellUnits, Seer};
 use dh_base::memory::Memory;
 use dh_metadata::metadata::Metadata;
 use dh_periods::Period;
-use query_forms::Axis;
+use query_lang::Axis;
 use std::alloc::Global;
 use std::slice::from_ref;
 

@@ -4,22 +4,21 @@ ghost use Rattle.std.specs.Prelude.{◌≡◌, true, IfOk};
 ghost use Rattle.dh_metadata.specs.Linked.{IsLinkedIndicator};
 ghost use Rattle.cell_values.specs.Held.{IsSeer};
 ghost use Rattle.cell_values.specs.Seen.{contents_of};
-ghost use Rattle.query_forms.specs.declared.plain.DxKind.TheVariants as dx_kind;
+ghost use Rattle.query_lang.specs.declared.plain.DxKind.TheVariants as dx_kind;
 ghost use Rattle.query_answer.specs.Asked.{can_answer_dx};
 ghost use Rattle.query_answer.specs.Plans.{IsIndicatorPlan, IsPlan, ArePlanGroups};
 
 use crate::sides::{Sides, sides_of};
 use cell_values::{
-    CellPeriods, ElementPlan, ItemPlan, Operand, RateAsked, RatePlan, Source, element_groups,
+    CellPeriods, Due, ElementPlan, ItemPlan, Operand, RateAsked, RatePlan, Source, element_groups,
     element_plan, item_groups, item_plans, rate_due, rate_plan,
 };
 use dh_base::items::Items;
 use dh_base::memory::Memory;
 use dh_base::plain::Rate;
-use meta_parts::records::Indicator;
+use dh_metadata::records::Indicator;
 use program_cells::{PlacedEvents, ProgramPlan, Subjects, program_plan, subjects_during};
-use query_forms::{Dx, DxKind};
-use rate_items::Due;
+use query_lang::{Dx, DxKind};
 use std::alloc::Global;
 use table_rows::{Group, RowStore};
 

@@ -2,7 +2,7 @@
 
 ghost use Rattle.std.specs.Prelude.{◌≡◌, ◌<◌, ◌++◌, [], ℕ, length, get_or, map, true, false, None, find, option_map, IfOk};
 ghost use Rattle.std.specs.List.{All};
-ghost use Rattle.meta_parts.specs.declared.held.Records.{Records};
+ghost use Rattle.dh_metadata.specs.declared.held.Records.{Records};
 ghost use Rattle.cell_values.specs.Held.{IsSeer};
 ghost use Rattle.cell_values.specs.Seen.{seen_of, contents_of};
 ghost use Rattle.query_answer.specs.Asked.{CanAnswer, can_answer_dx};
@@ -18,7 +18,7 @@ use crate::parts::{PeriodPart, UnitPart, units_within};
 use crate::plans::{Plan, PlanGroups, plan_groups, plan_of};
 use dh_base::items::Items;
 use dh_base::memory::Memory;
-use query_forms::Dx;
+use query_lang::Dx;
 use std::alloc::Global;
 use table_rows::RowStore;
 

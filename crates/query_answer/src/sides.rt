@@ -5,8 +5,8 @@ ghost use Rattle.dh_base.specs.Fractions.{Fraction};
 ghost use Rattle.expr_lang.specs.Expr.{items_in};
 ghost use Rattle.expr_lang.specs.declared.tree.Item.{Item};
 ghost use Rattle.dh_metadata.specs.Linked.{IsLinkedIndicator};
-ghost use Rattle.meta_parts.specs.declared.held.Records.{Records};
-ghost use Rattle.meta_parts.specs.declared.records.Indicator.{Indicator};
+ghost use Rattle.dh_metadata.specs.declared.held.Records.{Records};
+ghost use Rattle.dh_metadata.specs.declared.records.Indicator.{Indicator};
 ghost use Rattle.query_answer.specs.Value.{AreSides, indicator_value_of, value_over};
 
 use crate::arithmetic::{CellValue, combine};
@@ -14,8 +14,8 @@ use dh_base::frac::Frac;
 use dh_base::memory::Memory;
 use dh_base::plain::Strategy;
 use dh_metadata::metadata::Metadata;
+use dh_metadata::records::Indicator;
 use expr_eval::{Postfix, compile, eval};
-use meta_parts::records::Indicator;
 use std::alloc::Global;
 
 /// The two sides of an indicator in postfix form, and what their quotient is multiplied by. It is

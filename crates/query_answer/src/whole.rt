@@ -18,7 +18,7 @@ use cell_values::{Seer, Source};
 use dh_base::items::Items;
 use dh_base::memory::Memory;
 use dh_metadata::metadata::Metadata;
-use query_forms::Query;
+use query_lang::Query;
 use std::alloc::Global;
 use table_rows::RowStore;
 

@@ -8,25 +8,25 @@ use Rattle.dh_base.specs.Memory.{Answers}
 use Rattle.dh_base.specs.declared.codes.Code.TheVariants as code
 use Rattle.dh_base.specs.declared.codes.Refusal.{Refusal}
 use Rattle.dh_sharing.specs.declared.access.Right.TheVariants.{Read}
-use Rattle.meta_parts.specs.declared.held.Records.{Records}
-use Rattle.meta_parts.specs.declared.kind.Kind.{Kind}
-use Rattle.meta_parts.specs.declared.kind.Kind.TheVariants as kind
+use Rattle.dh_metadata.specs.declared.held.Records.{Records}
+use Rattle.dh_metadata.specs.declared.kind.Kind.{Kind}
+use Rattle.dh_metadata.specs.declared.kind.Kind.TheVariants as kind
 use Rattle.dh_metadata.specs.Approval.{unit_rows}
 use Rattle.dh_metadata.specs.Objects.{count_of, find_of}
 use Rattle.dh_metadata.specs.Users.{may_of, view_units_of}
 use Rattle.dh_metadata.proofs.IdLemmas.{found_below}
-use Rattle.query_forms.specs.declared.plain.DxKind.{DxKind}
-use Rattle.query_forms.specs.declared.plain.DxKind.TheVariants as dx
-use Rattle.query_forms.specs.declared.plain.Dx.{Dx}
-use Rattle.query_forms.specs.declared.plain.Query.{Query}
-use Rattle.query_forms.specs.declared.plain.QueryFault.{QueryFault}
-use Rattle.query_forms.specs.declared.item.DxForm.{DxForm}
-use Rattle.query_forms.specs.declared.item.DxForm.TheVariants as form
-use Rattle.query_forms.specs.declared.item.DxItem.{DxItem}
-use Rattle.query_forms.specs.declared.form.Form.{Form}
-use Rattle.query_forms.specs.Form.{form_of}
-use Rattle.query_forms.specs.Items.{dx_form}
-use Rattle.query_forms.specs.Given.{cause_of, or_refuse, refusal}
+use Rattle.query_lang.specs.declared.plain.DxKind.{DxKind}
+use Rattle.query_lang.specs.declared.plain.DxKind.TheVariants as dx
+use Rattle.query_lang.specs.declared.plain.Dx.{Dx}
+use Rattle.query_lang.specs.declared.plain.Query.{Query}
+use Rattle.query_lang.specs.declared.plain.QueryFault.{QueryFault}
+use Rattle.query_lang.specs.declared.item.DxForm.{DxForm}
+use Rattle.query_lang.specs.declared.item.DxForm.TheVariants as form
+use Rattle.query_lang.specs.declared.item.DxItem.{DxItem}
+use Rattle.query_lang.specs.declared.form.Form.{Form}
+use Rattle.query_lang.specs.Form.{form_of}
+use Rattle.query_lang.specs.Items.{dx_form}
+use Rattle.query_lang.specs.Given.{cause_of, or_refuse, refusal}
 use Rattle.query_lang.specs.declared.part.Part.{Part}
 use Rattle.query_lang.specs.Walk.{AreIn}
 use Rattle.query_lang.specs.Choice.{chosen_units}

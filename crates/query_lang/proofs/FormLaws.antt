@@ -6,16 +6,16 @@ use Rattle.dh_base.specs.declared.codes.Code.{Code}
 use Rattle.dh_base.specs.declared.codes.Code.TheVariants as code
 use Rattle.dh_base.specs.declared.codes.Refusal.{Refusal}
 use Rattle.dh_periods.specs.declared.name.PeriodName.{PeriodName}
-use Rattle.query_forms.specs.declared.plain.Axis.{Axis}
-use Rattle.query_forms.specs.declared.item.DxForm.{DxForm}
-use Rattle.query_forms.specs.declared.item.DxItem.{DxItem}
-use Rattle.query_forms.specs.declared.item.UnitItem.{UnitItem}
-use Rattle.query_forms.specs.declared.form.Draft.{Draft}
-use Rattle.query_forms.specs.declared.form.Form.{Form}
-use Rattle.query_forms.specs.Given.{and_then, or_refuse}
-use Rattle.query_forms.specs.Items.{dx_form, dx_item, each, dx_items, period_items, item_texts}
-use Rattle.query_forms.specs.Form.{is_unsupported, head_of, fresh, with_dx, with_periods, with_units, with_dimension, with_pair, with_pairs, nothing, whole}
-use Rattle.query_forms.specs.Form.{form_of, pairs_of}
+use Rattle.query_lang.specs.declared.plain.Axis.{Axis}
+use Rattle.query_lang.specs.declared.item.DxForm.{DxForm}
+use Rattle.query_lang.specs.declared.item.DxItem.{DxItem}
+use Rattle.query_lang.specs.declared.item.UnitItem.{UnitItem}
+use Rattle.query_lang.specs.declared.form.Draft.{Draft}
+use Rattle.query_lang.specs.declared.form.Form.{Form}
+use Rattle.query_lang.specs.Given.{and_then, or_refuse}
+use Rattle.query_lang.specs.Items.{dx_form, dx_item, each, dx_items, period_items, item_texts}
+use Rattle.query_lang.specs.Form.{is_unsupported, head_of, fresh, with_dx, with_periods, with_units, with_dimension, with_pair, with_pairs, nothing, whole}
+use Rattle.query_lang.specs.Form.{form_of, pairs_of}
 use Rattle.query_lang.specs.Askable.{IsFormed, IsForm}
 use Rattle.query_lang.proofs.PeriodLaws.{IsFilled, periods_filled}
 

@@ -1,3 +1,5 @@
+pub mod OnceLemmas
+pub mod EachLemmas
 pub mod SetLemmas
 pub mod WalkLemmas
 pub mod RangeLemmas

@@ -9,8 +9,8 @@ use Rattle.dh_periods.specs.Keys.{same_period}
 use Rattle.dh_periods.specs.Texts.{period_of}
 use Rattle.dh_periods.specs.Places.{nth_period}
 use Rattle.dh_periods.specs.Relative.{single_named, several_named, some_or, relative_named, run_of, periods_on, relative_of}
-use Rattle.query_forms.specs.Once.{with_new, once_from, same_bytes, texts_once, pieces_from, pieces}
-use Rattle.query_forms.specs.Items.{periods_by, period_form, item_texts, periods_from, period_items}
+use Rattle.query_lang.specs.Once.{with_new, once_from, same_bytes, texts_once, pieces_from, pieces}
+use Rattle.query_lang.specs.Items.{periods_by, period_form, item_texts, periods_from, period_items}
 
 abbrev pub IsFilled : {A : Type 0} → List A → Type 0
 IsFilled xs = 0 < length xs

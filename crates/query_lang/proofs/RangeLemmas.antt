@@ -7,7 +7,7 @@ use Rattle.std.proofs.lemmas.Bool.{ltb-true}
 use Rattle.std.proofs.lemmas.List.Elements.{All-append, All-filter}
 use Rattle.org_tree.specs.Units.{UnitRow, order_of}
 use Rattle.org_tree.proofs.CountLemmas.{first_below_tells}
-use Rattle.query_forms.specs.Once.{with_new, once_from}
+use Rattle.query_lang.specs.Once.{with_new, once_from}
 use Rattle.query_lang.specs.declared.part.Part.{Part}
 use Rattle.query_lang.specs.declared.part.Part.TheVariants as part
 use Rattle.query_lang.specs.Walk.{unit_at, first_units, walk_of, AreIn}

@@ -11,9 +11,9 @@ use Rattle.std.proofs.lemmas.Slice.Eq.{bytes_eq-Decides}
 use Rattle.std.proofs.lemmas.Str.{IsAscii-append, IsUtf8-from_ascii}
 use Rattle.dh_base.specs.Uid.{is_uid, uid_of}
 use Rattle.dh_base.specs.declared.plain.Rate.{Rate}
-use Rattle.query_forms.specs.declared.item.DxForm.{DxForm}
-use Rattle.query_forms.specs.declared.item.DxForm.TheVariants as dx
-use Rattle.query_forms.specs.Items.{rate_named, part_by, part_form, pair_form, dx_by, dx_form}
+use Rattle.query_lang.specs.declared.item.DxForm.{DxForm}
+use Rattle.query_lang.specs.declared.item.DxForm.TheVariants as dx
+use Rattle.query_lang.specs.Items.{rate_named, part_by, part_form, pair_form, dx_by, dx_form}
 
 left : (a b : Bool) → (a && b) ≡ true → a ≡ true
 left true b both = refl

@@ -2,7 +2,7 @@
 use Rattle.std.proofs.Common.{◌≡◌, ℕ, ◌<◌, List, length, sym, subst}
 use Rattle.std.proofs.lemmas.List.{length-map}
 use Rattle.org_tree.specs.Units.{UnitRow}
-use Rattle.meta_parts.specs.declared.held.Records.{Records}
+use Rattle.dh_metadata.specs.declared.held.Records.{Records}
 use Rattle.dh_metadata.specs.Approval.{unit_rows}
 use Rattle.dh_metadata.specs.Linked.{AreBelow}
 use Rattle.query_lang.specs.Walk.{AreIn}

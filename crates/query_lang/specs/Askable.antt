@@ -2,19 +2,19 @@
 use Rattle.std.specs.Prelude.{◌≡◌, ℕ, ◌<◌, true, length, Some, IfSome, IsUtf8}
 use Rattle.std.specs.List.{AllByRecursion}
 use Rattle.dh_sharing.specs.declared.access.Right.TheVariants.{Read}
-use Rattle.meta_parts.specs.declared.held.Records.{Records}
-use Rattle.meta_parts.specs.declared.kind.Kind.{Kind}
-use Rattle.meta_parts.specs.declared.kind.Kind.TheVariants as kind
+use Rattle.dh_metadata.specs.declared.held.Records.{Records}
+use Rattle.dh_metadata.specs.declared.kind.Kind.{Kind}
+use Rattle.dh_metadata.specs.declared.kind.Kind.TheVariants as kind
 use Rattle.dh_metadata.specs.Objects.{count_of}
 use Rattle.dh_metadata.specs.Users.{may_of}
-use Rattle.query_forms.specs.declared.plain.DxKind.{DxKind}
-use Rattle.query_forms.specs.declared.plain.DxKind.TheVariants as dx
-use Rattle.query_forms.specs.declared.plain.Dx.{Dx}
-use Rattle.query_forms.specs.declared.plain.Query.{Query}
-use Rattle.query_forms.specs.declared.item.DxForm.{DxForm}
-use Rattle.query_forms.specs.declared.item.DxItem.{DxItem}
-use Rattle.query_forms.specs.declared.form.Form.{Form}
-use Rattle.query_forms.specs.Items.{dx_form}
+use Rattle.query_lang.specs.declared.plain.DxKind.{DxKind}
+use Rattle.query_lang.specs.declared.plain.DxKind.TheVariants as dx
+use Rattle.query_lang.specs.declared.plain.Dx.{Dx}
+use Rattle.query_lang.specs.declared.plain.Query.{Query}
+use Rattle.query_lang.specs.declared.item.DxForm.{DxForm}
+use Rattle.query_lang.specs.declared.item.DxItem.{DxItem}
+use Rattle.query_lang.specs.declared.form.Form.{Form}
+use Rattle.query_lang.specs.Items.{dx_form}
 use Rattle.query_lang.specs.Walk.{AreIn}
 use Rattle.query_lang.specs.declared.named.Found.{Found}
 use Rattle.query_lang.specs.Named.{named}

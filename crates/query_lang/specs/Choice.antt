@@ -2,7 +2,7 @@
 use Rattle.std.specs.Prelude.{ℕ, Bool, not, ◌&&◌, ◌||◌, ◌==◌, if◌then◌else◌, List, [], length, filter, nat_eq}
 use Rattle.std.specs.List.{list_any, list_all, flat_map}
 use Rattle.org_tree.specs.Units.{UnitRow, level_of}
-use Rattle.query_forms.specs.Once.{once_from}
+use Rattle.query_lang.specs.Once.{once_from}
 use Rattle.query_lang.specs.declared.part.Part.{Part}
 use Rattle.query_lang.specs.Walk.{walk_of, has}
 use Rattle.query_lang.specs.View.{is_under_any}

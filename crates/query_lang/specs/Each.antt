@@ -1,7 +1,7 @@
 -- Each of a list, or the first refusal.
 use Rattle.std.specs.Prelude.{List, [], ◌∷◌, ◌++◌, Result, Ok}
 use Rattle.dh_base.specs.declared.codes.Refusal.{Refusal}
-use Rattle.query_forms.specs.Given.{and_then}
+use Rattle.query_lang.specs.Given.{and_then}
 
 abbrev pub each_of : {A B : Type 0} → (A → Result B Refusal) → List A → Result (List B) Refusal
 each_of f [] = Ok []

@@ -1,3 +1,7 @@
+pub mod Once
+pub mod Items
+pub mod Given
+pub mod Form
 pub mod Walk
 pub mod View
 pub mod Parts

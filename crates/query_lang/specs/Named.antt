@@ -5,20 +5,20 @@ use Rattle.std.specs.Option.{option_map_or, option_or}
 use Rattle.dh_base.specs.declared.codes.Code.TheVariants as code
 use Rattle.dh_base.specs.declared.codes.Refusal.{Refusal}
 use Rattle.dh_sharing.specs.declared.access.Right.TheVariants.{Read}
-use Rattle.meta_parts.specs.declared.held.Records.{Records}
-use Rattle.meta_parts.specs.declared.kind.Kind.{Kind}
-use Rattle.meta_parts.specs.declared.kind.Kind.TheVariants as kind
-use Rattle.meta_parts.specs.declared.records.Element.{Element}
-use Rattle.meta_parts.specs.declared.records.OptionCombo.{OptionCombo}
+use Rattle.dh_metadata.specs.declared.held.Records.{Records}
+use Rattle.dh_metadata.specs.declared.kind.Kind.{Kind}
+use Rattle.dh_metadata.specs.declared.kind.Kind.TheVariants as kind
+use Rattle.dh_metadata.specs.declared.records.Element.{Element}
+use Rattle.dh_metadata.specs.declared.records.OptionCombo.{OptionCombo}
 use Rattle.dh_metadata.specs.Objects.{find_of}
 use Rattle.dh_metadata.specs.Users.{may_of}
-use Rattle.query_forms.specs.declared.plain.DxKind.{DxKind}
-use Rattle.query_forms.specs.declared.plain.DxKind.TheVariants as dx
-use Rattle.query_forms.specs.declared.plain.Dx.{Dx}
-use Rattle.query_forms.specs.declared.item.DxForm.{DxForm}
-use Rattle.query_forms.specs.declared.item.DxForm.TheVariants as form
-use Rattle.query_forms.specs.declared.item.DxItem.{DxItem}
-use Rattle.query_forms.specs.Given.{or_refuse}
+use Rattle.query_lang.specs.declared.plain.DxKind.{DxKind}
+use Rattle.query_lang.specs.declared.plain.DxKind.TheVariants as dx
+use Rattle.query_lang.specs.declared.plain.Dx.{Dx}
+use Rattle.query_lang.specs.declared.item.DxForm.{DxForm}
+use Rattle.query_lang.specs.declared.item.DxForm.TheVariants as form
+use Rattle.query_lang.specs.declared.item.DxItem.{DxItem}
+use Rattle.query_lang.specs.Given.{or_refuse}
 use Rattle.query_lang.specs.declared.named.Found.{Found}
 
 -- the object of that identifier, if the user may read it

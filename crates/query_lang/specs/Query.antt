@@ -3,13 +3,13 @@ use Rattle.std.specs.Prelude.{ℕ, ℤ, ◌*◌, ◌==◌, nat_lt, if◌then◌e
 use Rattle.std.specs.Fmt.{decimal}
 use Rattle.dh_base.specs.declared.codes.Code.TheVariants as code
 use Rattle.dh_base.specs.declared.codes.Refusal.{Refusal}
-use Rattle.meta_parts.specs.declared.held.Records.{Records}
-use Rattle.query_forms.specs.declared.plain.Axis.{Axis}
-use Rattle.query_forms.specs.declared.plain.Dx.{Dx}
-use Rattle.query_forms.specs.declared.plain.Query.{Query}
-use Rattle.query_forms.specs.declared.form.Form.{Form}
-use Rattle.query_forms.specs.Form.{form_of}
-use Rattle.query_forms.specs.Given.{and_then, refusal}
+use Rattle.dh_metadata.specs.declared.held.Records.{Records}
+use Rattle.query_lang.specs.declared.plain.Axis.{Axis}
+use Rattle.query_lang.specs.declared.plain.Dx.{Dx}
+use Rattle.query_lang.specs.declared.plain.Query.{Query}
+use Rattle.query_lang.specs.declared.form.Form.{Form}
+use Rattle.query_lang.specs.Form.{form_of}
+use Rattle.query_lang.specs.Given.{and_then, refusal}
 use Rattle.query_lang.specs.Each.{each_of}
 use Rattle.query_lang.specs.Named.{dx_of}
 use Rattle.query_lang.specs.Units.{part_of, units_of}

@@ -4,16 +4,16 @@ use Rattle.std.specs.List.{flat_map}
 use Rattle.std.specs.Option.{option_map_or}
 use Rattle.dh_base.specs.declared.codes.Code.TheVariants as code
 use Rattle.dh_base.specs.declared.codes.Refusal.{Refusal}
-use Rattle.meta_parts.specs.declared.held.Records.{Records}
-use Rattle.meta_parts.specs.declared.kind.Kind.TheVariants as kind
-use Rattle.meta_parts.specs.declared.records.UnitGroup.{UnitGroup}
+use Rattle.dh_metadata.specs.declared.held.Records.{Records}
+use Rattle.dh_metadata.specs.declared.kind.Kind.TheVariants as kind
+use Rattle.dh_metadata.specs.declared.records.UnitGroup.{UnitGroup}
 use Rattle.dh_metadata.specs.Approval.{unit_rows}
 use Rattle.dh_metadata.specs.Objects.{find_of}
 use Rattle.dh_metadata.specs.Users.{view_units_of}
-use Rattle.query_forms.specs.declared.item.UnitForm.{UnitForm}
-use Rattle.query_forms.specs.declared.item.UnitForm.TheVariants as form
-use Rattle.query_forms.specs.declared.item.UnitItem.{UnitItem}
-use Rattle.query_forms.specs.Given.{or_refuse}
+use Rattle.query_lang.specs.declared.item.UnitForm.{UnitForm}
+use Rattle.query_lang.specs.declared.item.UnitForm.TheVariants as form
+use Rattle.query_lang.specs.declared.item.UnitItem.{UnitItem}
+use Rattle.query_lang.specs.Given.{or_refuse}
 use Rattle.query_lang.specs.declared.part.Part.{Part}
 use Rattle.query_lang.specs.declared.part.Part.TheVariants as part
 use Rattle.query_lang.specs.View.{is_under_any}

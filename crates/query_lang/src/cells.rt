@@ -1,13 +1,13 @@
 //! The number of a query's cells.
 ghost use Rattle.std.specs.Prelude.{◌≡◌, ◌<◌, ◌^◌, None, Ok, Err, IfSome, IfOk, decimal};
 ghost use Rattle.dh_base.specs.Memory.{Answers, IsCause};
-ghost use Rattle.query_forms.specs.Given.{cause_of};
+ghost use Rattle.query_lang.specs.Given.{cause_of};
 ghost use Rattle.query_lang.specs.Query.{axis_count, cells_of, within};
 
+use crate::fault::refused;
+use crate::{Axis, Query, QueryFault};
 use dh_base::codes::Code;
 use dh_base::memory::Memory;
-use query_forms::fault::refused;
-use query_forms::{Axis, Query, QueryFault};
 use std::alloc::Global;
 
 fn axis_count<T>(axis: &Axis<T>) -> u128

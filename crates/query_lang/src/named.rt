@@ -3,20 +3,20 @@ ghost use Rattle.std.specs.Prelude.{◌≡◌, ◌<◌, [], true, length};
 ghost use Rattle.dh_metadata.specs.Linked.{IsBelow};
 ghost use Rattle.dh_metadata.specs.Objects.{count_of, is_shared};
 ghost use Rattle.dh_base.specs.Memory.{Answers};
-ghost use Rattle.query_forms.specs.Given.{cause_of};
+ghost use Rattle.query_lang.specs.Given.{cause_of};
 ghost use Rattle.query_lang.specs.Each.{each_of};
 ghost use Rattle.query_lang.specs.Named.{readable, alone, object_named, is_combo_of, combo_named, operand_named, named, dx_of};
 
+use crate::fault::refused;
+use crate::item::{DxForm, DxItem};
+use crate::{Dx, DxKind, QueryFault};
 use dh_base::codes::Code;
 use dh_base::items::Items;
 use dh_base::plain::Rate;
 use dh_base::uid::Uid;
+use dh_metadata::kind::Kind;
 use dh_metadata::metadata::Metadata;
 use dh_sharing::access::Right;
-use meta_parts::kind::Kind;
-use query_forms::fault::refused;
-use query_forms::item::{DxForm, DxItem};
-use query_forms::{Dx, DxKind, QueryFault};
 use std::alloc::Global;
 
 /// What an item of the dimension `dx` names.

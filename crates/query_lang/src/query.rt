@@ -3,21 +3,21 @@ ghost use Rattle.std.specs.Prelude.{◌≡◌, ◌<◌, length, ◌≤ℤ◌, If
 ghost use Rattle.dh_base.specs.declared.limits.TheConstants.{FIRST_QUERY_DAY, LAST_QUERY_DAY};
 ghost use Rattle.query_lang.specs.Askable.{IsAskable};
 ghost use Rattle.dh_base.specs.Memory.{Answers};
-ghost use Rattle.query_forms.specs.Given.{cause_of};
+ghost use Rattle.query_lang.specs.Given.{cause_of};
 ghost use Rattle.query_lang.specs.Each.{each_of};
 ghost use Rattle.query_lang.specs.Units.{part_of};
 ghost use Rattle.query_lang.specs.Query.{named_in, assembled, query_from, query_of};
 
 use crate::cells::within;
+use crate::form::Form;
+use crate::item::UnitItem;
 use crate::named::each_dx;
 use crate::part::Part;
+use crate::text::form_of;
 use crate::units::{each_part, units_of, view_of};
+use crate::{Axis, Dx, Query, QueryFault};
 use dh_base::items::Items;
 use dh_metadata::metadata::Metadata;
-use query_forms::form::Form;
-use query_forms::item::UnitItem;
-use query_forms::text::form_of;
-use query_forms::{Axis, Dx, Query, QueryFault};
 use std::alloc::Global;
 
 /// The most cells of a query that is answered.

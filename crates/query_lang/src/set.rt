@@ -1,6 +1,6 @@
 //! Sets of numbers.
 ghost use Rattle.std.specs.Prelude.{◌≡◌, [], ◌∷◌, ◌++◌, if◌then◌else◌, nat_eq, IfOk, OnOk};
-ghost use Rattle.query_forms.specs.Once.{with_new, once_from};
+ghost use Rattle.query_lang.specs.Once.{with_new, once_from};
 ghost use Rattle.query_lang.specs.Walk.{Knows};
 
 use dh_base::memory::Memory;

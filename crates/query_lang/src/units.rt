@@ -4,24 +4,24 @@ ghost use Rattle.dh_metadata.specs.Approval.{unit_rows};
 ghost use Rattle.dh_metadata.specs.Users.{view_units_of};
 ghost use Rattle.dh_metadata.specs.Linked.{IsBelow};
 ghost use Rattle.dh_base.specs.Memory.{Answers};
-ghost use Rattle.query_forms.specs.Given.{cause_of};
+ghost use Rattle.query_lang.specs.Given.{cause_of};
 ghost use Rattle.query_lang.specs.View.{is_under_any, Covers};
 ghost use Rattle.query_lang.specs.Each.{each_of};
 ghost use Rattle.query_lang.specs.Units.{unit_seen, part_by, part_of, group_units, part_members, members_of, units_of};
 
+use crate::QueryFault;
 use crate::choice::chosen_units;
+use crate::fault::refused;
+use crate::item::{UnitForm, UnitItem};
 use crate::part::Part;
 use crate::view::{is_covered, ranges_under};
 use dh_base::codes::Code;
 use dh_base::items::Items;
 use dh_base::memory::Memory;
 use dh_base::uid::Uid;
+use dh_metadata::kind::Kind;
 use dh_metadata::metadata::Metadata;
 use dh_sharing::ranges::ViewRanges;
-use meta_parts::kind::Kind;
-use query_forms::QueryFault;
-use query_forms::fault::refused;
-use query_forms::item::{UnitForm, UnitItem};
 use std::alloc::Global;
 
 /// The ranges of the units that the user sees.

@@ -1,11 +1,11 @@
 -- A query that is read can be answered.
 use Rattle.std.proofs.Common.{◌≡◌, ◌∙◌, ℕ, ◌<◌, true, ◌&&◌, List, [], ◌∷◌, length, nat_lt, refl, ap, arith}
 use Rattle.std.specs.List.{AllByRecursion, list_all}
-use Rattle.meta_parts.specs.declared.held.Records.{Records}
-use Rattle.query_forms.specs.declared.plain.Dx.{Dx}
-use Rattle.query_forms.specs.declared.plain.DxKind.{DxKind}
-use Rattle.query_forms.specs.declared.plain.DxKind.TheVariants as dx
-use Rattle.query_forms.specs.declared.plain.Query.{Query}
+use Rattle.dh_metadata.specs.declared.held.Records.{Records}
+use Rattle.query_lang.specs.declared.plain.Dx.{Dx}
+use Rattle.query_lang.specs.declared.plain.DxKind.{DxKind}
+use Rattle.query_lang.specs.declared.plain.DxKind.TheVariants as dx
+use Rattle.query_lang.specs.declared.plain.Query.{Query}
 use Rattle.dh_metadata.specs.Objects.{count_of}
 use Rattle.query_lang.specs.Askable.{kind_of, IsAsked, IsAskable}
 use Rattle.query_answer.specs.Asked.{can_answer_kind, can_answer_dx, CanAnswer}

@@ -6,14 +6,14 @@ use Rattle.dh_base.specs.declared.codes.Code.TheVariants.{F18}
 use Rattle.dh_base.specs.declared.codes.Refusal.{Refusal}
 use Rattle.http_wire.specs.declared.request.Request.{Request}
 use Rattle.dh_periods.specs.Moment.{day_of}
-use Rattle.meta_parts.specs.declared.held.Records.{Records}
-use Rattle.query_forms.specs.Given.{refusal}
+use Rattle.dh_metadata.specs.declared.held.Records.{Records}
+use Rattle.query_lang.specs.Given.{refusal}
 use Rattle.validation.specs.declared.outcome.Violation.{Violation}
 use Rattle.validation.specs.declared.place.Place.{Place}
 use Rattle.validation.specs.Body.{body_of}
 use Rattle.validation.specs.Check.{check_of}
 use Rattle.validation.proofs.UnseenLemmas.{check_of-same}
-use Rattle.wire_replies.specs.Bodies.{error_text}
+use Rattle.request_session.specs.Bodies.{error_text}
 use Rattle.web_routes.specs.Calls.{routed}
 use Rattle.web_routes.specs.declared.call.Call.{Call}
 use Rattle.web_routes.specs.declared.call.Call.TheVariants as call

@@ -6,13 +6,13 @@ use Rattle.dh_base.specs.declared.codes.Refusal.{Refusal}
 use Rattle.dh_base.specs.declared.plain.CutKind.{CutKind}
 use Rattle.dh_base.specs.declared.plain.CutKind.TheVariants.{Full, Latest}
 use Rattle.http_wire.specs.declared.request.Request.{Request}
-use Rattle.meta_parts.specs.declared.held.Records.{Records}
+use Rattle.dh_metadata.specs.declared.held.Records.{Records}
 use Rattle.change_log.specs.declared.limits.Limits.{Limits}
 use Rattle.dh_periods.specs.Moment.{day_of}
 use Rattle.web_routes.specs.Calls.{routed}
 use Rattle.web_routes.specs.declared.call.Call.{Call}
 use Rattle.web_routes.specs.declared.call.Call.TheVariants as call
-use Rattle.change_requests.specs.Requests.{Asked}
+use Rattle.engine.specs.Requests.{Asked}
 use Rattle.engine.specs.Machine.{State, Step, by_kind, staged_of, has_ticket, kind_by, kind_of}
 use Rattle.engine.specs.Machine.Act.{changed, begun}
 use Rattle.engine.specs.Seen.{Seen, Brought}

@@ -2,7 +2,7 @@
 use Rattle.std.proofs.Common.{◌≡◌, ◌≢◌, ◌∙◌, ℕ, ℤ, Bool, List, Option, Some, Result, Ok, Err, IfOk, subst}
 use Rattle.dh_base.specs.declared.memory.Memory.{Memory}
 use Rattle.http_wire.specs.declared.request.Request.{Request}
-use Rattle.meta_parts.specs.declared.held.Records.{Records}
+use Rattle.dh_metadata.specs.declared.held.Records.{Records}
 use Rattle.change_log.specs.Log.{NeverFails}
 use Rattle.engine.specs.Seen.{Seen}
 use Rattle.request_replies.specs.Steps.{MachineStep}

@@ -3,12 +3,12 @@ use Rattle.std.proofs.Common.{◌≡◌, ◌∙◌, ◌⊎◌, inl, inr, ap, ℕ
 use Rattle.std.proofs.lemmas.Bool.Decides.{nat_tests}
 use Rattle.dh_base.specs.declared.codes.Refusal.{Refusal}
 use Rattle.dh_changes.specs.declared.change.Change.{Change}
-use Rattle.meta_parts.specs.declared.held.Records.{Records}
+use Rattle.dh_metadata.specs.declared.held.Records.{Records}
 use Rattle.change_log.specs.declared.limits.Limits.{Limits}
 use Rattle.change_log.specs.Log.{writes_of}
-use Rattle.change_requests.specs.Requests.{Asked, judged, is_report_status}
-use Rattle.change_requests.specs.declared.request.Judged.{Judged}
-use Rattle.change_requests.proofs.StatusLemmas.{report-status}
+use Rattle.engine.specs.Requests.{Asked, judged, is_report_status}
+use Rattle.engine.specs.declared.request.Judged.{Judged}
+use Rattle.engine.proofs.StatusLemmas.{report-status}
 use Rattle.engine.specs.Machine.{State, Step, IsReplyBy, report_of, judged_in}
 use Rattle.engine.specs.Machine.Act.{changed}
 use Rattle.engine.specs.declared.machine.Report.{Report}
@@ -18,7 +18,7 @@ use Rattle.dh_base.specs.declared.codes.Code.{Code}
 use Rattle.dh_base.specs.declared.codes.Code.TheVariants.{F1, F2, F3, F4, F5, F6, F7, F8, F10, F11, F12, F13, F14, F15, F16, F17, F18, F19, F20, F21}
 use Rattle.dh_base.specs.declared.codes.Code.TheVariants.{F22, F23, F30, F31, F32, F40, F41, F42, F43, F44, F45, C1, C2, C3, C4, C5, C6, C7, C8, C9, C10}
 use Rattle.dh_base.specs.declared.codes.Code.TheVariants.{C11, C12, C13, C14, C15, T1, T2, T3, T4, T5, T6, T7, T8, T9, T10, T11, T12, T13, T14}
-use Rattle.wire_replies.specs.Heads.{is_reply_status}
+use Rattle.request_session.specs.Heads.{is_reply_status}
 
 pub has_reply : (code : Code) → is_reply_status (status_of code) ≡ true
 unfolding is_reply_status

@@ -5,9 +5,9 @@ use Rattle.dh_base.specs.Memory.{IsCause}
 use Rattle.dh_base.specs.declared.memory.Memory.{Memory}
 use Rattle.dh_base.specs.declared.plain.CutKind.{CutKind}
 use Rattle.dh_changes.specs.declared.change.Change.{Change}
-use Rattle.meta_parts.specs.declared.held.Records.{Records}
+use Rattle.dh_metadata.specs.declared.held.Records.{Records}
 use Rattle.change_log.specs.declared.limits.Limits.{Limits}
-use Rattle.query_forms.specs.declared.plain.Query.{Query}
+use Rattle.query_lang.specs.declared.plain.Query.{Query}
 use Rattle.request_session.specs.Replies.{text_in}
 use Rattle.request_session.specs.declared.reply.Reply.{Reply}
 use Rattle.table_rows.specs.Store.{Listed, Contents, contents_in}

@@ -12,7 +12,7 @@ use Rattle.change_log.specs.declared.limits.Limits.{Limits}
 use Rattle.http_wire.specs.Next.{Found, ended, cut, refused, whole, IsNext}
 use Rattle.http_wire.specs.declared.request.Request.{Request}
 use Rattle.http_wire.proofs.NextLaws.{next_unique}
-use Rattle.meta_parts.specs.declared.held.Records.{Records}
+use Rattle.dh_metadata.specs.declared.held.Records.{Records}
 use Rattle.meta_reader.specs.declared.fault.MetaFault.{MetaFault}
 use Rattle.meta_reader.specs.Read.{metadata_of_bytes}
 use Rattle.request_session.specs.Replies.{memory_reply, refused_text}

@@ -8,9 +8,9 @@ use Rattle.http_wire.specs.declared.request.Request.{Request}
 use Rattle.dh_periods.specs.Moment.{day_of}
 use Rattle.query_answer.specs.Answer.{answer_of}
 use Rattle.query_answer.proofs.UnseenLemmas.{answer_of-same}
-use Rattle.query_forms.specs.Given.{refusal}
-use Rattle.query_forms.specs.declared.plain.Query.{Query}
-use Rattle.wire_replies.specs.Bodies.{error_text}
+use Rattle.query_lang.specs.Given.{refusal}
+use Rattle.query_lang.specs.declared.plain.Query.{Query}
+use Rattle.request_session.specs.Bodies.{error_text}
 use Rattle.web_routes.specs.Calls.{routed}
 use Rattle.web_routes.specs.declared.call.Call.{Call}
 use Rattle.web_routes.specs.declared.call.Call.TheVariants as call

@@ -1,8 +1,8 @@
 -- A change: one step of the machine, and its report.
 use Rattle.std.specs.Prelude.{◌≡◌, ℕ, ℤ, Bool, List, Option, Some, IfOk, Result}
-use Rattle.record_index.specs.declared.outcome.Who.TheVariants.{User}
-use Rattle.change_requests.specs.Requests.{Asked}
-use Rattle.change_requests.specs.declared.request.ChangeRequest.{ChangeRequest}
+use Rattle.dh_changes.specs.declared.outcome.Who.TheVariants.{User}
+use Rattle.engine.specs.Requests.{Asked}
+use Rattle.engine.specs.declared.request.ChangeRequest.{ChangeRequest}
 use Rattle.engine.specs.Machine.{Step}
 use Rattle.engine.specs.Machine.Act.{changed}
 use Rattle.engine.specs.Seen.{Seen, Brought}

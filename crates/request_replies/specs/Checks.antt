@@ -3,8 +3,8 @@ use Rattle.std.specs.Prelude.{ℕ, Bool, List, take, Option, None, Some, Result,
 use Rattle.serde_json.specs.Written.{compact_text}
 use Rattle.dh_base.specs.declared.codes.Code.TheVariants.{F18}
 use Rattle.dh_changes.specs.declared.change.Change.{Change}
-use Rattle.meta_parts.specs.declared.held.Records.{Records}
-use Rattle.query_forms.specs.Given.{refusal}
+use Rattle.dh_metadata.specs.declared.held.Records.{Records}
+use Rattle.query_lang.specs.Given.{refusal}
 use Rattle.cell_values.specs.Seen.{seen_of}
 use Rattle.table_rows.specs.Store.{Contents}
 use Rattle.request_session.specs.Replies.{reply_text}

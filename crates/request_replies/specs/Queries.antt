@@ -1,8 +1,8 @@
 -- A query: a look at the tables, and the answer over what the user sees of them.
 use Rattle.std.specs.Prelude.{ℕ, Bool, List, take, Option, None, Some, Result, Ok, Err}
 use Rattle.dh_changes.specs.declared.change.Change.{Change}
-use Rattle.meta_parts.specs.declared.held.Records.{Records}
-use Rattle.query_forms.specs.declared.plain.Query.{Query}
+use Rattle.dh_metadata.specs.declared.held.Records.{Records}
+use Rattle.query_lang.specs.declared.plain.Query.{Query}
 use Rattle.query_answer.specs.Answer.{answer_of}
 use Rattle.cell_values.specs.Seen.{seen_of}
 use Rattle.table_rows.specs.Store.{Contents}

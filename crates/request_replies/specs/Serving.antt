@@ -1,7 +1,7 @@
 -- A session over metadata: it starts with an empty log, and what it is told is kept in memory alone.
 use Rattle.std.specs.Prelude.{◌≡◌, ℕ, ℤ, Bool, List, Option}
 use Rattle.http_wire.specs.declared.request.Request.{Request}
-use Rattle.meta_parts.specs.declared.held.Records.{Records}
+use Rattle.dh_metadata.specs.declared.held.Records.{Records}
 use Rattle.engine.specs.Seen.{Seen}
 use Rattle.engine.specs.InMemory.{started}
 use Rattle.request_replies.specs.Unseen.{UnseenStep}

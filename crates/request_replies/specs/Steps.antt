@@ -9,7 +9,7 @@ use Rattle.web_routes.specs.declared.call.Call.TheVariants as call
 use Rattle.change_log.specs.Log.{NeverFails}
 use Rattle.engine.specs.Seen.{Seen, IsSound}
 use Rattle.engine.specs.MetaAfter.{published_meta}
-use Rattle.change_requests.specs.declared.request.ChangeRequest.TheVariants.{Values, Completion, Approval, Tracker}
+use Rattle.engine.specs.declared.request.ChangeRequest.TheVariants.{Values, Completion, Approval, Tracker}
 use Rattle.request_replies.specs.Texts.{text_of, IsTold, refusal_reply}
 use Rattle.request_replies.specs.Queries.{QueryReply}
 use Rattle.request_replies.specs.Checks.{CheckReply, place_of}

@@ -5,8 +5,8 @@ use Rattle.dh_base.specs.declared.codes.Code.TheVariants.{F18, F19, F22, F23, F3
 use Rattle.dh_base.specs.declared.codes.Refusal.{Refusal}
 use Rattle.dh_base.specs.declared.memory.Memory.{Memory}
 use Rattle.dh_base.specs.declared.plain.CutKind.{CutKind}
-use Rattle.query_forms.specs.Given.{refusal}
-use Rattle.wire_replies.specs.Bodies.{error_text, update_text}
+use Rattle.query_lang.specs.Given.{refusal}
+use Rattle.request_session.specs.Bodies.{error_text, update_text}
 use Rattle.request_session.specs.Replies.{text_in, reply_text, memory_reply}
 use Rattle.request_session.specs.declared.reply.Reply.{Reply}
 use Rattle.engine.specs.declared.machine.Report.{Report}

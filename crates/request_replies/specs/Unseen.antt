@@ -2,7 +2,7 @@
 use Rattle.std.specs.Prelude.{◌≡◌, ◌≤◌, ℕ, ℤ, Bool, List, take, None, Some, IfSome, Ok}
 use Rattle.http_wire.specs.declared.request.Request.{Request}
 use Rattle.dh_periods.specs.Moment.{day_of}
-use Rattle.query_forms.specs.declared.plain.Query.{Query}
+use Rattle.query_lang.specs.declared.plain.Query.{Query}
 use Rattle.cell_values.specs.Seen.{SeenRecords, SameSeen, seen_of}
 use Rattle.web_routes.specs.Calls.{routed}
 use Rattle.web_routes.specs.declared.call.Call.TheVariants as call

@@ -2,7 +2,7 @@
 -- between the two.
 use Rattle.std.specs.Prelude.{◌≡◌, ℕ, Bool, List, Option, None, Some, Result, Ok, Err}
 use Rattle.dh_base.specs.declared.plain.CutKind.{CutKind}
-use Rattle.meta_parts.specs.declared.held.Records.{Records}
+use Rattle.dh_metadata.specs.declared.held.Records.{Records}
 use Rattle.change_log.specs.declared.limits.Limits.{Limits}
 use Rattle.engine.specs.Machine.{State, Step, staged_of}
 use Rattle.engine.specs.Machine.Act.{begun, swapped, dropped}

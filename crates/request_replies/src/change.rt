@@ -1,22 +1,21 @@
 //! The reply to a change.
 ghost use Rattle.std.specs.Prelude.{◌≡◌, ◌<◌, true, [], length, Some, None, IfOk};
-ghost use Rattle.wire_replies.specs.Heads.{is_reply_status};
+ghost use Rattle.request_session.specs.Heads.{is_reply_status};
 ghost use Rattle.change_log.specs.Log.{NeverFails};
 ghost use Rattle.engine.specs.Seen.{IsSound};
 ghost use Rattle.request_session.specs.Replies.{text_in};
 ghost use Rattle.request_replies.specs.Texts.{told, report_reply, IsTold, change_text, refusal_reply};
-ghost use Rattle.query_forms.specs.Given.{refusal};
+ghost use Rattle.query_lang.specs.Given.{refusal};
 ghost use Rattle.dh_base.specs.declared.codes.Code.TheVariants.{F23};
 ghost use Rattle.request_replies.specs.Changes.{ChangeReply, asking};
 
 use crate::texts::{number_reply, refusal_reply};
-use change_requests::ChangeRequest;
 use dh_base::codes::{Code, Refusal};
 use dh_base::items::Items;
 use dh_base::memory::Memory;
+use dh_changes::outcome::Who;
 use dh_outside::Keeper;
-use engine::{ChangeFault, Engine, Report};
-use record_index::outcome::Who;
+use engine::{ChangeFault, ChangeRequest, Engine, Report};
 use request_session::{Reply, whole_reply};
 use std::alloc::Global;
 

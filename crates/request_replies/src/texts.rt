@@ -1,6 +1,6 @@
 //! The texts of replies.
 ghost use Rattle.std.specs.Prelude.{◌≡◌, decimal, None, IfOk};
-ghost use Rattle.query_forms.specs.Given.{refusal};
+ghost use Rattle.query_lang.specs.Given.{refusal};
 ghost use Rattle.request_session.specs.Replies.{text_in};
 ghost use Rattle.request_replies.specs.Texts.{refusal_reply, update_reply};
 
@@ -8,9 +8,8 @@ use dh_base::codes::{Code, Refusal};
 use dh_base::items::Items;
 use dh_base::memory::Memory;
 use dh_base::plain::CutKind;
-use request_session::{Reply, whole_reply};
+use request_session::{Reply, error_body, update_body, whole_reply};
 use std::alloc::Global;
-use wire_replies::{error_body, update_body};
 
 /// The refusal with a number as its detail.
 pub(crate) fn numbered(alloc: Global, code: Code, number: u64) -> Result<Refusal, Memory>

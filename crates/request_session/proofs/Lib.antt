@@ -1,3 +1,5 @@
+pub mod HeadLemmas
+pub mod BodyLemmas
 pub mod AlongLemmas
 pub mod CodeLaws
 pub mod PromptLemmas

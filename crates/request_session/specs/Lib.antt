@@ -1,3 +1,5 @@
+pub mod Bodies
+pub mod Heads
 pub mod Along
 pub mod Codes
 pub mod Prompt

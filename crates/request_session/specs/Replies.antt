@@ -1,9 +1,9 @@
 -- The texts of replies: a head and a body.
 use Rattle.std.specs.Prelude.{◌≡◌, ◌⊎◌, ℕ, Bool, false, List, [], ◌++◌, Option, None, length}
-use Rattle.wire_replies.specs.Heads.{head_of}
+use Rattle.request_session.specs.Heads.{head_of}
 use Rattle.dh_base.specs.Codes.{status_of}
 use Rattle.dh_base.specs.declared.codes.Code.{Code}
-use Rattle.wire_replies.specs.Bodies.{error_text, memory_text}
+use Rattle.request_session.specs.Bodies.{error_text, memory_text}
 use Rattle.request_session.specs.declared.reply.Reply.{Reply}
 
 -- all the bytes of a reply

@@ -1,5 +1,5 @@
 //! A reply in its two parts.
-use wire_replies::Head;
+use crate::Head;
 
 /// A reply: its head, which tells how long the body is, and the body.
 #[derive(Drop)]

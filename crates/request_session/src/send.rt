@@ -1,21 +1,21 @@
 //! Writing replies.
 ghost use Rattle.std.specs.Prelude.{◌≡◌, ◌≤◌, ◌++◌, List, ℕ, OnErr, None, length};
 ghost use Rattle.dh_outside.specs.Faults.{Rose};
-ghost use Rattle.wire_replies.specs.Bodies.{memory_text};
-ghost use Rattle.wire_replies.specs.Heads.{head_of};
+ghost use Rattle.request_session.specs.Bodies.{memory_text};
+ghost use Rattle.request_session.specs.Heads.{head_of};
 ghost use Rattle.request_session.specs.Replies.{memory_reply, RefusesBy, text_in};
 ghost use Rattle.request_session.specs.Turn.{Sent};
 
+use crate::heads::head;
 use crate::machine::Machine;
 use crate::peer::Peer;
 use crate::reply::Reply;
 use crate::texts::refused_reply;
+use crate::{Head, memory_body};
 use dh_base::codes::Code;
 use dh_outside::{Failed, Sink, write_all};
 use http_wire::Request;
 use std::alloc::Global;
-use wire_replies::heads::head;
-use wire_replies::{Head, memory_body};
 
 #[tactic(auto, using(crate::proofs::SendLemmas::sent_by))]
 fn send<O: Sink>(output: &mut O, text: &[u8]) -> Result<(), Failed>
@@ -40,7 +40,7 @@ fn send_both<O: Sink>(output: &mut O, first: &[u8], second: &[u8]) -> Result<(),
 }
 
 // The head of the reply for a lack of memory.
-#[tactic(auto, using(wire_replies::proofs::HeadLemmas::memory_status))]
+#[tactic(auto, using(crate::proofs::HeadLemmas::memory_status))]
 fn memory_head(keep: bool) -> Head
     ensures { result ≡ head_of 507 (length memory_text) None None keep }
 {

@@ -1,15 +1,15 @@
 //! The texts of replies.
 ghost use Rattle.std.specs.Prelude.{◌≡◌, true, IfOk};
-ghost use Rattle.wire_replies.specs.Heads.{is_reply_status};
+ghost use Rattle.request_session.specs.Heads.{is_reply_status};
 ghost use Rattle.request_session.specs.Replies.{text_in, reply_text, refused_text};
 
+use crate::error_body;
+use crate::heads::head;
 use crate::reply::Reply;
 use dh_base::codes::{Code, Refusal};
 use dh_base::items::Items;
 use dh_base::memory::Memory;
 use std::alloc::Global;
-use wire_replies::error_body;
-use wire_replies::heads::head;
 
 /// A whole reply: its head, which tells how long the body is, and the body. This takes no memory.
 #[tactic(auto, unfolding(crate::specs::Replies::reply_text))]
@@ -28,7 +28,7 @@ pub fn whole_reply(
 }
 
 /// The reply that refuses what isn't a request, after which the connection ends.
-#[tactic(auto, using(wire_replies::proofs::HeadLemmas::has_reply), unfolding(crate::specs::Replies::refused_text))]
+#[tactic(auto, using(crate::proofs::HeadLemmas::has_reply), unfolding(crate::specs::Replies::refused_text))]
 pub(crate) fn refused_reply(alloc: Global, code: Code) -> Result<Reply, Memory>
     ensures { IfOk result (λ reply. text_in reply ≡ refused_text code) }
 {

@@ -4,16 +4,15 @@ ghost use Rattle.std.specs.Arc.{arc_value};
 ghost use Rattle.engine.specs.Machine.{start};
 
 use change_log::Limits;
-use change_requests::ChangeRequest;
 use dh_base::items::Items;
 use dh_base::limits::{MOST_LOG_BYTES, MOST_RECORDS, MOST_UPDATES};
 use dh_base::memory::Memory;
+use dh_changes::outcome::{ImportStrategy, Who};
 use dh_changes::text::Text;
 use dh_metadata::metadata::Metadata;
-use engine::{Engine, Unkept};
+use engine::{ChangeRequest, Engine, Unkept};
 use import_forms::set::{SetParams, SetValue, ValueSet};
 use meta_reader::read::read;
-use record_index::outcome::{ImportStrategy, Who};
 use shared_engine::{Naming, Opened, Pass, Shared, open};
 use std::alloc::Global;
 use std::sync::{Arc, Wait};

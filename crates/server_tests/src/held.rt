@@ -3,10 +3,10 @@ ghost use Rattle.std.specs.Prelude.{◌≡◌, ℕ, None, refl, IfOk};
 ghost use Rattle.net_doors.specs.Sockets.{SocketSeen, shown_by};
 
 use crate::links::{FILE, clock};
-use build_workers::Gate;
 use dh_base::memory::Memory;
 use dh_outside::{Failed, Link, MemLink, MemSink, Sink, Source};
 use net_doors::{End, Listener};
+use shared_engine::Gate;
 use shared_server::{Finished, ServeEnd, Setup, serve_over};
 use std::alloc::Global;
 use std::marker::Model;

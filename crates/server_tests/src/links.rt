@@ -2,10 +2,10 @@
 ghost use Rattle.std.specs.Prelude.{IfOk};
 ghost use Rattle.net_doors.specs.Memory.{IsFresh};
 
-use build_workers::OpenGate;
 use dh_base::memory::Memory;
 use dh_outside::{MemClock, MemLink, MemSink};
 use net_doors::MemDoor;
+use shared_engine::OpenGate;
 use shared_server::{Finished, ServeEnd, Setup, serve_over};
 use std::alloc::Global;
 use std::sync::Wait;

@@ -2,10 +2,9 @@
 ghost use Rattle.std.specs.Prelude.{◌≡◌};
 
 use crate::given::{import, opened};
-use build_workers::{Gate, Meeting, OpenGate};
 use dh_base::plain::CutKind;
 use engine::Unkept;
-use shared_engine::{Naming, Opened, Pass, Shared};
+use shared_engine::{Gate, Meeting, Naming, OpenGate, Opened, Pass, Shared};
 use std::alloc::Global;
 use std::marker::Brand;
 use std::sync::Wait;

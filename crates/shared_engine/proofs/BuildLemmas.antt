@@ -7,9 +7,9 @@ use Rattle.dh_base.specs.declared.plain.CutKind.{CutKind}
 use Rattle.dh_base.specs.declared.plain.CutKind.TheVariants.{Full, Latest}
 use Rattle.dh_base.specs.declared.memory.Memory.{Memory}
 use Rattle.dh_changes.specs.declared.change.Change.{Change}
-use Rattle.meta_parts.specs.declared.held.Records.{Records}
-use Rattle.year_tables.specs.Parts.{YearPart, part_of}
-use Rattle.build_workers.specs.Places.{ArePlaces}
+use Rattle.dh_metadata.specs.declared.held.Records.{Records}
+use Rattle.table_sums.specs.YearParts.{YearPart, part_of}
+use Rattle.shared_engine.specs.Places.{ArePlaces}
 use Rattle.engine.specs.declared.machine.Cut.{Cut}
 use Rattle.engine.specs.declared.machine.CutFault.{CutFault}
 use Rattle.engine.specs.declared.machine.Staged.{Staged}

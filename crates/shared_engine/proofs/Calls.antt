@@ -4,13 +4,13 @@ use Rattle.std.proofs.Common.{Option, Some, None, IfSome, IsSome, append_assoc, 
 use Rattle.std.proofs.Common.{inl, inr, refl, sym, ap, ◌∙◌, subst, arith, eq-eqb, le_refl, le_trans}
 use Rattle.std.specs.Prelude.{Result, Ok, Err, ◌==◌, IsTrue}
 use Rattle.dh_base.specs.declared.memory.Memory.{Memory}
-use Rattle.history_word.specs.Views.{own, LockView, TokenView, Follows, IsOneOf}
-use Rattle.history_word.specs.Rule.{Names}
-use Rattle.history_word.proofs.Histories.{own-append}
+use Rattle.shared_engine.specs.Views.{own, LockView, TokenView, Follows, IsOneOf}
+use Rattle.shared_engine.specs.Rule.{Names}
+use Rattle.shared_engine.proofs.Histories.{own-append}
 use Rattle.std.proofs.lemmas.List.{get_or_push, take_all}
-use Rattle.meta_parts.specs.declared.held.Records.{Records}
+use Rattle.dh_metadata.specs.declared.held.Records.{Records}
 use Rattle.change_log.specs.declared.limits.Limits.{Limits}
-use Rattle.change_requests.specs.Requests.{Asked}
+use Rattle.engine.specs.Requests.{Asked}
 use Rattle.engine.specs.declared.machine.Report.{Report}
 use Rattle.engine.specs.declared.machine.ChangeFault.{ChangeFault}
 use Rattle.engine.specs.declared.machine.ChangeFault.TheVariants as change

@@ -1,3 +1,6 @@
+pub mod PlaceLemmas
+pub mod Histories
+mod Moves
 pub mod Growth
 pub mod Calls
 pub mod ShareLemmas

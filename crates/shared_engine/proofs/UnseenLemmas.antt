@@ -1,6 +1,6 @@
 -- What isn't seen changes no answer.
 use Rattle.std.proofs.Common.{sym, ap, ◌∙◌}
-use Rattle.meta_parts.specs.declared.held.Records.{Records}
+use Rattle.dh_metadata.specs.declared.held.Records.{Records}
 use Rattle.table_rows.specs.Store.{Contents}
 use Rattle.cell_values.specs.Seen.{seen_of}
 use Rattle.query_answer.specs.Answer.{answer_of}

@@ -6,10 +6,10 @@ use Rattle.dh_base.specs.declared.limits.TheConstants.{MOST_RECORDS}
 use Rattle.dh_base.specs.declared.plain.CutKind.{CutKind}
 use Rattle.dh_base.specs.declared.plain.CutKind.TheVariants.{Full, Latest}
 use Rattle.dh_changes.specs.declared.change.Change.{Change}
-use Rattle.meta_parts.specs.declared.held.Records.{Records}
-use Rattle.change_bytes.specs.Forms.{WriteFits}
+use Rattle.dh_metadata.specs.declared.held.Records.{Records}
+use Rattle.change_log.specs.Forms.{WriteFits}
 use Rattle.change_log.specs.Log.{writes_of}
-use Rattle.year_tables.specs.Parts.{YearPart, part_of}
+use Rattle.table_sums.specs.YearParts.{YearPart, part_of}
 use Rattle.engine.specs.declared.machine.Cut.{Cut}
 use Rattle.engine.specs.Machine.{has_ticket, number_in}
 use Rattle.engine.specs.Seen.{Seen, IsPartOf}

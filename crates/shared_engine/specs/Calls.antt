@@ -2,7 +2,7 @@
 use Rattle.std.specs.Prelude.{◌≡◌, ◌≤◌, ◌++◌, ◌∷◌, ◌⊎◌, [], ℕ, List, Result, Ok, Err}
 use mathlib.Core.List.{IsPrefix}
 use Rattle.dh_base.specs.declared.plain.CutKind.{CutKind}
-use Rattle.history_word.specs.Views.{own, TokenView}
+use Rattle.shared_engine.specs.Views.{own, TokenView}
 use Rattle.engine.specs.declared.machine.Staged.{Staged}
 use Rattle.engine.specs.declared.machine.CutFault.{CutFault}
 use Rattle.engine.specs.declared.machine.CutFault.TheVariants as cut

@@ -1,7 +1,7 @@
 -- The history of a running system: who made which step of the machine, with its reply, and the keeper's count of faults after it.
 use Rattle.std.specs.Prelude.{unwrap_or, ◌≡◌, ◌≤◌, ◌==◌, if◌then◌else◌, ◌∷◌, [], ℕ, Bool, true, false, List, Option, None, Some, Result, Ok, Err, ⊤}
 use Rattle.dh_outside.specs.Faults.{Rose}
-use Rattle.meta_parts.specs.declared.held.Records.{Records}
+use Rattle.dh_metadata.specs.declared.held.Records.{Records}
 use Rattle.change_log.specs.declared.limits.Limits.{Limits}
 use Rattle.engine.specs.declared.machine.Report.{Report}
 use Rattle.engine.specs.declared.machine.ChangeFault.{ChangeFault}

@@ -1,8 +1,8 @@
 -- Legal histories of one system, made for one metadata and one set of limits, over a keeper that had so many faults when it began.
 use Rattle.std.specs.Prelude.{◌≡◌, ◌≤◌, ℕ, List, [], false, true, map, take, length, None, Some}
 use Rattle.atomic_table.specs.Seated.{TableId}
-use Rattle.history_word.specs.Views.{LockView}
-use Rattle.meta_parts.specs.declared.held.Records.{Records}
+use Rattle.shared_engine.specs.Views.{LockView}
+use Rattle.dh_metadata.specs.declared.held.Records.{Records}
 use Rattle.change_log.specs.declared.limits.Limits.{Limits}
 use Rattle.dh_base.specs.declared.plain.CutKind.{CutKind}
 use Rattle.dh_changes.specs.declared.change.Change.{Change}

@@ -2,7 +2,7 @@
 use Rattle.std.specs.Prelude.{◌≡◌, ◌≤◌, ◌++◌, ◌∷◌, [], ℕ, List, Ok}
 use Rattle.dh_base.specs.declared.plain.CutKind.{CutKind}
 use Rattle.dh_changes.specs.declared.change.Change.{Change}
-use Rattle.history_word.specs.Views.{own, TokenView}
+use Rattle.shared_engine.specs.Views.{own, TokenView}
 use Rattle.engine.specs.declared.machine.Staged.{Staged}
 use Rattle.engine.specs.Machine.Act.{looked}
 use Rattle.engine.specs.Histories.{last_swap}

@@ -1,3 +1,7 @@
+pub mod Places
+pub mod Views
+pub mod Rule
+pub mod Steps
 pub mod Entries
 pub mod Histories
 pub mod Laws

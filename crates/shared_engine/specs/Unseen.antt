@@ -1,8 +1,8 @@
 -- What a user doesn't see of the published changes changes no answer to the user.
 use Rattle.std.specs.Prelude.{◌≡◌, ℕ, List, take}
 use Rattle.dh_changes.specs.declared.change.Change.{Change}
-use Rattle.meta_parts.specs.declared.held.Records.{Records}
-use Rattle.query_forms.specs.declared.plain.Query.{Query}
+use Rattle.dh_metadata.specs.declared.held.Records.{Records}
+use Rattle.query_lang.specs.declared.plain.Query.{Query}
 use Rattle.query_answer.specs.Answer.{answer_of}
 use Rattle.table_rows.specs.Store.{Contents}
 use Rattle.cell_values.specs.Seen.{SeenRecords, SameSeen, seen_of}

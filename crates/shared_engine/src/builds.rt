@@ -1,12 +1,12 @@
 //! The parts of an update's years: they are built outside the lock, and handed in under it.
 ghost use Rattle.std.specs.Prelude.{◌≡◌, true, map, take, IfOk, IfSome};
 ghost use Rattle.std.specs.Arc.{arc_value};
-ghost use Rattle.build_workers.specs.Places.{ArePlaces};
+ghost use Rattle.shared_engine.specs.Places.{ArePlaces};
 ghost use Rattle.engine.specs.Machine.{has_ticket, number_in};
 ghost use Rattle.engine.specs.Seen.{IsPartOf};
 ghost use Rattle.shared_engine.specs.Builds.{CanBuild, IsYearOf, ArePartsOf, HasParts};
 
-use build_workers::{Builder, Gate, build_each};
+use crate::{Builder, Gate, build_each};
 use dh_base::memory::Memory;
 use dh_base::plain::CutKind;
 use dh_changes::change::Change;
@@ -17,7 +17,7 @@ use std::alloc::Global;
 use std::marker::Model;
 use std::sync::Arc;
 use std::thread::Threads;
-use year_tables::Partition;
+use table_sums::Partition;
 
 /// Builds the parts of years of what a cut's changes leave, which were read once for all of them. Contracts see the metadata and
 /// the changes.

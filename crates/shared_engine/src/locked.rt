@@ -1,7 +1,7 @@
 //! What lies under the lock: the engine, and the seat that knows the whole history. Each call takes its caller in, makes one step of
 //! the machine, adds its entry, and gives the caller its token back.
 ghost use Rattle.std.specs.Prelude.{◌≡◌, ◌∷◌, ℕ, [], IfOk, map, take};
-ghost use Rattle.history_word.specs.Views.{own};
+ghost use Rattle.shared_engine.specs.Views.{own};
 ghost use Rattle.std.specs.Arc.{arc_value};
 ghost use Rattle.value_import.specs.Outcomes.{IsKnown};
 ghost use Rattle.table_rows.specs.Store.{contents_in};
@@ -18,16 +18,15 @@ ghost use Rattle.shared_engine.specs.Calls.{IsCall};
 use crate::names::{Item, Naming};
 use crate::notes::{note_change, note_cut, note_end, note_look};
 use crate::steps::end_with;
-use change_requests::ChangeRequest;
+use crate::{HistoryTable, LockSeat, Token};
 use dh_base::memory::Memory;
 use dh_base::plain::CutKind;
+use dh_changes::outcome::Who;
 use dh_outside::Keeper;
-use engine::{ChangeFault, Cut, CutFault, Engine, LookFault, Report, View};
-use history_word::{HistoryTable, LockSeat, Token};
-use record_index::outcome::Who;
+use engine::{ChangeFault, ChangeRequest, Cut, CutFault, Engine, LookFault, Report, View};
 use std::alloc::Global;
 use std::marker::{Model, PhantomData};
-use year_tables::Partition;
+use table_sums::Partition;
 
 /// The engine with its history. Contracts see that it is there, and its type that it stands where a legal history leaves it.
 #[derive(Drop)]

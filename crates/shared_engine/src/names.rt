@@ -1,5 +1,5 @@
 //! What an entry of the history is, and the name that ties the engine under the lock to the words beside it.
-use history_word::Recorded;
+use crate::Recorded;
 use std::marker::{Brand, Model};
 
 /// An entry of the history, as contracts see it. No value of it is made.

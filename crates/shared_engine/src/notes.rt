@@ -7,13 +7,12 @@ ghost use Rattle.shared_engine.specs.Entries.{entry_by, entries_by};
 ghost use Rattle.shared_engine.specs.Ends.{end_act, told_after};
 
 use crate::names::Item;
-use change_requests::ChangeRequest;
+use crate::{EntryName, HistoryTable, LockSeat};
 use dh_base::memory::Memory;
 use dh_base::plain::CutKind;
+use dh_changes::outcome::Who;
 use dh_outside::Keeper;
-use engine::{ChangeFault, Cut, CutFault, Engine, LookFault, Report, View};
-use history_word::{EntryName, HistoryTable, LockSeat};
-use record_index::outcome::Who;
+use engine::{ChangeFault, ChangeRequest, Cut, CutFault, Engine, LookFault, Report, View};
 use std::marker::Brand;
 
 fn change_lacks(reply: &Result<Report, ChangeFault>) -> bool

@@ -3,7 +3,7 @@ ghost use Rattle.std.specs.Prelude.{◌≡◌, ◌≤◌, ◌∷◌, [], ℕ, Li
 ghost use Rattle.std.specs.Arc.{arc_value};
 ghost use Rattle.value_import.specs.Outcomes.{IsKnown};
 ghost use Rattle.table_rows.specs.Store.{contents_in};
-ghost use Rattle.history_word.specs.Views.{own};
+ghost use Rattle.shared_engine.specs.Views.{own};
 ghost use Rattle.engine.specs.Machine.{start};
 ghost use Rattle.engine.specs.Machine.Act.{changed, begun, looked};
 ghost use Rattle.engine.specs.Seen.{update_in, published_in};
@@ -18,20 +18,18 @@ ghost use Rattle.shared_engine.specs.Calls.{IsCall, IsUpdate};
 use crate::builds::build_parts;
 use crate::locked::Locked;
 use crate::names::{Item, Naming};
-use build_workers::Gate;
-use change_requests::ChangeRequest;
+use crate::{Gate, HistoryTable, LockSeat, Token};
 use dh_base::memory::Memory;
 use dh_base::plain::CutKind;
+use dh_changes::outcome::Who;
 use dh_metadata::metadata::Metadata;
 use dh_outside::Keeper;
-use engine::{ChangeFault, Cut, CutFault, Engine, LookFault, Report, View};
-use history_word::{HistoryTable, LockSeat, Token};
-use record_index::outcome::Who;
+use engine::{ChangeFault, ChangeRequest, Cut, CutFault, Engine, LookFault, Report, View};
 use std::alloc::Global;
 use std::marker::{Model, PhantomData};
 use std::sync::{Arc, Mutex, Wait};
 use std::thread::Threads;
-use year_tables::Partition;
+use table_sums::Partition;
 
 /// A caller's pass. Contracts see the caller, the history as its last call left it, and the greatest number that it was told.
 #[derive(Drop)]
@@ -42,7 +40,7 @@ pub struct Pass<J: Naming> {
 
 impl<J: Naming> Model for Pass<J> {
     ghost use Rattle.std.specs.Prelude.{◌≡◌, unwrap_or, IfSome, IsSome};
-    ghost use Rattle.history_word.specs.Views.{TokenView};
+    ghost use Rattle.shared_engine.specs.Views.{TokenView};
     ghost use Rattle.shared_engine.specs.Entries.{Entry};
     ghost use Rattle.shared_engine.specs.Calls.{no_token};
 

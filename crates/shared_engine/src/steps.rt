@@ -10,7 +10,7 @@ use dh_base::plain::CutKind;
 use dh_outside::Keeper;
 use engine::Engine;
 use std::alloc::Global;
-use year_tables::Partition;
+use table_sums::Partition;
 
 /// Swaps an update in; out of memory it is dropped.
 #[tactic(auto, using(crate::proofs::Calls::ends))]

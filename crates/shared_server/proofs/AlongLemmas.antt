@@ -1,7 +1,7 @@
 -- A run of what has its caller's pass on loan is a run of replies for this caller.
 use Rattle.std.proofs.Common.{◌≡◌, ◌∙◌, ℕ, ℤ, Bool, List, [], ◌∷◌, ◌++◌, Option, None, Some, refl, subst}
 use Rattle.dh_outside.specs.Talk.{Talk, Heard}
-use Rattle.history_word.specs.Views.{TokenView}
+use Rattle.shared_engine.specs.Views.{TokenView}
 use Rattle.http_wire.specs.declared.request.Request.{Request}
 use Rattle.request_session.specs.Along.{Carries}
 use Rattle.request_session.specs.Prompt.{Prompt, EachRead, AllAnswered}

@@ -4,10 +4,10 @@ use Rattle.dh_base.specs.Memory.{IsCause}
 use Rattle.dh_base.specs.declared.codes.Refusal.{Refusal}
 use Rattle.dh_base.specs.declared.plain.CutKind.{CutKind}
 use Rattle.dh_changes.specs.declared.change.Change.{Change}
-use Rattle.meta_parts.specs.declared.held.Records.{Records}
-use Rattle.history_word.specs.Views.{TokenView}
+use Rattle.dh_metadata.specs.declared.held.Records.{Records}
+use Rattle.shared_engine.specs.Views.{TokenView}
 use Rattle.web_routes.specs.declared.call.Call.{Call}
-use Rattle.change_requests.specs.Requests.{Asked}
+use Rattle.engine.specs.Requests.{Asked}
 use Rattle.request_session.specs.Replies.{text_in}
 use Rattle.request_session.specs.declared.reply.Reply.{Reply}
 use Rattle.engine.specs.Machine.Act.{changed}

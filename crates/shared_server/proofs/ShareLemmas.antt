@@ -18,8 +18,8 @@ use Rattle.engine.proofs.updates.LatestUpdate.TheSendSync as latest_update
 use Rattle.engine.proofs.tables.Tables.TheSendSync as tables
 use Rattle.table_build.proofs.slots.Slot.TheSendSync as slot
 use Rattle.change_log.proofs.log.ChangeLog.TheSendSync as change_log
-use Rattle.history_word.proofs.table.HistoryTable.TheSendSync as history_table
-use Rattle.history_word.proofs.table.LockSeat.TheSendSync as lock_seat
+use Rattle.shared_engine.proofs.table.HistoryTable.TheSendSync as history_table
+use Rattle.shared_engine.proofs.table.LockSeat.TheSendSync as lock_seat
 use Rattle.shared_engine.proofs.ShareLemmas.{metadata_sync, metadata_send}
 
 -- the tables that are shown, and the updates that are begun

@@ -1,10 +1,10 @@
 -- The status of a report in a legal history is one that a reply may have.
 use Rattle.std.proofs.Common.{◌≡◌, ℕ, Bool, true, false, cond, List, [], ◌∷◌, ◌++◌, Result, Ok, Err, IfOk, refl, subst}
 use Rattle.std.specs.Prelude.{◌==◌}
-use Rattle.meta_parts.specs.declared.held.Records.{Records}
+use Rattle.dh_metadata.specs.declared.held.Records.{Records}
 use Rattle.change_log.specs.declared.limits.Limits.{Limits}
-use Rattle.change_requests.specs.Requests.{Asked}
-use Rattle.history_word.specs.Views.{own, TokenView}
+use Rattle.engine.specs.Requests.{Asked}
+use Rattle.shared_engine.specs.Views.{own, TokenView}
 use Rattle.engine.specs.Machine.{next}
 use Rattle.engine.specs.Machine.Act.{changed}
 use Rattle.engine.specs.declared.machine.Report.{Report}
@@ -13,7 +13,7 @@ use Rattle.shared_engine.specs.Calls.{IsCall}
 use Rattle.shared_engine.specs.Entries.{Entry, Stand, caller_of, entries_of, after_entry, IsRight, IsLegalFrom}
 use Rattle.shared_engine.specs.Histories.{Made, begin}
 use Rattle.request_replies.proofs.Statuses.{report_status}
-use Rattle.wire_replies.specs.Heads.{is_reply_status}
+use Rattle.request_session.specs.Heads.{is_reply_status}
 
 -- somewhere the system stands so that this entry is right
 abbrev IsRightSomewhere : Records → Limits → Entry → Type 0

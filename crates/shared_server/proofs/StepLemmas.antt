@@ -2,7 +2,7 @@
 use Rattle.std.proofs.Common.{ℕ, ℤ, Bool, None, Some, Result, Ok, Err, IfOk, refl}
 use Rattle.std.specs.Prelude.{OnErr}
 use Rattle.dh_base.specs.declared.memory.Memory.{Memory}
-use Rattle.history_word.specs.Views.{TokenView}
+use Rattle.shared_engine.specs.Views.{TokenView}
 use Rattle.http_wire.specs.declared.request.Request.{Request}
 use Rattle.request_session.specs.Replies.{text_in, memory_reply}
 use Rattle.request_session.specs.declared.reply.Reply.{Reply}

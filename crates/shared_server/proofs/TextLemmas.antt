@@ -4,8 +4,8 @@ use Rattle.std.specs.Prelude.{decimal}
 use Rattle.std.proofs.lemmas.Fmt.{length-decimal-le}
 use Rattle.dh_base.specs.declared.plain.CutKind.{CutKind}
 use Rattle.dh_base.specs.declared.plain.CutKind.TheVariants.{Full, Latest}
-use Rattle.wire_replies.specs.Bodies.{update_text, update_pieces, before_published, after_published}
-use Rattle.wire_replies.proofs.BodyLemmas.{update_by_pieces}
+use Rattle.request_session.specs.Bodies.{update_text, update_pieces, before_published, after_published}
+use Rattle.request_session.proofs.BodyLemmas.{update_by_pieces}
 
 digits_short : (n : ℕ) → n < 2 ^ 64 → length (decimal n) ≤ 20
 digits_short n small = length-decimal-le 20 n (omega arith) (omega (arith, small)) small

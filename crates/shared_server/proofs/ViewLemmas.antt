@@ -3,9 +3,9 @@ use Rattle.std.proofs.Common.{◌≡◌, ℕ, Bool, List, Option, Some, Result, 
 use Rattle.std.specs.Arc.{arc_value}
 use Rattle.dh_base.specs.declared.memory.Memory.{Memory}
 use Rattle.dh_changes.specs.declared.change.Change.{Change}
-use Rattle.meta_parts.specs.declared.held.Records.{Records}
-use Rattle.history_word.specs.Views.{TokenView}
-use Rattle.query_forms.specs.declared.plain.Query.{Query}
+use Rattle.dh_metadata.specs.declared.held.Records.{Records}
+use Rattle.shared_engine.specs.Views.{TokenView}
+use Rattle.query_lang.specs.declared.plain.Query.{Query}
 use Rattle.request_session.specs.Replies.{text_in}
 use Rattle.request_session.specs.declared.reply.Reply.{Reply}
 use Rattle.table_rows.specs.Store.{Listed, Contents, contents_in}

@@ -2,11 +2,11 @@
 use Rattle.std.specs.Prelude.{◌≡◌, ◌≤◌, ℕ, ℤ, List, [], Option}
 use Rattle.dh_outside.specs.Faults.{Rose}
 use Rattle.dh_outside.specs.Talk.{Talk}
-use Rattle.meta_parts.specs.declared.held.Records.{Records}
+use Rattle.dh_metadata.specs.declared.held.Records.{Records}
 use Rattle.net_doors.specs.Doors.{Shown, IsUntouched}
 use Rattle.net_doors.specs.Serving.{HasServed}
 use Rattle.net_doors.specs.declared.ending.Ending.{Ending}
-use Rattle.history_word.specs.Views.{TokenView, own}
+use Rattle.shared_engine.specs.Views.{TokenView, own}
 use Rattle.engine.specs.InMemory.{largest}
 use Rattle.request_session.specs.Prompt.{Prompt}
 use Rattle.request_session.specs.Session.{Served}

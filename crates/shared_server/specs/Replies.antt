@@ -2,9 +2,9 @@
 use Rattle.std.specs.Prelude.{◌≡◌, ◌⊎◌, ℕ, Bool, take, List, Option, None, Some, IfOk, Result, Ok, Err}
 use Rattle.dh_base.specs.declared.plain.CutKind.{CutKind}
 use Rattle.dh_changes.specs.declared.change.Change.{Change}
-use Rattle.meta_parts.specs.declared.held.Records.{Records}
-use Rattle.history_word.specs.Views.{TokenView}
-use Rattle.change_requests.specs.Requests.{Asked}
+use Rattle.dh_metadata.specs.declared.held.Records.{Records}
+use Rattle.shared_engine.specs.Views.{TokenView}
+use Rattle.engine.specs.Requests.{Asked}
 use Rattle.engine.specs.Machine.Act.{changed, looked}
 use Rattle.engine.specs.MetaAfter.{meta_after}
 use Rattle.engine.specs.declared.machine.Report.{Report}

@@ -1,6 +1,6 @@
 -- A connection over an engine that others use too.
 use Rattle.std.specs.Prelude.{◌≡◌, ℕ, ℤ, Bool, List}
-use Rattle.history_word.specs.Views.{TokenView}
+use Rattle.shared_engine.specs.Views.{TokenView}
 use Rattle.http_wire.specs.declared.request.Request.{Request}
 use Rattle.shared_engine.specs.Entries.{Entry}
 use Rattle.shared_engine.specs.Histories.{Made}

@@ -1,8 +1,8 @@
 -- What is told of a look at tables, by the tables that it shows.
 use Rattle.std.specs.Prelude.{ℕ, Bool, List, Option, None, Some, Result, Ok, Err}
 use Rattle.std.specs.Arc.{arc_value}
-use Rattle.meta_parts.specs.declared.held.Records.{Records}
-use Rattle.query_forms.specs.declared.plain.Query.{Query}
+use Rattle.dh_metadata.specs.declared.held.Records.{Records}
+use Rattle.query_lang.specs.declared.plain.Query.{Query}
 use Rattle.table_rows.specs.Store.{contents_in}
 use Rattle.validation.specs.declared.place.Place.{Place}
 use Rattle.engine.specs.declared.machine.View.{View}

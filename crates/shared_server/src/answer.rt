@@ -4,10 +4,9 @@ ghost use Rattle.shared_server.specs.Links.{Answered};
 use crate::serving::serve_connection;
 use crate::setup::Setup;
 use crate::system::System;
-use build_workers::Gate;
 use dh_outside::{Clock, Keeper};
 use net_doors::End;
-use shared_engine::{Naming, Shared};
+use shared_engine::{Gate, Naming, Shared};
 use std::sync::Wait;
 use std::thread::Threads;
 

@@ -5,10 +5,10 @@ ghost use Rattle.request_replies.specs.Texts.{told};
 ghost use Rattle.shared_server.specs.Replies.{ChangeReply};
 
 use crate::system::System;
-use change_requests::ChangeRequest;
 use dh_base::memory::Memory;
+use dh_changes::outcome::Who;
 use dh_outside::Keeper;
-use record_index::outcome::Who;
+use engine::ChangeRequest;
 use request_replies::change::tell;
 use request_session::Reply;
 use shared_engine::{Naming, Pass};

@@ -16,7 +16,7 @@ use dh_base::memory::Memory;
 use dh_metadata::metadata::Metadata;
 use dh_outside::Keeper;
 use engine::{LookFault, View};
-use query_forms::Query;
+use query_lang::Query;
 use request_replies::check::{by_user, place_of};
 use request_replies::query::over_rows;
 use request_replies::texts::number_reply;

@@ -12,7 +12,6 @@ ghost use Rattle.shared_server.specs.declared.over_file.ServeEnd.TheVariants as 
 
 use crate::setup::{Setup, open_over};
 use crate::workers::serve_opened;
-use build_workers::Gate;
 use dh_base::memory::Memory;
 use dh_metadata::metadata::Metadata;
 use dh_outside::{Clock, Failed, Sink, write_all};
@@ -21,7 +20,7 @@ use meta_reader::fault::{MetaFault, Which};
 use meta_reader::line::fault_line;
 use meta_reader::read::read;
 use net_doors::{End, Ending, Listener, Served};
-use shared_engine::Opened;
+use shared_engine::{Gate, Opened};
 use std::alloc::Global;
 use std::sync::Wait;
 use std::thread::Threads;

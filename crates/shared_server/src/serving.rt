@@ -14,12 +14,11 @@ ghost use Rattle.shared_server.specs.Steps.{SharedReply};
 use crate::replier::SharedReplier;
 use crate::system::System;
 use crate::updating::{ByCall, Updates, Updating};
-use build_workers::Gate;
 use dh_base::plain::CutKind;
 use dh_outside::{Clock, Keeper, Link};
 use engine::CutFault;
 use request_session::{Ended, serve_link};
-use shared_engine::{Naming, Pass};
+use shared_engine::{Gate, Naming, Pass};
 use std::sync::Wait;
 use std::thread::Threads;
 

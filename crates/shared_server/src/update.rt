@@ -9,10 +9,9 @@ use dh_base::memory::Memory;
 use dh_base::plain::CutKind;
 use engine::CutFault;
 use request_replies::update::not_begun;
-use request_session::{Reply, whole_reply};
+use request_session::{Reply, update_body, whole_reply};
 use shared_engine::{Naming, Pass};
 use std::alloc::Global;
-use wire_replies::update_body;
 
 // As many bytes as the body of a reply to an update may have.
 const ROOM: usize = 128;

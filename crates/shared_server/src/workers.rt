@@ -6,10 +6,9 @@ ghost use Rattle.shared_server.specs.Links.{Answered, Untouched};
 
 use crate::answer::answer_link;
 use crate::setup::Setup;
-use build_workers::Gate;
 use dh_outside::{Clock, Keeper};
 use net_doors::{End, Listener, Served, serve_all};
-use shared_engine::{Naming, Opened, Shared};
+use shared_engine::{Gate, Naming, Opened, Shared};
 use std::marker::Brand;
 use std::sync::Wait;
 use std::thread::Threads;

@@ -8,10 +8,10 @@ use Rattle.dh_changes.specs.declared.change.Write.TheVariants as write
 use Rattle.dh_changes.specs.declared.keys.RegKey.{RegKey}
 use Rattle.dh_changes.specs.declared.tracker.Event.{Event}
 use Rattle.dh_changes.specs.declared.tracker.Enrollment.{Enrollment}
-use Rattle.record_index.specs.declared.said.Said.{Said}
-use Rattle.record_index.specs.declared.said.Said.TheVariants as said
-use Rattle.record_index.specs.Said.{same_id, said_by, last_said, of_event, of_enrollment, of_registration}
-use Rattle.record_index.specs.Facts.{Facts, facts_in}
+use Rattle.dh_changes.specs.declared.said.Said.{Said}
+use Rattle.dh_changes.specs.declared.said.Said.TheVariants as said
+use Rattle.dh_changes.specs.Said.{same_id, said_by, last_said, of_event, of_enrollment, of_registration}
+use Rattle.dh_changes.specs.Facts.{Facts, facts_in}
 use Rattle.dh_changes.specs.Keys.{same_reg_key}
 use Rattle.table_rows.specs.Events.{is_day_if_any}
 use Rattle.table_build.specs.Log.{is_of_days}

@@ -8,8 +8,8 @@ use Rattle.dh_changes.specs.declared.change.Change.{Change}
 use Rattle.dh_changes.specs.declared.change.Write.{Write}
 use Rattle.dh_changes.specs.declared.keys.ValueKey.{ValueKey}
 use Rattle.dh_changes.specs.declared.keys.RegKey.{RegKey}
-use Rattle.meta_parts.specs.declared.held.Records.{Records}
-use Rattle.record_index.specs.Facts.{Facts, facts_in}
+use Rattle.dh_metadata.specs.declared.held.Records.{Records}
+use Rattle.dh_changes.specs.Facts.{Facts, facts_in}
 use Rattle.table_rows.specs.declared.row.Row.{Row}
 use Rattle.table_rows.specs.declared.row.RowKey.{RowKey}
 use Rattle.table_rows.specs.declared.event.EventRow.{EventRow}
@@ -18,9 +18,9 @@ use Rattle.table_rows.specs.Rows.{key_of}
 use Rattle.table_rows.specs.Order.{key_cmp}
 use Rattle.table_rows.specs.Store.{Contents, contents_in, is_store, have_own_places}
 use Rattle.table_rows.proofs.OrderLemmas.{key_total}
-use Rattle.year_tables.specs.Years.{period_year, day_year, is_row_in, is_event_in, is_reg_in, is_year_if_any}
-use Rattle.year_tables.specs.Parts.{in_year, listed_as}
-use Rattle.year_tables.proofs.CutLemmas.{no-years, year-store}
+use Rattle.table_sums.specs.Years.{period_year, day_year, is_row_in, is_event_in, is_reg_in, is_year_if_any}
+use Rattle.table_sums.specs.YearParts.{in_year, listed_as}
+use Rattle.table_sums.proofs.CutLemmas.{no-years, year-store}
 use Rattle.table_build.specs.declared.events.EventPlace.{EventPlace}
 use Rattle.table_build.specs.declared.regs.RegPlace.{RegPlace}
 use Rattle.table_build.specs.InYear.{is_value_key_in, is_reg_key_in, is_place_in}

@@ -10,14 +10,14 @@ use Rattle.dh_periods.proofs.TextLemmas.{and_then-some, map-some}
 use Rattle.dh_changes.specs.declared.keys.ValueKey.{ValueKey}
 use Rattle.org_tree.specs.Units.{IsTree, order_of}
 use Rattle.org_tree.proofs.OrderLemmas.{order-differs}
-use Rattle.meta_parts.proofs.DistinctLemmas.{place_of-below}
-use Rattle.meta_parts.proofs.PlaceLemmas.{place_of-at}
-use Rattle.meta_parts.specs.declared.held.Records.{Records}
-use Rattle.meta_parts.specs.declared.records.Unit.{Unit as OrgUnit}
-use Rattle.meta_parts.specs.declared.kind.Kind.{Kind}
-use Rattle.meta_parts.specs.declared.kind.Kind.TheVariants.{DataElement, OrganisationUnit, CategoryOptionCombo}
+use Rattle.dh_metadata.proofs.DistinctLemmas.{place_of-below}
+use Rattle.dh_metadata.proofs.PlaceLemmas.{place_of-at}
+use Rattle.dh_metadata.specs.declared.held.Records.{Records}
+use Rattle.dh_metadata.specs.declared.records.Unit.{Unit as OrgUnit}
+use Rattle.dh_metadata.specs.declared.kind.Kind.{Kind}
+use Rattle.dh_metadata.specs.declared.kind.Kind.TheVariants.{DataElement, OrganisationUnit, CategoryOptionCombo}
 use Rattle.dh_metadata.specs.Objects.{ids_of, find_of}
-use Rattle.record_index.specs.Facts.{Facts}
+use Rattle.dh_changes.specs.Facts.{Facts}
 use Rattle.dh_records.specs.Access.{tree}
 use Rattle.dh_records.specs.Approved.{approved_at, approved_of, approved_by_element}
 use Rattle.table_rows.specs.declared.row.Row.{Row}

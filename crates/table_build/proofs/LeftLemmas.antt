@@ -21,8 +21,8 @@ use Rattle.dh_changes.specs.declared.change.Write.TheVariants as write
 use Rattle.dh_changes.specs.declared.keys.ValueKey.{ValueKey}
 use Rattle.dh_changes.specs.declared.keys.RegKey.{RegKey}
 use Rattle.dh_changes.specs.declared.tracker.Event.{Event}
-use Rattle.meta_parts.specs.declared.held.Records.{Records}
-use Rattle.record_index.specs.Facts.{Facts, facts_in}
+use Rattle.dh_metadata.specs.declared.held.Records.{Records}
+use Rattle.dh_changes.specs.Facts.{Facts, facts_in}
 use Rattle.table_rows.specs.declared.row.Row.{Row}
 use Rattle.table_rows.specs.declared.row.RowKey.{RowKey}
 use Rattle.table_rows.specs.declared.event.EventRow.{EventRow}
@@ -30,7 +30,7 @@ use Rattle.table_rows.specs.declared.event.RegRow.{RegRow}
 use Rattle.table_rows.specs.Rows.{key_of}
 use Rattle.table_rows.specs.Order.{key_cmp}
 use Rattle.table_rows.proofs.OrderLemmas.{key_total}
-use Rattle.year_tables.specs.Years.{period_year, day_year, is_year_if_any}
+use Rattle.table_sums.specs.Years.{period_year, day_year, is_year_if_any}
 use Rattle.table_build.specs.declared.events.EventPlace.{EventPlace}
 use Rattle.table_build.specs.declared.regs.RegPlace.{RegPlace}
 use Rattle.table_build.specs.Log.{writes_of, value_named, reg_named, event_named, values_named, regs_named, events_named}

@@ -11,12 +11,12 @@ use Rattle.dh_changes.specs.declared.change.Write.{Write}
 use Rattle.dh_changes.specs.declared.change.Write.TheVariants as write
 use Rattle.dh_changes.specs.declared.keys.ValueKey.{ValueKey}
 use Rattle.dh_changes.specs.declared.keys.RegKey.{RegKey}
-use Rattle.meta_parts.specs.declared.held.Records.{Records}
-use Rattle.record_index.specs.declared.said.ApprovalState.TheVariants as state
-use Rattle.record_index.specs.declared.said.Said.{Said}
-use Rattle.record_index.specs.declared.said.Said.TheVariants as said
-use Rattle.record_index.specs.Said.{said_by, last_said, of_event, of_enrollment, of_entity, of_approval, of_registration}
-use Rattle.record_index.specs.Facts.{Facts, facts_in}
+use Rattle.dh_metadata.specs.declared.held.Records.{Records}
+use Rattle.dh_changes.specs.declared.said.ApprovalState.TheVariants as state
+use Rattle.dh_changes.specs.declared.said.Said.{Said}
+use Rattle.dh_changes.specs.declared.said.Said.TheVariants as said
+use Rattle.dh_changes.specs.Said.{said_by, last_said, of_event, of_enrollment, of_entity, of_approval, of_registration}
+use Rattle.dh_changes.specs.Facts.{Facts, facts_in}
 use Rattle.dh_records.specs.Access.{tree}
 use Rattle.table_rows.specs.declared.row.Row.{Row}
 use Rattle.table_rows.specs.declared.event.EventRow.{EventRow}

@@ -2,11 +2,11 @@
 use Rattle.std.proofs.Common.{◌≡◌, ◌∙◌, ◌≤◌, ◌<◌, ℕ, zero, suc, true, List, [], ◌∷◌, Some, length, map, get_or, set, refl, sym, ap, subst, arith, ℤ}
 use Rattle.std.specs.List.{AllByRecursion, list_all}
 use Rattle.dh_changes.specs.declared.change.Write.{Write}
-use Rattle.meta_parts.specs.declared.held.Records.{Records}
-use Rattle.record_index.specs.Facts.{Facts, facts_in}
+use Rattle.dh_metadata.specs.declared.held.Records.{Records}
+use Rattle.dh_changes.specs.Facts.{Facts, facts_in}
 use Rattle.dh_records.specs.Access.{tree}
 use Rattle.table_rows.specs.Store.{Contents, Listed, contents_in, have_own_places}
-use Rattle.year_tables.specs.Parts.{YearPart, AreOfYears, part_of}
+use Rattle.table_sums.specs.YearParts.{YearPart, AreOfYears, part_of}
 use Rattle.table_build.specs.declared.slots.Slot.{Slot}
 use Rattle.table_build.specs.Log.{is_of_days, values_named}
 use Rattle.table_build.specs.Years.{years_of}

@@ -15,15 +15,15 @@ use Rattle.dh_changes.specs.declared.keys.RegKey.{RegKey}
 use Rattle.dh_changes.specs.declared.tracker.Event.{Event}
 use Rattle.dh_changes.specs.declared.tracker.Enrollment.{Enrollment}
 use Rattle.dh_changes.specs.declared.tracker.Entity.{Entity}
-use Rattle.meta_parts.specs.declared.held.Records.{Records}
-use Rattle.meta_parts.specs.declared.names.ValueType.{ValueType}
-use Rattle.meta_parts.specs.declared.names.ValueType.TheVariants as value_type
-use Rattle.meta_parts.specs.declared.records.Element.{Element}
-use Rattle.meta_parts.specs.declared.records.Attribute.{Attribute}
-use Rattle.meta_parts.specs.declared.kind.Kind.TheVariants.{DataElement, TrackedEntityAttribute}
+use Rattle.dh_metadata.specs.declared.held.Records.{Records}
+use Rattle.dh_metadata.specs.declared.names.ValueType.{ValueType}
+use Rattle.dh_metadata.specs.declared.names.ValueType.TheVariants as value_type
+use Rattle.dh_metadata.specs.declared.records.Element.{Element}
+use Rattle.dh_metadata.specs.declared.records.Attribute.{Attribute}
+use Rattle.dh_metadata.specs.declared.kind.Kind.TheVariants.{DataElement, TrackedEntityAttribute}
 use Rattle.dh_metadata.specs.Objects.{find_of}
 use Rattle.dh_records.specs.Values.{number_of, fits}
-use Rattle.record_index.specs.Facts.{Facts, facts_in}
+use Rattle.dh_changes.specs.Facts.{Facts, facts_in}
 use Rattle.table_rows.specs.declared.row.Row.{Row}
 use Rattle.table_rows.specs.declared.event.EventRow.{EventRow}
 use Rattle.table_rows.specs.declared.event.RegRow.{RegRow}

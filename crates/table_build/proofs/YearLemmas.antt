@@ -26,8 +26,8 @@ use Rattle.table_rows.specs.Events.{has_days}
 use Rattle.table_rows.specs.Store.{is_store}
 use Rattle.table_rows.proofs.StoreLemmas.{store-holds}
 use Rattle.dh_base.specs.Limits.{is_day}
-use Rattle.year_tables.specs.Years.{period_year, day_year, is_row_in, is_event_in, is_reg_in, is_year_if_any, have_years}
-use Rattle.year_tables.specs.Parts.{AreOfYears, listed_as}
+use Rattle.table_sums.specs.Years.{period_year, day_year, is_row_in, is_event_in, is_reg_in, is_year_if_any, have_years}
+use Rattle.table_sums.specs.YearParts.{AreOfYears, listed_as}
 use Rattle.table_build.specs.Years.{row_year, reg_year, event_year, years_of}
 use Rattle.table_build.proofs.DayLemmas.{last-month}
 use Rattle.table_build.proofs.EachLemmas.{every, list_all-each}
@@ -113,11 +113,11 @@ in-map f x (y ∷ ys) (inr later) = inr (in-map f x ys later)
 pub in-option : {A B : Type 0} (f : A → Option B) (x : A) (b : B) (xs : List A) → f x ≡ Some b → IsIn x xs → IsIn b (filter_map f xs)
 in-option f x b [] is there = absurd there
 in-option {B = B} f x b (y ∷ ys) is (inl same) = subst (λ (o : Option B). IsIn b (cons_option o (filter_map f ys))) (sym is ∙ ap f same) (inl refl)
-in-option {B = B} f x b (y ∷ ys) is (inr later) = behind (f y) (in-option f x b ys is later)
+in-option {B = B} f x b (y ∷ ys) is (inr later) = later_in (f y) (in-option f x b ys is later)
   where
-    behind : (o : Option B) → IsIn b (filter_map f ys) → IsIn b (cons_option o (filter_map f ys))
-    behind (Some c) in_rest = inr in_rest
-    behind None in_rest = in_rest
+    later_in : (o : Option B) → IsIn b (filter_map f ys) → IsIn b (cons_option o (filter_map f ys))
+    later_in (Some c) in_rest = inr in_rest
+    later_in None in_rest = in_rest
 
 pub in-left : {A : Type 0} (x : A) (xs ys : List A) → IsIn x xs → IsIn x (xs ++ ys)
 in-left x [] ys is = absurd is

@@ -9,10 +9,10 @@ use Rattle.dh_changes.specs.declared.tracker.Event.{Event}
 use Rattle.dh_changes.specs.declared.tracker.Enrollment.{Enrollment}
 use Rattle.dh_changes.specs.declared.tracker.Entity.{Entity}
 use Rattle.org_tree.specs.Units.{order_of}
-use Rattle.meta_parts.specs.declared.held.Records.{Records}
-use Rattle.meta_parts.specs.declared.kind.Kind.TheVariants.{OrganisationUnit, Program, ProgramStage}
+use Rattle.dh_metadata.specs.declared.held.Records.{Records}
+use Rattle.dh_metadata.specs.declared.kind.Kind.TheVariants.{OrganisationUnit, Program, ProgramStage}
 use Rattle.dh_metadata.specs.Objects.{find_of}
-use Rattle.record_index.specs.Facts.{Facts}
+use Rattle.dh_changes.specs.Facts.{Facts}
 use Rattle.dh_records.specs.Access.{tree}
 use Rattle.table_rows.specs.declared.event.EventRow.{EventRow}
 use Rattle.table_rows.specs.declared.event.ItemValue.{ItemValue}

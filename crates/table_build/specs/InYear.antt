@@ -3,7 +3,7 @@ use Rattle.std.specs.Prelude.{Bool, ℤ}
 use Rattle.std.specs.Ordering.{int_eq}
 use Rattle.dh_changes.specs.declared.keys.ValueKey.{ValueKey}
 use Rattle.dh_changes.specs.declared.keys.RegKey.{RegKey}
-use Rattle.year_tables.specs.Years.{period_year, day_year, is_year_if_any}
+use Rattle.table_sums.specs.Years.{period_year, day_year, is_year_if_any}
 use Rattle.table_build.specs.declared.events.EventPlace.{EventPlace}
 
 -- a key is of the year in which its period begins

@@ -2,12 +2,12 @@
 use Rattle.std.specs.Prelude.{ℕ, List, Option, Some, None, option_map, option_and_then, cond, slice_get}
 use Rattle.std.specs.List.{filter_map}
 use Rattle.dh_periods.specs.Civil.{civil_of}
-use Rattle.meta_parts.specs.declared.held.Records.{Records}
-use Rattle.meta_parts.specs.declared.names.ValueType.{ValueType}
-use Rattle.meta_parts.specs.declared.names.ValueType.TheVariants as value_type
-use Rattle.meta_parts.specs.declared.records.Element.{Element}
-use Rattle.meta_parts.specs.declared.records.Attribute.{Attribute}
-use Rattle.meta_parts.specs.declared.kind.Kind.TheVariants.{DataElement, TrackedEntityAttribute}
+use Rattle.dh_metadata.specs.declared.held.Records.{Records}
+use Rattle.dh_metadata.specs.declared.names.ValueType.{ValueType}
+use Rattle.dh_metadata.specs.declared.names.ValueType.TheVariants as value_type
+use Rattle.dh_metadata.specs.declared.records.Element.{Element}
+use Rattle.dh_metadata.specs.declared.records.Attribute.{Attribute}
+use Rattle.dh_metadata.specs.declared.kind.Kind.TheVariants.{DataElement, TrackedEntityAttribute}
 use Rattle.dh_metadata.specs.Objects.{find_of}
 use Rattle.dh_records.specs.Values.{number_of, fits}
 use Rattle.table_rows.specs.declared.event.ItemValue.{ItemValue}

@@ -8,9 +8,9 @@ use Rattle.dh_changes.specs.declared.change.Write.TheVariants as write
 use Rattle.dh_changes.specs.declared.keys.ValueKey.{ValueKey}
 use Rattle.dh_changes.specs.declared.keys.RegKey.{RegKey}
 use Rattle.dh_changes.specs.declared.tracker.Event.{Event}
-use Rattle.meta_parts.specs.declared.held.Records.{Records}
-use Rattle.record_index.specs.Facts.{Facts}
-use Rattle.year_tables.specs.Years.{period_year, day_year, is_year_if_any}
+use Rattle.dh_metadata.specs.declared.held.Records.{Records}
+use Rattle.dh_changes.specs.Facts.{Facts}
+use Rattle.table_sums.specs.Years.{period_year, day_year, is_year_if_any}
 use Rattle.table_build.specs.declared.events.EventPlace.{EventPlace}
 use Rattle.table_build.specs.Ordered.{in_order}
 use Rattle.table_build.specs.Values as values

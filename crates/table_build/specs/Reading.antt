@@ -2,7 +2,7 @@
 use Rattle.std.specs.Prelude.{◌≡◌, List}
 use Rattle.dh_changes.specs.declared.change.Change.{Change}
 use Rattle.dh_changes.specs.declared.keys.RegKey.{RegKey}
-use Rattle.record_index.specs.Facts.{Facts, facts_in}
+use Rattle.dh_changes.specs.Facts.{Facts, facts_in}
 use Rattle.table_build.specs.declared.events.EventPlace.{EventPlace}
 use Rattle.table_build.specs.Events.{places_of}
 use Rattle.table_build.specs.Log.{writes_of, regs_named, events_named, with_others}

@@ -5,10 +5,10 @@ use Rattle.std.specs.Ordering.{ordering_then, nat_cmp}
 use Rattle.std.specs.declared.cmp.Ordering.{Ordering}
 use Rattle.dh_changes.specs.declared.keys.RegKey.{RegKey}
 use Rattle.org_tree.specs.Units.{order_of}
-use Rattle.meta_parts.specs.declared.held.Records.{Records}
-use Rattle.meta_parts.specs.declared.kind.Kind.TheVariants.{DataSet, OrganisationUnit, CategoryOptionCombo}
+use Rattle.dh_metadata.specs.declared.held.Records.{Records}
+use Rattle.dh_metadata.specs.declared.kind.Kind.TheVariants.{DataSet, OrganisationUnit, CategoryOptionCombo}
 use Rattle.dh_metadata.specs.Objects.{find_of}
-use Rattle.record_index.specs.Facts.{Facts}
+use Rattle.dh_changes.specs.Facts.{Facts}
 use Rattle.dh_records.specs.Access.{tree}
 use Rattle.table_rows.specs.declared.event.RegRow.{RegRow}
 use Rattle.table_rows.specs.Order.{period_cmp}

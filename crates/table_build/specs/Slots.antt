@@ -2,7 +2,7 @@
 use Rattle.std.specs.Prelude.{◌≡◌, Bool, true, ℤ, List, map, None, is_some, is_none, IfSome}
 use Rattle.std.specs.List.{AllByRecursion, list_any}
 use Rattle.table_rows.specs.Store.{Contents, Listed, contents_in, have_own_places}
-use Rattle.year_tables.specs.Parts.{YearPart, part_of}
+use Rattle.table_sums.specs.YearParts.{YearPart, part_of}
 use Rattle.table_build.specs.declared.slots.Slot.{Slot}
 
 -- a year without a part

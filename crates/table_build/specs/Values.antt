@@ -3,11 +3,11 @@ use Rattle.std.specs.Prelude.{ℕ, ℤ, List, Option, option_map, option_and_the
 use Rattle.std.specs.List.{filter_map}
 use Rattle.dh_changes.specs.declared.keys.ValueKey.{ValueKey}
 use Rattle.org_tree.specs.Units.{order_of}
-use Rattle.meta_parts.specs.declared.held.Records.{Records}
-use Rattle.meta_parts.specs.declared.records.Element.{Element}
-use Rattle.meta_parts.specs.declared.kind.Kind.TheVariants.{DataElement, OrganisationUnit, CategoryOptionCombo}
+use Rattle.dh_metadata.specs.declared.held.Records.{Records}
+use Rattle.dh_metadata.specs.declared.records.Element.{Element}
+use Rattle.dh_metadata.specs.declared.kind.Kind.TheVariants.{DataElement, OrganisationUnit, CategoryOptionCombo}
 use Rattle.dh_metadata.specs.Objects.{find_of}
-use Rattle.record_index.specs.Facts.{Facts}
+use Rattle.dh_changes.specs.Facts.{Facts}
 use Rattle.dh_records.specs.Access.{tree}
 use Rattle.dh_records.specs.Approved.{approved_at}
 use Rattle.dh_records.specs.Values.{number_of}

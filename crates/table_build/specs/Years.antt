@@ -5,7 +5,7 @@ use Rattle.std.specs.Ordering.{int_cmp}
 use Rattle.table_rows.specs.declared.row.Row.{Row}
 use Rattle.table_rows.specs.declared.event.EventRow.{EventRow}
 use Rattle.table_rows.specs.declared.event.RegRow.{RegRow}
-use Rattle.year_tables.specs.Years.{period_year, day_year}
+use Rattle.table_sums.specs.Years.{period_year, day_year}
 use Rattle.table_build.specs.Ordered.{in_order}
 
 unfoldable pub row_year : Row → ℤ

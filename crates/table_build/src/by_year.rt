@@ -2,14 +2,14 @@
 ghost use Rattle.std.specs.Prelude.{◌≡◌, ◌≤◌, length, map, IsTrue, IfOk};
 ghost use Rattle.std.specs.List.{list_all};
 ghost use Rattle.std.specs.Arc.{arc_value};
-ghost use Rattle.record_index.specs.World.{facts};
+ghost use Rattle.dh_changes.specs.World.{facts};
 ghost use Rattle.table_build.specs.Events as tracker;
 ghost use Rattle.table_build.specs.Regs as registrations;
 ghost use Rattle.table_build.specs.Log as log;
 ghost use Rattle.table_build.specs.Log.{writes_of, is_of_days};
 ghost use Rattle.table_build.specs.Listed.{listed_in};
 ghost use Rattle.table_rows.specs.Store.{contents_in};
-ghost use Rattle.year_tables.specs.Parts.{part_of, together, years_in};
+ghost use Rattle.table_sums.specs.YearParts.{part_of, together, years_in};
 ghost use Rattle.dh_base.specs.declared.limits.TheConstants.{MOST_RECORDS};
 
 use crate::events::events_of;
@@ -22,12 +22,12 @@ use crate::world::world_of;
 use crate::years::years_of;
 use dh_base::memory::Memory;
 use dh_changes::change::Change;
+use dh_changes::world::World;
 use dh_metadata::metadata::Metadata;
-use record_index::world::World;
 use std::alloc::Global;
 use std::sync::Arc;
 use table_rows::{EventRow, RegRow};
-use year_tables::{Partition, Tables, tables_of};
+use table_sums::{Partition, Tables, tables_of};
 
 /// The part of one year: its rows, registrations and events, of those that the changes leave. Where parts of several years are
 /// made of the same changes, one `Reading` serves all.

@@ -2,7 +2,7 @@
 ghost use Rattle.std.specs.Prelude.{◌≡◌, ◌<◌, [], length, IfOk, IfSome};
 ghost use Rattle.std.specs.Option.{option_copied};
 ghost use Rattle.std.specs.List.{filter_map};
-ghost use Rattle.record_index.specs.World.{facts};
+ghost use Rattle.dh_changes.specs.World.{facts};
 ghost use Rattle.table_build.specs.Ordered.{put_all};
 ghost use Rattle.table_build.specs.Events as known;
 
@@ -11,10 +11,10 @@ use dh_base::items::Items;
 use dh_base::memory::Memory;
 use dh_base::uid::Uid;
 use dh_changes::tracker::{Enrollment, Entity, Event};
+use dh_changes::world::World;
+use dh_metadata::kind::Kind;
 use dh_metadata::metadata::Metadata;
 use dh_records::access::tree_of;
-use meta_parts::kind::Kind;
-use record_index::world::World;
 use std::alloc::Global;
 use std::collections::BTreeMap;
 use table_rows::{EventRow, ItemValue};

@@ -1,8 +1,8 @@
 //! The events and registrations of one year, of the keys of that year alone.
 ghost use Rattle.std.specs.Prelude.{◌≡◌, IfOk};
 ghost use Rattle.std.specs.List.{filter, filter_map};
-ghost use Rattle.record_index.specs.World.{facts};
-ghost use Rattle.year_tables.specs.Years.{is_event_in, is_reg_in, is_year_if_any};
+ghost use Rattle.dh_changes.specs.World.{facts};
+ghost use Rattle.table_sums.specs.Years.{is_event_in, is_reg_in, is_year_if_any};
 ghost use Rattle.table_build.specs.InYear.{is_value_key_in, is_reg_key_in, is_place_in};
 ghost use Rattle.table_build.specs.Events as tracker;
 ghost use Rattle.table_build.specs.Regs as registrations;
@@ -11,11 +11,11 @@ use crate::events::{EventPlace, rows_at};
 use crate::regs::regs_of;
 use dh_base::memory::Memory;
 use dh_changes::keys::{RegKey, ValueKey};
+use dh_changes::world::World;
 use dh_metadata::metadata::Metadata;
-use record_index::world::World;
 use std::alloc::Global;
 use table_rows::{EventRow, RegRow};
-use year_tables::day_year;
+use table_sums::day_year;
 
 pub(crate) fn is_value_key_in(key: &ValueKey, year: &i32) -> bool
     ensures { result ≡ is_value_key_in year.now key.now }

@@ -5,12 +5,12 @@ ghost use Rattle.table_build.specs.Items as known;
 use dh_base::items::Items;
 use dh_base::memory::Memory;
 use dh_base::uid::Uid;
+use dh_metadata::kind::Kind;
 use dh_metadata::metadata::Metadata;
+use dh_metadata::names::ValueType;
 use dh_periods::civil;
 use dh_records::number::number_of;
 use dh_records::value::fits;
-use meta_parts::kind::Kind;
-use meta_parts::names::ValueType;
 use std::alloc::Global;
 use table_rows::ItemValue;
 

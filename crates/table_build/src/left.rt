@@ -4,7 +4,7 @@ ghost use Rattle.std.specs.Arc.{arc_value};
 ghost use Rattle.std.specs.List.{filter_map, list_all};
 ghost use Rattle.std.specs.Option.{option_to_list};
 ghost use Rattle.std.specs.Ordering.{int_cmp, int_eq};
-ghost use Rattle.record_index.specs.World.{facts};
+ghost use Rattle.dh_changes.specs.World.{facts};
 ghost use Rattle.table_build.specs.Left as known;
 ghost use Rattle.table_build.specs.Log.{writes_of};
 ghost use Rattle.table_build.specs.Ordered.{put_all};
@@ -18,12 +18,12 @@ use dh_base::memory::Memory;
 use dh_base::uid::Uid;
 use dh_changes::change::{Change, Write};
 use dh_changes::keys::{RegKey, ValueKey};
+use dh_changes::world::World;
 use dh_metadata::metadata::Metadata;
-use record_index::world::World;
 use std::alloc::Global;
 use std::collections::BTreeMap;
 use std::sync::Arc;
-use year_tables::day_year;
+use table_sums::day_year;
 
 #[tactic(auto, unfolding(crate::specs::Left::value_year))]
 fn value_year(meta: &Metadata, world: &World, key: &ValueKey) -> Option<i32>

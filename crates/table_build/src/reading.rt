@@ -2,13 +2,13 @@
 ghost use Rattle.std.specs.Prelude.{◌≡◌, ◌≤◌, length, map, IsTrue, IfOk};
 ghost use Rattle.std.specs.List.{list_all};
 ghost use Rattle.std.specs.Arc.{arc_value};
-ghost use Rattle.record_index.specs.World.{facts};
+ghost use Rattle.dh_changes.specs.World.{facts};
 ghost use Rattle.table_build.specs.Events as tracker;
 ghost use Rattle.table_build.specs.Log as log;
 ghost use Rattle.table_build.specs.Log.{writes_of, is_of_days};
 ghost use Rattle.table_build.specs.Listed.{listed_in};
 ghost use Rattle.table_rows.specs.Store.{contents_in};
-ghost use Rattle.year_tables.specs.Parts.{part_of};
+ghost use Rattle.table_sums.specs.YearParts.{part_of};
 ghost use Rattle.dh_base.specs.declared.limits.TheConstants.{MOST_RECORDS};
 
 use crate::events::{EventPlace, places_of};
@@ -20,13 +20,13 @@ use crate::world::world_of;
 use dh_base::memory::Memory;
 use dh_changes::change::Change;
 use dh_changes::keys::RegKey;
+use dh_changes::world::World;
 use dh_metadata::metadata::Metadata;
 use dh_records::access::tree_of;
-use record_index::world::World;
 use std::alloc::Global;
 use std::marker::Model;
 use std::sync::Arc;
-use year_tables::{Partition, part_from};
+use table_sums::{Partition, part_from};
 
 /// A list of changes, and what several builders of their years share: the world after the changes that write something else than
 /// data values, the keys of the registrations that they name, and the places of the events. The values of a year are read by its
@@ -43,7 +43,7 @@ impl<'a> Model for Reading<'a> {
     ghost use Rattle.std.specs.Arc.{arc_value};
     ghost use Rattle.std.specs.Prelude.{List, map};
     ghost use Rattle.dh_changes.specs.declared.change.Change.{Change};
-    ghost use Rattle.record_index.specs.World.{facts};
+    ghost use Rattle.dh_changes.specs.World.{facts};
     ghost use Rattle.table_build.specs.Reading.{IsReadOf};
 
     ghost Value = { List Change };

@@ -1,17 +1,17 @@
 //! The rows of complete data set registrations.
 ghost use Rattle.std.specs.Prelude.{◌≡◌, ◌<◌, [], length, IfOk, IfSome};
 ghost use Rattle.std.specs.List.{filter_map};
-ghost use Rattle.record_index.specs.World.{facts};
+ghost use Rattle.dh_changes.specs.World.{facts};
 ghost use Rattle.table_build.specs.Ordered.{put_all};
 ghost use Rattle.table_build.specs.Regs as known;
 
 use dh_base::memory::Memory;
 use dh_changes::keys::RegKey;
+use dh_changes::world::World;
+use dh_metadata::kind::Kind;
 use dh_metadata::metadata::Metadata;
 use dh_periods::Period;
 use dh_records::access::tree_of;
-use meta_parts::kind::Kind;
-use record_index::world::World;
 use std::alloc::Global;
 use std::collections::BTreeMap;
 use table_rows::RegRow;

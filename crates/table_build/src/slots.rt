@@ -3,10 +3,10 @@
 ghost use Rattle.std.specs.Prelude.{◌≡◌, ◌<◌, ◌≤◌, true, length, map, get_or, set, IsTrue, IfOk, IfSome};
 ghost use Rattle.std.specs.List.{AllByRecursion, list_all};
 ghost use Rattle.std.specs.Arc.{arc_value};
-ghost use Rattle.record_index.specs.Facts.{facts_in};
-ghost use Rattle.record_index.specs.World.{facts};
+ghost use Rattle.dh_changes.specs.Facts.{facts_in};
+ghost use Rattle.dh_changes.specs.World.{facts};
 ghost use Rattle.table_rows.specs.Store.{Listed, contents_in, have_own_places};
-ghost use Rattle.year_tables.specs.Parts.{part_of, together, years_in};
+ghost use Rattle.table_sums.specs.YearParts.{part_of, together, years_in};
 ghost use Rattle.table_build.specs.declared.slots.Slot.{Slot as YearSlot};
 ghost use Rattle.table_build.specs.Log.{writes_of, is_of_days};
 ghost use Rattle.table_build.specs.Listed.{listed_in};
@@ -19,12 +19,12 @@ use crate::reading::Reading;
 use dh_base::items::Items;
 use dh_base::memory::Memory;
 use dh_changes::change::Change;
+use dh_changes::world::World;
 use dh_metadata::metadata::Metadata;
 use dh_records::access::tree_of;
-use record_index::world::World;
 use std::alloc::Global;
 use std::sync::Arc;
-use year_tables::{Partition, Tables};
+use table_sums::{Partition, Tables};
 
 /// A year, with its part if that was made beforehand.
 #[derive(Drop)]

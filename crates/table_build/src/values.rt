@@ -3,8 +3,8 @@ ghost use Rattle.std.specs.Prelude.{◌≡◌, ◌<◌, true, [], length, Some, 
 ghost use Rattle.std.specs.List.{filter_map};
 ghost use Rattle.dh_metadata.specs.Objects.{find_of};
 ghost use Rattle.dh_records.specs.Approved.{approved_at};
-ghost use Rattle.meta_parts.specs.declared.kind.Kind.TheVariants.{CategoryOptionCombo};
-ghost use Rattle.record_index.specs.World.{facts};
+ghost use Rattle.dh_metadata.specs.declared.kind.Kind.TheVariants.{CategoryOptionCombo};
+ghost use Rattle.dh_changes.specs.World.{facts};
 ghost use Rattle.table_rows.specs.Rows.{key_of};
 ghost use Rattle.table_rows.specs.Order.{key_cmp};
 ghost use Rattle.table_rows.specs.Store.{have_own_places};
@@ -13,12 +13,12 @@ ghost use Rattle.table_build.specs.Values as known;
 
 use dh_base::memory::Memory;
 use dh_changes::keys::ValueKey;
+use dh_changes::world::World;
+use dh_metadata::kind::Kind;
 use dh_metadata::metadata::Metadata;
 use dh_records::access::tree_of;
 use dh_records::approved::approved_position_of;
 use dh_records::number::number_of;
-use meta_parts::kind::Kind;
-use record_index::world::World;
 use std::alloc::Global;
 use std::collections::BTreeMap;
 use table_rows::{Row, RowKey};

@@ -2,13 +2,13 @@
 ghost use Rattle.std.specs.Prelude.{◌≡◌, ◌++◌, List, map, OnOk, IfOk};
 ghost use Rattle.std.specs.Arc.{arc_value};
 ghost use Rattle.dh_changes.specs.declared.change.Write.{Write};
-ghost use Rattle.record_index.specs.World.{facts};
-ghost use Rattle.record_index.specs.Facts.{facts_in};
+ghost use Rattle.dh_changes.specs.World.{facts};
+ghost use Rattle.dh_changes.specs.Facts.{facts_in};
 ghost use Rattle.table_build.specs.Log.{writes_of};
 
 use dh_base::memory::Memory;
 use dh_changes::change::Change;
-use record_index::world::World;
+use dh_changes::world::World;
 use std::alloc::Global;
 use std::sync::Arc;
 

@@ -10,7 +10,7 @@ use dh_base::memory::Memory;
 use std::alloc::Global;
 use std::collections::BTreeMap;
 use table_rows::{EventRow, RegRow, Row};
-use year_tables::day_year;
+use table_sums::day_year;
 
 #[tactic(auto, unfolding(crate::specs::Years::row_year))]
 fn row_year(row: &Row) -> i32

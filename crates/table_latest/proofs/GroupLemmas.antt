@@ -21,9 +21,9 @@ use Rattle.table_rows.specs.Store.{rises}
 use Rattle.table_rows.specs.Sums.{sum_of_rows}
 use Rattle.table_rows.proofs.OrderLemmas.{group_total, group_ties, same_group-true, same_group-self}
 use Rattle.table_rows.proofs.RunLemmas.{every-filter, groups_of-sorted}
-use Rattle.year_tables.specs.Ascending.{ascending}
-use Rattle.year_tables.proofs.AscendingLemmas.{ascending-parts, every-to}
-use Rattle.year_tables.proofs.YearLemmas.{each, each-true, filter-whole}
+use Rattle.table_sums.specs.Ascending.{ascending}
+use Rattle.table_sums.proofs.AscendingLemmas.{ascending-parts, every-to}
+use Rattle.table_sums.proofs.YearLemmas.{each, each-true, filter-whole}
 use Rattle.table_rows.specs.Cells.{times}
 use Rattle.table_latest.specs.declared.places.RowPlace.{RowPlace}
 use Rattle.table_latest.specs.Keys.{is_among, place_cmp, place_of}

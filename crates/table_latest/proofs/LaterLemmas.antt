@@ -12,10 +12,10 @@ use Rattle.table_rows.specs.Store.{Contents, Listed, contents_in, rises}
 use Rattle.table_rows.proofs.OrderLemmas.{row_total}
 use Rattle.table_rows.proofs.RiseLemmas.{sorted_from_rises}
 use Rattle.table_rows.proofs.StoreLemmas.{store-holds}
-use Rattle.year_tables.specs.Ascending.{ascending}
-use Rattle.year_tables.proofs.AscendingLemmas.{ascending-parts, ascending-sorted}
-use Rattle.year_tables.proofs.PartLemmas.{event_total, reg_total}
-use Rattle.year_tables.proofs.YearLemmas.{each, filter-whole}
+use Rattle.table_sums.specs.Ascending.{ascending}
+use Rattle.table_sums.proofs.AscendingLemmas.{ascending-parts, ascending-sorted}
+use Rattle.table_sums.proofs.YearPartLemmas.{event_total, reg_total}
+use Rattle.table_sums.proofs.YearLemmas.{each, filter-whole}
 use Rattle.table_latest.specs.Latest.{LatestPart, Touched, is_event_touched, is_reg_touched, is_row_touched, laid_over, overlaid, untouched}
 use Rattle.table_latest.specs.Keys.{place_cmp, reg_place_cmp}
 use Rattle.table_latest.specs.Latest.{AreInOrder, IsOverlay}

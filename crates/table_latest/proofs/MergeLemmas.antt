@@ -6,8 +6,8 @@ use Rattle.std.specs.List.{AllByRecursion}
 use Rattle.std.specs.List.Sorted.{IsStrictlySortedBy}
 use Rattle.std.specs.Ordering.{is_lt, is_gt, ordering_reverse}
 use Rattle.std.proofs.lemmas.List.{append-nil, reverse-append}
-use Rattle.year_tables.specs.Ascending.{put_in, ascending}
-use Rattle.year_tables.proofs.AscendingLemmas.{every-append, every-to, ascending-every, ascending-sorted}
+use Rattle.table_sums.specs.Ascending.{put_in, ascending}
+use Rattle.table_sums.proofs.AscendingLemmas.{every-append, every-to, ascending-every, ascending-sorted}
 use Rattle.table_latest.specs.Merged.{TakesAbove}
 use Rattle.table_latest.proofs.OrderLemmas.{turned-less}
 

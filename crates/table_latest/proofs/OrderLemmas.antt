@@ -12,9 +12,9 @@ use Rattle.table_rows.specs.Store.{rises}
 use Rattle.table_rows.proofs.RiseLemmas.{sorted_from_rises}
 use Rattle.table_rows.proofs.RunLemmas.{every-filter}
 use Rattle.table_rows.proofs.SumLemmas.{joined-comm, joined-assoc}
-use Rattle.year_tables.specs.Ascending.{put_in, ascending}
-use Rattle.year_tables.proofs.AscendingLemmas.{every-to, put_in-every, put_in-first}
-use Rattle.year_tables.proofs.YearLemmas.{filter-swap}
+use Rattle.table_sums.specs.Ascending.{put_in, ascending}
+use Rattle.table_sums.proofs.AscendingLemmas.{every-to, put_in-every, put_in-first}
+use Rattle.table_sums.proofs.YearLemmas.{filter-swap}
 use Rattle.table_latest.specs.Latest.{laid_over, untouched}
 
 pub turned-less : {X : Type 0} (cmp : X → X → Ordering) → IsTotalOrder cmp → (x y : X) → cmp x y ≡ Less → cmp y x ≡ Greater

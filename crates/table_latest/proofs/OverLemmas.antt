@@ -17,7 +17,7 @@ use Rattle.table_rows.specs.Sums.{joined, sum_over, sum_of_row, sum_of_rows, IsS
 use Rattle.table_rows.proofs.OrderLemmas.{row_total}
 use Rattle.table_rows.proofs.StoreLemmas.{Holds, store-holds}
 use Rattle.table_rows.proofs.SumLemmas.{sum_over-append}
-use Rattle.year_tables.specs.Ascending.{put_in, ascending}
+use Rattle.table_sums.specs.Ascending.{put_in, ascending}
 use Rattle.table_latest.specs.Latest.{LatestPart, IsOverlay, is_row_touched, laid_over, untouched, rows_over, events_over, regs_over}
 use Rattle.table_latest.proofs.GapLemmas.{wanted-few}
 use Rattle.table_latest.proofs.OrderLemmas.{filter-ascending, kept-sorted, part-over, part-sorted, sum-ascending}

@@ -32,9 +32,9 @@ use Rattle.table_rows.proofs.OrderLemmas.{group_ties, row_total, same_group-self
 use Rattle.table_rows.proofs.RiseLemmas.{sorted-far, sorted_from_rises}
 use Rattle.table_rows.proofs.SplitLemmas.{sum_over-split}
 use Rattle.table_rows.proofs.StoreLemmas.{Holds, store-holds}
-use Rattle.year_tables.specs.Ascending.{ascending}
-use Rattle.year_tables.proofs.AscendingLemmas.{ascending-parts, every-to}
-use Rattle.year_tables.proofs.YearLemmas.{each, each-true}
+use Rattle.table_sums.specs.Ascending.{ascending}
+use Rattle.table_sums.proofs.AscendingLemmas.{ascending-parts, every-to}
+use Rattle.table_sums.proofs.YearLemmas.{each, each-true}
 use Rattle.table_latest.specs.declared.places.RowPlace.{RowPlace}
 use Rattle.table_latest.specs.Keys.{IsCutAt, is_among, place_at, place_cmp, place_of}
 use Rattle.table_latest.specs.Latest.{is_in_reach, touched_rows, untouched_rows}

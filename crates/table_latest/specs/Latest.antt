@@ -13,7 +13,7 @@ use Rattle.table_rows.specs.Events.{event_cmp, reg_cmp}
 use Rattle.table_rows.specs.Order.{row_cmp, group_cmp}
 use Rattle.table_rows.specs.Rows.{is_in_group}
 use Rattle.table_rows.specs.Store.{Contents, Listed, contents_in, is_store}
-use Rattle.year_tables.specs.Ascending.{ascending}
+use Rattle.table_sums.specs.Ascending.{ascending}
 use Rattle.table_latest.specs.declared.places.RowPlace.{RowPlace}
 use Rattle.table_latest.specs.declared.places.RegPlace.{RegPlace}
 use Rattle.table_latest.specs.declared.latest.TouchedKeys.{TouchedKeys}

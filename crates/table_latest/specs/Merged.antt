@@ -5,7 +5,7 @@ use Rattle.std.specs.List.Sorted.{IsStrictlySortedBy}
 use Rattle.std.specs.Ordering.{is_lt}
 use Rattle.std.specs.declared.cmp.Ordering.{Ordering}
 use Rattle.std.specs.declared.cmp.Ordering.TheVariants.{Less}
-use Rattle.year_tables.specs.Ascending.{ascending}
+use Rattle.table_sums.specs.Ascending.{ascending}
 
 -- what stands after x moved from the end of one list to the end of another, the last first
 pub record TakesAbove {X : Type 0} (cmp : X → X → Ordering) (x : X) (old new back back' : List X) : Type 0 where

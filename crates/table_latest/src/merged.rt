@@ -2,7 +2,7 @@
 ghost use Rattle.std.specs.Prelude.{◌≡◌, ◌++◌, true, OnOk, IfOk};
 ghost use Rattle.std.specs.Cmp.{IsTotalOrder};
 ghost use Rattle.std.specs.List.Sorted.{IsStrictlySortedBy};
-ghost use Rattle.year_tables.specs.Ascending.{ascending};
+ghost use Rattle.table_sums.specs.Ascending.{ascending};
 ghost use Rattle.table_latest.specs.Latest.{untouched};
 ghost use Rattle.table_latest.specs.Merged.{TakesAbove};
 

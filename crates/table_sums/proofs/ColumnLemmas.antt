@@ -88,19 +88,22 @@ unfolding with_plain
 head_again head n = ap (with_plain head) (plain-again head.is_plain n)
 
 -- the place of a row is that of a member
-pub within-columns : (groups : List Group) (starts : List ℕ) (members : List Member) (numbers : List ℤ) (rows : List Row) (i : ℕ) → AreColumns groups starts members numbers
+pub within-columns : (groups : List Group) (starts : List ℕ) (members : List Member) (numbers : List ℤ) (rows : List Row) (i : ℕ)
+    → AreColumns groups starts members numbers
     → rows ≡ rows_in groups members numbers → i < length rows → i < length members
 within-columns groups starts members numbers rows i columns are within =
     let long : length rows ≡ length members = ap length are ∙ rows_in-length groups members numbers columns.even in
     omega (arith, long)
 
-pub within-numbers : (groups : List Group) (starts : List ℕ) (members : List Member) (numbers : List ℤ) (rows : List Row) (i : ℕ) → AreColumns groups starts members numbers
+pub within-numbers : (groups : List Group) (starts : List ℕ) (members : List Member) (numbers : List ℤ) (rows : List Row) (i : ℕ)
+    → AreColumns groups starts members numbers
     → rows ≡ rows_in groups members numbers → i < length rows → i < length numbers
 within-numbers groups starts members numbers rows i columns are within =
     let short = within-columns groups starts members numbers rows i columns are within in
     omega (arith, short, columns.even)
 
-pub head-here : (groups gs : List Group) (starts : List ℕ) (members ms : List Member) (numbers : List ℤ) (rows : List Row) (i : ℕ) (h : Head) → AreColumns groups starts members numbers
+pub head-here : (groups gs : List Group) (starts : List ℕ) (members ms : List Member) (numbers : List ℤ) (rows : List Row) (i : ℕ) (h : Head)
+    → AreColumns groups starts members numbers
     → rows ≡ rows_in groups members numbers → i < length rows → gs ≡ groups → ms ≡ members → ((m : Member) → h ≡ head_from gs (get_or ms i m))
     → (d : Row) → h ≡ head_of (get_or rows i d)
 head-here groups gs starts members ms numbers rows i h columns are within is_groups is_members at d =

@@ -152,7 +152,8 @@ pub begun-more : (b : Bool) (gs new : List Group) (ss next : List ℕ) (ms : Lis
 begun-more true gs new ss next ms g m begun known is put group =
     let groups : length new ≡ length gs + 1 = ap length is ∙ length-append gs (g ∷ []) in
     let even = begun.even in
-    let starts : next ≡ ss ++ length ms ∷ [] = put ∙ ap (λ b. cond b (ss ++ length ms ∷ []) ss) (below-is (length ss) (length new) (omega (arith, groups, even))) in
+    let starts : next ≡ ss ++ length ms ∷ [] = put ∙ ap (λ b. cond b (ss ++ length ms ∷ []) ss)
+    (below-is (length ss) (length new) (omega (arith, groups, even))) in
     subst (λ (v : List Group). AreBegun v next (ms ++ m ∷ [])) (sym is)
     (subst (λ (v : List ℕ). AreBegun (gs ++ g ∷ []) v (ms ++ m ∷ [])) (sym starts)
     (begun-added gs ss ms g m begun known (group ∙ ap (λ (v : List Group). length v - 1) is)))

@@ -8,3 +8,11 @@ pub mod DayLemmas
 pub mod WidthLemmas
 pub mod GatherLemmas
 pub mod SpanLemmas
+pub mod AscendingLemmas
+pub mod MergeLemmas
+pub mod SearchLemmas
+pub mod YearLemmas
+pub mod YearPartLemmas
+pub mod EventLemmas
+pub mod CutLemmas
+pub mod ByYearLemmas

@@ -236,7 +236,8 @@ pub member-before : (groups : List Group) (starts : List ℕ) (members : List Me
     → b ≡ is_place_below (position_of m.approved) m.order key.position key.order
     → (d : Row) → group_of (get_or rows i d) ≡ key.group → b ≡ is_before (bound.Key key) (get_or rows i d)
 member-before groups starts members numbers rows i m key b columns are within at is d same =
-    let row : get_or rows i d ≡ row_from (head_from groups (get_or members i m)) (get_or numbers i (pos 0)) = ap (λ rs. get_or rs i d) are ∙ sym (rows_in-at groups members numbers i m (pos 0) d columns.even within) in
+    let row : get_or rows i d ≡ row_from (head_from groups (get_or members i m)) (get_or numbers i (pos 0)) = ap (λ rs. get_or rs i d) are
+    ∙ sym (rows_in-at groups members numbers i m (pos 0) d columns.even within) in
     let position : position_of (get_or rows i d).approved ≡ position_of m.approved = ap (λ (r : Row). position_of r.approved) row
     ∙ ap (λ (v : Member). position_of v.approved) (sym at) in
     let order : (get_or rows i d).order ≡ m.order = ap (λ (r : Row). r.order) row ∙ ap (λ (v : Member). v.order) (sym at) in

@@ -1,9 +1,9 @@
 //! `BODY`, for value sets and completions: the texts that are read of the body of a request, those of the
 //! set and then those of each object, or `at` and the path of the first fault. `-` stands for no text.
+use dh_changes::outcome::{BodyFault, ImportStrategy};
 use dh_changes::text::Text;
 use import_forms::completion::{Completion, read_completions};
 use import_forms::set::{SetParams, SetValue, ValueSet, read_set};
-use record_index::outcome::{BodyFault, ImportStrategy};
 use std::alloc::Global;
 
 const PARAMS: SetParams = SetParams {

@@ -1,6 +1,6 @@
 //! `WORDS`: the bytes that the words stand for are read as change 5 and written again. A word
 //! is a number of one byte after a `#`, or a text.
-use change_bytes::{Decoded, decode, encode, encoded_len};
+use change_log::{Decoded, decode, encode, encoded_len};
 use dh_changes::change::{Change, Write};
 use std::alloc::Global;
 
@@ -53,7 +53,7 @@ fn is_again(bytes: &[u8], written: &[u8], used: usize) -> bool {
     written.len() == used && bytes.starts_with(written)
 }
 
-#[tactic(auto, using(change_bytes::proofs::Fits::change_fits))]
+#[tactic(auto, using(change_log::proofs::Fits::change_fits))]
 fn put_again(alloc: Global, out: &mut Vec<u8>, bytes: &[u8]) -> Option<()> {
     match decode(alloc, bytes, NUMBER).ok()? {
         Decoded::Whole { change, used } => {

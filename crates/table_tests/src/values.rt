@@ -1,8 +1,8 @@
 //! `TYPE|TEXT`: the millionths that the text is as a value of the type, `none` for a value that
 //! is no number, and `-` for a text that is no value of the type.
+use dh_metadata::names::value_type_named;
 use dh_records::number::number_of;
 use dh_records::value::fits;
-use meta_parts::names::value_type_named;
 use std::alloc::Global;
 
 pub(crate) fn typed_row(alloc: Global, out: &mut Vec<u8>, row: &str) -> Option<()> {

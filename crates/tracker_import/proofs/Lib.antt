@@ -1,2 +1,6 @@
+mod PairLemmas
+mod OrderLemmas
+mod ListLemmas
+pub mod FitLemmas
 mod SaidLemmas
 mod WriteLemmas

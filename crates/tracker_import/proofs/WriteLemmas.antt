@@ -5,26 +5,26 @@ use Rattle.std.specs.Prelude.{◌&&◌, not, option_and_then, option_map}
 use Rattle.std.specs.Option.{is_some}
 use Rattle.std.specs.List.{All, AllByRecursion, flat_map}
 use Rattle.std.proofs.lemmas.List.Elements.{All-from_recursion}
-use Rattle.change_bytes.specs.Forms.{WriteFits}
+use Rattle.change_log.specs.Forms.{WriteFits}
 use Rattle.dh_base.specs.declared.codes.Code.{Code}
 use Rattle.dh_base.specs.declared.memory.Memory.{Memory}
 use Rattle.dh_changes.specs.declared.change.Write.{Write}
 use Rattle.dh_changes.specs.declared.change.Write.TheVariants as write
-use Rattle.meta_parts.specs.declared.held.Records.{Records}
-use Rattle.meta_parts.specs.declared.kind.Kind.TheVariants as kind
-use Rattle.record_index.specs.Facts.{Facts}
-use Rattle.record_index.specs.declared.outcome.ImportStrategy.{ImportStrategy}
-use Rattle.record_index.specs.declared.outcome.Verdict.{Verdict}
-use Rattle.record_index.specs.declared.outcome.Who.{Who}
+use Rattle.dh_metadata.specs.declared.held.Records.{Records}
+use Rattle.dh_metadata.specs.declared.kind.Kind.TheVariants as kind
+use Rattle.dh_changes.specs.Facts.{Facts}
+use Rattle.dh_changes.specs.declared.outcome.ImportStrategy.{ImportStrategy}
+use Rattle.dh_changes.specs.declared.outcome.Verdict.{Verdict}
+use Rattle.dh_changes.specs.declared.outcome.Who.{Who}
 use Rattle.import_forms.specs.declared.bundle.Bundle.{Bundle}
 use Rattle.import_forms.specs.declared.entity.BundleEntity.{BundleEntity}
 use Rattle.import_forms.specs.declared.enrollment.BundleEnrollment.{BundleEnrollment}
 use Rattle.import_forms.specs.declared.event.BundleEvent.{BundleEvent}
 use Rattle.value_import.specs.Values.{is_delete_all}
-use Rattle.tracker_rules.specs.declared.judged.Judged.{Judged}
-use Rattle.tracker_rules.specs.declared.judged.Judged.TheVariants as outcome
-use Rattle.tracker_rules.specs.Rules.{id_in, is_repeated}
-use Rattle.tracker_rules.proofs.FitLemmas.{Fits, by-judged, entity-fits, enrollment-fits, event-fits}
+use Rattle.tracker_import.specs.declared.judged.Judged.{Judged}
+use Rattle.tracker_import.specs.declared.judged.Judged.TheVariants as outcome
+use Rattle.tracker_import.specs.Rules.{id_in, is_repeated}
+use Rattle.tracker_import.proofs.FitLemmas.{Fits, by-judged, entity-fits, enrollment-fits, event-fits}
 use Rattle.tracker_import.specs.Known.{entity_now, enrollment_now, event_now}
 use Rattle.tracker_import.specs.Deletes.{live_entity, live_enrollment, live_event, delete_conflict, events_left, enrollments_left, enrollment_gone, ordered}
 use Rattle.tracker_import.specs.Deletes.{entity_gone, judged_delete}

@@ -11,21 +11,21 @@ use Rattle.dh_changes.specs.declared.tracker.Entity.{Entity}
 use Rattle.dh_changes.specs.declared.change.Write.{Write}
 use Rattle.dh_changes.specs.declared.change.Write.TheVariants as write
 use Rattle.dh_metadata.specs.Objects.{find_of}
-use Rattle.meta_parts.specs.declared.held.Records.{Records}
-use Rattle.meta_parts.specs.declared.kind.Kind.{Kind}
-use Rattle.meta_parts.specs.declared.kind.Kind.TheVariants as kind
-use Rattle.record_index.specs.Facts.{Facts}
-use Rattle.record_index.specs.declared.outcome.Who.{Who}
-use Rattle.record_index.specs.declared.outcome.ImportStrategy.{ImportStrategy}
+use Rattle.dh_metadata.specs.declared.held.Records.{Records}
+use Rattle.dh_metadata.specs.declared.kind.Kind.{Kind}
+use Rattle.dh_metadata.specs.declared.kind.Kind.TheVariants as kind
+use Rattle.dh_changes.specs.Facts.{Facts}
+use Rattle.dh_changes.specs.declared.outcome.Who.{Who}
+use Rattle.dh_changes.specs.declared.outcome.ImportStrategy.{ImportStrategy}
 use Rattle.value_import.specs.Rules.{Condition, first_of}
-use Rattle.tracker_rules.specs.declared.names.EnrollmentPlace.{EnrollmentPlace}
+use Rattle.tracker_import.specs.declared.names.EnrollmentPlace.{EnrollmentPlace}
 use Rattle.tracker_import.specs.declared.places.EventPlace.{EventPlace}
 use Rattle.tracker_import.specs.declared.places.Live.{Live}
-use Rattle.tracker_rules.specs.declared.judged.Judged.{Judged}
-use Rattle.tracker_rules.specs.declared.judged.Judged.TheVariants as outcome
+use Rattle.tracker_import.specs.declared.judged.Judged.{Judged}
+use Rattle.tracker_import.specs.declared.judged.Judged.TheVariants as outcome
 use Rattle.tracker_import.specs.Known.{entity_now, enrollment_now, event_now}
-use Rattle.tracker_rules.specs.Rules.{first_in, right_conditions, standing_conditions}
-use Rattle.tracker_rules.specs.Rules.{judged_by}
+use Rattle.tracker_import.specs.Rules.{first_in, right_conditions, standing_conditions}
+use Rattle.tracker_import.specs.Rules.{judged_by}
 
 -- ---- the conditions
 

@@ -7,11 +7,11 @@ use Rattle.dh_changes.specs.declared.change.Write.{Write}
 use Rattle.dh_changes.specs.declared.tracker.Event.{Event}
 use Rattle.dh_changes.specs.declared.tracker.Enrollment.{Enrollment}
 use Rattle.dh_changes.specs.declared.tracker.Entity.{Entity}
-use Rattle.record_index.specs.Facts.{Facts}
-use Rattle.record_index.specs.Said.{same_id, said_by, last_said, of_event, of_enrollment, of_entity}
-use Rattle.tracker_rules.specs.declared.names.EnrollmentPlace.{EnrollmentPlace}
+use Rattle.dh_changes.specs.Facts.{Facts}
+use Rattle.dh_changes.specs.Said.{same_id, said_by, last_said, of_event, of_enrollment, of_entity}
+use Rattle.tracker_import.specs.declared.names.EnrollmentPlace.{EnrollmentPlace}
 use Rattle.tracker_import.specs.declared.places.EventPlace.{EventPlace}
-use Rattle.tracker_rules.specs.Rules.{is_judged}
+use Rattle.tracker_import.specs.Rules.{is_judged}
 
 abbrev pub enrollment_place : Option Enrollment → Option EnrollmentPlace
 enrollment_place = option_map (λ found. record { entity = found.entity; program = found.program; unit = found.unit })

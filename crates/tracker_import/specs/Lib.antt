@@ -1,3 +1,8 @@
+pub mod Rules
+pub mod Pairs
+pub mod Entities
+pub mod Enrollments
+pub mod Events
 pub mod Known
 pub mod Outcomes
 pub mod Deletes

@@ -1,8 +1,8 @@
 -- What objects come to, one after another.
 use Rattle.std.specs.Prelude.{ℕ, ◌+◌, ◌≤◌, Bool, ◌&&◌, ◌==◌, not, cond, List, [], ◌∷◌, ◌++◌, length, Option}
-use Rattle.record_index.specs.declared.outcome.Verdict.{Verdict}
-use Rattle.tracker_rules.specs.declared.judged.Judged.{Judged}
-use Rattle.tracker_rules.specs.declared.judged.Judged.TheVariants as outcome
+use Rattle.dh_changes.specs.declared.outcome.Verdict.{Verdict}
+use Rattle.tracker_import.specs.declared.judged.Judged.{Judged}
+use Rattle.tracker_import.specs.declared.judged.Judged.TheVariants as outcome
 
 -- a verdict, and the identifiers of the objects judged so far, each of which may have none
 pub record Sofar : Type 0 where

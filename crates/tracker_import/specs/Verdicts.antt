@@ -1,24 +1,24 @@
 -- The verdict on a tracker bundle: its objects one after another, each judged by what holds after the log and the writes accepted so far.
 use Rattle.std.specs.Prelude.{ℕ, cond, List, [], ◌∷◌, Option, option_and_then, option_map}
 use Rattle.std.specs.Option.{is_some}
-use Rattle.meta_parts.specs.declared.held.Records.{Records}
-use Rattle.meta_parts.specs.declared.kind.Kind.TheVariants as kind
+use Rattle.dh_metadata.specs.declared.held.Records.{Records}
+use Rattle.dh_metadata.specs.declared.kind.Kind.TheVariants as kind
 use Rattle.dh_changes.specs.declared.change.Write.TheVariants as write
-use Rattle.record_index.specs.Facts.{Facts}
-use Rattle.record_index.specs.declared.outcome.Verdict.{Verdict}
-use Rattle.record_index.specs.declared.outcome.Who.{Who}
-use Rattle.record_index.specs.declared.outcome.ImportStrategy.{ImportStrategy}
+use Rattle.dh_changes.specs.Facts.{Facts}
+use Rattle.dh_changes.specs.declared.outcome.Verdict.{Verdict}
+use Rattle.dh_changes.specs.declared.outcome.Who.{Who}
+use Rattle.dh_changes.specs.declared.outcome.ImportStrategy.{ImportStrategy}
 use Rattle.import_forms.specs.declared.bundle.Bundle.{Bundle}
 use Rattle.import_forms.specs.declared.entity.BundleEntity.{BundleEntity}
 use Rattle.import_forms.specs.declared.enrollment.BundleEnrollment.{BundleEnrollment}
 use Rattle.import_forms.specs.declared.event.BundleEvent.{BundleEvent}
 use Rattle.value_import.specs.Values.{is_delete_all}
-use Rattle.tracker_rules.specs.declared.judged.Judged.{Judged}
+use Rattle.tracker_import.specs.declared.judged.Judged.{Judged}
 use Rattle.tracker_import.specs.Known.{entity_now, enrollment_now, event_now}
-use Rattle.tracker_rules.specs.Rules.{id_in, is_repeated}
-use Rattle.tracker_rules.specs.Entities.{judged_entity}
-use Rattle.tracker_rules.specs.Enrollments.{judged_enrollment}
-use Rattle.tracker_rules.specs.Events.{judged_event}
+use Rattle.tracker_import.specs.Rules.{id_in, is_repeated}
+use Rattle.tracker_import.specs.Entities.{judged_entity}
+use Rattle.tracker_import.specs.Enrollments.{judged_enrollment}
+use Rattle.tracker_import.specs.Events.{judged_event}
 use Rattle.tracker_import.specs.Deletes.{live_entity, live_enrollment, live_event, delete_conflict, judged_delete, enrollment_gone, entity_gone}
 use Rattle.tracker_import.specs.Outcomes.{Sofar, none, taken, finished}
 

@@ -2,26 +2,26 @@
 
 ghost use Rattle.std.specs.Prelude.{◌≡◌, ◌+◌, ◌<◌, ◌^◌, ◌++◌, ◌∷◌, [], Some, None, IfOk, OnOk};
 ghost use Rattle.std.specs.Option.{option_copied};
-ghost use Rattle.record_index.specs.World.{facts};
+ghost use Rattle.dh_changes.specs.World.{facts};
 ghost use Rattle.tracker_import.specs.Known as known;
 ghost use Rattle.tracker_import.specs.Known.{AreSaid, AreSeen, NotesEntity, NotesEnrollment, NotesEvent};
 ghost use Rattle.tracker_import.specs.Batches.{IsBatch};
 ghost use Rattle.tracker_import.specs.Outcomes.{sofar_of, none, counted, taken, AreAtMost};
-ghost use Rattle.tracker_rules.specs.Rules as rules;
+ghost use Rattle.tracker_import.specs.Rules as rules;
 
+use crate::judged::Judged;
+use crate::names::EnrollmentPlace;
 use crate::places::EventPlace;
 use dh_base::codes::Code;
 use dh_base::items::Items;
 use dh_base::memory::Memory;
 use dh_base::uid::Uid;
 use dh_changes::change::Write;
+use dh_changes::outcome::{Conflict, Verdict};
 use dh_changes::tracker::{Enrollment, Entity, Event};
-use record_index::outcome::{Conflict, Verdict};
-use record_index::world::World;
+use dh_changes::world::World;
 use std::alloc::Global;
 use std::collections::{HashMap, HashSet};
-use tracker_rules::judged::Judged;
-use tracker_rules::names::EnrollmentPlace;
 
 /// What the writes of a verdict say of each object that they name.
 #[derive(Drop)]

@@ -3,32 +3,32 @@
 ghost use Rattle.std.specs.Prelude.{◌≡◌, ◌++◌, ◌∷◌, [], true, filter, is_some, map, Some, if◌then◌else◌, IfOk, OnOk};
 ghost use Rattle.std.specs.List.{flat_map};
 ghost use Rattle.dh_metadata.specs.Objects.{find_of, is_shared};
-ghost use Rattle.meta_parts.specs.declared.kind.Kind.TheVariants.{OrganisationUnit};
-ghost use Rattle.record_index.specs.World.{facts};
+ghost use Rattle.dh_metadata.specs.declared.kind.Kind.TheVariants.{OrganisationUnit};
+ghost use Rattle.dh_changes.specs.World.{facts};
 ghost use Rattle.value_import.specs.Outcomes.{IsKnown};
 ghost use Rattle.value_import.specs.Rules.{first_of};
 ghost use Rattle.tracker_import.specs.Batches.{IsBatch};
 ghost use Rattle.tracker_import.specs.Deletes as known;
 ghost use Rattle.tracker_import.specs.Known as there;
 
+use crate::asking::Asking;
 use crate::batch::{Batch, enrollment_now, entity_now, event_now};
+use crate::judged::Judged;
+use crate::names::EnrollmentPlace;
 use crate::places::{EventPlace, Live};
+use crate::rights::right_condition;
+use crate::standing::standing_condition;
 use dh_base::codes::Code;
 use dh_base::items::Items;
 use dh_base::memory::Memory;
 use dh_base::uid::Uid;
 use dh_changes::change::Write;
 use dh_changes::tracker::Entity;
+use dh_changes::world::World;
+use dh_metadata::kind::Kind;
 use dh_metadata::metadata::Metadata;
-use meta_parts::kind::Kind;
-use record_index::world::World;
 use std::alloc::Global;
 use std::collections::BTreeMap;
-use tracker_rules::asking::Asking;
-use tracker_rules::judged::Judged;
-use tracker_rules::names::EnrollmentPlace;
-use tracker_rules::rights::right_condition;
-use tracker_rules::standing::standing_condition;
 
 // ---- the conditions
 

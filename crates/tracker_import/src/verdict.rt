@@ -3,8 +3,8 @@
 ghost use Rattle.std.specs.Prelude.{◌≡◌, ◌<◌, ◌^◌, ◌∷◌, [], length, option_map, option_and_then, IfOk, OnOk};
 ghost use Rattle.std.specs.List.{All};
 ghost use Rattle.std.specs.Option.{option_copied, option_map_or};
-ghost use Rattle.change_bytes.specs.Forms.{WriteFits};
-ghost use Rattle.record_index.specs.World.{facts};
+ghost use Rattle.change_log.specs.Forms.{WriteFits};
+ghost use Rattle.dh_changes.specs.World.{facts};
 ghost use Rattle.value_import.specs.Outcomes.{IsKnown};
 ghost use Rattle.tracker_import.specs.Batches.{IsBatch};
 ghost use Rattle.tracker_import.specs.Deletes as deletes;
@@ -13,35 +13,35 @@ ghost use Rattle.tracker_import.specs.Outcomes as outcomes;
 ghost use Rattle.tracker_import.specs.Outcomes.{sofar_of, AreAtMost};
 ghost use Rattle.tracker_import.specs.Verdicts as verdicts;
 
+use crate::asking::Asking;
 use crate::batch::{
     Batch, empty_batch, enrollment_now, entity_now, event_now, is_repeated, take_in,
 };
 use crate::deletes::{
     delete_conflict, enrollment_gone, entity_gone, live_enrollment, live_entity, live_event,
 };
+use crate::enrollments::judge_enrollment;
+use crate::entities::{Standing, judge_entity, only};
+use crate::events::judge_event;
+use crate::items::id_in;
+use crate::judged::Judged;
+use crate::names::EnrollmentPlace;
 use crate::places::{EventPlace, Live};
+use crate::standing::is_delete_all;
 use dh_base::items::Items;
 use dh_base::memory::Memory;
 use dh_base::uid::Uid;
 use dh_changes::change::Write;
+use dh_changes::outcome::{Verdict, Who};
 use dh_changes::tracker::Entity;
+use dh_changes::world::World;
+use dh_metadata::kind::Kind;
 use dh_metadata::metadata::Metadata;
 use import_forms::bundle::Bundle;
 use import_forms::enrollment::BundleEnrollment;
 use import_forms::entity::BundleEntity;
 use import_forms::event::BundleEvent;
-use meta_parts::kind::Kind;
-use record_index::outcome::{Verdict, Who};
-use record_index::world::World;
 use std::alloc::Global;
-use tracker_rules::asking::Asking;
-use tracker_rules::enrollments::judge_enrollment;
-use tracker_rules::entities::{Standing, judge_entity, only};
-use tracker_rules::events::judge_event;
-use tracker_rules::items::id_in;
-use tracker_rules::judged::Judged;
-use tracker_rules::names::EnrollmentPlace;
-use tracker_rules::standing::is_delete_all;
 
 fn entity_of<'a>(world: &'a World, batch: &'a Batch, id: &Option<Uid>) -> Option<&'a Entity>
     requires { IsBatch batch.now }

@@ -3,7 +3,7 @@ use Rattle.std.proofs.Common.{◌≡◌, List, [], ◌∷◌, Bool, true, false,
 use Rattle.serde_json.specs.View.{items_of}
 use Rattle.serde_json.specs.Written.{has_float, items_have_float}
 use Rattle.dh_base.specs.Fractions.{Fraction}
-use Rattle.meta_parts.specs.declared.held.Records.{Records}
+use Rattle.dh_metadata.specs.declared.held.Records.{Records}
 use Rattle.validation.specs.declared.outcome.Violation.{Violation}
 use Rattle.validation.specs.Body.{side_of, violation_with, violation_of, violations_of, body_of}
 

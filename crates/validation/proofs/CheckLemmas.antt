@@ -9,9 +9,9 @@ use Rattle.std.specs.declared.cmp.Ordering.{Ordering}
 use Rattle.std.proofs.lemmas.List.{append-nil, append_assoc, drop_more, drop_all}
 use Rattle.dh_base.specs.Fractions.{Fraction, cmp_of}
 use Rattle.dh_base.specs.declared.plain.NumFault.{NumFault}
-use Rattle.meta_parts.specs.declared.held.Records.{Records}
-use Rattle.meta_parts.specs.declared.names.Operator.{Operator}
-use Rattle.meta_parts.specs.declared.names.Operator.TheVariants as operator
+use Rattle.dh_metadata.specs.declared.held.Records.{Records}
+use Rattle.dh_metadata.specs.declared.names.Operator.{Operator}
+use Rattle.dh_metadata.specs.declared.names.Operator.TheVariants as operator
 use Rattle.validation.specs.declared.outcome.Outcome.{Outcome}
 use Rattle.validation.specs.declared.outcome.Outcome.TheVariants as outcome
 use Rattle.validation.specs.declared.outcome.Violation.{Violation}

@@ -13,9 +13,9 @@ use Rattle.expr_lang.specs.Expr.{items_in}
 use Rattle.expr_eval.specs.declared.value.Value.{Value}
 use Rattle.expr_eval.specs.Given.{given_by}
 use Rattle.expr_eval.specs.Meaning.{meaning}
-use Rattle.meta_parts.specs.declared.held.Records.{Records}
-use Rattle.meta_parts.specs.declared.kind.Kind.TheVariants as kind
-use Rattle.meta_parts.specs.declared.records.Rule.{Rule}
+use Rattle.dh_metadata.specs.declared.held.Records.{Records}
+use Rattle.dh_metadata.specs.declared.kind.Kind.TheVariants as kind
+use Rattle.dh_metadata.specs.declared.records.Rule.{Rule}
 use Rattle.cell_values.specs.Seen.{SeenRecords, SameSeen}
 use Rattle.cell_values.proofs.ReorderLemmas.{item_value_of-same}
 use Rattle.validation.specs.declared.outcome.Outcome.{Outcome}

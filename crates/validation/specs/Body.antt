@@ -5,7 +5,7 @@ use Rattle.serde_json.specs.Data.{Data, null, string, array, object, member, no_
 use Rattle.serde_json.specs.View.{items_of}
 use Rattle.dh_base.specs.Decimals.{printed}
 use Rattle.dh_base.specs.Fractions.{Fraction}
-use Rattle.meta_parts.specs.declared.held.Records.{Records}
+use Rattle.dh_metadata.specs.declared.held.Records.{Records}
 use Rattle.validation.specs.declared.outcome.Violation.{Violation}
 use Rattle.validation.specs.Check.{id_of}
 

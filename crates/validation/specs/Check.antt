@@ -19,11 +19,11 @@ use Rattle.expr_eval.specs.declared.value.Value.{Value}
 use Rattle.expr_eval.specs.declared.value.Value.TheVariants as value
 use Rattle.expr_eval.specs.Given.{given_by}
 use Rattle.expr_eval.specs.Meaning.{meaning}
-use Rattle.meta_parts.specs.declared.held.Records.{Records}
-use Rattle.meta_parts.specs.declared.kind.Kind.TheVariants as kind
-use Rattle.meta_parts.specs.declared.names.Operator.{Operator}
-use Rattle.meta_parts.specs.declared.names.Operator.TheVariants as operator
-use Rattle.meta_parts.specs.declared.records.Rule.{Rule}
+use Rattle.dh_metadata.specs.declared.held.Records.{Records}
+use Rattle.dh_metadata.specs.declared.kind.Kind.TheVariants as kind
+use Rattle.dh_metadata.specs.declared.names.Operator.{Operator}
+use Rattle.dh_metadata.specs.declared.names.Operator.TheVariants as operator
+use Rattle.dh_metadata.specs.declared.records.Rule.{Rule}
 use Rattle.dh_metadata.specs.Objects.{find_of}
 use Rattle.dh_metadata.specs.Sets.{by_id, has_element}
 use Rattle.dh_metadata.specs.Users.{may_of}

@@ -1,7 +1,7 @@
 -- A check, and why it gives no violations.
 use Rattle.std.specs.Prelude.{◌≡◌, ℕ, ◌<◌, Bool, true, false, List, [], ◌∷◌, ◌++◌, length, Option, Some, None, ⊤}
 use Rattle.dh_base.specs.Fractions.{Fraction}
-use Rattle.meta_parts.specs.declared.held.Records.{Records}
+use Rattle.dh_metadata.specs.declared.held.Records.{Records}
 use Rattle.table_rows.specs.Store.{Contents}
 use Rattle.cell_values.specs.Held.{View, IsSeer, AreCellUnits}
 use Rattle.cell_values.specs.Seen.{seen_of}

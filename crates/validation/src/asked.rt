@@ -4,11 +4,11 @@ ghost use Rattle.std.specs.List.{list_all};
 ghost use Rattle.validation.specs.Check.{has_element_named, is_in_set, are_in_set, fits};
 
 use dh_base::uid::Uid;
+use dh_metadata::kind::Kind;
 use dh_metadata::metadata::Metadata;
+use dh_metadata::records::Rule;
 use dh_periods::PeriodType;
 use expr_lang::{Expr, Item};
-use meta_parts::kind::Kind;
-use meta_parts::records::Rule;
 
 fn has_element(meta: &Metadata, set: u32, element: &Uid) -> bool
     requires { set < length meta.now.data_sets }

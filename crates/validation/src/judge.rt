@@ -1,14 +1,14 @@
 //! From the values of a rule's sides to what comes of it.
 ghost use Rattle.std.specs.Prelude.{◌≡◌, ◌<◌, length};
 ghost use Rattle.dh_base.specs.Fractions.{cmp_of};
-ghost use Rattle.meta_parts.specs.declared.held.Records.{Records};
+ghost use Rattle.dh_metadata.specs.declared.held.Records.{Records};
 ghost use Rattle.validation.specs.Run.{IsOutcomeOf};
 ghost use Rattle.validation.specs.Check.{number_in, is_wide, holds, violated_if, is_one_alone, compared, compared_if, judged_by, judged};
 
 use crate::outcome::{Outcome, Violation};
 use dh_base::frac::Frac;
+use dh_metadata::names::Operator;
 use expr_eval::Value;
-use meta_parts::names::Operator;
 use std::cmp::Ordering;
 
 fn number_in(value: &Value) -> Option<Frac>

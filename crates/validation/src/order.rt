@@ -5,8 +5,8 @@ ghost use Rattle.validation.specs.Check.{rule_ids};
 
 use dh_base::memory::Memory;
 use dh_base::uid::Uid;
+use dh_metadata::kind::Kind;
 use dh_metadata::metadata::Metadata;
-use meta_parts::kind::Kind;
 use std::alloc::Global;
 use std::collections::BTreeMap;
 

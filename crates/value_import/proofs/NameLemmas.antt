@@ -4,8 +4,8 @@ use Rattle.std.specs.Prelude.{count_by, position, ◌==◌}
 use Rattle.std.proofs.lemmas.List.{length-map}
 use Rattle.std.proofs.lemmas.List.Quantifiers.{position-Some}
 use Rattle.dh_categories.specs.Combos.{is_of, only_of}
-use Rattle.meta_parts.specs.declared.records.OptionCombo.{OptionCombo}
-use Rattle.meta_parts.specs.Rows.{option_combo_rows}
+use Rattle.dh_metadata.specs.declared.records.OptionCombo.{OptionCombo}
+use Rattle.dh_metadata.specs.Rows.{option_combo_rows}
 use Rattle.dh_metadata.specs.Linked.{IsBelow}
 
 only-below : (rows : List (ℕ × List ℕ)) (combo i : ℕ) → only_of rows combo ≡ Some i → i < length rows

@@ -6,9 +6,9 @@ use Rattle.dh_changes.specs.Keys.{same_value_key, same_reg_key}
 use Rattle.dh_changes.specs.declared.change.Write.{Write}
 use Rattle.dh_changes.specs.declared.keys.ValueKey.{ValueKey}
 use Rattle.dh_changes.specs.declared.keys.RegKey.{RegKey}
-use Rattle.record_index.specs.declared.said.Said.{Said}
-use Rattle.record_index.specs.declared.said.Said.TheVariants as said
-use Rattle.record_index.specs.Said.{said_by, last_said, of_value, of_registration}
+use Rattle.dh_changes.specs.declared.said.Said.{Said}
+use Rattle.dh_changes.specs.declared.said.Said.TheVariants as said
+use Rattle.dh_changes.specs.Said.{said_by, last_said, of_value, of_registration}
 use Rattle.value_import.specs.Said.{AreSaid, IsNoted}
 
 -- what is put at a key is what is said there

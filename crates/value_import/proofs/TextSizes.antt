@@ -9,9 +9,9 @@ use Rattle.dh_base.specs.Decimals.{decimal_of, is_point}
 use Rattle.dh_base.proofs.DecimalLemmas.{decimal_of-long}
 use Rattle.dh_periods.specs.Civil.{civil_of, read_date}
 use Rattle.dh_periods.specs.Days.{first_day, listed}
-use Rattle.meta_parts.specs.declared.names.ValueType.{ValueType}
-use Rattle.meta_parts.specs.declared.names.ValueType.TheVariants as value_type
-use Rattle.meta_parts.specs.declared.records.Element.{Element}
+use Rattle.dh_metadata.specs.declared.names.ValueType.{ValueType}
+use Rattle.dh_metadata.specs.declared.names.ValueType.TheVariants as value_type
+use Rattle.dh_metadata.specs.declared.records.Element.{Element}
 use Rattle.dh_records.specs.Values.{integer_of, number_if, is_up_to, is_true, is_false, is_short, fits}
 
 integer_of-long : (text : List ℕ) → 1024 < length text → integer_of text ≡ None

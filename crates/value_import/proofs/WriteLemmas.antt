@@ -8,16 +8,16 @@ use Rattle.std.proofs.lemmas.List.Elements.{All-from_recursion}
 use Rattle.dh_base.specs.declared.codes.Code.{Code}
 use Rattle.dh_base.specs.declared.codes.Code.TheVariants.{C11}
 use Rattle.dh_base.specs.declared.memory.Memory.{Memory}
-use Rattle.change_bytes.specs.Forms.{WriteFits}
+use Rattle.change_log.specs.Forms.{WriteFits}
 use Rattle.dh_changes.specs.declared.keys.ValueKey.{ValueKey}
 use Rattle.dh_changes.specs.declared.keys.RegKey.{RegKey}
 use Rattle.dh_changes.specs.declared.change.Write.{Write}
 use Rattle.dh_changes.specs.declared.change.Write.TheVariants as write
-use Rattle.meta_parts.specs.declared.held.Records.{Records}
-use Rattle.record_index.specs.Facts.{Facts}
-use Rattle.record_index.specs.declared.outcome.ImportStrategy.{ImportStrategy}
-use Rattle.record_index.specs.declared.outcome.Verdict.{Verdict}
-use Rattle.record_index.specs.declared.outcome.Who.{Who}
+use Rattle.dh_metadata.specs.declared.held.Records.{Records}
+use Rattle.dh_changes.specs.Facts.{Facts}
+use Rattle.dh_changes.specs.declared.outcome.ImportStrategy.{ImportStrategy}
+use Rattle.dh_changes.specs.declared.outcome.Verdict.{Verdict}
+use Rattle.dh_changes.specs.declared.outcome.Who.{Who}
 use Rattle.dh_periods.specs.Moment.{day_of}
 use Rattle.import_forms.specs.declared.completion.Completion.{Completion}
 use Rattle.import_forms.specs.declared.set.SetValue.{SetValue}

@@ -5,11 +5,11 @@ use Rattle.dh_base.specs.declared.codes.Code.TheVariants.{C2, C3, C4, C5, C7, C1
 use Rattle.dh_periods.specs.declared.name.PeriodName.{PeriodName}
 use Rattle.dh_changes.specs.declared.keys.RegKey.{RegKey}
 use Rattle.dh_changes.specs.declared.change.Write.TheVariants as write
-use Rattle.meta_parts.specs.declared.held.Records.{Records}
-use Rattle.meta_parts.specs.declared.kind.Kind.TheVariants.{OrganisationUnit, DataSet}
-use Rattle.meta_parts.specs.declared.records.DataSet as sets
-use Rattle.record_index.specs.Facts.{Facts}
-use Rattle.record_index.specs.declared.outcome.Who.{Who}
+use Rattle.dh_metadata.specs.declared.held.Records.{Records}
+use Rattle.dh_metadata.specs.declared.kind.Kind.TheVariants.{OrganisationUnit, DataSet}
+use Rattle.dh_metadata.specs.declared.records.DataSet as sets
+use Rattle.dh_changes.specs.Facts.{Facts}
+use Rattle.dh_changes.specs.declared.outcome.Who.{Who}
 use Rattle.import_forms.specs.declared.completion.Completion.{Completion}
 use Rattle.import_forms.specs.declared.set.ValueSet.{ValueSet}
 use Rattle.value_import.specs.declared.place.Place.{Place}

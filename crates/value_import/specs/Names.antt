@@ -8,11 +8,11 @@ use Rattle.dh_periods.specs.contracts.kind.PeriodType.{the_type}
 use Rattle.dh_periods.specs.declared.kind.PeriodType.{PeriodType}
 use Rattle.dh_periods.specs.declared.name.PeriodName.{PeriodName}
 use Rattle.dh_periods.specs.Texts.{period_of}
-use Rattle.meta_parts.specs.declared.held.Records.{Records}
-use Rattle.meta_parts.specs.declared.kind.Kind.{Kind}
-use Rattle.meta_parts.specs.declared.kind.Kind.TheVariants.{DataSet, CategoryOptionCombo}
-use Rattle.meta_parts.specs.declared.records.DataSet as sets
-use Rattle.meta_parts.specs.declared.records.OptionCombo.{OptionCombo}
+use Rattle.dh_metadata.specs.declared.held.Records.{Records}
+use Rattle.dh_metadata.specs.declared.kind.Kind.{Kind}
+use Rattle.dh_metadata.specs.declared.kind.Kind.TheVariants.{DataSet, CategoryOptionCombo}
+use Rattle.dh_metadata.specs.declared.records.DataSet as sets
+use Rattle.dh_metadata.specs.declared.records.OptionCombo.{OptionCombo}
 use Rattle.dh_metadata.specs.Approval.{option_combo_rows}
 use Rattle.dh_metadata.specs.Objects.{find_of}
 use Rattle.dh_metadata.specs.Sets.{has_element, sets_with}

@@ -1,11 +1,11 @@
 -- Verdicts, one value or completion after another.
 use Rattle.std.specs.Prelude.{ℕ, ◌+◌, ◌<◌, ◌≤◌, Bool, cond, [], ◌∷◌, ◌++◌, None, length, ⊤}
-use Rattle.meta_parts.specs.declared.held.Records.{Records}
+use Rattle.dh_metadata.specs.declared.held.Records.{Records}
 use Rattle.dh_base.specs.declared.codes.Code.{Code}
-use Rattle.record_index.specs.declared.outcome.Conflict.{Conflict}
-use Rattle.record_index.specs.declared.outcome.Verdict.{Verdict}
-use Rattle.record_index.specs.declared.outcome.Who.{Who}
-use Rattle.record_index.specs.declared.outcome.Who.TheVariants.{User, Loader}
+use Rattle.dh_changes.specs.declared.outcome.Conflict.{Conflict}
+use Rattle.dh_changes.specs.declared.outcome.Verdict.{Verdict}
+use Rattle.dh_changes.specs.declared.outcome.Who.{Who}
+use Rattle.dh_changes.specs.declared.outcome.Who.TheVariants.{User, Loader}
 use Rattle.value_import.specs.declared.judged.Judged.{Judged}
 use Rattle.value_import.specs.declared.judged.Judged.TheVariants as judged
 

@@ -1,7 +1,7 @@
 -- Numbers that are those of objects.
 use Rattle.std.specs.Prelude.{◌≡◌, ◌<◌, List, length, Option, Some, None, Result, Ok, Err}
 use Rattle.dh_base.specs.declared.codes.Code.{Code}
-use Rattle.meta_parts.specs.declared.held.Records.{Records}
+use Rattle.dh_metadata.specs.declared.held.Records.{Records}
 use Rattle.dh_metadata.specs.Linked.{IsBelow}
 use Rattle.value_import.specs.declared.place.Place.{Place}
 use Rattle.value_import.specs.declared.place.ValuePlace.{ValuePlace}

@@ -11,16 +11,16 @@ use Rattle.dh_periods.specs.declared.name.PeriodName.{PeriodName}
 use Rattle.dh_periods.specs.Days.{last_day}
 use Rattle.dh_periods.specs.Places.{containing_of, ordinal_of}
 use Rattle.org_tree.specs.Units.{is_under}
-use Rattle.meta_parts.specs.declared.held.Records.{Records}
-use Rattle.meta_parts.specs.declared.kind.Kind.TheVariants.{DataSet, CategoryOption}
-use Rattle.meta_parts.specs.declared.records.DataSet as sets
-use Rattle.meta_parts.specs.declared.records.OptionCombo.{OptionCombo}
-use Rattle.meta_parts.specs.declared.records.User as users
+use Rattle.dh_metadata.specs.declared.held.Records.{Records}
+use Rattle.dh_metadata.specs.declared.kind.Kind.TheVariants.{DataSet, CategoryOption}
+use Rattle.dh_metadata.specs.declared.records.DataSet as sets
+use Rattle.dh_metadata.specs.declared.records.OptionCombo.{OptionCombo}
+use Rattle.dh_metadata.specs.declared.records.User as users
 use Rattle.dh_metadata.specs.Sets.{is_assigned}
 use Rattle.dh_metadata.specs.Users.{has_authority}
-use Rattle.record_index.specs.Facts.{Facts}
-use Rattle.record_index.specs.declared.outcome.Who.{Who}
-use Rattle.record_index.specs.declared.outcome.Who.TheVariants.{User, Loader}
+use Rattle.dh_changes.specs.Facts.{Facts}
+use Rattle.dh_changes.specs.declared.outcome.Who.{Who}
+use Rattle.dh_changes.specs.declared.outcome.Who.TheVariants.{User, Loader}
 use Rattle.dh_records.specs.Access.{access, tree}
 use Rattle.value_import.specs.declared.place.Place.{Place}
 

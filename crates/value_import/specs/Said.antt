@@ -6,8 +6,8 @@ use Rattle.dh_changes.specs.Keys.{same_value_key, same_reg_key}
 use Rattle.dh_changes.specs.declared.change.Write.{Write}
 use Rattle.dh_changes.specs.declared.keys.ValueKey.{ValueKey}
 use Rattle.dh_changes.specs.declared.keys.RegKey.{RegKey}
-use Rattle.record_index.specs.Facts.{Facts}
-use Rattle.record_index.specs.Said.{said_by, last_said, of_value, of_registration}
+use Rattle.dh_changes.specs.Facts.{Facts}
+use Rattle.dh_changes.specs.Said.{said_by, last_said, of_value, of_registration}
 
 -- the key holds a value
 unfoldable pub holds_value : Facts → List Write → ValueKey → Bool

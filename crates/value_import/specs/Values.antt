@@ -10,16 +10,16 @@ use Rattle.dh_base.specs.declared.plain.AggType.TheVariants as agg
 use Rattle.dh_periods.specs.declared.name.PeriodName.{PeriodName}
 use Rattle.dh_changes.specs.declared.keys.ValueKey.{ValueKey}
 use Rattle.dh_changes.specs.declared.change.Write.TheVariants as write
-use Rattle.meta_parts.specs.declared.held.Records.{Records}
-use Rattle.meta_parts.specs.declared.kind.Kind.TheVariants.{OrganisationUnit, DataElement}
-use Rattle.meta_parts.specs.declared.records.DataSet.{DataSet}
-use Rattle.meta_parts.specs.declared.records.Element.{Element}
-use Rattle.meta_parts.specs.declared.records.OptionCombo.{OptionCombo}
-use Rattle.meta_parts.specs.declared.records.Unit.{Unit}
-use Rattle.record_index.specs.Facts.{Facts}
-use Rattle.record_index.specs.declared.outcome.Who.{Who}
-use Rattle.record_index.specs.declared.outcome.ImportStrategy.{ImportStrategy}
-use Rattle.record_index.specs.declared.outcome.ImportStrategy.TheVariants as strategy
+use Rattle.dh_metadata.specs.declared.held.Records.{Records}
+use Rattle.dh_metadata.specs.declared.kind.Kind.TheVariants.{OrganisationUnit, DataElement}
+use Rattle.dh_metadata.specs.declared.records.DataSet.{DataSet}
+use Rattle.dh_metadata.specs.declared.records.Element.{Element}
+use Rattle.dh_metadata.specs.declared.records.OptionCombo.{OptionCombo}
+use Rattle.dh_metadata.specs.declared.records.Unit.{Unit}
+use Rattle.dh_changes.specs.Facts.{Facts}
+use Rattle.dh_changes.specs.declared.outcome.Who.{Who}
+use Rattle.dh_changes.specs.declared.outcome.ImportStrategy.{ImportStrategy}
+use Rattle.dh_changes.specs.declared.outcome.ImportStrategy.TheVariants as strategy
 use Rattle.dh_records.specs.Approved.{approved_of}
 use Rattle.dh_records.specs.Values.{fits, is_numeric, number_of}
 use Rattle.import_forms.specs.declared.set.SetValue.{SetValue}

@@ -1,10 +1,10 @@
 -- The verdict on a data value set and on completions.
 use Rattle.std.specs.Prelude.{ℕ, ◌+◌, List, [], ◌∷◌, length, ℤ}
 use Rattle.std.specs.Option.{option_map_or}
-use Rattle.meta_parts.specs.declared.held.Records.{Records}
-use Rattle.record_index.specs.Facts.{Facts}
-use Rattle.record_index.specs.declared.outcome.Verdict.{Verdict}
-use Rattle.record_index.specs.declared.outcome.Who.{Who}
+use Rattle.dh_metadata.specs.declared.held.Records.{Records}
+use Rattle.dh_changes.specs.Facts.{Facts}
+use Rattle.dh_changes.specs.declared.outcome.Verdict.{Verdict}
+use Rattle.dh_changes.specs.declared.outcome.Who.{Who}
 use Rattle.dh_periods.specs.Moment.{day_of}
 use Rattle.import_forms.specs.declared.completion.Completion.{Completion}
 use Rattle.import_forms.specs.declared.set.SetValue.{SetValue}

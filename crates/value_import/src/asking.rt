@@ -1,8 +1,8 @@
 //! What values and completions are judged by.
 
+use dh_changes::outcome::Who;
+use dh_changes::world::World;
 use dh_metadata::metadata::Metadata;
-use record_index::outcome::Who;
-use record_index::world::World;
 
 /// What values and completions are judged by: the log, the metadata, who asks, and the day.
 #[derive(Clone, Copy)]

@@ -1,7 +1,7 @@
 //! The verdict so far, and what its writes say.
 
 ghost use Rattle.std.specs.Prelude.{◌≡◌, ◌+◌, ◌<◌, ◌^◌, ℕ, ◌++◌, ◌∷◌, [], IfOk, OnOk, is_some};
-ghost use Rattle.record_index.specs.World.{facts};
+ghost use Rattle.dh_changes.specs.World.{facts};
 ghost use Rattle.value_import.specs.Outcomes.{nothing, taken, AreAtMost};
 ghost use Rattle.value_import.specs.Said as says;
 ghost use Rattle.value_import.specs.Said.{AreSaid, IsNoted};
@@ -12,8 +12,8 @@ use dh_base::items::Items;
 use dh_base::memory::Memory;
 use dh_changes::change::Write;
 use dh_changes::keys::{RegKey, ValueKey};
-use record_index::outcome::{Conflict, Verdict};
-use record_index::world::World;
+use dh_changes::outcome::{Conflict, Verdict};
+use dh_changes::world::World;
 use std::alloc::Global;
 use std::collections::HashMap;
 

@@ -2,7 +2,7 @@
 
 ghost use Rattle.std.specs.Prelude.{◌≡◌, ◌<◌, length, IfOk, unwrap_or, pos, is_some};
 ghost use Rattle.dh_metadata.specs.Linked.{IsBelow};
-ghost use Rattle.record_index.specs.World.{facts};
+ghost use Rattle.dh_changes.specs.World.{facts};
 ghost use Rattle.value_import.specs.Completions as asks;
 ghost use Rattle.value_import.specs.Completions.{typed_set, reg_names_of, reg_name_conditions, reg_place_of, set_id, reg_key_of, reg_conditions};
 ghost use Rattle.value_import.specs.Completions.{placed_reg_conditions, registered, completed, judged_completion, uncounted};
@@ -25,14 +25,14 @@ use dh_base::codes::Code;
 use dh_base::memory::Memory;
 use dh_changes::change::Write;
 use dh_changes::keys::RegKey;
+use dh_changes::outcome::Who;
 use dh_changes::text::Text;
+use dh_changes::world::World;
+use dh_metadata::kind::Kind;
 use dh_metadata::metadata::Metadata;
 use dh_periods::Period;
 use import_forms::completion::Completion;
 use import_forms::set::ValueSet;
-use meta_parts::kind::Kind;
-use record_index::outcome::Who;
-use record_index::world::World;
 use std::alloc::Global;
 
 #[tactic(auto, unfolding(crate::specs::Completions::typed_set))]

@@ -1,7 +1,7 @@
 //! What a data value comes to.
 
 ghost use Rattle.std.specs.Prelude.{◌≡◌, ◌<◌, length, unwrap_or, [], IfOk, not, ◌&&◌};
-ghost use Rattle.record_index.specs.World.{facts};
+ghost use Rattle.dh_changes.specs.World.{facts};
 ghost use Rattle.value_import.specs.Outcomes.{IsKnown};
 ghost use Rattle.value_import.specs.Ranges.{IsValueWithin};
 ghost use Rattle.value_import.specs.Rules.{first_of, of_user};
@@ -17,15 +17,15 @@ use dh_base::memory::Memory;
 use dh_base::plain::AggType;
 use dh_changes::change::Write;
 use dh_changes::keys::ValueKey;
+use dh_changes::outcome::{ImportStrategy, Who};
 use dh_changes::text::Text;
+use dh_changes::world::World;
 use dh_metadata::metadata::Metadata;
+use dh_metadata::records::Element;
 use dh_records::approved::approved_position_of;
 use dh_records::number::{is_numeric, number_of};
 use dh_records::value::fits;
 use import_forms::set::SetValue;
-use meta_parts::records::Element;
-use record_index::outcome::{ImportStrategy, Who};
-use record_index::world::World;
 use std::alloc::Global;
 
 /// The key of a value, and whether it holds one.

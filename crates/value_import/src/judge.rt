@@ -1,7 +1,7 @@
 //! How a data value is judged.
 
 ghost use Rattle.std.specs.Prelude.{◌≡◌, IfOk};
-ghost use Rattle.record_index.specs.World.{facts};
+ghost use Rattle.dh_changes.specs.World.{facts};
 ghost use Rattle.value_import.specs.Outcomes.{IsKnown};
 ghost use Rattle.value_import.specs.Ranges.{IsValueWithin};
 ghost use Rattle.value_import.specs.Rules.{first_of};
@@ -17,8 +17,8 @@ use crate::rules::place_condition;
 use crate::value::{key_of, placed};
 use dh_base::codes::Code;
 use dh_base::memory::Memory;
+use dh_changes::outcome::ImportStrategy;
 use import_forms::set::{SetValue, ValueSet};
-use record_index::outcome::ImportStrategy;
 use std::alloc::Global;
 
 fn condition(

@@ -3,7 +3,7 @@
 ghost use Rattle.std.specs.Prelude.{◌≡◌, ◌<◌, length, find, option_and_then};
 ghost use Rattle.std.specs.Option.{option_or, option_to_list};
 ghost use Rattle.dh_base.specs.Uid.{uid_of};
-ghost use Rattle.meta_parts.specs.declared.kind.Kind.TheVariants.{DataSet};
+ghost use Rattle.dh_metadata.specs.declared.kind.Kind.TheVariants.{DataSet};
 ghost use Rattle.dh_metadata.specs.Linked.{AreBelow, IsBelow};
 ghost use Rattle.dh_metadata.specs.Objects.{count_of};
 ghost use Rattle.dh_metadata.specs.Sets as sets;
@@ -12,9 +12,9 @@ ghost use Rattle.value_import.specs.Values.{has_candidate};
 
 use dh_base::uid::Uid;
 use dh_changes::text::Text;
+use dh_metadata::kind::Kind;
 use dh_metadata::metadata::Metadata;
 use dh_periods::{Period, PeriodType};
-use meta_parts::kind::Kind;
 
 /// The text of its own, or else the other.
 pub fn either<'a>(own: &'a Option<Text>, other: &'a Option<Text>) -> &'a Option<Text>

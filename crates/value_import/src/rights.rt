@@ -3,21 +3,21 @@
 ghost use Rattle.std.specs.Prelude.{◌≡◌, ◌<◌, length};
 ghost use Rattle.std.specs.List.{list_any, list_all};
 ghost use Rattle.dh_sharing.specs.declared.access.Right.TheVariants.{DataWrite};
-ghost use Rattle.meta_parts.specs.declared.kind.Kind.TheVariants.{CategoryOption};
+ghost use Rattle.dh_metadata.specs.declared.kind.Kind.TheVariants.{CategoryOption};
 ghost use Rattle.dh_metadata.specs.Linked.{AreBelow};
 ghost use Rattle.org_tree.specs.Units as units;
-ghost use Rattle.record_index.specs.World.{facts};
+ghost use Rattle.dh_changes.specs.World.{facts};
 ghost use Rattle.dh_records.specs.Access as known;
 ghost use Rattle.value_import.specs.Ranges.{IsWithin};
 ghost use Rattle.value_import.specs.Rules.{may_write, is_captured};
 
 use crate::place::Place;
+use dh_changes::world::World;
+use dh_metadata::kind::Kind;
 use dh_metadata::metadata::Metadata;
 use dh_records::access::{may, tree_of};
 use dh_sharing::access::Right;
-use meta_parts::kind::Kind;
 use org_tree::tree::Tree;
-use record_index::world::World;
 
 fn may_write_options(world: &World, meta: &Metadata, user: u32, options: &[u32]) -> bool
     requires user { user < length meta.now.users }

@@ -2,7 +2,7 @@
 
 ghost use Rattle.std.specs.Prelude.{◌≡◌, ◌<◌, length, not, pos, int_lt, ◌-ℤ◌};
 ghost use Rattle.std.specs.Ordering.{int_eq};
-ghost use Rattle.record_index.specs.World.{facts};
+ghost use Rattle.dh_changes.specs.World.{facts};
 ghost use Rattle.value_import.specs.Outcomes.{IsKnown};
 ghost use Rattle.value_import.specs.Ranges.{IsWithin};
 ghost use Rattle.value_import.specs.Rules.{first_of, of_user, may_write, is_captured, place_conditions, is_beyond, is_future, is_past, is_expired};
@@ -10,10 +10,10 @@ ghost use Rattle.value_import.specs.Rules.{first_of, of_user, may_write, is_capt
 use crate::place::Place;
 use crate::rights::{is_captured, may_write};
 use dh_base::codes::Code;
+use dh_changes::outcome::Who;
+use dh_changes::world::World;
 use dh_metadata::metadata::Metadata;
 use dh_periods::{Period, containing};
-use record_index::outcome::Who;
-use record_index::world::World;
 
 fn may_not_write(world: &World, meta: &Metadata, who: Who, place: &Place) -> bool
     requires who { IsKnown meta.now who }

@@ -13,10 +13,10 @@ use crate::place::{Place, ValueNames, ValuePlace};
 use dh_base::codes::Code;
 use dh_changes::keys::ValueKey;
 use dh_changes::text::Text;
+use dh_metadata::kind::Kind;
 use dh_metadata::metadata::Metadata;
 use dh_periods::Period;
 use import_forms::set::{SetValue, ValueSet};
-use meta_parts::kind::Kind;
 
 #[tactic(auto, unfolding(crate::specs::Values::set_of))]
 fn set_of(

@@ -2,9 +2,9 @@
 
 ghost use Rattle.std.specs.Prelude.{◌≡◌, ◌+◌, ◌<◌, ◌^◌, [], length, IsTrue, OnOk, IfOk};
 ghost use Rattle.std.specs.List.{All};
-ghost use Rattle.change_bytes.specs.Forms.{WriteFits};
+ghost use Rattle.change_log.specs.Forms.{WriteFits};
 ghost use Rattle.dh_periods.specs.Moment.{day_of};
-ghost use Rattle.record_index.specs.World.{facts};
+ghost use Rattle.dh_changes.specs.World.{facts};
 ghost use Rattle.value_import.specs.Outcomes.{nothing, taken, finished, AreAtMost, IsKnown};
 ghost use Rattle.value_import.specs.Said.{AreSaid};
 ghost use Rattle.value_import.specs.Sizes.{IsValueWrite};
@@ -16,12 +16,12 @@ use crate::completion::{completion_in, judge_completion, uncounted};
 use crate::judge::judge_value;
 use dh_base::items::Items;
 use dh_base::memory::Memory;
+use dh_changes::outcome::{Verdict, Who};
+use dh_changes::world::World;
 use dh_metadata::metadata::Metadata;
 use dh_periods::day_of;
 use import_forms::completion::Completion;
 use import_forms::set::{SetValue, ValueSet};
-use record_index::outcome::{Verdict, Who};
-use record_index::world::World;
 use std::alloc::Global;
 
 #[tactic(auto, unfolding(crate::specs::Verdicts::with_value))]

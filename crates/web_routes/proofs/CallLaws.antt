@@ -1,7 +1,7 @@
 -- What a call says of its request.
 use Rattle.std.proofs.Common.{ℕ, ◌<◌, length, subst, sym, arith}
 use Rattle.std.specs.Prelude.{Result, Ok, Err, IfOk}
-use Rattle.meta_parts.specs.declared.held.Records.{Records}
+use Rattle.dh_metadata.specs.declared.held.Records.{Records}
 use Rattle.query_lang.specs.Askable.{IsAskable}
 use Rattle.web_routes.specs.declared.fault.RouteFault.{RouteFault}
 use Rattle.web_routes.specs.declared.call.Call.{Call}

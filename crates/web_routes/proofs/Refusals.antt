@@ -3,8 +3,8 @@ use Rattle.std.proofs.Common.{◌≡◌, refl, ℕ, ℤ, List, []}
 use Rattle.std.specs.Prelude.{true, codes, None, Ok, Err}
 use Rattle.dh_base.specs.declared.codes.Code.TheVariants as code
 use Rattle.http_wire.specs.declared.request.Request.{Request}
-use Rattle.meta_parts.specs.declared.held.Records.{Records}
-use Rattle.query_forms.specs.Given.{refusal}
+use Rattle.dh_metadata.specs.declared.held.Records.{Records}
+use Rattle.query_lang.specs.Given.{refusal}
 use Rattle.web_routes.specs.Paths.{rest_of, without_version, has_version, is_front_and_id, is_id}
 use Rattle.web_routes.specs.Routes.{route_of, route_at, all_routes, has_rest, is_named, takes}
 use Rattle.web_routes.specs.declared.table.Route.TheVariants as route

@@ -8,17 +8,17 @@ use Rattle.dh_base.specs.declared.codes.Code.TheVariants as code
 use Rattle.dh_base.specs.declared.codes.Refusal.{Refusal}
 use Rattle.dh_periods.specs.Texts.{period_of}
 use Rattle.dh_periods.specs.declared.name.PeriodName.{PeriodName}
-use Rattle.meta_parts.specs.BuiltIn.{default_option_combo}
-use Rattle.meta_parts.specs.declared.held.Records.{Records}
-use Rattle.meta_parts.specs.declared.kind.Kind.{Kind}
-use Rattle.meta_parts.specs.declared.kind.Kind.TheVariants as kind
-use Rattle.meta_parts.specs.declared.records.Workflow.{Workflow}
+use Rattle.dh_metadata.specs.BuiltIn.{default_option_combo}
+use Rattle.dh_metadata.specs.declared.held.Records.{Records}
+use Rattle.dh_metadata.specs.declared.kind.Kind.{Kind}
+use Rattle.dh_metadata.specs.declared.kind.Kind.TheVariants as kind
+use Rattle.dh_metadata.specs.declared.records.Workflow.{Workflow}
 use Rattle.org_tree.specs.Units.{level_of}
 use Rattle.dh_metadata.specs.Approval.{levels_at, unit_rows}
 use Rattle.dh_metadata.specs.Objects.{find_of}
 use Rattle.dh_approvals.specs.declared.act.ApprovalAct.{ApprovalAct}
 use Rattle.dh_approvals.specs.declared.act.Verb.{Verb}
-use Rattle.query_forms.specs.Given.{and_then, or_refuse}
+use Rattle.query_lang.specs.Given.{and_then, or_refuse}
 use Rattle.web_routes.specs.Parameters.{value_of, parameter}
 
 -- the object of a kind that a text names: its number and its identifier

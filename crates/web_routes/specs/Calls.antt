@@ -6,10 +6,10 @@ use Rattle.dh_approvals.specs.declared.act.Verb.TheVariants as verb
 use Rattle.dh_base.specs.declared.codes.Code.TheVariants as code
 use Rattle.dh_base.specs.declared.codes.Refusal.{Refusal}
 use Rattle.http_wire.specs.declared.request.Request.{Request}
-use Rattle.meta_parts.specs.declared.held.Records.{Records}
+use Rattle.dh_metadata.specs.declared.held.Records.{Records}
 use Rattle.dh_metadata.specs.Users.{user_of, has_authority}
-use Rattle.query_forms.specs.Form.{pairs_of}
-use Rattle.query_forms.specs.Given.{and_then, refusal, or_refuse}
+use Rattle.query_lang.specs.Form.{pairs_of}
+use Rattle.query_lang.specs.Given.{and_then, refusal, or_refuse}
 use Rattle.query_lang.specs.Askable.{IsAskable}
 use Rattle.query_lang.specs.Query.{query_of}
 use Rattle.query_lang.specs.declared.query.TheConstants.{MOST_CELLS}

@@ -6,9 +6,9 @@ use Rattle.dh_base.specs.declared.codes.Code.TheVariants as code
 use Rattle.dh_base.specs.declared.codes.Refusal.{Refusal}
 use Rattle.dh_periods.specs.declared.name.PeriodName.{PeriodName}
 use Rattle.dh_periods.specs.Texts.{period_of}
-use Rattle.meta_parts.specs.declared.held.Records.{Records}
-use Rattle.meta_parts.specs.declared.kind.Kind.TheVariants.{DataSet}
-use Rattle.query_forms.specs.Given.{and_then, refusal, or_refuse}
+use Rattle.dh_metadata.specs.declared.held.Records.{Records}
+use Rattle.dh_metadata.specs.declared.kind.Kind.TheVariants.{DataSet}
+use Rattle.query_lang.specs.Given.{and_then, refusal, or_refuse}
 use Rattle.query_lang.specs.Named.{readable}
 use Rattle.query_lang.specs.Units.{unit_seen}
 use Rattle.web_routes.specs.Parameters.{value_of}

@@ -5,12 +5,12 @@ use Rattle.dh_base.specs.Uid.{uid_of}
 use Rattle.dh_base.specs.declared.codes.Code.TheVariants as code
 use Rattle.dh_base.specs.declared.codes.Refusal.{Refusal}
 use Rattle.dh_periods.specs.Texts.{period_of}
-use Rattle.meta_parts.specs.declared.held.Records.{Records}
-use Rattle.meta_parts.specs.declared.kind.Kind.{Kind}
-use Rattle.meta_parts.specs.declared.kind.Kind.TheVariants as kind
+use Rattle.dh_metadata.specs.declared.held.Records.{Records}
+use Rattle.dh_metadata.specs.declared.kind.Kind.{Kind}
+use Rattle.dh_metadata.specs.declared.kind.Kind.TheVariants as kind
 use Rattle.dh_metadata.specs.Objects.{find_of}
 use Rattle.import_forms.specs.declared.completion.Completion.{Completion}
-use Rattle.query_forms.specs.Given.{and_then, refusal}
+use Rattle.query_lang.specs.Given.{and_then, refusal}
 use Rattle.web_routes.specs.Parameters.{value_of}
 
 -- the text is the identifier of an object of the kind

@@ -9,11 +9,11 @@ use Rattle.dh_base.specs.declared.codes.Code.TheVariants as code
 use Rattle.dh_base.specs.declared.codes.Refusal.{Refusal}
 use Rattle.dh_base.specs.declared.plain.CutKind.{CutKind}
 use Rattle.dh_base.specs.declared.plain.CutKind.TheVariants as cut
-use Rattle.record_index.specs.declared.outcome.ImportStrategy.{ImportStrategy}
-use Rattle.record_index.specs.declared.outcome.ImportStrategy.TheVariants as strategy
+use Rattle.dh_changes.specs.declared.outcome.ImportStrategy.{ImportStrategy}
+use Rattle.dh_changes.specs.declared.outcome.ImportStrategy.TheVariants as strategy
 use Rattle.import_forms.specs.declared.bundle.BundleParams.{BundleParams}
 use Rattle.import_forms.specs.declared.set.SetParams.{SetParams}
-use Rattle.query_forms.specs.Given.{and_then, refusal, or_refuse}
+use Rattle.query_lang.specs.Given.{and_then, refusal, or_refuse}
 
 -- the value under a name in the pairs that are left, where this one was found before
 abbrev pub last_from : List ℕ → Option (List ℕ) → List (List ℕ × List ℕ) → Option (List ℕ)

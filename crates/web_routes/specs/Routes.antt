@@ -5,7 +5,7 @@ use Rattle.std.specs.Option.{option_map_or}
 use Rattle.std.specs.Prelude.{true, false}
 use Rattle.dh_base.specs.declared.codes.Code.TheVariants as code
 use Rattle.dh_base.specs.declared.codes.Refusal.{Refusal}
-use Rattle.query_forms.specs.Given.{and_then, refusal, or_refuse}
+use Rattle.query_lang.specs.Given.{and_then, refusal, or_refuse}
 use Rattle.web_routes.specs.declared.table.Route.{Route}
 use Rattle.web_routes.specs.declared.table.Route.TheVariants as route
 use Rattle.web_routes.specs.Paths.{rest_of, is_front_and_id}

@@ -3,11 +3,11 @@ use Rattle.std.specs.Prelude.{Result, Ok, Err}
 use Rattle.dh_base.specs.declared.codes.Code.TheVariants as code
 use Rattle.dh_base.specs.declared.codes.Refusal.{Refusal}
 use Rattle.json_read.specs.Forms.{Formed}
-use Rattle.record_index.specs.declared.outcome.BodyFault.{BodyFault}
-use Rattle.record_index.specs.declared.outcome.BodyFault.TheVariants as body
-use Rattle.query_forms.specs.declared.plain.QueryFault.{QueryFault}
-use Rattle.query_forms.specs.declared.plain.QueryFault.TheVariants as query
-use Rattle.query_forms.specs.Given.{refusal}
+use Rattle.dh_changes.specs.declared.outcome.BodyFault.{BodyFault}
+use Rattle.dh_changes.specs.declared.outcome.BodyFault.TheVariants as body
+use Rattle.query_lang.specs.declared.plain.QueryFault.{QueryFault}
+use Rattle.query_lang.specs.declared.plain.QueryFault.TheVariants as query
+use Rattle.query_lang.specs.Given.{refusal}
 use Rattle.web_routes.specs.declared.fault.RouteFault.{RouteFault}
 use Rattle.web_routes.specs.declared.fault.RouteFault.TheVariants as fault
 

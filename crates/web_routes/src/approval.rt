@@ -1,11 +1,11 @@
 //! Parameters that name an approval.
 ghost use Rattle.std.specs.Prelude.{◌≡◌, ◌<◌, ◌≤◌, ◌==◌, codes, length, IfSome, IfOk};
 ghost use Rattle.std.specs.List.{position_from};
-ghost use Rattle.meta_parts.specs.declared.kind.Kind.TheVariants.{Workflow};
+ghost use Rattle.dh_metadata.specs.declared.kind.Kind.TheVariants.{Workflow};
 ghost use Rattle.dh_base.specs.declared.codes.Code.TheVariants as code;
 ghost use Rattle.dh_metadata.specs.Objects.{count_of};
-ghost use Rattle.meta_parts.specs.BuiltIn.{default_option_combo};
-ghost use Rattle.query_forms.specs.Given.{or_refuse};
+ghost use Rattle.dh_metadata.specs.BuiltIn.{default_option_combo};
+ghost use Rattle.query_lang.specs.Given.{or_refuse};
 ghost use Rattle.dh_base.specs.Memory.{Answers};
 ghost use Rattle.web_routes.specs.Given.{cause_of};
 ghost use Rattle.web_routes.specs.Parameters.{value_of, parameter};
@@ -18,10 +18,10 @@ use dh_base::codes::Code;
 use dh_base::items::Items;
 use dh_base::uid::Uid;
 use dh_changes::keys::ApprovalKey;
+use dh_metadata::built_in::default_option_combo;
+use dh_metadata::kind::Kind;
 use dh_metadata::metadata::Metadata;
 use dh_periods::Period;
-use meta_parts::built_in::default_option_combo;
-use meta_parts::kind::Kind;
 use std::alloc::Global;
 
 // The object of a kind that the text names: its number and its identifier.

@@ -2,7 +2,7 @@
 ghost use Rattle.std.specs.Prelude.{◌≡◌, ℕ, ◌≤ℤ◌, ◌<◌, length, IfOk};
 ghost use Rattle.dh_base.specs.declared.limits.TheConstants.{FIRST_QUERY_DAY, LAST_QUERY_DAY};
 ghost use Rattle.std.specs.Option.{option_copied};
-ghost use Rattle.meta_parts.specs.declared.held.Records.{Records};
+ghost use Rattle.dh_metadata.specs.declared.held.Records.{Records};
 ghost use Rattle.dh_base.specs.Memory.{Answers};
 ghost use Rattle.web_routes.specs.Given.{cause_of};
 ghost use Rattle.web_routes.specs.Routes.{authority_of};

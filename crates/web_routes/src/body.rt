@@ -15,13 +15,12 @@ ghost use Rattle.query_lang.specs.declared.query.TheConstants.{MOST_CELLS};
 use crate::fault::RouteFault;
 use dh_base::codes::{Code, Refusal};
 use dh_base::items::Items;
+use dh_changes::outcome::BodyFault;
 use dh_metadata::metadata::Metadata;
 use import_forms::bundle::{Bundle, BundleParams, read_bundle};
 use import_forms::completion::{Completion, read_completions};
 use import_forms::set::{SetParams, ValueSet, read_set};
-use query_forms::{Query, QueryFault};
-use query_lang::{MOST_CELLS, read_query};
-use record_index::outcome::BodyFault;
+use query_lang::{MOST_CELLS, Query, QueryFault, read_query};
 use std::alloc::Global;
 
 fn of_body(fault: BodyFault) -> RouteFault

@@ -7,7 +7,7 @@ use dh_base::plain::CutKind;
 use import_forms::bundle::Bundle;
 use import_forms::completion::Completion;
 use import_forms::set::ValueSet;
-use query_forms::Query;
+use query_lang::Query;
 
 /// What a request asks for. Users are told by number.
 #[derive(Drop)]

@@ -4,7 +4,7 @@ ghost use Rattle.dh_base.specs.Memory.{Answers};
 ghost use Rattle.dh_metadata.specs.Approval.{unit_rows};
 ghost use Rattle.dh_metadata.specs.Linked.{AreBelow};
 ghost use Rattle.dh_metadata.specs.Users.{view_units_of};
-ghost use Rattle.meta_parts.specs.declared.kind.Kind.TheVariants.{DataSet};
+ghost use Rattle.dh_metadata.specs.declared.kind.Kind.TheVariants.{DataSet};
 ghost use Rattle.query_lang.specs.Named.{readable};
 ghost use Rattle.query_lang.specs.Units.{unit_seen};
 ghost use Rattle.query_lang.specs.View.{is_under_any};
@@ -18,10 +18,10 @@ use crate::path::rest_of;
 use dh_base::codes::Code;
 use dh_base::items::Items;
 use dh_base::uid::Uid;
+use dh_metadata::kind::Kind;
 use dh_metadata::metadata::Metadata;
 use dh_periods::Period;
 use dh_sharing::access::Right;
-use meta_parts::kind::Kind;
 use std::alloc::Global;
 
 /// What a check is of: a data set and a unit by number, and a period.

@@ -12,10 +12,10 @@ use dh_base::items::Items;
 use dh_base::memory::Memory;
 use dh_base::uid::Uid;
 use dh_changes::text::Text;
+use dh_metadata::kind::Kind;
 use dh_metadata::metadata::Metadata;
 use dh_periods::Period;
 use import_forms::completion::Completion;
-use meta_parts::kind::Kind;
 use std::alloc::Global;
 
 #[tactic(auto, unfolding(crate::specs::Completions::is_name))]

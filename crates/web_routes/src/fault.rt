@@ -1,7 +1,7 @@
 //! Why a request isn't a call.
 ghost use Rattle.std.specs.Prelude.{◌≡◌, Some};
 ghost use Rattle.web_routes.specs.declared.fault.RouteFault.TheVariants.{Memory as OutOfMemory};
-ghost use Rattle.query_forms.specs.Given.{refusal};
+ghost use Rattle.query_lang.specs.Given.{refusal};
 ghost use Rattle.web_routes.specs.Given.{cause_of};
 ghost use Rattle.dh_base.specs.Memory.{IsFirst};
 

@@ -16,9 +16,9 @@ use crate::path::all_digits;
 use dh_base::codes::Code;
 use dh_base::items::Items;
 use dh_base::plain::CutKind;
+use dh_changes::outcome::ImportStrategy;
 use import_forms::bundle::BundleParams;
 use import_forms::set::SetParams;
-use record_index::outcome::ImportStrategy;
 use std::alloc::Global;
 
 #[tactic(auto, unfolding(crate::specs::Parameters::truth_of))]

@@ -1,7 +1,7 @@
 //! The pairs of a query's text.
 ghost use Rattle.std.specs.Prelude.{◌≡◌, ◌++◌, ◌∷◌, [], IfOk, OnOk};
 ghost use Rattle.std.specs.Option.{option_copied};
-ghost use Rattle.query_forms.specs.Form.{decoded, pairs_of};
+ghost use Rattle.query_lang.specs.Form.{decoded, pairs_of};
 ghost use Rattle.web_routes.specs.Parameters.{value_of};
 
 use dh_base::items::Items;
@@ -9,7 +9,7 @@ use dh_base::memory::Memory;
 use form_urlencoded::{decode, raw_pairs};
 use std::alloc::Global;
 
-#[tactic(auto, unfolding(query_forms::specs::Form::decoded))]
+#[tactic(auto, unfolding(query_lang::specs::Form::decoded))]
 fn decoded(alloc: Global, bytes: &[u8]) -> Result<Items<u8>, Memory>
     ensures { IfOk result (λ text. text ≡ decoded bytes.now) }
 {
@@ -28,7 +28,7 @@ fn decoded_pair(alloc: Global, name: &[u8], value: &[u8]) -> Result<(Items<u8>, 
 }
 
 /// The names and values of a query's text, decoded, in order.
-#[tactic(auto, unfolding(query_forms::specs::Form::pairs_of))]
+#[tactic(auto, unfolding(query_lang::specs::Form::pairs_of))]
 pub fn pairs_of(alloc: Global, text: &[u8]) -> Result<Vec<(Items<u8>, Items<u8>)>, Memory>
     ensures { IfOk result (λ pairs. pairs.items ≡ pairs_of text.now) }
 {

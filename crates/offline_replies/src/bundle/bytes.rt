@@ -13,12 +13,12 @@ use crate::bundle::reply::{Reply, meta_refused};
 use dh_base::items::Items;
 use dh_base::limits::MOST_INPUT_BYTES;
 use dh_base::memory::Memory;
+use dh_metadata::parts::MetaParts;
 use import_forms::set::{SetValue, read_values};
 use json::{Scratch, Value};
 use json_read::fault::FormFault;
 use json_read::read::read;
 use meta_forms::parts::read_parts;
-use meta_parts::parts::MetaParts;
 use meta_reader::fault::{MetaFault, Which};
 use std::alloc::Global;
 

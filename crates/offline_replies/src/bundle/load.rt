@@ -1,13 +1,13 @@
 //! The values of a bundle as what the loader asks for.
 
 ghost use Rattle.std.specs.Prelude.{◌≡◌};
-ghost use Rattle.change_requests.specs.declared.request.ChangeRequest.TheVariants.{Values};
+ghost use Rattle.engine.specs.declared.request.ChangeRequest.TheVariants.{Values};
 ghost use Rattle.offline_replies.specs.Load.{set_of};
 
-use change_requests::ChangeRequest;
 use dh_base::items::Items;
+use dh_changes::outcome::ImportStrategy;
+use engine::ChangeRequest;
 use import_forms::set::{SetParams, SetValue, ValueSet};
-use record_index::outcome::ImportStrategy;
 
 #[tactic(auto, unfolding(crate::specs::Load::set_of))]
 fn set_of(values: Items<SetValue>) -> ValueSet

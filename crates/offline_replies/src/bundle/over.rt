@@ -1,7 +1,7 @@
 //! The reply over what a bundle says.
 
 ghost use Rattle.std.specs.Prelude.{◌≡◌, ◌<◌, ℕ, List, None, nat_eq, length, IfOk, IfSome};
-ghost use Rattle.meta_parts.specs.declared.held.Records.{Records};
+ghost use Rattle.dh_metadata.specs.declared.held.Records.{Records};
 ghost use Rattle.json_read.specs.Forms.{Formed};
 ghost use Rattle.json_read.specs.Given.{Gives};
 ghost use Rattle.dh_periods.specs.Moment.{day_of};
@@ -9,7 +9,7 @@ ghost use Rattle.engine.specs.InMemory.{started, Loads};
 ghost use Rattle.engine.specs.MetaAfter.{meta_after};
 ghost use Rattle.query_answer.specs.Answer.{answer_of};
 ghost use Rattle.query_answer.specs.Asked.{CanAnswer};
-ghost use Rattle.query_forms.specs.Given.{cause_of};
+ghost use Rattle.query_lang.specs.Given.{cause_of};
 ghost use Rattle.query_lang.specs.Query.{query_of};
 ghost use Rattle.query_lang.specs.declared.query.TheConstants.{MOST_CELLS};
 ghost use Rattle.table_rows.specs.Store.{contents_in};
@@ -29,19 +29,18 @@ use dh_base::codes::{Code, Refusal};
 use dh_base::items::Items;
 use dh_base::memory::Memory;
 use dh_base::uid::Uid;
+use dh_metadata::kind::Kind;
 use dh_metadata::metadata::Metadata;
 use dh_periods::day_of;
 use engine::{Engine, Report, Tables, Unkept, engine_in_memory, load, tables_of_all};
 use import_forms::set::SetValue;
 use json_read::fault::FormFault;
-use meta_parts::kind::Kind;
 use meta_reader::build::build as metadata;
 use meta_reader::fault::MetaFault;
 use query_answer::{AnswerFault, answer};
-use query_forms::{Query, QueryFault};
-use query_lang::{MOST_CELLS, read_query};
+use query_lang::{MOST_CELLS, Query, QueryFault, read_query};
+use request_session::error_body;
 use std::alloc::Global;
-use wire_replies::error_body;
 
 // The answer to a query over tables.
 #[tactic(auto, unfolding(crate::specs::Reply::answer_reply))]

@@ -9,8 +9,8 @@ use dh_base::items::Items;
 use dh_base::memory::Memory;
 use meta_reader::fault::MetaFault;
 use meta_reader::line::fault_line;
+use request_session::error_body;
 use std::alloc::Global;
-use wire_replies::error_body;
 
 /// How a query over a bundle ends.
 #[derive(Clone, Copy, PartialEq, Eq)]

@@ -1,17 +1,16 @@
 //! Samples, brought to an engine set by set.
 ghost use Rattle.std.specs.Prelude.{◌≡◌, ◌≤◌, ◌<◌, ◌+◌, ◌/◌, ℕ, [], None, OnOk};
-ghost use Rattle.meta_parts.specs.declared.held.Records.{Records};
+ghost use Rattle.dh_metadata.specs.declared.held.Records.{Records};
 ghost use Rattle.engine.specs.InMemory.{largest, started, Loads};
 ghost use Rattle.offline_replies.specs.Sets.{sample_sets};
 ghost use Rattle.offline_replies.specs.Loaded.{asked_for, with_set, log_with, HasLoaded, IsUpdated};
 
 use crate::samples::draws::{Draws, Sample};
 use crate::samples::sets::set_of;
-use change_requests::ChangeRequest;
 use dh_base::codes::Refusal;
 use dh_base::memory::Memory;
 use dh_base::plain::CutKind;
-use engine::{Engine, Report, Unkept, load};
+use engine::{ChangeRequest, Engine, Report, Unkept, load};
 use std::alloc::Global;
 
 // The most samples of a set.

@@ -8,9 +8,9 @@ use crate::samples::draws::Sample;
 use crate::samples::ids::{ELEMENT, facility_id, month_text};
 use dh_base::items::Items;
 use dh_base::memory::Memory;
+use dh_changes::outcome::ImportStrategy;
 use dh_changes::text::Text;
 use import_forms::set::{SetParams, SetValue, ValueSet};
-use record_index::outcome::ImportStrategy;
 use std::alloc::Global;
 
 #[tactic(auto, unfolding(crate::specs::Ids::element_id))]

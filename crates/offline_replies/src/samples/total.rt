@@ -12,9 +12,9 @@ use dh_base::items::Items;
 use dh_base::memory::Memory;
 use dh_base::print::print_rounded;
 use dh_base::uid::Uid;
+use dh_metadata::kind::Kind;
 use dh_metadata::metadata::Metadata;
 use dh_periods::Period;
-use meta_parts::kind::Kind;
 use std::alloc::Global;
 use table_rows::RowStore;
 

@@ -1,7 +1,7 @@
 use Rattle.std.proofs.Common.{◌≡◌, ◌∙◌, ap, subst, IfOk}
-use Rattle.rate_items.specs.Rates.{rate_of}
+use Rattle.cell_values.specs.Reporting.{rate_of}
 use Rattle.table_rows.specs.Events.{regs_of}
-use Rattle.rate_items.proofs.SeenLemmas.{rate-of_set}
+use Rattle.cell_values.proofs.SeenLemmas.{rate-of_set}
 use Rattle.cell_values.specs.Seen.{seen_regs, is_reg_seen}
 use Rattle.cell_values.proofs.rates.planned_rate.Goals as goal
 

@@ -2,7 +2,7 @@ use Rattle.std.proofs.Common.{◌≡◌, ◌∙◌, true, ap}
 use Rattle.table_rows.specs.Events.{reg_cmp, regs_of}
 use Rattle.table_rows.specs.Store.{rises}
 use Rattle.table_rows.proofs.StoreLemmas.{store-holds, true_from}
-use Rattle.rate_items.proofs.SeenLemmas.{kept-rises}
+use Rattle.cell_values.proofs.SeenLemmas.{kept-rises}
 use Rattle.cell_values.specs.Seen.{seen_regs, is_reg_seen}
 use Rattle.cell_values.proofs.rates.rate_plan.Goals as goal
 

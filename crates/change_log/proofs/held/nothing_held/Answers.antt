@@ -1,7 +1,7 @@
 use Rattle.std.proofs.Common.{◌∙◌, sym, ap, arith, length, map, ◌≡◌}
 use Rattle.std.specs.Arc.{arc_value}
-use Rattle.change_bytes.specs.Log.{log_bytes}
-use Rattle.record_index.specs.Facts.{facts_in}
+use Rattle.change_log.specs.LogBytes.{log_bytes}
+use Rattle.dh_changes.specs.Facts.{facts_in}
 use Rattle.change_log.specs.Log.{writes_of}
 use Rattle.change_log.proofs.LogLemmas.{no-bytes}
 use Rattle.change_log.proofs.held.nothing_held.Goals as goal

@@ -1,8 +1,8 @@
 use Rattle.std.proofs.Common.{arith, ◌+◌, ◌∙◌, ◌++◌, ap, map, length, [], ◌∷◌}
 use Rattle.std.specs.Arc.{arc_value}
 use Rattle.dh_changes.specs.declared.change.Change.{Change}
-use Rattle.change_bytes.specs.Bytes.{change_bytes}
-use Rattle.change_bytes.specs.Log.{log_bytes}
+use Rattle.change_log.specs.Bytes.{change_bytes}
+use Rattle.change_log.specs.LogBytes.{log_bytes}
 use Rattle.change_log.specs.Log.{writes_of}
 use Rattle.change_log.specs.Held.{changes_of}
 use Rattle.change_log.proofs.LogLemmas.{within-limits, change-length, grown-is}

@@ -1,6 +1,6 @@
 use Rattle.std.proofs.Common.{◌≡◌, None}
 use Rattle.org_tree.specs.Count.{first_below}
-use Rattle.record_index.specs.World.{facts}
+use Rattle.dh_changes.specs.World.{facts}
 use Rattle.dh_approvals.specs.Search.{passes_at}
 use Rattle.dh_approvals.specs.Units.{is_sought}
 use Rattle.dh_approvals.proofs.search.first_sought.Given as goal

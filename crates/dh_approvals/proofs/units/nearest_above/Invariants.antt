@@ -1,5 +1,5 @@
 use Rattle.std.proofs.Common.{◌≡◌}
-use Rattle.record_index.specs.World.{facts}
+use Rattle.dh_changes.specs.World.{facts}
 use Rattle.dh_approvals.specs.Units.{nearest_above}
 use Rattle.dh_approvals.proofs.units.nearest_above.Given as goal
 

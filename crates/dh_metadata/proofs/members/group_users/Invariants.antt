@@ -1,5 +1,5 @@
 use Rattle.std.proofs.Common.{map, take}
-use Rattle.meta_parts.specs.declared.records.UserGroup.{UserGroup}
+use Rattle.dh_metadata.specs.declared.records.UserGroup.{UserGroup}
 use Rattle.dh_metadata.specs.Members.{AreSortedCopies}
 use Rattle.dh_metadata.proofs.members.group_users.Given as goal
 

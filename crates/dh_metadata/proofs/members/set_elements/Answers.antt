@@ -1,5 +1,5 @@
 use Rattle.std.proofs.Common.{◌+◌, map, take, subst, sym}
-use Rattle.meta_parts.specs.declared.records.DataSet.{DataSet}
+use Rattle.dh_metadata.specs.declared.records.DataSet.{DataSet}
 use Rattle.dh_metadata.specs.Members.{IsSortedCopy, AreSortedCopies}
 use Rattle.dh_metadata.proofs.SetLemmas.{copies_more}
 use Rattle.dh_metadata.proofs.members.set_elements.Goals as goal

@@ -1,5 +1,5 @@
 use Rattle.std.proofs.Common.{◌≡◌, ◌∙◌, ◌≤◌, length, map, subst, sym, ap}
-use Rattle.meta_parts.specs.Positions.{positions_of}
+use Rattle.dh_metadata.specs.Positions.{positions_of}
 use Rattle.dh_metadata.specs.Approval.{tree_level}
 use Rattle.dh_metadata.specs.Linked.{Each}
 use Rattle.dh_metadata.proofs.LevelLemmas.{map_map, few_mapped}

@@ -1,6 +1,6 @@
 use Rattle.std.proofs.Common.{◌≡◌, ◌∙◌, ℕ, true, false, None, Vec, Global, not, ap, subst, sym, is_some}
 use Rattle.std.specs.HashMap.{get_by}
-use Rattle.meta_parts.specs.Places.{same_id}
+use Rattle.dh_metadata.specs.Places.{same_id}
 use Rattle.dh_metadata.specs.Users.{TakesToken}
 use Rattle.dh_metadata.proofs.UserLemmas.{token_put, token_kept, none_copied, some_copied}
 use Rattle.dh_metadata.proofs.tokens.add_user.Goals as goal

@@ -1,6 +1,6 @@
 use Rattle.std.proofs.Common.{◌≡◌, drop}
 use Rattle.std.specs.List.{position_from}
-use Rattle.record_index.specs.World.{facts}
+use Rattle.dh_changes.specs.World.{facts}
 use Rattle.dh_records.specs.Approved.{is_approved_at, least_position}
 use Rattle.dh_records.proofs.approved.least_position.Given as goal
 

@@ -1,4 +1,4 @@
-use Rattle.record_index.specs.Facts.{facts_in}
+use Rattle.dh_changes.specs.Facts.{facts_in}
 use Rattle.change_log.specs.Log.{writes_of}
 use Rattle.engine.proofs.AfterLemmas.{of_writes}
 use Rattle.engine.proofs.engine.meta_after.Goals as goal

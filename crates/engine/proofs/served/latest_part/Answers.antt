@@ -2,10 +2,10 @@ use Rattle.std.proofs.Common.{◌≡◌, ◌∙◌, ◌≤◌, subst, sym, ap, m
 use Rattle.std.specs.List.{list_all}
 use Rattle.std.specs.Arc.{arc_value}
 use Rattle.std.proofs.lemmas.List.{length-map}
-use Rattle.record_index.specs.Facts.{facts_in}
-use Rattle.record_index.specs.World.{facts}
+use Rattle.dh_changes.specs.Facts.{facts_in}
+use Rattle.dh_changes.specs.World.{facts}
 use Rattle.table_rows.specs.Store.{contents_in}
-use Rattle.year_tables.specs.Parts.{YearParts, together}
+use Rattle.table_sums.specs.YearParts.{YearParts, together}
 use Rattle.table_build.specs.Log.{is_of_days}
 use Rattle.table_build.specs.Log as rows
 use Rattle.table_build.specs.Listed.{listed_in}

@@ -3,9 +3,9 @@ use Rattle.std.specs.Prelude.{option_map}
 use Rattle.std.specs.List.{All, take-map}
 use Rattle.std.specs.Arc.{arc_value}
 use Rattle.std.proofs.lemmas.List.{length-map, length-take-le, take-take}
-use Rattle.change_bytes.specs.Forms.{WriteFits}
+use Rattle.change_log.specs.Forms.{WriteFits}
 use Rattle.change_log.specs.Log.{writes_of}
-use Rattle.year_tables.specs.Parts.{YearParts, together, years_in}
+use Rattle.table_sums.specs.YearParts.{YearParts, together, years_in}
 use Rattle.engine.specs.Stands.{GoesTo, LiesOver}
 use Rattle.engine.specs.Tables.{tables_of}
 use Rattle.engine.proofs.Steps.{first-few, first-fits}

@@ -1,7 +1,7 @@
 use Rattle.std.proofs.Common.{◌∙◌, ◌≤◌, map, take, sym, ap, subst}
 use Rattle.std.specs.Prelude.{option_map}
 use Rattle.std.specs.Arc.{arc_value}
-use Rattle.year_tables.specs.Parts.{YearParts, together}
+use Rattle.table_sums.specs.YearParts.{YearParts, together}
 use Rattle.engine.specs.Stands.{GoesTo, Stands}
 use Rattle.engine.specs.Tables.{Served, tables_of}
 use Rattle.engine.proofs.swaps.tables_after_latest.Goals as goal

@@ -2,9 +2,9 @@ use Rattle.std.proofs.Common.{subst, sym, length, ◌≤◌, ◌≡◌, IfOk}
 use Rattle.std.specs.Arc.{arc_value}
 use Rattle.std.specs.List.{All, take-map}
 use Rattle.std.proofs.lemmas.List.{length-take-le}
-use Rattle.change_bytes.specs.Forms.{WriteFits}
+use Rattle.change_log.specs.Forms.{WriteFits}
 use Rattle.change_log.specs.Log.{writes_of}
-use Rattle.year_tables.specs.Parts.{together, years_in}
+use Rattle.table_sums.specs.YearParts.{together, years_in}
 use Rattle.engine.specs.Seen.{FitSlots}
 use Rattle.engine.specs.Tables.{tables_of, years_of}
 use Rattle.engine.proofs.Steps.{first-few, first-fits}

@@ -1,7 +1,7 @@
 use Rattle.std.proofs.Common.{◌≡◌, ◌∙◌, ◌≤◌, subst, sym, ap, map, length, true}
 use Rattle.std.specs.List.{list_all}
 use Rattle.std.specs.Arc.{arc_value}
-use Rattle.year_tables.specs.Parts.{YearParts, together, years_in}
+use Rattle.table_sums.specs.YearParts.{YearParts, together, years_in}
 use Rattle.table_build.specs.Log.{is_of_days}
 use Rattle.table_build.specs.Listed.{listed_in}
 use Rattle.table_build.specs.Slots.{AreSlots}

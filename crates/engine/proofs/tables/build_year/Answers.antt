@@ -1,6 +1,6 @@
 use Rattle.std.proofs.Common.{◌≡◌, ◌∙◌, ◌≤◌, subst, sym, ap, length, true, w32, FitsSigned, to_z-of_z}
 use Rattle.std.specs.List.{list_all}
-use Rattle.year_tables.specs.Parts.{YearPart, part_of}
+use Rattle.table_sums.specs.YearParts.{YearPart, part_of}
 use Rattle.table_build.specs.Log.{is_of_days}
 use Rattle.table_build.specs.Log as rows
 use Rattle.table_build.specs.Listed.{listed_in}

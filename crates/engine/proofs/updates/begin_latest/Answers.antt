@@ -6,7 +6,7 @@ use Rattle.engine.specs.declared.updates.Shown.{Shown}
 use Rattle.engine.specs.Seen.{state_of}
 use Rattle.engine.specs.Stands.{GoesOn}
 use Rattle.engine.specs.Tables.{Served, tables_of}
-use Rattle.year_tables.specs.Parts.{YearParts, together}
+use Rattle.table_sums.specs.YearParts.{YearParts, together}
 use Rattle.engine.proofs.Orders.{begun_cuts}
 use Rattle.engine.proofs.SlotLemmas.{cut_given}
 use Rattle.engine.proofs.StandLemmas.{latest_begun, part-made}

@@ -1,7 +1,7 @@
 use Rattle.std.proofs.Common.{◌∙◌, ◌≤◌, ◌++◌, ap, drop, map, subst, sym, take}
 use Rattle.std.proofs.lemmas.List.{take-map}
 use Rattle.std.specs.Arc.{arc_value}
-use Rattle.record_index.specs.World.{facts}
+use Rattle.dh_changes.specs.World.{facts}
 use Rattle.table_rows.specs.Store.{Contents}
 use Rattle.table_build.specs.Listed.{listed_in}
 use Rattle.table_build.specs.Log.{writes_of}

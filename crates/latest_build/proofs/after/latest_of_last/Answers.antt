@@ -1,8 +1,8 @@
 use Rattle.std.proofs.Common.{◌∙◌, ap, map, sym, take}
 use Rattle.std.specs.Arc.{arc_value}
-use Rattle.record_index.specs.Facts.{facts_in}
-use Rattle.record_index.specs.World.{facts}
-use Rattle.year_tables.specs.Parts.{rows_together}
+use Rattle.dh_changes.specs.Facts.{facts_in}
+use Rattle.dh_changes.specs.World.{facts}
+use Rattle.table_sums.specs.YearParts.{rows_together}
 use Rattle.table_build.specs.Log.{writes_of, values_named}
 use Rattle.table_build.specs.Values.{rows_of}
 use Rattle.latest_build.specs.Found.{decided_by}

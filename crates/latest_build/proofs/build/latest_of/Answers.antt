@@ -1,7 +1,7 @@
 use Rattle.std.proofs.Common.{◌∙◌, ap, map, sym}
 use Rattle.std.proofs.lemmas.List.{append-nil}
 use Rattle.std.specs.Arc.{arc_value}
-use Rattle.record_index.specs.Facts.{facts_in}
+use Rattle.dh_changes.specs.Facts.{facts_in}
 use Rattle.table_build.specs.Log.{writes_of}
 use Rattle.latest_build.proofs.build.latest_of.Goals as goal
 

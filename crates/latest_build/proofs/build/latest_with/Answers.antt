@@ -1,6 +1,6 @@
 use Rattle.std.proofs.Common.{◌∙◌, map, subst, sym}
 use Rattle.std.specs.Arc.{arc_value}
-use Rattle.record_index.specs.World.{facts}
+use Rattle.dh_changes.specs.World.{facts}
 use Rattle.table_build.specs.Log.{writes_of}
 use Rattle.table_latest.specs.Latest.{AreInOrder}
 use Rattle.latest_build.proofs.CoverLemmas.{leads-held, touched-ordered}

@@ -1,6 +1,6 @@
 use Rattle.std.proofs.Common.{◌∙◌, map}
 use Rattle.std.specs.Arc.{arc_value}
-use Rattle.record_index.specs.World.{facts}
+use Rattle.dh_changes.specs.World.{facts}
 use Rattle.table_rows.specs.Store.{is_store}
 use Rattle.table_build.specs.Log.{writes_of}
 use Rattle.latest_build.proofs.CoverLemmas.{store-held}

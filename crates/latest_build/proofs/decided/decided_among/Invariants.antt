@@ -1,6 +1,6 @@
 use Rattle.std.proofs.Common.{◌≡◌, take}
 use Rattle.std.specs.List.{filter}
-use Rattle.record_index.specs.World.{facts}
+use Rattle.dh_changes.specs.World.{facts}
 use Rattle.latest_build.specs.Touches.{has_position}
 use Rattle.latest_build.proofs.decided.decided_among.Given as goal
 

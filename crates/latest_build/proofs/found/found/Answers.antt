@@ -1,4 +1,4 @@
-use Rattle.year_tables.specs.Parts.{rows_together}
+use Rattle.table_sums.specs.YearParts.{rows_together}
 use Rattle.latest_build.specs.Found.{found_by}
 use Rattle.latest_build.proofs.TrackerLemmas.{gather-step}
 use Rattle.latest_build.proofs.found.found.Goals as goal

@@ -1,5 +1,5 @@
 use Rattle.std.proofs.Common.{◌≡◌, ◌++◌, drop}
-use Rattle.year_tables.specs.Parts.{rows_together}
+use Rattle.table_sums.specs.YearParts.{rows_together}
 use Rattle.table_rows.specs.Cells.{gathered}
 use Rattle.latest_build.specs.Found.{found_by}
 use Rattle.latest_build.proofs.found.found.Given as goal

@@ -1,4 +1,4 @@
-use Rattle.year_tables.specs.Parts.{rows_together}
+use Rattle.table_sums.specs.YearParts.{rows_together}
 use Rattle.latest_build.proofs.FoundLemmas.{elements-step}
 use Rattle.latest_build.proofs.found.put_elements.Goals as goal
 

@@ -1,5 +1,5 @@
 use Rattle.std.proofs.Common.{◌≡◌, ◌++◌}
-use Rattle.year_tables.specs.Parts.{rows_together}
+use Rattle.table_sums.specs.YearParts.{rows_together}
 use Rattle.latest_build.specs.Found.{of_elements}
 use Rattle.latest_build.proofs.found.put_elements.Given as goal
 

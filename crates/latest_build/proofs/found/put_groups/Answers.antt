@@ -1,4 +1,4 @@
-use Rattle.year_tables.specs.Parts.{rows_together}
+use Rattle.table_sums.specs.YearParts.{rows_together}
 use Rattle.latest_build.specs.Found.{in_group_reached}
 use Rattle.latest_build.proofs.TrackerLemmas.{gather-step}
 use Rattle.latest_build.proofs.found.put_groups.Goals as goal

@@ -1,5 +1,5 @@
 use Rattle.std.proofs.Common.{◌≡◌, ◌++◌, drop}
-use Rattle.year_tables.specs.Parts.{rows_together}
+use Rattle.table_sums.specs.YearParts.{rows_together}
 use Rattle.table_rows.specs.Cells.{gathered}
 use Rattle.latest_build.specs.Found.{in_group_reached}
 use Rattle.latest_build.proofs.found.put_groups.Given as goal

@@ -1,6 +1,6 @@
 use Rattle.std.proofs.Common.{◌∙◌, ap, map}
 use Rattle.std.specs.Arc.{arc_value}
-use Rattle.record_index.specs.World.{facts}
+use Rattle.dh_changes.specs.World.{facts}
 use Rattle.table_rows.specs.Rows.{key_of}
 use Rattle.table_rows.specs.Order.{key_cmp}
 use Rattle.table_build.specs.Log.{writes_of}

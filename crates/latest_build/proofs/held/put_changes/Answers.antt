@@ -1,6 +1,6 @@
 use Rattle.std.proofs.Common.{rules}
 use Rattle.std.specs.Arc.{arc_value}
-use Rattle.record_index.specs.World.{facts}
+use Rattle.dh_changes.specs.World.{facts}
 use Rattle.table_build.proofs.NamedLemmas.{named-step}
 use Rattle.latest_build.specs.Told.{held_by_write}
 use Rattle.latest_build.proofs.held.put_changes.Goals as goal

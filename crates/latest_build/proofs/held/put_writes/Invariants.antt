@@ -2,8 +2,8 @@ use Rattle.std.proofs.Common.{◌≡◌, ◌++◌, Some, drop}
 use Rattle.std.specs.Prelude.{IfSome}
 use Rattle.std.specs.List.{filter_map}
 use Rattle.dh_metadata.specs.Objects.{find_of}
-use Rattle.meta_parts.specs.declared.kind.Kind.TheVariants.{CategoryOptionCombo}
-use Rattle.record_index.specs.World.{facts}
+use Rattle.dh_metadata.specs.declared.kind.Kind.TheVariants.{CategoryOptionCombo}
+use Rattle.dh_changes.specs.World.{facts}
 use Rattle.latest_build.specs.Told.{held_by_write}
 use Rattle.latest_build.proofs.held.put_writes.Given as goal
 

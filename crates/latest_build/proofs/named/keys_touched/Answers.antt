@@ -1,7 +1,7 @@
 use Rattle.std.proofs.Common.{◌∙◌, ap, map}
 use Rattle.std.specs.Arc.{arc_value}
-use Rattle.record_index.specs.World.{facts}
-use Rattle.year_tables.specs.Parts.{rows_together}
+use Rattle.dh_changes.specs.World.{facts}
+use Rattle.table_sums.specs.YearParts.{rows_together}
 use Rattle.table_build.specs.Log.{writes_of}
 use Rattle.latest_build.specs.Places.{value_places}
 use Rattle.latest_build.proofs.KeptLemmas.{places-touched, rows-tree, start-rows, touched-covers}

@@ -2,7 +2,7 @@ use Rattle.std.proofs.Common.{◌≡◌, ◌∙◌, true, map, subst, sym}
 use Rattle.std.specs.Arc.{arc_value}
 use Rattle.table_rows.specs.Store.{Listed, contents_in, is_store}
 use Rattle.table_rows.proofs.StoreLemmas.{true_from}
-use Rattle.year_tables.specs.Parts.{YearParts, rows_together, events_together, regs_together, years_in}
+use Rattle.table_sums.specs.YearParts.{YearParts, rows_together, events_together, regs_together, years_in}
 use Rattle.table_build.specs.Listed.{listed_in}
 use Rattle.table_build.specs.Log.{writes_of}
 use Rattle.table_latest.specs.Latest.{IsOverlay, LatestPart, listed_from, overlaid}

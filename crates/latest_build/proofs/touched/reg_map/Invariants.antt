@@ -1,6 +1,6 @@
 use Rattle.std.proofs.Common.{◌≡◌, [], drop}
 use Rattle.std.specs.List.{filter_map}
-use Rattle.record_index.specs.World.{facts}
+use Rattle.dh_changes.specs.World.{facts}
 use Rattle.table_build.specs.Ordered.{put_all}
 use Rattle.table_latest.specs.Keys.{reg_place_cmp}
 use Rattle.latest_build.specs.Places.{reg_place}

@@ -1,5 +1,5 @@
 use Rattle.std.specs.Arc.{arc_value}
-use Rattle.record_index.specs.World.{facts}
+use Rattle.dh_changes.specs.World.{facts}
 use Rattle.latest_build.specs.Touches.{events_by}
 use Rattle.latest_build.proofs.TrackerLemmas.{gather-change}
 use Rattle.latest_build.proofs.tracker.events_touched.Goals as goal

@@ -1,4 +1,4 @@
-use Rattle.record_index.specs.World.{facts}
+use Rattle.dh_changes.specs.World.{facts}
 use Rattle.latest_build.proofs.TrackerLemmas.{gather-step}
 use Rattle.latest_build.proofs.tracker.put_of_enrollments.Goals as goal
 

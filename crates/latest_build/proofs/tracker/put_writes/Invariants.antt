@@ -1,5 +1,5 @@
 use Rattle.std.proofs.Common.{◌≡◌, ◌++◌, drop}
-use Rattle.record_index.specs.World.{facts}
+use Rattle.dh_changes.specs.World.{facts}
 use Rattle.latest_build.specs.Touches.{events_touched}
 use Rattle.latest_build.proofs.tracker.put_writes.Given as goal
 

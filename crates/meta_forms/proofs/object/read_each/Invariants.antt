@@ -9,5 +9,6 @@ abbrev pub invariant-loop-value : goal.invariant-loop-value
 invariant-loop-value g l = record {
   place : l.place ≡ l.value-index;
   rest : objects_of (named_form g.T.ReadObject.form g.T.ReadObject.made) 0 (items_data l.values)
-      ≡ and_then (objects_of (named_form g.T.ReadObject.form g.T.ReadObject.made) l.place (items_data (drop l.value-index l.values))) (λ more. Ok (l.all.items ++ more));
+      ≡ and_then (objects_of (named_form g.T.ReadObject.form g.T.ReadObject.made) l.place (items_data (drop l.value-index l.values)))
+      (λ more. Ok (l.all.items ++ more));
 }

@@ -9,4 +9,5 @@ returns c =
     (gives_both _ _ _ _ _ c.both-read-4.ensures
     (gives_both _ _ _ _ _ c.both-read-3.ensures
     (gives_both _ _ _ _ _ c.both-read-2.ensures
-    (gives_both _ _ _ _ _ c.both-read.ensures c.read_hierarchy-read.ensures c.read_elements.ensures) c.read_sets.ensures) c.read_indicators.ensures) c.read_programs.ensures) c.read_users.ensures
+    (gives_both _ _ _ _ _ c.both-read.ensures c.read_hierarchy-read.ensures c.read_elements.ensures) c.read_sets.ensures) c.read_indicators.ensures)
+    c.read_programs.ensures) c.read_users.ensures

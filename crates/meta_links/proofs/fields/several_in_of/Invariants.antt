@@ -1,7 +1,7 @@
 use Rattle.std.proofs.Common.{◌≡◌, ℕ, List, map, take, drop}
 use Rattle.std.specs.Fmt.{decimal}
 use Rattle.std.specs.List.{flat_map}
-use Rattle.meta_parts.specs.declared.kind.Kind.TheVariants as kind
+use Rattle.dh_metadata.specs.declared.kind.Kind.TheVariants as kind
 use Rattle.meta_links.specs.Reference.{step, field_path, one, each, number_of}
 use Rattle.meta_links.specs.Table.{set_element}
 use Rattle.meta_links.specs.Held.{shared_with}

@@ -1,5 +1,5 @@
 use Rattle.std.proofs.Common.{◌≡◌, ◌∙◌, map, sym, ap}
-use Rattle.meta_parts.specs.declared.kind.Kind.TheVariants as kind
+use Rattle.dh_metadata.specs.declared.kind.Kind.TheVariants as kind
 use Rattle.meta_links.specs.Reference.{number_of}
 use Rattle.meta_links.specs.Table.{token_references}
 use Rattle.meta_links.specs.Groups.{units_references, combos_references, combos_held, sets_references, sets_held, rules_references, rules_held}

@@ -3,7 +3,7 @@ use Rattle.std.specs.Fmt.{decimal}
 use Rattle.std.specs.List.{flat_map}
 use Rattle.std.proofs.lemmas.List.{map_more, drop_all}
 use Rattle.dh_sharing.specs.declared.access.Access.{Access}
-use Rattle.meta_parts.specs.declared.kind.Kind.TheVariants as kind
+use Rattle.dh_metadata.specs.declared.kind.Kind.TheVariants as kind
 use Rattle.meta_links.specs.Reference.{step, field_path, one, each, several, several_in, number_of}
 use Rattle.meta_links.specs.Table.{set_element, set_elements, entries}
 use Rattle.meta_links.specs.Told.{after}

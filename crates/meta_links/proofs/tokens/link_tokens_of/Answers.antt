@@ -2,7 +2,7 @@ use Rattle.std.proofs.Common.{◌≡◌, ◌∙◌, ℕ, ◌+◌, ◌≤◌, Lis
 use Rattle.std.specs.Fmt.{decimal}
 use lib.Chars.{codes}
 use Rattle.std.proofs.lemmas.List.{map_more, drop_all}
-use Rattle.meta_parts.specs.declared.kind.Kind.TheVariants as kind
+use Rattle.dh_metadata.specs.declared.kind.Kind.TheVariants as kind
 use Rattle.meta_links.specs.Reference.{step, one, each, number_of}
 use Rattle.meta_links.specs.Table.{token_references}
 use Rattle.meta_links.specs.Told.{after}

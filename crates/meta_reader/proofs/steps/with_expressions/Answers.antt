@@ -1,5 +1,5 @@
 use Rattle.std.proofs.Common.{◌∙◌, ap}
-use Rattle.meta_exprs.specs.All.{expressions_of}
+use Rattle.meta_rules.specs.All.{expressions_of}
 use Rattle.meta_reader.specs.Records.{records_of}
 use Rattle.meta_reader.proofs.steps.with_expressions.Goals as goal
 

@@ -1,5 +1,5 @@
 use Rattle.std.proofs.Common.{◌≡◌, sym, subst, take, get_or}
-use Rattle.meta_parts.specs.declared.records.DataSet.{DataSet}
+use Rattle.dh_metadata.specs.declared.records.DataSet.{DataSet}
 use Rattle.meta_rules.specs.Seen.{TakesSet}
 use Rattle.meta_rules.proofs.SeenLemmas.{HaveSeen-more}
 use Rattle.meta_rules.proofs.workflows.seen_in.Goals as goal

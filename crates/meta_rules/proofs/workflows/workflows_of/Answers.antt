@@ -3,7 +3,7 @@ use Rattle.std.specs.Option.{option_map}
 use Rattle.org_tree.specs.Count.{first_below}
 use Rattle.meta_rules.specs.declared.workflows.Seen.{Seen}
 use Rattle.meta_rules.specs.Seen.{several_at, one_seen}
-use Rattle.meta_parts.specs.Workflows.{AreWorkflows}
+use Rattle.dh_metadata.specs.Workflows.{AreWorkflows}
 use Rattle.meta_rules.specs.Workflows.{workflow_broken, torn_fault, is_torn}
 use Rattle.meta_rules.proofs.SeenLemmas.{torn-seen, AreWorkflows-seen}
 use Rattle.meta_rules.proofs.workflows.workflows_of.Goals as goal

@@ -1,7 +1,7 @@
 use Rattle.std.proofs.Common.{◌≡◌, ◌∙◌, ◌+◌, ◌<◌, ◌∷◌, ◌++◌, [], ℕ, List, length, take, drop, sym, ap, arith}
 use Rattle.std.specs.HashSet.{contains}
-use Rattle.meta_parts.specs.Places.{same_id, is_one_of}
-use Rattle.meta_parts.proofs.PlacesLemmas.{is_one_of-more}
+use Rattle.dh_metadata.specs.Places.{same_id, is_one_of}
+use Rattle.dh_metadata.proofs.PlacesLemmas.{is_one_of-more}
 use Rattle.program_cells.specs.Value.{different, different_after}
 use Rattle.program_cells.proofs.LoopLemmas.{rest_at, first_at, counted_step}
 use Rattle.program_cells.proofs.counting.different.Goals as goal

@@ -1,6 +1,6 @@
 use Rattle.std.proofs.Common.{◌≡◌, ◌≤◌, ◌+◌, ℕ, List, take, drop}
 use Rattle.std.specs.HashSet.{contains}
-use Rattle.meta_parts.specs.Places.{same_id, is_one_of}
+use Rattle.dh_metadata.specs.Places.{same_id, is_one_of}
 use Rattle.program_cells.specs.Value.{different, different_after}
 use Rattle.program_cells.proofs.counting.different.Given as goal
 

@@ -1,7 +1,7 @@
 use Rattle.std.proofs.Common.{◌≡◌, subst, IfOk}
 use Rattle.table_rows.specs.Store.{Contents}
 use Rattle.table_rows.specs.Events.{regs_of}
-use Rattle.rate_items.proofs.RateLemmas.{prepared}
+use Rattle.cell_values.proofs.ReportingLemmas.{prepared}
 use Rattle.cell_values.specs.Seen.{seen_regs, seen_of, contents_of}
 use Rattle.query_answer.specs.Plans.{IsPlan, ArePlanGroups}
 use Rattle.query_answer.proofs.AskedLemmas.{indicator_there}

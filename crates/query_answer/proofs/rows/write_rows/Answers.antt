@@ -2,7 +2,7 @@ use Rattle.std.proofs.Common.{◌≡◌, ◌<◌, ◌∙◌, sym, ap, List, get_
 use Rattle.std.specs.List.{find, list_any}
 use Rattle.std.specs.Option.{option_map}
 use Rattle.std.proofs.lemmas.List.{take_all}
-use Rattle.query_forms.specs.declared.plain.Dx.{Dx}
+use Rattle.query_lang.specs.declared.plain.Dx.{Dx}
 use Rattle.cell_values.specs.Seen.{seen_of, contents_of}
 use Rattle.query_answer.specs.Rows.{dx_is_wide}
 use Rattle.query_answer.proofs.LoopLemmas.{find_at, find_none}

@@ -1,5 +1,5 @@
 use Rattle.std.proofs.Common.{◌≡◌, [], drop, nat_eq}
-use Rattle.query_forms.specs.Once.{once_from}
+use Rattle.query_lang.specs.Once.{once_from}
 use Rattle.query_lang.specs.Walk.{Knows}
 use Rattle.query_lang.proofs.set.once.Given as goal
 

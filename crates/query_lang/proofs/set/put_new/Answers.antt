@@ -1,7 +1,7 @@
 use Rattle.std.proofs.Common.{◌≡◌, ◌∙◌, true, false, refl, not, ap, sym, nat_eq}
 use Rattle.std.specs.List.{list_any}
 use Rattle.std.specs.HashSet.{contains}
-use Rattle.query_forms.proofs.OnceLemmas.{put_one}
+use Rattle.query_lang.proofs.OnceLemmas.{put_one}
 use Rattle.query_lang.proofs.set.put_new.Goals as goal
 
 pub returns-clause-seen : goal.returns-clause-seen

@@ -1,6 +1,6 @@
 use denote.Param.Send.{sendable}
 use Rattle.std.proofs.Common.{subst, IfOk}
-use Rattle.build_workers.specs.Places.{ArePlaces}
+use Rattle.shared_engine.specs.Places.{ArePlaces}
 use Rattle.shared_engine.specs.Builds.{IsYearOf}
 use Rattle.shared_engine.proofs.ShareLemmas.{builder_sync}
 use Rattle.shared_engine.proofs.builds.build_of.Goals as goal

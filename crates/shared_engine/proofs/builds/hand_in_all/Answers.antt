@@ -1,7 +1,7 @@
 use Rattle.std.proofs.Common.{◌∙◌, IfSome, List, Option, subst}
 use Rattle.std.specs.Prelude.{take}
 use Rattle.std.proofs.lemmas.List.Elements.{All-tail}
-use Rattle.year_tables.specs.Parts.{YearPart}
+use Rattle.table_sums.specs.YearParts.{YearPart}
 use Rattle.engine.specs.Machine.{number_in}
 use Rattle.engine.specs.Seen.{IsPartOf}
 use Rattle.shared_engine.specs.Builds.{ArePartsOf}

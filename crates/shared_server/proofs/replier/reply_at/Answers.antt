@@ -1,6 +1,6 @@
 use Rattle.std.proofs.Common.{ℤ, w64, FitsSigned, subst, take}
 use Rattle.std.proofs.lemmas.Int.{to_z-of_z}
-use Rattle.meta_parts.specs.declared.held.Records.{Records}
+use Rattle.dh_metadata.specs.declared.held.Records.{Records}
 use Rattle.dh_periods.specs.Moment.{day_of}
 use Rattle.web_routes.specs.Calls.{routed}
 use Rattle.request_replies.specs.Texts.{told}

@@ -1,8 +1,8 @@
 use Rattle.std.proofs.Common.{◌∙◌, map, ap, sym, subst}
 use Rattle.std.specs.Arc.{arc_value}
-use Rattle.record_index.specs.World.{facts}
+use Rattle.dh_changes.specs.World.{facts}
 use Rattle.table_rows.specs.Store.{Listed, contents_in}
-use Rattle.year_tables.specs.Parts.{AreOfYears, listed_as}
+use Rattle.table_sums.specs.YearParts.{AreOfYears, listed_as}
 use Rattle.table_build.specs.Log.{writes_of}
 use Rattle.table_build.proofs.OtherLemmas.{known-agree, made-of-others}
 use Rattle.table_build.proofs.StoreLemmas.{made-store, years-seen}

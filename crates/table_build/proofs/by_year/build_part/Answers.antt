@@ -1,7 +1,7 @@
 use Rattle.std.proofs.Common.{◌∙◌, map, ap, w32, of_z, to_z, FitsSigned, to_z-of_z}
 use Rattle.std.specs.Arc.{arc_value}
 use Rattle.table_rows.specs.Store.{contents_in}
-use Rattle.year_tables.specs.Parts.{part_of}
+use Rattle.table_sums.specs.YearParts.{part_of}
 use Rattle.table_build.specs.Log.{writes_of}
 use Rattle.table_build.specs.Listed.{listed_in}
 use Rattle.table_build.proofs.by_year.build_part.Goals as goal

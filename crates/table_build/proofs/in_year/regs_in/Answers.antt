@@ -1,5 +1,5 @@
 use Rattle.std.proofs.Common.{◌∙◌}
-use Rattle.record_index.specs.World.{facts}
+use Rattle.dh_changes.specs.World.{facts}
 use Rattle.table_build.proofs.InYearLemmas.{regs-of-year}
 use Rattle.table_build.proofs.in_year.regs_in.Goals as goal
 

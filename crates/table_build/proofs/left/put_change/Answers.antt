@@ -1,5 +1,5 @@
 use Rattle.std.proofs.Common.{subst}
-use Rattle.record_index.specs.World.{facts}
+use Rattle.dh_changes.specs.World.{facts}
 use Rattle.table_build.specs.Left.{AreThere}
 use Rattle.table_build.proofs.LeftLemmas.{settled}
 use Rattle.table_build.proofs.left.put_change.Goals as goal

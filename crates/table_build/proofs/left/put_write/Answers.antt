@@ -1,4 +1,4 @@
-use Rattle.record_index.specs.World.{facts}
+use Rattle.dh_changes.specs.World.{facts}
 use Rattle.table_build.proofs.LeftLemmas.{told}
 use Rattle.table_build.proofs.left.put_write.Goals as goal
 

@@ -1,5 +1,5 @@
 use Rattle.std.proofs.Common.{◌∙◌}
-use Rattle.record_index.specs.World.{facts}
+use Rattle.dh_changes.specs.World.{facts}
 use Rattle.table_build.specs.Left.{write_year}
 use Rattle.table_build.proofs.LeftLemmas.{write-step}
 use Rattle.table_build.proofs.left.put_writes.Goals as goal

@@ -1,7 +1,7 @@
 use Rattle.std.proofs.Common.{◌≡◌, drop}
 use Rattle.std.specs.List.{filter_map}
 use Rattle.std.specs.Ordering.{int_cmp}
-use Rattle.record_index.specs.World.{facts}
+use Rattle.dh_changes.specs.World.{facts}
 use Rattle.table_build.specs.Left.{write_year}
 use Rattle.table_build.specs.Ordered.{put_all}
 use Rattle.table_build.proofs.left.put_writes.Given as goal

@@ -1,6 +1,6 @@
 use Rattle.std.proofs.Common.{◌∙◌}
 use Rattle.std.specs.Arc.{arc_value}
-use Rattle.record_index.specs.World.{facts}
+use Rattle.dh_changes.specs.World.{facts}
 use Rattle.table_build.specs.Left.{write_year}
 use Rattle.table_build.proofs.LeftLemmas.{put-step}
 use Rattle.table_build.proofs.left.year_map.Goals as goal

@@ -1,6 +1,6 @@
 use Rattle.std.proofs.Common.{◌∙◌}
 use Rattle.std.specs.Arc.{arc_value}
-use Rattle.record_index.specs.World.{facts}
+use Rattle.dh_changes.specs.World.{facts}
 use Rattle.table_build.specs.Placed.{placed_by}
 use Rattle.table_build.proofs.PlacedLemmas.{placed-step}
 use Rattle.table_build.proofs.placed.place_changes.Goals as goal

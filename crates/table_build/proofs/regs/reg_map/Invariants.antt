@@ -1,6 +1,6 @@
 use Rattle.std.proofs.Common.{◌≡◌, [], drop}
 use Rattle.std.specs.List.{filter_map}
-use Rattle.record_index.specs.World.{facts}
+use Rattle.dh_changes.specs.World.{facts}
 use Rattle.table_build.specs.Ordered.{put_all}
 use Rattle.table_build.specs.Regs.{place_cmp, place_of, reg_of}
 use Rattle.table_build.proofs.regs.reg_map.Given as goal

@@ -1,8 +1,8 @@
 use Rattle.std.proofs.Common.{◌∙◌, map, ap, sym, subst}
 use Rattle.std.specs.Arc.{arc_value}
 use Rattle.table_rows.specs.Store.{contents_in}
-use Rattle.year_tables.specs.Parts.{ArePartitions, together, years_in}
-use Rattle.year_tables.proofs.CutLemmas.{cut-parts, cut-whole, cut-years}
+use Rattle.table_sums.specs.YearParts.{ArePartitions, together, years_in}
+use Rattle.table_sums.proofs.CutLemmas.{cut-parts, cut-whole, cut-years}
 use Rattle.table_build.specs.Log.{writes_of}
 use Rattle.table_build.specs.Listed.{listed_in}
 use Rattle.table_build.proofs.SlotLemmas.{listed-are, years-are}

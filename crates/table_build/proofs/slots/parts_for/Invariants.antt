@@ -3,7 +3,7 @@ use Rattle.std.specs.Arc.{arc_value}
 use Rattle.std.specs.List.{AllByRecursion}
 use Rattle.std.specs.Vec.Iter.{into_iter_items}
 use Rattle.table_rows.specs.Store.{contents_in}
-use Rattle.year_tables.specs.Parts.{part_of}
+use Rattle.table_sums.specs.YearParts.{part_of}
 use Rattle.table_build.specs.Log.{writes_of}
 use Rattle.table_build.specs.Listed.{listed_in}
 use Rattle.table_build.specs.Slots.{slot_years, IsSlotOf}

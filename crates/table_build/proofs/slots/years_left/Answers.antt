@@ -1,7 +1,7 @@
 use Rattle.std.proofs.Common.{◌∙◌, map, sym, ap, subst, length}
 use Rattle.std.specs.Arc.{arc_value}
 use Rattle.org_tree.specs.Units.{IsTree}
-use Rattle.record_index.specs.World.{facts}
+use Rattle.dh_changes.specs.World.{facts}
 use Rattle.table_build.specs.Left.{years_named}
 use Rattle.table_build.specs.Log.{writes_of}
 use Rattle.table_build.proofs.LeftLemmas.{years-left}

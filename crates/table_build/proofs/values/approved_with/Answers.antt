@@ -1,5 +1,5 @@
 use Rattle.std.proofs.Common.{◌∙◌, sym}
-use Rattle.record_index.specs.World.{facts}
+use Rattle.dh_changes.specs.World.{facts}
 use Rattle.table_build.proofs.KeyLemmas.{approved-with}
 use Rattle.table_build.proofs.values.approved_with.Goals as goal
 

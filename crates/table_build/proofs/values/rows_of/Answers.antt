@@ -1,6 +1,6 @@
 use Rattle.std.proofs.Common.{◌∙◌, ap, sym, subst, length}
 use Rattle.org_tree.specs.Units.{IsTree}
-use Rattle.record_index.specs.World.{facts}
+use Rattle.dh_changes.specs.World.{facts}
 use Rattle.table_rows.specs.Store.{have_own_places}
 use Rattle.table_build.proofs.KeyLemmas.{rows-own}
 use Rattle.table_build.proofs.values.rows_of.Goals as goal

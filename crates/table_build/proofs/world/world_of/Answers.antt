@@ -1,6 +1,6 @@
 use Rattle.std.proofs.Common.{◌∙◌, ap, take, map}
 use Rattle.std.specs.Arc.{arc_value}
-use Rattle.record_index.specs.Facts.{facts_in}
+use Rattle.dh_changes.specs.Facts.{facts_in}
 use Rattle.table_build.specs.Log.{writes_of}
 use Rattle.table_build.proofs.NamedLemmas.{taken-step}
 use Rattle.table_build.proofs.world.world_of.Goals as goal

@@ -1,7 +1,7 @@
 use Rattle.std.proofs.Common.{◌≡◌, take, map}
 use Rattle.std.specs.Arc.{arc_value}
-use Rattle.record_index.specs.World.{facts}
-use Rattle.record_index.specs.Facts.{facts_in}
+use Rattle.dh_changes.specs.World.{facts}
+use Rattle.dh_changes.specs.Facts.{facts_in}
 use Rattle.table_build.specs.Log.{writes_of}
 use Rattle.table_build.proofs.world.world_of.Given as goal
 

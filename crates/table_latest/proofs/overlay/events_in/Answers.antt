@@ -3,7 +3,7 @@ use Rattle.std.specs.List.{filter}
 use Rattle.table_rows.specs.Events.{event_cmp, is_event_of}
 use Rattle.table_rows.specs.Store.{Contents, rises}
 use Rattle.table_rows.proofs.StoreLemmas.{store-holds, true_from}
-use Rattle.year_tables.proofs.PartLemmas.{event_total}
+use Rattle.table_sums.proofs.YearPartLemmas.{event_total}
 use Rattle.table_latest.specs.Latest.{is_event_touched, untouched}
 use Rattle.table_latest.proofs.OverLemmas.{kept-order, now-order, parts-over}
 use Rattle.table_latest.proofs.overlay.events_in.Goals as goal

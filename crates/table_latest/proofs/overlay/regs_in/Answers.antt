@@ -3,7 +3,7 @@ use Rattle.std.specs.List.{filter}
 use Rattle.table_rows.specs.Events.{reg_cmp, is_reg_of}
 use Rattle.table_rows.specs.Store.{Contents, rises}
 use Rattle.table_rows.proofs.StoreLemmas.{store-holds, true_from}
-use Rattle.year_tables.proofs.PartLemmas.{reg_total}
+use Rattle.table_sums.proofs.YearPartLemmas.{reg_total}
 use Rattle.table_latest.specs.Latest.{is_reg_touched}
 use Rattle.table_latest.proofs.OverLemmas.{kept-order, now-order, parts-over}
 use Rattle.table_latest.proofs.overlay.regs_in.Goals as goal

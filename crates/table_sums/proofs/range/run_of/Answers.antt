@@ -27,7 +27,8 @@ pub place_between-high-requires-clause-before : goal.place_between-high-requires
 place_between-high-requires-clause-before g c k d first =
     let cut : IsCut (is_before (bound_of c.args.part.now c.args.position c.args.part.now.from)) c.args.rows.now c.place_in-low.result =
     subst (λ (k : RowKey). IsCut (is_before (bound.Key k)) c.args.rows.now c.place_in-low.result) c.key_at.ensures c.place_in-low.ensures.cut in
-    subst (λ (key : RowKey). is_before (bound.Key key) (get_or c.args.rows.now k d) ≡ true) (sym (c.key_at-last.ensures ∙ ap (key_at c.args.part.now c.args.position) c.max.ensures))
+    subst (λ (key : RowKey). is_before (bound.Key key) (get_or c.args.rows.now k d) ≡ true)
+    (sym (c.key_at-last.ensures ∙ ap (key_at c.args.part.now c.args.position) c.max.ensures))
     (before-both c.args.part.now c.args.position (get_or c.args.rows.now k d) (cut.before k d first))
 
 pub place_between-high-requires-clause-same : goal.place_between-high-requires-clause-same
@@ -40,7 +41,8 @@ pub place_between-high-requires-clause-after : goal.place_between-high-requires-
 place_between-high-requires-clause-after g c k d over within =
     let cut : IsCut (is_before (bound_of c.args.part.now c.args.position c.args.part.now.from)) c.args.rows.now c.place_in-low.result =
     subst (λ (k : RowKey). IsCut (is_before (bound.Key k)) c.args.rows.now c.place_in-low.result) c.key_at.ensures c.place_in-low.ensures.cut in
-    subst (λ (key : RowKey). is_before (bound.Key key) (get_or c.args.rows.now k d) ≡ false) (sym (c.key_at-last.ensures ∙ ap (key_at c.args.part.now c.args.position) c.max.ensures))
+    subst (λ (key : RowKey). is_before (bound.Key key) (get_or c.args.rows.now k d) ≡ false)
+    (sym (c.key_at-last.ensures ∙ ap (key_at c.args.part.now c.args.position) c.max.ensures))
     (ended-in c.args.part.now c.args.position c.args.rows.now c.span_of-span.result.low c.span_of-span.result.high c.place_in-low.result
     c.end_of-end.result c.requires c.span_of-span.ensures cut c.place_in-low.ensures.to c.end_of-end.ensures k d over within)
 

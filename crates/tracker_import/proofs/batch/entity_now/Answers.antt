@@ -1,6 +1,6 @@
 use Rattle.std.proofs.Common.{◌∙◌, map}
-use Rattle.record_index.specs.Said.{said_by, last_said, of_entity}
-use Rattle.record_index.specs.World.{facts}
+use Rattle.dh_changes.specs.Said.{said_by, last_said, of_entity}
+use Rattle.dh_changes.specs.World.{facts}
 use Rattle.tracker_import.specs.Known.{entity_now, whole_entity}
 use Rattle.tracker_import.proofs.SaidLemmas.{held-here, held-else}
 use Rattle.tracker_import.proofs.batch.entity_now.Goals as goal

@@ -1,6 +1,6 @@
 use Rattle.std.proofs.Common.{◌∙◌, map, ap}
-use Rattle.record_index.specs.Said.{said_by, last_said, of_event}
-use Rattle.record_index.specs.World.{facts}
+use Rattle.dh_changes.specs.Said.{said_by, last_said, of_event}
+use Rattle.dh_changes.specs.World.{facts}
 use Rattle.tracker_import.specs.Known.{event_now, event_place}
 use Rattle.tracker_import.proofs.SaidLemmas.{held-here, held-else}
 use Rattle.tracker_import.proofs.batch.event_now.Goals as goal

@@ -1,6 +1,6 @@
 use Rattle.std.proofs.Common.{◌∙◌, Some, None, refl, sym, ap}
-use Rattle.record_index.specs.declared.said.Said.TheVariants as said
-use Rattle.record_index.specs.Said.{said_by}
+use Rattle.dh_changes.specs.declared.said.Said.TheVariants as said
+use Rattle.dh_changes.specs.Said.{said_by}
 use Rattle.tracker_import.proofs.SaidLemmas.{noted-entity}
 use Rattle.tracker_import.proofs.batch.note_entity.Goals as goal
 

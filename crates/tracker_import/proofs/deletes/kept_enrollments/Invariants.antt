@@ -1,5 +1,5 @@
 use Rattle.std.proofs.Common.{◌≡◌, ◌++◌, filter, drop, is_some}
-use Rattle.record_index.specs.World.{facts}
+use Rattle.dh_changes.specs.World.{facts}
 use Rattle.tracker_import.specs.Known.{enrollment_now}
 use Rattle.tracker_import.proofs.deletes.kept_enrollments.Given as goal
 

@@ -1,4 +1,4 @@
-use Rattle.record_index.specs.World.{facts}
+use Rattle.dh_changes.specs.World.{facts}
 use Rattle.tracker_import.proofs.WriteLemmas.{told-fits}
 use Rattle.tracker_import.proofs.verdict.verdict.Goals as goal
 

@@ -1,5 +1,5 @@
 use Rattle.std.proofs.Common.{◌≡◌, drop}
-use Rattle.record_index.specs.World.{facts}
+use Rattle.dh_changes.specs.World.{facts}
 use Rattle.tracker_import.specs.Batches.{IsBatch}
 use Rattle.tracker_import.specs.Outcomes.{sofar_of}
 use Rattle.tracker_import.specs.Verdicts as verdicts

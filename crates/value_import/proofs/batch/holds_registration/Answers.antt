@@ -1,6 +1,6 @@
 use Rattle.std.proofs.Common.{◌∙◌, map}
-use Rattle.record_index.specs.Said.{said_by, last_said, of_registration}
-use Rattle.record_index.specs.World.{facts}
+use Rattle.dh_changes.specs.Said.{said_by, last_said, of_registration}
+use Rattle.dh_changes.specs.World.{facts}
 use Rattle.value_import.specs.Said.{holds_registration}
 use Rattle.value_import.proofs.SaidLemmas.{held-here, held-else}
 use Rattle.value_import.proofs.batch.holds_registration.Goals as goal

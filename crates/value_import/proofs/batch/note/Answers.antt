@@ -1,5 +1,5 @@
 use Rattle.std.proofs.Common.{ap, Some, None}
-use Rattle.record_index.specs.Said.{said_by}
+use Rattle.dh_changes.specs.Said.{said_by}
 use Rattle.value_import.proofs.SaidLemmas.{noted-value, noted-registration}
 use Rattle.value_import.proofs.batch.note.Goals as goal
 

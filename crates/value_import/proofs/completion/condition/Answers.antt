@@ -1,4 +1,4 @@
-use Rattle.record_index.specs.World.{facts}
+use Rattle.dh_changes.specs.World.{facts}
 use Rattle.value_import.specs.Rules.{place_conditions}
 use Rattle.value_import.specs.Completions.{reg_conditions}
 use Rattle.value_import.proofs.FirstLemmas.{first-here, first-there}

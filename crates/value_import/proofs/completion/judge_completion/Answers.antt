@@ -1,7 +1,7 @@
 use Rattle.std.proofs.Common.{◌≡◌, ◌∙◌, FitsSigned, to_z-of_z, w32, rules, ap, []}
 use Rattle.std.specs.Prelude.{pos, unwrap_or}
 use Rattle.std.specs.Option.{option_map_or}
-use Rattle.record_index.specs.World.{facts}
+use Rattle.dh_changes.specs.World.{facts}
 use Rattle.value_import.specs.declared.judged.Judged.TheVariants as judged
 use Rattle.value_import.specs.Dates.{day_told}
 use Rattle.value_import.specs.Said.{holds_registration}

@@ -1,5 +1,5 @@
 use Rattle.std.proofs.Common.{ap}
-use Rattle.record_index.specs.World.{facts}
+use Rattle.dh_changes.specs.World.{facts}
 use Rattle.value_import.specs.Rules.{first_of}
 use Rattle.value_import.specs.Values.{judged_by, accepted, placed_conditions}
 use Rattle.value_import.proofs.JudgedLemmas.{unrefused-ok}

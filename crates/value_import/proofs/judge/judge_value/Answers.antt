@@ -1,6 +1,6 @@
 use Rattle.std.proofs.Common.{[]}
 use Rattle.std.specs.Option.{option_map_or}
-use Rattle.record_index.specs.World.{facts}
+use Rattle.dh_changes.specs.World.{facts}
 use Rattle.value_import.specs.declared.judged.Judged.TheVariants as judged
 use Rattle.value_import.specs.declared.place.ValuePlace.{ValuePlace}
 use Rattle.value_import.specs.Said.{holds_value}

@@ -1,8 +1,8 @@
 use Rattle.std.proofs.Common.{◌≡◌, drop}
 use Rattle.std.specs.List.{list_all}
 use Rattle.dh_sharing.specs.declared.access.Right.TheVariants.{DataWrite}
-use Rattle.meta_parts.specs.declared.kind.Kind.TheVariants.{CategoryOption}
-use Rattle.record_index.specs.World.{facts}
+use Rattle.dh_metadata.specs.declared.kind.Kind.TheVariants.{CategoryOption}
+use Rattle.dh_changes.specs.World.{facts}
 use Rattle.dh_records.specs.Access.{access}
 use Rattle.value_import.proofs.rights.may_write_options.Given as goal
 

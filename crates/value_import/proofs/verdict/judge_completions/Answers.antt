@@ -1,5 +1,5 @@
 use Rattle.std.proofs.Common.{FitsSigned, to_z-of_z, w64}
-use Rattle.record_index.specs.World.{facts}
+use Rattle.dh_changes.specs.World.{facts}
 use Rattle.value_import.proofs.WriteLemmas.{list-writes, list-fits}
 use Rattle.value_import.proofs.verdict.judge_completions.Goals as goal
 

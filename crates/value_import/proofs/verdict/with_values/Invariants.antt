@@ -1,5 +1,5 @@
 use Rattle.std.proofs.Common.{◌≡◌, drop}
-use Rattle.record_index.specs.World.{facts}
+use Rattle.dh_changes.specs.World.{facts}
 use Rattle.value_import.specs.Outcomes.{AreAtMost}
 use Rattle.value_import.specs.Said.{AreSaid}
 use Rattle.value_import.specs.Verdicts as verdicts

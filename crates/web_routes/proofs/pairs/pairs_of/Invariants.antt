@@ -1,7 +1,7 @@
 use Rattle.std.proofs.Common.{◌≡◌, ◌++◌, map}
 use Rattle.form_urlencoded.specs.Form.{raw_pairs}
 use Rattle.form_urlencoded.specs.Parse.{raw_pairs_left}
-use Rattle.query_forms.specs.Form.{decoded_pair}
+use Rattle.query_lang.specs.Form.{decoded_pair}
 use Rattle.web_routes.proofs.pairs.pairs_of.Given as goal
 
 abbrev pub invariant-loop-name : goal.invariant-loop-name

@@ -1,5 +1,5 @@
 use Rattle.std.proofs.Common.{◌≡◌, ◌∙◌, sym, ap, subst}
-use Rattle.meta_parts.specs.Places.{place_of}
+use Rattle.dh_metadata.specs.Places.{place_of}
 use Rattle.dh_metadata.specs.Linked.{IsBelow}
 use Rattle.dh_metadata.specs.Objects.{count_of, find_of}
 use Rattle.dh_metadata.proofs.IdLemmas.{found_below}

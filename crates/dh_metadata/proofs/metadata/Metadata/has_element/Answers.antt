@@ -1,5 +1,5 @@
 use Rattle.std.proofs.Common.{◌∙◌, ◌<◌, [], length, subst, ap, sym, get_or}
-use Rattle.meta_parts.specs.declared.records.DataSet.{DataSet}
+use Rattle.dh_metadata.specs.declared.records.DataSet.{DataSet}
 use Rattle.dh_metadata.specs.Sets.{has_element}
 use Rattle.dh_metadata.proofs.SetLemmas.{searched_list, searched_has}
 use Rattle.dh_metadata.proofs.metadata.Metadata.has_element.Goals as goal

@@ -1,5 +1,5 @@
 use Rattle.std.proofs.Common.{◌≡◌, sym, subst}
-use Rattle.meta_parts.specs.declared.kind.Kind.TheVariants.{DataSet, User, UserGroup}
+use Rattle.dh_metadata.specs.declared.kind.Kind.TheVariants.{DataSet, User, UserGroup}
 use Rattle.dh_metadata.specs.Known.{AreMade}
 use Rattle.dh_metadata.proofs.metadata.Metadata.of.Goals as goal
 

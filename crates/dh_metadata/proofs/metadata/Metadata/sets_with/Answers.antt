@@ -1,6 +1,6 @@
 use Rattle.std.proofs.Common.{◌≡◌, ◌∙◌, ◌<◌, [], length, subst, ap, sym, get_or}
 use Rattle.std.proofs.lemmas.List.{length-map}
-use Rattle.meta_parts.specs.declared.records.DataSet.{DataSet}
+use Rattle.dh_metadata.specs.declared.records.DataSet.{DataSet}
 use Rattle.dh_metadata.specs.Linked.{AreBelow}
 use Rattle.dh_metadata.specs.Sets.{element_lists, set_ids, by_id, sets_with}
 use Rattle.dh_metadata.proofs.HolderLemmas.{holders_below}

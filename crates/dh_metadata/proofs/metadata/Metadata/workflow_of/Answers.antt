@@ -1,5 +1,5 @@
 use Rattle.std.proofs.Common.{◌≡◌, ◌∙◌, ◌<◌, None, length, subst, ap, sym, get_or, arith}
-use Rattle.meta_parts.specs.Workflows.{workflow_of}
+use Rattle.dh_metadata.specs.Workflows.{workflow_of}
 use Rattle.dh_metadata.specs.Linked.{IsBelow}
 use Rattle.dh_metadata.proofs.LinkLemmas.{workflow_below}
 use Rattle.dh_metadata.proofs.metadata.Metadata.workflow_of.Goals as goal

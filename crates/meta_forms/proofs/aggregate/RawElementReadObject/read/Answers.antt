@@ -9,4 +9,5 @@ returns c =
     gives_both _ _ _ _ _ c.both.ensures
     (gives_both _ _ _ _ _ c.both-read-3.ensures
     (gives_both _ _ _ _ _ c.both-read-2.ensures
-    (gives_both _ _ _ _ _ c.both-read.ensures c.named_else-read.ensures c.named_or_else.ensures) (by_default _ _ _ _ c.default_combo.ensures c.reference_or.ensures)) c.field_or.ensures) c.sharing.ensures
+    (gives_both _ _ _ _ _ c.both-read.ensures c.named_else-read.ensures c.named_or_else.ensures)
+    (by_default _ _ _ _ c.default_combo.ensures c.reference_or.ensures)) c.field_or.ensures) c.sharing.ensures

@@ -1,7 +1,7 @@
 use Rattle.std.proofs.Common.{◌≡◌, ◌∙◌, ◌++◌, sym, ap}
 use lib.Chars.{codes}
 use Rattle.std.specs.List.{flat_map}
-use Rattle.meta_parts.specs.declared.kind.Kind.TheVariants as kind
+use Rattle.dh_metadata.specs.declared.kind.Kind.TheVariants as kind
 use Rattle.meta_links.specs.Reference.{field_path, one, optional, several, several_in}
 use Rattle.meta_links.specs.Table.{set_elements, sharing_references, option_combo_references}
 use Rattle.meta_links.specs.Told.{after}

@@ -1,8 +1,8 @@
 use Rattle.std.proofs.Common.{subst, rules}
 use Rattle.dh_base.specs.Memory.{IsCause}
 use Rattle.dh_periods.specs.Moment.{day_of}
-use Rattle.meta_parts.specs.declared.held.Records.{Records}
-use Rattle.query_forms.specs.Given.{cause_of}
+use Rattle.dh_metadata.specs.declared.held.Records.{Records}
+use Rattle.query_lang.specs.Given.{cause_of}
 use Rattle.query_lang.specs.Askable.{IsAskable}
 use Rattle.query_lang.specs.Query.{query_of}
 use Rattle.query_lang.specs.declared.query.TheConstants.{MOST_CELLS}

@@ -2,7 +2,7 @@ use Rattle.std.proofs.Common.{sym, ◌∙◌, subst, ℤ, FitsSigned, w64, to_z-
 use Rattle.engine.specs.Machine.Act.{changed}
 use Rattle.shared_engine.specs.Entries.{entries_of}
 use Rattle.shared_engine.specs.Calls.{IsCall}
-use Rattle.meta_parts.specs.declared.held.Records.{Records}
+use Rattle.dh_metadata.specs.declared.held.Records.{Records}
 use Rattle.value_import.specs.Outcomes.{IsKnown}
 use Rattle.shared_engine.proofs.Calls.{change_made}
 use Rattle.shared_engine.proofs.locked.Locked.change.Goals as goal

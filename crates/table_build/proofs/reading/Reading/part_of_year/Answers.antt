@@ -1,9 +1,9 @@
 use Rattle.std.proofs.Common.{◌∙◌, map, sym, ap, subst, length, rules, w32, of_z, to_z, FitsSigned, to_z-of_z}
 use Rattle.std.specs.Arc.{arc_value}
 use Rattle.org_tree.specs.Units.{IsTree}
-use Rattle.record_index.specs.Facts.{Facts}
-use Rattle.record_index.specs.World.{facts}
-use Rattle.year_tables.specs.Parts.{listed_as, part_with}
+use Rattle.dh_changes.specs.Facts.{Facts}
+use Rattle.dh_changes.specs.World.{facts}
+use Rattle.table_sums.specs.YearParts.{listed_as, part_with}
 use Rattle.table_build.specs.Log.{writes_of}
 use Rattle.table_build.proofs.KeyLemmas.{StandsTree}
 use Rattle.table_build.proofs.OtherLemmas.{others-agree}

@@ -1,6 +1,0 @@
-use Rattle.std.proofs.Common.{◌≡◌, map, take}
-use Rattle.build_workers.proofs.PlaceLemmas.{empty}
-use Rattle.build_workers.proofs.work.blank_places.Given as goal
-
-abbrev pub invariant-loop : goal.invariant-loop
-invariant-loop g l = l.places.items ≡ map empty (take l.index l.fn.years)

@@ -1,0 +1,108 @@
+//! What is due in some periods, and the rate of it that was registered.
+ghost use Rattle.std.specs.Prelude.{◌≡◌, ◌<◌, ◌≤◌, ◌*◌, ◌^◌, length, IfOk};
+ghost use Rattle.dh_sharing.specs.Ranges.{AreApart};
+ghost use Rattle.dh_base.specs.declared.limits.TheConstants.{COUNTED_DAYS};
+ghost use Rattle.cell_values.specs.Reporting.{whole, percentage, rate_by, rate_with, is_in_some};
+ghost use Rattle.cell_values.specs.Prepared.{AreOrders, IsPrepared, rate_within};
+
+use crate::counts::how_many_within;
+use crate::reports::{Report, Reports};
+use dh_base::frac::Frac;
+use dh_base::items::Items;
+use dh_base::memory::Memory;
+use dh_base::plain::Rate;
+use dh_periods::Period;
+use std::alloc::Global;
+
+/// What of the reports of a data set is due in some periods.
+#[derive(Drop)]
+pub struct Due {
+    /// How many periods of the data set's type lie in them.
+    pub periods: u32,
+    /// The orders of the reports for these that were registered, ascending.
+    pub orders: Items<u32>,
+}
+
+/// Whether the period lies in some of the others.
+fn is_in_some(periods: &[Period], period: &Period) -> bool
+    ensures { result ≡ is_in_some periods.now period.now }
+{
+    for asked in periods {
+        if period.inside(*asked) {
+            return true;
+        }
+    }
+    false
+}
+
+/// The orders of the reports whose period lies in some of these.
+pub(crate) fn orders_in(
+    alloc: Global,
+    periods: &[Period],
+    reports: &[Report],
+) -> Result<Items<u32>, Memory>
+    ensures { IfOk result (λ orders. AreOrders periods.now reports.now orders) }
+{
+    let mut orders = Vec::new(alloc);
+    for report in reports {
+        if is_in_some(periods, &report.period) {
+            orders.push(report.order)?;
+        }
+    }
+    orders.sort()?;
+    Ok(Items::from(orders))
+}
+
+fn whole(count: u64) -> Frac
+    ensures { result ≡ whole count }
+{
+    Frac::of(i128::from(count), 1)
+}
+
+fn percentage(due: u64, registered: u64) -> Frac
+    requires { 0 < due }
+    ensures { result ≡ percentage due registered }
+{
+    Frac::of(100 * i128::from(registered), i128::from(due))
+}
+
+fn rate_by(which: Rate, due: u64, registered: u64) -> Frac
+    requires { 0 < due }
+    ensures { result ≡ rate_by which due registered }
+{
+    match which {
+        Rate::Expected => whole(due),
+        Rate::Actual | Rate::OnTime => whole(registered),
+        Rate::Reported | Rate::ReportedOnTime => percentage(due, registered),
+    }
+}
+
+fn rate_with(which: Rate, due: u64, registered: u64) -> Option<Frac>
+    ensures { result ≡ rate_with which due registered }
+{
+    if due == 0 {
+        None
+    } else {
+        Some(rate_by(which, due, registered))
+    }
+}
+
+/// How many reports are due of so many units in so many periods.
+fn times(units: usize, periods: u32) -> u64
+    requires units { units < 2 ^ 32 }
+    requires periods { periods ≤ COUNTED_DAYS }
+    ensures { result ≡ units * periods }
+{
+    units as u64 * u64::from(periods)
+}
+
+/// The rate over the units whose orders lie in the ranges.
+pub(crate) fn rate_in(reports: &Reports, due: &Due, ranges: &[(u32, u32)]) -> Option<Frac>
+    requires prepared { IsPrepared reports.now due.now }
+    requires apart { AreApart ranges.now }
+    ensures { result ≡ rate_within reports.now.which reports.now.assigned due.now.periods due.now.orders ranges.now }
+{
+    let units = how_many_within(reports.assigned.as_slice(), ranges);
+    let registered = how_many_within(due.orders.as_slice(), ranges);
+    rate_with(reports.which, times(units, due.periods), registered as u64)
+}

@@ -1,0 +1,100 @@
+//! How many periods of a type lie in some others.
+ghost use Rattle.std.specs.Prelude.{◌≡◌, ◌<◌, ◌≤◌, ◌+ℤ◌, ◌≤ℤ◌, ◌||◌, ◌&&◌, ℕ, nat_lt, pos, neg_ℤ, IfOk, OnOk};
+ghost use Rattle.dh_sharing.specs.Ranges.{is_within};
+ghost use Rattle.dh_base.specs.declared.limits.TheConstants.{COUNTED_DAYS};
+ghost use Rattle.dh_periods.specs.Calendar.{unix_day};
+ghost use Rattle.cell_values.specs.Reporting.{begins_in, periods_due};
+ghost use Rattle.cell_values.specs.Counts.{with_day, AreBegins, AddsBegins};
+
+use crate::counts::covered;
+use dh_base::memory::Memory;
+use dh_periods::{Period, PeriodType, containing};
+use dh_sharing::ranges::ViewRanges;
+use std::alloc::{AllocError, Global};
+
+/// How many days the day lies after 1 January 1900.
+fn place_of(day: i32) -> u32
+    requires from { neg_ℤ (pos 25567) ≤ℤ day }
+    requires to { day ≤ℤ pos 48119 }
+    ensures value { pos result ≡ day +ℤ pos 25567 }
+    ensures bound { result ≤ 73_686 }
+{
+    (day + 25_567) as u32
+}
+
+/// The day that is so many after 1 January 1900.
+fn day_at(place: u32) -> i32
+    requires { place < COUNTED_DAYS }
+    ensures { result ≡ unix_day place }
+{
+    place as i32 - 25_567
+}
+
+/// Whether on the day a period of the type begins that lies in this one.
+#[tactic(auto, unfolding(crate::specs::Reporting::begins_in))]
+fn begins_in(kind: PeriodType, period: &Period, place: u32) -> bool
+    requires { place < COUNTED_DAYS }
+    ensures { result ≡ begins_in kind period.now place }
+{
+    let day = day_at(place);
+    match containing(kind, day, day) {
+        None => false,
+        Some(found) => found.first() == day && found.inside(*period),
+    }
+}
+
+/// Adds the day where a period begins on it.
+fn add_day(days: &mut Vec<(u32, u32)>, place: u32, begins: bool) -> Result<(), AllocError>
+    requires { place < COUNTED_DAYS }
+    ensures { OnOk result (days.new.items ≡ with_day begins days.old.items place) }
+{
+    if begins {
+        days.push((place, place + 1))?;
+    }
+    Ok(())
+}
+
+/// Adds the days of the period on which such a one begins.
+fn add_begins(
+    begins: &mut Vec<(u32, u32)>,
+    kind: PeriodType,
+    period: &Period,
+) -> Result<(), AllocError>
+    ensures { OnOk result (AddsBegins kind period.now begins.old.items begins.new.items) }
+{
+    let first = place_of(period.first());
+    let last = place_of(period.last());
+    for place in first..last + 1 {
+        let here = begins_in(kind, period, place);
+        add_day(begins, place, here)?;
+    }
+    Ok(())
+}
+
+fn begins_of(
+    alloc: Global,
+    kind: PeriodType,
+    periods: &[Period],
+) -> Result<Vec<(u32, u32)>, AllocError>
+    ensures { IfOk result (λ begins. AreBegins kind periods.now begins.items) }
+{
+    let mut begins = Vec::new(alloc);
+    for period in periods {
+        add_begins(&mut begins, kind, period)?;
+    }
+    Ok(begins)
+}
+
+/// How many periods of the type lie in some of these.
+pub(crate) fn periods_due(
+    alloc: Global,
+    kind: PeriodType,
+    periods: &[Period],
+) -> Result<u32, Memory>
+    ensures value { IfOk result (λ count. count ≡ periods_due kind periods.now) }
+    ensures few { IfOk result (λ count. count ≤ COUNTED_DAYS) }
+{
+    let begins = begins_of(alloc, kind, periods)?;
+    let joined = ViewRanges::of(alloc, &begins)?;
+    Ok(covered(joined.parts()))
+}

@@ -1,8 +1,0 @@
-use Rattle.change_bytes.proofs.Calendar.{first-day, last-day}
-use Rattle.change_bytes.proofs.laws.days_are_of_the_years.Goals as goal
-
-pub returns-clause-first : goal.returns-clause-first
-returns-clause-first c = first-day
-
-pub returns-clause-last : goal.returns-clause-last
-returns-clause-last c = last-day

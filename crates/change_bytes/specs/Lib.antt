@@ -1,9 +1,0 @@
-pub mod Words
-pub mod ReadWords
-pub mod Given
-pub mod Fields
-pub mod Bytes
-pub mod Forms
-pub mod Reading
-pub mod Decoded
-pub mod Log

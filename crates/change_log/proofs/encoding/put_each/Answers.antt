@@ -1,0 +1,20 @@
+use Rattle.std.proofs.Common.{subst}
+use Rattle.std.proofs.lemmas.List.Elements.{All-more}
+use Rattle.change_log.proofs.Growing.{grown}
+use Rattle.change_log.specs.Bytes.{write_bytes}
+use Rattle.change_log.specs.Forms.{IsWrite}
+use Rattle.change_log.proofs.encoding.put_each.Goals as goal
+
+pub put_write-requires : goal.put_write-requires
+put_write-requires c = rw c.write-item.is (c.requires c.loop-write.write-index _ c.loop-write-test.true)
+
+pub loop-write-preserved : goal.loop-write-preserved
+loop-write-preserved c = record {
+  bytes =
+      grown write_bytes c.args.out.now.items c.loop-write.out.items c.put_write.new.out.items c.args.writes.now c.loop-write.write-index c.write-item.result
+      c.loop-write-test.true c.write-item.is
+      c.loop-write.invariant.bytes c.in_ok-put_write.ensures.bytes;
+  valid =
+      All-more IsWrite c.args.writes.now c.loop-write.write-index c.write-item.result c.loop-write-test.true c.loop-write.invariant.valid
+      (subst IsWrite c.write-item.is c.in_ok-put_write.ensures.valid);
+}

@@ -1,4 +1,0 @@
-pub mod StatusLemmas
-pub mod SummaryLemmas
-pub mod ApprovalLemmas
-mod ReportLemmas

@@ -1,7 +1,0 @@
-use Rattle.std.proofs.Common.{◌≡◌, map, take}
-use Rattle.serde_json.specs.View.{view}
-use Rattle.change_requests.specs.Report.{error_of}
-use Rattle.change_requests.proofs.report.error_values.Given as goal
-
-abbrev pub invariant-loop-conflict : goal.invariant-loop-conflict
-invariant-loop-conflict l = map view l.values.items ≡ map error_of (take l.conflict-index l.conflicts)

@@ -1,6 +1,0 @@
-use Rattle.std.proofs.Common.{◌≡◌, ◌++◌, drop}
-use Rattle.meta_exprs.specs.Days.{day_elements}
-use Rattle.meta_exprs.proofs.days.add_elements.Given as goal
-
-abbrev pub invariant-loop-element : goal.invariant-loop-element
-invariant-loop-element l = l.initial.days.items ++ day_elements l.elements ≡ l.days.items ++ day_elements (drop l.element-index l.elements)

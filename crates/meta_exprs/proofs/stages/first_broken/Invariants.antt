@@ -1,6 +1,0 @@
-use Rattle.std.proofs.Common.{◌≡◌, drop}
-use Rattle.meta_exprs.specs.Stages.{stages_broken}
-use Rattle.meta_exprs.proofs.stages.first_broken.Given as goal
-
-abbrev pub invariant-loop-indicator : goal.invariant-loop-indicator
-invariant-loop-indicator l = stages_broken l.ids l.stages l.indicators ≡ stages_broken l.ids l.stages (drop l.indicator-index l.indicators)

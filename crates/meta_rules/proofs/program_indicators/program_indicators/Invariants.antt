@@ -1,0 +1,12 @@
+use Rattle.std.proofs.Common.{◌≡◌, ◌++◌, drop}
+use Rattle.meta_rules.specs.Objects.{first_unread, program_indicator_unread, program_indicator_in, made_of}
+use Rattle.meta_rules.proofs.program_indicators.program_indicators.Given as goal
+
+abbrev pub invariant-loop-each : goal.invariant-loop-each
+invariant-loop-each l = record {
+  unread : first_unread (program_indicator_unread l.ids l.days) l.raw ≡ first_unread (program_indicator_unread l.ids l.days) (drop l.each-index l.raw);
+  rest : l.rest ≡ drop l.each-index l.fn.links;
+  made :
+      made_of (program_indicator_in l.days) l.raw l.fn.links
+      ≡ l.made.items ++ made_of (program_indicator_in l.days) (drop l.each-index l.raw) (drop l.each-index l.fn.links);
+}

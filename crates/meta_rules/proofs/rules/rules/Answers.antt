@@ -1,0 +1,18 @@
+use Rattle.std.proofs.Common.{◌∙◌, ◌++◌, ◌+◌, sym, ap, drop}
+use Rattle.meta_rules.specs.Objects.{rule_unread, rule_in, made_of}
+use Rattle.meta_rules.proofs.MadeLemmas.{made_step}
+use Rattle.meta_rules.proofs.rules.rules.Goals as goal
+
+pub loop-each-preserved : goal.loop-each-preserved
+loop-each-preserved c =
+    let days = c.args.days.now in
+    let i = c.loop-each.each-index in
+    let step =
+    made_step (rule_unread c.args.ids.now days) (rule_in days) c.args.raw.now c.args.links i c.each-item.result c.next-own.result
+    c.loop-each.rest c.next-own.new.rest c.loop-each.made.items c.in_ok-rule.field-0 c.loop-each-test.true c.each-item.is
+    c.loop-each.invariant.rest c.next-own.ensures c.in_ok-rule.ensures.0 c.in_ok-rule.ensures.1 c.loop-each.invariant.made in
+    record {
+      unread = c.loop-each.invariant.unread ∙ step.unread;
+      rest = step.left;
+      made = step.made ∙ ap (λ l. l ++ made_of (rule_in days) (drop (i + 1) c.args.raw.now) (drop (i + 1) c.args.links)) (sym c.in_ok-push.ensures.items);
+    }

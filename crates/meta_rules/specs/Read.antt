@@ -1,0 +1,54 @@
+-- Whether a text is an expression whose objects are there.
+use Rattle.std.specs.Prelude.{ℕ, Bool, cond, List, [], ◌∷◌, Option, None, Some, Result, Ok, Err}
+use Rattle.expr_lang.specs.declared.tree.Item.{Item}
+use Rattle.expr_lang.specs.declared.tree.Place.{Place}
+use Rattle.expr_lang.specs.declared.tree.Sort.{Sort}
+use Rattle.expr_lang.specs.declared.fault.ExprFault.{ExprFault}
+use Rattle.expr_lang.specs.declared.fault.ExprFault.TheVariants as syntax_fault
+use Rattle.expr_lang.specs.declared.tree.Leaf.TheVariants as leaf
+use Rattle.expr_lang.specs.Expr.{parse_of}
+use Rattle.expr_lang.specs.Expression.{Expression}
+use Rattle.expr_lang.specs.Shape.{Operand}
+use Rattle.meta_rules.specs.declared.expr_fault.TextFault.{TextFault}
+use Rattle.meta_rules.specs.declared.expr_fault.TextFault.TheVariants.{At, Memory}
+use Rattle.meta_rules.specs.Names.{KindIds, is_missing}
+
+-- the byte that a fault of the language names
+abbrev pub byte_of : ExprFault → ℕ
+byte_of (syntax_fault.Syntax at) = at
+byte_of (syntax_fault.TooDeep at) = at
+byte_of (syntax_fault.Sort at) = at
+byte_of syntax_fault.Memory = 0
+
+abbrev pub text_fault_of : ExprFault → TextFault
+text_fault_of syntax_fault.Memory = Memory
+text_fault_of fault = At (byte_of fault)
+
+-- the place of the first item that passes a test
+abbrev pub missing_place : (Item → Bool) → List Item → List ℕ → Option ℕ
+missing_place test [] places = None
+missing_place test (item ∷ items) [] = None
+missing_place test (item ∷ items) (place ∷ places) = cond (test item) (Some place) (missing_place test items places)
+
+-- where a text is wrong that means this
+abbrev pub wrong_at : KindIds → Result Expression ExprFault → Option ℕ
+wrong_at ids (Err fault) = Some (byte_of fault)
+wrong_at ids (Ok expression) = missing_place (is_missing ids) expression.items expression.places
+
+-- the byte at which a text isn't an expression of this place and sort, or at which it names an object that isn't there
+unfoldable pub unread_at : KindIds → List (List ℕ) → Place → Sort → List ℕ → Option ℕ
+unread_at ids days place wanted text = wrong_at ids (parse_of place days (Some wanted) text)
+
+-- what a fault carries; running out of memory carries nothing
+abbrev pub text_cause : TextFault → Option ℕ
+text_cause (At at) = Some at
+text_cause Memory = None
+
+-- the number 0 if nothing is read
+abbrev pub read_or_zero : Result Expression ExprFault → Expression
+read_or_zero (Ok expression) = expression
+read_or_zero (Err fault) = record { tree = Operand (leaf.Number 0); items = []; places = [] }
+
+-- the expression that a text is
+unfoldable pub expr_in : List (List ℕ) → Place → Sort → List ℕ → Expression
+expr_in days place wanted text = read_or_zero (parse_of place days (Some wanted) text)

@@ -1,0 +1,77 @@
+//! All expressions of metadata.
+
+ghost use Rattle.std.specs.Prelude.{◌≡◌, length};
+ghost use Rattle.meta_rules.specs.Days.{days_of};
+ghost use Rattle.dh_base.specs.Memory.{Finds};
+ghost use Rattle.meta_rules.specs.Objects.{expr_cause};
+ghost use Rattle.meta_rules.specs.All.{expressions_unread, expressions_of};
+
+use crate::days::days_of;
+use crate::expr_fault::ExprError;
+use crate::indicators::indicators;
+use crate::program_indicators::program_indicators;
+use crate::rules::rules;
+use dh_base::items::Items;
+use dh_metadata::ids::Ids;
+use dh_metadata::parts::MetaParts;
+use dh_metadata::records::{
+    Indicator, IndicatorLinks, ProgramIndicator, ProgramIndicatorLinks, Rule,
+};
+use dh_sharing::rule::Sharing;
+use std::alloc::Global;
+
+/// The references of the objects that have expressions.
+#[derive(Drop)]
+pub struct Unread {
+    pub indicators: Items<IndicatorLinks>,
+    pub validation_rules: Items<Sharing>,
+    pub program_indicators: Items<ProgramIndicatorLinks>,
+}
+
+/// The objects that have expressions.
+#[derive(Drop)]
+pub struct Expressions {
+    pub indicators: Items<Indicator>,
+    pub validation_rules: Items<Rule>,
+    pub program_indicators: Items<ProgramIndicator>,
+}
+
+/// Reads all expressions of a file. `links` has the references of each object.
+pub fn read_all(
+    alloc: Global,
+    ids: &Ids,
+    parts: &MetaParts,
+    links: Unread,
+) -> Result<Expressions, ExprError>
+    requires indicators { length parts.now.indicators ≡ length links.indicators }
+    requires validation_rules { length parts.now.validation_rules ≡ length links.validation_rules }
+    requires program_indicators { length parts.now.program_indicators ≡ length links.program_indicators }
+    ensures { Finds expr_cause (expressions_unread ids.now parts.now) (λ made. made ≡ expressions_of parts.now links) result }
+{
+    let days = days_of(alloc, parts)?;
+    let Unread {
+        indicators: own,
+        validation_rules,
+        program_indicators: of_programs,
+    } = links;
+    let indicators = indicators(alloc, ids, &days, parts.indicators.as_slice(), own)?;
+    let rules = rules(
+        alloc,
+        ids,
+        &days,
+        parts.validation_rules.as_slice(),
+        validation_rules,
+    )?;
+    let program_indicators = program_indicators(
+        alloc,
+        ids,
+        &days,
+        parts.program_indicators.as_slice(),
+        of_programs,
+    )?;
+    Ok(Expressions {
+        indicators: Items::from(indicators),
+        validation_rules: Items::from(rules),
+        program_indicators: Items::from(program_indicators),
+    })
+}

@@ -1,0 +1,126 @@
+//! The expressions of program indicators.
+
+ghost use Rattle.std.specs.Prelude.{◌≡◌, length, option_map};
+ghost use Rattle.dh_base.specs.Memory.{Finds};
+ghost use Rattle.expr_lang.specs.declared.tree.Place.TheVariants.{Program};
+ghost use Rattle.expr_lang.specs.declared.tree.Sort.TheVariants.{Number, Truth};
+ghost use Rattle.meta_rules.specs.Read.{expr_in};
+ghost use Rattle.meta_rules.specs.Objects.{expr_cause, first_unread, program_indicator_unread, program_indicator_with};
+ghost use Rattle.meta_rules.specs.Objects.{program_indicator_in, filter_unread, made_of};
+
+use crate::expr_fault::ExprError;
+use crate::object::{copied, read_of};
+use crate::waiting::{next, waiting};
+use dh_base::items::Items;
+use dh_base::uid::Uid;
+use dh_metadata::ids::Ids;
+use dh_metadata::raw::RawProgramIndicator;
+use dh_metadata::records::{ProgramIndicator, ProgramIndicatorLinks};
+use expr_lang::{DayItems, Expr, Place, Sort};
+use std::alloc::Global;
+
+fn read_filter(
+    alloc: Global,
+    ids: &Ids,
+    days: &DayItems,
+    uid: Uid,
+    filter: &Option<Items<u8>>,
+) -> Result<Option<Expr>, ExprError>
+    ensures { Finds expr_cause (filter_unread ids.now days.now uid filter.now) (λ read. read ≡ option_map (expr_in days.now Program Truth) filter.now) result }
+{
+    match filter {
+        None => Ok(None),
+        Some(text) => Ok(Some(read_of(
+            alloc,
+            ids,
+            days,
+            uid,
+            text.as_slice(),
+            Place::Program,
+            Sort::Truth,
+        )?)),
+    }
+}
+
+fn texts(
+    alloc: Global,
+    ids: &Ids,
+    days: &DayItems,
+    raw: &RawProgramIndicator,
+) -> Result<(Items<u8>, (Expr, Option<Expr>)), ExprError>
+    ensures { Finds expr_cause (program_indicator_unread ids.now days.now raw.now) (λ texts. (texts.0 ≡ raw.now.name)
+        × (texts.1.0 ≡ expr_in days.now Program Number raw.now.expression) × (texts.1.1 ≡ option_map (expr_in days.now Program Truth) raw.now.filter)) result }
+{
+    let expression = read_of(
+        alloc,
+        ids,
+        days,
+        raw.id,
+        raw.expression.as_slice(),
+        Place::Program,
+        Sort::Number,
+    )?;
+    let filter = read_filter(alloc, ids, days, raw.id, &raw.filter)?;
+    Ok((copied(alloc, raw.name.as_slice())?, (expression, filter)))
+}
+
+fn with_links(
+    raw: &RawProgramIndicator,
+    texts: (Items<u8>, (Expr, Option<Expr>)),
+    links: ProgramIndicatorLinks,
+) -> ProgramIndicator
+    ensures { result ≡ program_indicator_with raw.now texts.0 texts.1.0 texts.1.1 links }
+{
+    let (name, (expression, filter)) = texts;
+    ProgramIndicator {
+        id: raw.id,
+        name,
+        program: links.program,
+        expression,
+        filter,
+        aggregation_type: raw.aggregation_type,
+        analytics_type: raw.analytics_type,
+        decimals: raw.decimals,
+        sharing: links.sharing,
+    }
+}
+
+/// A program indicator with its expressions.
+pub fn program_indicator(
+    alloc: Global,
+    ids: &Ids,
+    days: &DayItems,
+    raw: &RawProgramIndicator,
+    links: ProgramIndicatorLinks,
+) -> Result<ProgramIndicator, ExprError>
+    ensures { Finds expr_cause (program_indicator_unread ids.now days.now raw.now) (λ made. made ≡ program_indicator_in days.now raw.now links) result }
+{
+    match texts(alloc, ids, days, raw) {
+        Ok(texts) => Ok(with_links(raw, texts, links)),
+        Err(fault) => {
+            drop(links);
+            Err(fault)
+        }
+    }
+}
+
+/// All program indicators with their expressions. `links` has the references of each.
+pub fn program_indicators(
+    alloc: Global,
+    ids: &Ids,
+    days: &DayItems,
+    raw: &[RawProgramIndicator],
+    links: Items<ProgramIndicatorLinks>,
+) -> Result<Vec<ProgramIndicator>, ExprError>
+    requires { length raw.now ≡ length links }
+    ensures { Finds expr_cause (first_unread (program_indicator_unread ids.now days.now) raw.now)
+        (λ made. made.items ≡ made_of (program_indicator_in days.now) raw.now links) result }
+{
+    let mut rest = waiting(alloc, links.items)?;
+    let mut made = Vec::with_capacity(alloc, raw.len())?;
+    for each in raw {
+        let own = next(&mut rest);
+        made.push(program_indicator(alloc, ids, days, each, own)?)?;
+    }
+    Ok(made)
+}

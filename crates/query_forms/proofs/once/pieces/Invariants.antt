@@ -1,6 +1,0 @@
-use Rattle.std.proofs.Common.{◌≡◌, [], ◌++◌, drop}
-use Rattle.query_forms.specs.Once.{pieces_from}
-use Rattle.query_forms.proofs.once.pieces.Given as goal
-
-abbrev pub invariant-loop-byte : goal.invariant-loop-byte
-invariant-loop-byte l = l.found.items ++ pieces_from l.piece (drop l.byte-index l.text) ≡ pieces_from [] l.text

@@ -1,4 +1,0 @@
-pub mod Once
-pub mod Items
-pub mod Given
-pub mod Form

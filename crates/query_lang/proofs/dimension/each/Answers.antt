@@ -1,0 +1,12 @@
+use Rattle.std.proofs.Common.{◌∙◌, sym, ap}
+use Rattle.query_lang.specs.Items.{each}
+use Rattle.query_lang.proofs.EachLemmas.{each_more}
+use Rattle.query_lang.proofs.dimension.each.Goals as goal
+
+pub loop-text-preserved : goal.loop-text-preserved
+loop-text-preserved g c =
+    let form = g.T.ReadItem.form in
+    each_more form c.loop-text.items.items c.push.new.self.items c.args.texts.now c.loop-text.text-index c.text-item.result c.in-Some.item
+    (each form c.args.texts.now)
+    c.loop-text-test.true c.text-item.is (ap form (sym c.as_slice.ensures) ∙ sym c.in_ok-item.ensures
+    ∙ c.in-Some.is) c.in_ok-push.ensures.items c.loop-text.invariant

@@ -1,0 +1,18 @@
+use Rattle.std.proofs.Common.{◌∙◌, Vec, Global, option_map, sym, ap}
+use Rattle.dh_periods.specs.declared.name.PeriodName.{PeriodName}
+use Rattle.dh_periods.specs.Keys.{same_period}
+use Rattle.query_lang.specs.Once.{once_from}
+use Rattle.query_lang.specs.Items.{period_form}
+use Rattle.query_lang.proofs.EachLemmas.{periods_more}
+use Rattle.query_lang.proofs.period.put_each.Goals as goal
+
+pub loop-text-preserved : goal.loop-text-preserved
+loop-text-preserved c = record {
+  known = c.in_ok-put_all.ensures.seen;
+  rest = periods_more _ c.loop-text.kept.items c.put_all.new.kept.items c.in-Some.found.items c.args.texts.now c.loop-text.text-index c.text-item.result _
+      c.loop-text-test.true c.text-item.is
+      (ap (period_form _) (sym c.as_slice.ensures) ∙ sym c.in_ok-found.ensures
+      ∙ ap (option_map (λ (periods : Vec PeriodName Global). periods.items)) c.in-Some.is)
+      (c.in_ok-put_all.ensures.kept ∙ ap (once_from same_period c.loop-text.kept.items) c.deref.ensures.value)
+      c.loop-text.invariant.rest;
+}

@@ -1,0 +1,201 @@
+//! The items of dimensions.
+ghost use Rattle.std.specs.Prelude.{◌≡◌, ◌≤◌, ◌^◌, ◌<◌, ℕ, List, length, take, drop, option_map};
+ghost use Rattle.query_lang.specs.Items.{rate_named, part_form, pair_form, dx_form, level_number, group_form, single_form, group_or_unit, named_unit};
+ghost use Rattle.query_lang.specs.Items.{unit_form};
+ghost use Rattle.dh_periods.specs.Texts.{number_of_one, number_of_two};
+
+use dh_base::items::Items;
+use dh_base::plain::Rate;
+use dh_base::uid::Uid;
+
+/// What an item of the dimension `dx` names.
+#[derive(Clone, Copy)]
+pub enum DxForm {
+    /// A data element, an indicator or a program indicator.
+    Object(Uid),
+    /// A data element and a category option combination.
+    Operand(Uid, Uid),
+    /// A data set and one of its figures.
+    Rate(Uid, Rate),
+}
+
+/// An item of the dimension `dx`.
+#[derive(Drop)]
+pub struct DxItem {
+    pub form: DxForm,
+    /// The item as it was written, decoded.
+    pub text: Items<u8>,
+}
+
+/// What an item of the dimension `ou` names.
+#[derive(Clone, Copy)]
+pub enum UnitForm {
+    /// An organisation unit.
+    Unit(Uid),
+    /// The view units of the user.
+    User,
+    /// Their children.
+    Children,
+    /// The children of these.
+    Grandchildren,
+    /// The units at a level of the tree.
+    Level(u8),
+    /// The units of a group.
+    Group(Uid),
+}
+
+/// An item of the dimension `ou`.
+#[derive(Drop)]
+pub struct UnitItem {
+    pub form: UnitForm,
+    /// The item as it was written, decoded.
+    pub text: Items<u8>,
+}
+
+#[tactic(auto, unfolding(crate::specs::Items::rate_named))]
+fn rate_named(name: &[u8]) -> Option<Rate>
+    ensures { result ≡ rate_named name.now }
+{
+    if name == b"EXPECTED_REPORTS".as_slice() {
+        return Some(Rate::Expected);
+    }
+    if name == b"ACTUAL_REPORTS".as_slice() {
+        return Some(Rate::Actual);
+    }
+    if name == b"ACTUAL_REPORTS_ON_TIME".as_slice() {
+        return Some(Rate::OnTime);
+    }
+    if name == b"REPORTING_RATE".as_slice() {
+        return Some(Rate::Reported);
+    }
+    if name == b"REPORTING_RATE_ON_TIME".as_slice() {
+        return Some(Rate::ReportedOnTime);
+    }
+    None
+}
+
+fn part_form(id: Uid, rest: &[u8]) -> Option<DxForm>
+    ensures { result ≡ part_form id rest.now }
+{
+    match rate_named(rest) {
+        Some(rate) => Some(DxForm::Rate(id, rate)),
+        None => {
+            let combo = Uid::parse(rest)?;
+            Some(DxForm::Operand(id, combo))
+        }
+    }
+}
+
+#[tactic(auto, unfolding(crate::specs::Items::pair_form))]
+fn pair_form(text: &[u8]) -> Option<DxForm>
+    ensures { result ≡ pair_form text.now }
+{
+    if text.len() > 11 && text[11] == b'.' {
+        let id = Uid::parse(&text[..11])?;
+        return part_form(id, &text[12..]);
+    }
+    None
+}
+
+/// What an item of the dimension `dx` names, `None` where it has no form of such an item.
+#[tactic(auto, unfolding(crate::specs::Items::dx_form))]
+pub fn dx_form(text: &[u8]) -> Option<DxForm>
+    ensures { result ≡ dx_form text.now }
+{
+    match Uid::parse(text) {
+        Some(id) => Some(DxForm::Object(id)),
+        None => pair_form(text),
+    }
+}
+
+fn number_of_one(byte: u8) -> Option<u8>
+    ensures { result ≡ number_of_one byte }
+{
+    if byte.is_ascii_digit() {
+        Some(byte - b'0')
+    } else {
+        None
+    }
+}
+
+fn number_of_two(tens: u8, ones: u8) -> Option<u8>
+    ensures { result ≡ number_of_two tens ones }
+{
+    if tens.is_ascii_digit() && ones.is_ascii_digit() {
+        Some(10 * (tens - b'0') + (ones - b'0'))
+    } else {
+        None
+    }
+}
+
+fn level_number(digits: &[u8]) -> Option<u8>
+    ensures { result ≡ level_number digits.now }
+{
+    if digits.len() == 1 {
+        return number_of_one(digits[0]);
+    }
+    if digits.len() == 2 {
+        return number_of_two(digits[0], digits[1]);
+    }
+    None
+}
+
+fn level_form(digits: &[u8]) -> Option<UnitForm>
+    ensures { result ≡ option_map (λ n. UnitForm.Level n) (level_number digits.now) }
+{
+    let level = level_number(digits)?;
+    Some(UnitForm::Level(level))
+}
+
+#[tactic(auto, unfolding(crate::specs::Items::group_form))]
+fn group_form(text: &[u8]) -> Option<UnitForm>
+    ensures { result ≡ group_form text.now }
+{
+    let group = Uid::parse(text)?;
+    Some(UnitForm::Group(group))
+}
+
+#[tactic(auto, unfolding(crate::specs::Items::single_form))]
+fn single_form(text: &[u8]) -> Option<UnitForm>
+    ensures { result ≡ single_form text.now }
+{
+    let unit = Uid::parse(text)?;
+    Some(UnitForm::Unit(unit))
+}
+
+#[tactic(auto, unfolding(crate::specs::Items::group_or_unit))]
+fn group_or_unit(text: &[u8]) -> Option<UnitForm>
+    ensures { result ≡ group_or_unit text.now }
+{
+    if text.len() >= 9 && &text[..9] == b"OU_GROUP-".as_slice() {
+        return group_form(&text[9..]);
+    }
+    single_form(text)
+}
+
+#[tactic(auto, unfolding(crate::specs::Items::named_unit))]
+fn named_unit(text: &[u8]) -> Option<UnitForm>
+    ensures { result ≡ named_unit text.now }
+{
+    if text.len() >= 6 && &text[..6] == b"LEVEL-".as_slice() {
+        return level_form(&text[6..]);
+    }
+    group_or_unit(text)
+}
+
+/// What an item of the dimension `ou` names, `None` where it has no form of such an item.
+#[tactic(auto, unfolding(crate::specs::Items::unit_form))]
+pub fn unit_form(text: &[u8]) -> Option<UnitForm>
+    ensures { result ≡ unit_form text.now }
+{
+    if text == b"USER_ORGUNIT".as_slice() {
+        return Some(UnitForm::User);
+    }
+    if text == b"USER_ORGUNIT_CHILDREN".as_slice() {
+        return Some(UnitForm::Children);
+    }
+    if text == b"USER_ORGUNIT_GRANDCHILDREN".as_slice() {
+        return Some(UnitForm::Grandchildren);
+    }
+    named_unit(text)
+}

@@ -1,0 +1,388 @@
+//! The pairs of a query's text.
+ghost use Rattle.std.specs.Prelude.{◌≡◌, [], true, false, not, bytes_eq, codes, ◌≤ℤ◌, ◌<◌, IfOk, IfSome, length, position, option_map};
+ghost use Rattle.dh_base.specs.declared.limits.TheConstants.{FIRST_QUERY_DAY, LAST_QUERY_DAY};
+ghost use Rattle.std.specs.Prelude.{option_and_then};
+ghost use Rattle.std.specs.Option.{option_copied};
+ghost use Rattle.dh_base.specs.Memory.{Answers, IsFirst};
+ghost use Rattle.query_lang.specs.Given.{cause_of, left_in, refusal};
+ghost use Rattle.query_lang.specs.Items.{dx_items, unit_items, period_items};
+ghost use Rattle.query_lang.specs.Form.{data_parameters, scheme_parameters, layout_parameters, is_listed, is_colon, pairs_of, decoded, is_unsupported};
+ghost use Rattle.query_lang.specs.Form.{head_of, tail_of, fresh, with_dx, with_periods, with_units, with_dimension, with_pair, with_pairs, nothing, whole};
+ghost use Rattle.query_lang.specs.Form.{form_of};
+
+use crate::Axis;
+use crate::dimension::{dx_items, unit_items};
+use crate::fault::refused;
+use crate::form::{Draft, Form};
+use crate::item::{DxItem, UnitItem};
+use crate::period::period_items;
+use crate::plain::QueryFault;
+use dh_base::codes::Code;
+use dh_base::items::Items;
+use dh_base::memory::Memory;
+use dh_periods::Period;
+use form_urlencoded::{decode, raw_pairs};
+use std::alloc::Global;
+
+fn is_data_parameter(name: &[u8]) -> bool
+    ensures { result ≡ is_listed data_parameters name.now }
+{
+    if name == b"startDate".as_slice() {
+        return true;
+    }
+    if name == b"endDate".as_slice() {
+        return true;
+    }
+    if name == b"measureCriteria".as_slice() {
+        return true;
+    }
+    if name == b"preAggregationMeasureCriteria".as_slice() {
+        return true;
+    }
+    if name == b"lastYears".as_slice() {
+        return true;
+    }
+    if name == b"aggregationType".as_slice() {
+        return true;
+    }
+    if name == b"relativePeriodDate".as_slice() {
+        return true;
+    }
+    false
+}
+
+fn is_scheme_parameter(name: &[u8]) -> bool
+    ensures { result ≡ is_listed scheme_parameters name.now }
+{
+    if name == b"outputIdScheme".as_slice() {
+        return true;
+    }
+    if name == b"inputIdScheme".as_slice() {
+        return true;
+    }
+    if name == b"timeField".as_slice() {
+        return true;
+    }
+    if name == b"orgUnitField".as_slice() {
+        return true;
+    }
+    if name == b"skipData".as_slice() {
+        return true;
+    }
+    if name == b"completedOnly".as_slice() {
+        return true;
+    }
+    if name == b"approvalLevel".as_slice() {
+        return true;
+    }
+    false
+}
+
+fn is_layout_parameter(name: &[u8]) -> bool
+    ensures { result ≡ is_listed layout_parameters name.now }
+{
+    if name == b"userOrgUnit".as_slice() {
+        return true;
+    }
+    if name == b"order".as_slice() {
+        return true;
+    }
+    if name == b"columns".as_slice() {
+        return true;
+    }
+    if name == b"rows".as_slice() {
+        return true;
+    }
+    if name == b"tableLayout".as_slice() {
+        return true;
+    }
+    if name == b"includeNumDen".as_slice() {
+        return true;
+    }
+    if name == b"skipRounding".as_slice() {
+        return true;
+    }
+    false
+}
+
+/// Parameters that would change the answer and aren't offered.
+#[tactic(auto, unfolding(crate::specs::Form::is_unsupported))]
+fn is_unsupported(name: &[u8]) -> bool
+    ensures { result ≡ is_unsupported name.now }
+{
+    is_data_parameter(name) || is_scheme_parameter(name) || is_layout_parameter(name)
+}
+
+fn colon(value: &[u8]) -> Option<usize>
+    ensures value { result ≡ position is_colon value.now }
+    ensures inside { IfSome result (λ at. at < length value.now) }
+{
+    value.iter().position(|byte| *byte == b':')
+}
+
+#[tactic(auto, unfolding(crate::specs::Form::head_of))]
+fn head_of(value: &[u8]) -> &[u8]
+    ensures { result.now ≡ head_of value.now }
+{
+    match colon(value) {
+        Some(at) => &value[..at],
+        None => value,
+    }
+}
+
+#[tactic(auto, unfolding(crate::specs::Form::tail_of))]
+fn tail_of(value: &[u8]) -> Option<&[u8]>
+    ensures { option_copied result ≡ tail_of value.now }
+{
+    match colon(value) {
+        Some(at) => Some(&value[at + 1..]),
+        None => None,
+    }
+}
+
+fn fresh_dx(alloc: Global, draft: &Draft, value: &[u8]) -> Result<Option<Items<DxItem>>, Memory>
+    ensures { IfOk result (λ items. items ≡ option_and_then dx_items (fresh draft.now.dx value.now)) }
+{
+    if draft.dx.is_some() {
+        return Ok(None);
+    }
+    match tail_of(value) {
+        Some(tail) => dx_items(alloc, tail),
+        None => Ok(None),
+    }
+}
+
+#[tactic(auto, unfolding(crate::specs::Form::with_dx))]
+fn with_dx(alloc: Global, draft: &mut Draft, value: &[u8]) -> Result<(), QueryFault>
+    ensures { Answers cause_of (with_dx draft.old value.now) (left_in draft.new result) }
+{
+    match fresh_dx(alloc, draft, value)? {
+        Some(items) => {
+            draft.dx = Some(items);
+            Ok(())
+        }
+        None => Err(refused(alloc, Code::F10, value)),
+    }
+}
+
+fn fresh_periods(
+    alloc: Global,
+    draft: &Draft,
+    value: &[u8],
+    day: i32,
+) -> Result<Option<Items<Period>>, Memory>
+    requires from { FIRST_QUERY_DAY ≤ℤ day }
+    requires to { day ≤ℤ LAST_QUERY_DAY }
+    ensures { IfOk result (λ items. items ≡ option_and_then (period_items day) (fresh draft.now.periods value.now)) }
+{
+    if draft.periods.is_some() {
+        return Ok(None);
+    }
+    match tail_of(value) {
+        Some(tail) => period_items(alloc, tail, day),
+        None => Ok(None),
+    }
+}
+
+#[tactic(auto, unfolding(crate::specs::Form::with_periods))]
+fn with_periods(
+    alloc: Global,
+    draft: &mut Draft,
+    filter: bool,
+    value: &[u8],
+    day: i32,
+) -> Result<(), QueryFault>
+    requires from { FIRST_QUERY_DAY ≤ℤ day }
+    requires to { day ≤ℤ LAST_QUERY_DAY }
+    ensures { Answers cause_of (with_periods day draft.old filter value.now) (left_in draft.new result) }
+{
+    match fresh_periods(alloc, draft, value, day)? {
+        Some(items) => {
+            draft.periods = Some(Axis { items, filter });
+            Ok(())
+        }
+        None => Err(refused(alloc, Code::F10, value)),
+    }
+}
+
+fn fresh_units(
+    alloc: Global,
+    draft: &Draft,
+    value: &[u8],
+) -> Result<Option<Items<UnitItem>>, Memory>
+    ensures { IfOk result (λ items. items ≡ option_and_then unit_items (fresh draft.now.units value.now)) }
+{
+    if draft.units.is_some() {
+        return Ok(None);
+    }
+    match tail_of(value) {
+        Some(tail) => unit_items(alloc, tail),
+        None => Ok(None),
+    }
+}
+
+#[tactic(auto, unfolding(crate::specs::Form::with_units))]
+fn with_units(
+    alloc: Global,
+    draft: &mut Draft,
+    filter: bool,
+    value: &[u8],
+) -> Result<(), QueryFault>
+    ensures { Answers cause_of (with_units draft.old filter value.now) (left_in draft.new result) }
+{
+    match fresh_units(alloc, draft, value)? {
+        Some(items) => {
+            draft.units = Some(Axis { items, filter });
+            Ok(())
+        }
+        None => Err(refused(alloc, Code::F10, value)),
+    }
+}
+
+#[tactic(auto, unfolding(crate::specs::Form::with_dimension))]
+fn with_dimension(
+    alloc: Global,
+    draft: &mut Draft,
+    filter: bool,
+    value: &[u8],
+    day: i32,
+) -> Result<(), QueryFault>
+    requires from { FIRST_QUERY_DAY ≤ℤ day }
+    requires to { day ≤ℤ LAST_QUERY_DAY }
+    ensures { Answers cause_of (with_dimension day draft.old filter value.now) (left_in draft.new result) }
+{
+    let head = head_of(value);
+    if !filter && head == b"dx".as_slice() {
+        return with_dx(alloc, draft, value);
+    }
+    if head == b"pe".as_slice() {
+        return with_periods(alloc, draft, filter, value, day);
+    }
+    if head == b"ou".as_slice() {
+        return with_units(alloc, draft, filter, value);
+    }
+    Err(refused(alloc, Code::F17, head))
+}
+
+#[tactic(auto, unfolding(crate::specs::Form::with_pair))]
+fn with_pair(
+    alloc: Global,
+    draft: &mut Draft,
+    name: &[u8],
+    value: &[u8],
+    day: i32,
+) -> Result<(), QueryFault>
+    requires from { FIRST_QUERY_DAY ≤ℤ day }
+    requires to { day ≤ℤ LAST_QUERY_DAY }
+    ensures { Answers cause_of (with_pair day draft.old name.now value.now) (left_in draft.new result) }
+{
+    if is_unsupported(name) {
+        return Err(refused(alloc, Code::F17, name));
+    }
+    if name == b"dimension".as_slice() {
+        return with_dimension(alloc, draft, false, value, day);
+    }
+    if name == b"filter".as_slice() {
+        return with_dimension(alloc, draft, true, value, day);
+    }
+    if name == b"skipMeta".as_slice() {
+        draft.meta = value != b"true".as_slice();
+    }
+    Ok(())
+}
+
+#[tactic(auto, unfolding(crate::specs::Form::decoded))]
+fn decoded(alloc: Global, bytes: &[u8]) -> Result<Vec<u8>, Memory>
+    ensures { IfOk result (λ text. text.items ≡ decoded bytes.now) }
+{
+    match decode(alloc, bytes) {
+        Ok(text) => Ok(Vec::from_slice(alloc, text.as_str().as_bytes())?),
+        Err(_) => Err(Memory),
+    }
+}
+
+fn with_encoded(
+    alloc: Global,
+    draft: &mut Draft,
+    name: &[u8],
+    value: &[u8],
+    day: i32,
+) -> Result<(), QueryFault>
+    requires from { FIRST_QUERY_DAY ≤ℤ day }
+    requires to { day ≤ℤ LAST_QUERY_DAY }
+    ensures { Answers cause_of (with_pair day draft.old (decoded name.now) (decoded value.now)) (left_in draft.new result) }
+{
+    let name = decoded(alloc, name)?;
+    let value = decoded(alloc, value)?;
+    with_pair(alloc, draft, &name, &value, day)
+}
+
+#[tactic(auto, unfolding(crate::specs::Form::pairs_of))]
+fn put_pairs(alloc: Global, draft: &mut Draft, text: &[u8], day: i32) -> Result<(), QueryFault>
+    requires from { FIRST_QUERY_DAY ≤ℤ day }
+    requires to { day ≤ℤ LAST_QUERY_DAY }
+    ensures { Answers cause_of (with_pairs day draft.old (pairs_of text.now)) (left_in draft.new result) }
+{
+    for (name, value) in raw_pairs(text) {
+        with_encoded(alloc, draft, name, value, day)?;
+    }
+    Ok(())
+}
+
+fn drafted(alloc: Global, text: &[u8], day: i32) -> Result<Draft, QueryFault>
+    requires from { FIRST_QUERY_DAY ≤ℤ day }
+    requires to { day ≤ℤ LAST_QUERY_DAY }
+    ensures { Answers cause_of (with_pairs day nothing (pairs_of text.now)) result }
+{
+    let mut draft = Draft {
+        dx: None,
+        periods: None,
+        units: None,
+        meta: true,
+    };
+    match put_pairs(alloc, &mut draft, text, day) {
+        Ok(()) => Ok(draft),
+        Err(fault) => {
+            drop(draft);
+            Err(fault)
+        }
+    }
+}
+
+#[tactic(auto, unfolding(crate::specs::Form::whole))]
+fn whole(alloc: Global, draft: Draft) -> Result<Form, QueryFault>
+    ensures { Answers cause_of (whole draft) result }
+{
+    let Draft {
+        dx,
+        periods,
+        units,
+        meta,
+    } = draft;
+    let Some(dx) = dx else {
+        return Err(refused(alloc, Code::F11, b""));
+    };
+    let Some(periods) = periods else {
+        return Err(refused(alloc, Code::F12, b""));
+    };
+    let Some(units) = units else {
+        return Err(refused(alloc, Code::F13, b""));
+    };
+    Ok(Form {
+        dx,
+        periods,
+        units,
+        meta,
+    })
+}
+
+/// The form of a query's text on a day from 1 January 1910 to 31 December 2099.
+#[tactic(auto, unfolding(crate::specs::Form::form_of))]
+pub fn form_of(alloc: Global, text: &[u8], day: i32) -> Result<Form, QueryFault>
+    requires from { FIRST_QUERY_DAY ≤ℤ day }
+    requires to { day ≤ℤ LAST_QUERY_DAY }
+    ensures { Answers cause_of (form_of day text.now) result }
+{
+    let draft = drafted(alloc, text, day)?;
+    whole(alloc, draft)
+}

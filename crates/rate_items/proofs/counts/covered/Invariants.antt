@@ -1,5 +1,0 @@
-use Rattle.rate_items.proofs.SpanLemmas.{Counted}
-use Rattle.rate_items.proofs.counts.covered.Given as goal
-
-abbrev pub invariant-loop-range : goal.invariant-loop-range
-invariant-loop-range l = Counted l.ranges l.range-index l.count

@@ -1,5 +1,0 @@
-use Rattle.rate_items.proofs.PeriodLemmas.{Begins}
-use Rattle.rate_items.proofs.periods.add_begins.Given as goal
-
-abbrev pub invariant-loop-place : goal.invariant-loop-place
-invariant-loop-place l = Begins l.kind l.period l.fn.begins.items l.place l.begins.items

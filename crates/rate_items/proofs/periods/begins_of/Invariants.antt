@@ -1,6 +1,0 @@
-use Rattle.std.proofs.Common.{take}
-use Rattle.rate_items.specs.Counts.{AreBegins}
-use Rattle.rate_items.proofs.periods.begins_of.Given as goal
-
-abbrev pub invariant-loop-period : goal.invariant-loop-period
-invariant-loop-period l = AreBegins l.kind (take l.period-index l.periods) l.begins.items

@@ -1,4 +1,0 @@
-pub mod Places
-pub mod Rates
-pub mod Counts
-pub mod Prepared

@@ -1,5 +1,0 @@
-pub mod MapLemmas
-pub mod IndexLemmas
-pub mod HangingLemmas
-pub mod OrderLemmas
-pub mod FactsLemmas

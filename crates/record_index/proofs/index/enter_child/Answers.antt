@@ -1,7 +1,0 @@
-use Rattle.std.proofs.Common.{◌∙◌, ap}
-use Rattle.record_index.specs.Index.{is_linked}
-use Rattle.record_index.proofs.index.enter_child.Goals as goal
-
-pub link-requires : goal.link-requires
-link-requires g c =
-    ap (λ p. is_linked c.args.children.now p c.args.id) (c.parent_of-before.ensures ∙ ap g.V.Hangs.parent c.look.ensures) ∙ c.requires

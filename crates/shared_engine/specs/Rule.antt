@@ -1,0 +1,47 @@
+-- The rule of the two words, which holds between any two steps: the first counts the entries of the lock's history, the second is the
+-- number that was told last. A caller's token knows a beginning of that history in which all of the caller's own entries stand.
+use Rattle.std.specs.Prelude.{◌≡◌, ◌≢◌, ◌⊎◌, ◌<◌, ◌≤◌, ◌%◌, ◌^◌, ◌∷◌}
+use Rattle.std.specs.Prelude.{[], ℕ, List, length, Any, Option, Some, IfSome}
+use mathlib.Core.Option.{some}
+use mathlib.Core.List.{IsPrefix}
+use lib.ListN.{get_elem?}
+use Rattle.atomic_table.specs.Table.{State}
+use Rattle.shared_engine.specs.Views.{own}
+use Rattle.shared_engine.specs.declared.views.View.{View}
+use Rattle.shared_engine.specs.declared.views.Role.TheVariants.{Caller, Lock}
+
+module _ {E : Type 0} (caller : E → ℕ) (named : E → Option ℕ) where
+  -- an entry of the history names this number
+  abbrev pub Names : List E → ℕ → Type 0
+  Names list number = Any (λ entry. named entry ≡ Some number) list
+
+  -- nothing was told, or what an entry names
+  abbrev pub IsTold : List E → ℕ → Type 0
+  IsTold list number = (number ≡ 0) ⊎ Names list number
+
+  -- what a caller knows fits what the lock's seat knows
+  pub record Fits (lock : View E) (number : ℕ) (list : List E) (told : ℕ) : Type 0 where
+    pub front : IsPrefix list lock.list
+    pub before : told ≤ lock.told
+    pub counted : number < lock.count
+    pub same : own caller number lock.list ≡ own caller number list
+
+  pub record IsKeptBy {S : Type 0} (lock : View E) (s : State S (View E)) : Type 0 where
+    pub at : get_elem? s.views 0 ≡ some lock
+    pub role : lock.role ≡ Lock
+    pub words : s.words ≡ (length lock.list % 2 ^ 64) ∷ lock.told ∷ []
+    pub told : IsTold lock.list lock.told
+    -- each token fits, and nobody who is taken in has a token
+    pub tokens : (seat : ℕ) (v : View E) → get_elem? s.views seat ≡ some v → v.role ≡ Caller
+        → Fits lock v.caller v.list v.told × (lock.taken ≢ Some v.caller)
+    -- two tokens are of two callers
+    pub apart : (i j : ℕ) (v w : View E) → get_elem? s.views i ≡ some v → get_elem? s.views j ≡ some w → v.role ≡ Caller → w.role ≡ Caller
+        → v.caller ≡ w.caller → i ≡ j
+    -- a caller who isn't there yet has no entry
+    pub fresh : (number : ℕ) → lock.count ≤ number → own caller number lock.list ≡ []
+    pub taken : IfSome lock.taken (λ number. number < lock.count)
+    -- what the token of the caller who is taken in knew
+    pub old : IfSome lock.old (λ known. (number : ℕ) × (lock.taken ≡ Some number) × Fits lock number known.list known.told)
+
+  abbrev pub IsKept : {S : Type 0} → State S (View E) → Type 0
+  IsKept s = (lock : View E) × IsKeptBy lock s

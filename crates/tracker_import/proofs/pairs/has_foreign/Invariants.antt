@@ -1,0 +1,9 @@
+use Rattle.std.proofs.Common.{◌≡◌, not, drop}
+use Rattle.std.specs.List.{list_any}
+use Rattle.tracker_import.specs.Pairs.{is_among}
+use Rattle.tracker_import.proofs.pairs.has_foreign.Given as goal
+
+abbrev pub invariant-loop-pair : goal.invariant-loop-pair
+invariant-loop-pair l =
+    list_any (λ pair. not (is_among l.meta l.kind l.numbers pair)) l.pairs
+    ≡ list_any (λ pair. not (is_among l.meta l.kind l.numbers pair)) (drop l.pair-index l.pairs)

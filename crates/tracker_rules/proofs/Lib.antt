@@ -1,4 +1,0 @@
-mod PairLemmas
-mod OrderLemmas
-mod ListLemmas
-pub mod FitLemmas

@@ -1,3 +1,0 @@
-pub mod Years
-pub mod Ascending
-pub mod Parts
