@@ -6,7 +6,6 @@ use Rattle.std.specs.Io.KnownBytes.{Consumes, IsAtEnd, Appends}
 use Rattle.dh_base.specs.declared.memory.Memory.{Memory}
 use Rattle.dh_outside.specs.Talk.{Talk, Says}
 use Rattle.meta_reader.specs.File.{most_bytes}
-use Rattle.offline_replies.specs.Bytes.{asked, reply_to}
 use Rattle.offline_replies.specs.declared.bundle.reply.Ending.{Ending}
 use Rattle.offline_replies.specs.declared.bundle.reply.Ending.TheVariants as ending
 use Rattle.request_session.specs.declared.ended.Ended.{Ended}
@@ -154,8 +153,8 @@ ending-no-usage ending.DataRefused = refl
 
 query-usage : (user query : List ℕ) (shows : ℤ → Type 0) (told : Option (List ℕ)) (reply : Reply) → IsReplyToInput user query shows told reply
     → is_usage reply.outcome ≡ false
-query-usage user query shows told reply is = ap (λ (r : Reply). is_usage r.outcome) is.is.2
-    ∙ ending-no-usage (reply_to (asked user query is.is.0) is.bytes).ending
+query-usage user query shows told reply is = let made = is.is.2 in
+    ap (λ (r : Reply). is_usage r.outcome) made.2 ∙ ending-no-usage made.0.ending
 
 report-usage : (count : ℕ) (shows : ℤ → Type 0) (reply : Reply) → IsReportNow count shows reply → is_usage reply.outcome ≡ false
 report-usage count shows reply is = ap (λ (r : Reply). is_usage r.outcome) is.2.2

@@ -4,7 +4,7 @@ use Rattle.std.proofs.Common.{refl, sym, subst, arith}
 use Rattle.std.specs.Io.KnownBytes.{Appends, Keeps}
 use Rattle.dh_outside.specs.Faults.{Rose}
 use Rattle.dh_metadata.specs.declared.held.Records.{Records}
-use Rattle.meta_reader.specs.Read.{metadata_of_bytes}
+use Rattle.meta_reader.specs.Read.{IsMetadata}
 use Rattle.meta_reader.specs.declared.fault.MetaFault.{MetaFault}
 use Rattle.net_doors.specs.Doors as doors
 use Rattle.net_doors.specs.Serving.{EndsBy}
@@ -51,7 +51,7 @@ serves-all U A before after meta most count was = let served = was.serves.links.
 
 over-meta : {N : Type 0} (U : N → Type 0) (A : Made → N → N → Type 0) (most : ℕ) (name : List ℕ) (files : Folder) (output : Side)
     (before after : doors.Shown N) (bytes : List ℕ) (meta : Records) (how : ServeEnd) → IfSome (files.file name) (λ all. bytes ≡ all)
-    → metadata_of_bytes bytes ≡ Ok meta → (how ≡ end.Unwritten → Rose output.faults output.faults_after)
+    → IsMetadata bytes (Ok meta) → (how ≡ end.Unwritten → Rose output.faults output.faults_after)
     → ServesMeta U A before after most meta output.before output.after how → ServeRuns U A most name files output before after (status_by how)
 over-meta U A most name files output before after bytes meta end.Refused told is rose came = absurd came
 over-meta U A most name files output before after bytes meta end.Unwritten told is rose came =
@@ -65,7 +65,7 @@ over-meta U A most name files output before after bytes meta end.Memory told is 
 
 refused : {N : Type 0} (U : N → Type 0) (A : Made → N → N → Type 0) (most : ℕ) (name : List ℕ) (files : Folder) (output : Side)
     (before after : doors.Shown N) (bytes : List ℕ) (found : MetaFault) (how : ServeEnd) → IfSome (files.file name) (λ all. bytes ≡ all)
-    → metadata_of_bytes bytes ≡ Err found → (how ≡ end.Unwritten → Rose output.faults output.faults_after)
+    → IsMetadata bytes (Err found) → (how ≡ end.Unwritten → Rose output.faults output.faults_after)
     → Refuses found output.before output.after how → after ≡ before → ServeRuns U A most name files output before after (status_by how)
 refused U A most name files output before after bytes found end.Refused told is rose came same = ((bytes, told, (found, is, came)), same)
 refused U A most name files output before after bytes found end.Unwritten told is rose came same = (rose refl, inl ((bytes, told, (found, is, came)), same))
@@ -93,7 +93,7 @@ served U A most name files output before after bytes how result is told rose ove
 -- metadata that are refused before the listener is called
 pub refused_by : {N : Type 0} (U : N → Type 0) (A : Made → N → N → Type 0) (most : ℕ) (name : List ℕ) (files : Folder) (output : Side)
     (shown : doors.Shown N) (bytes : List ℕ) (found : MetaFault) (how : ServeEnd) (result : Status) → result ≡ status_by how
-    → IfSome (files.file name) (λ all. bytes ≡ all) → metadata_of_bytes bytes ≡ Err found
+    → IfSome (files.file name) (λ all. bytes ≡ all) → IsMetadata bytes (Err found)
     → (how ≡ end.Unwritten → Rose output.faults output.faults_after) → Refuses found output.before output.after how
     → ServeRuns U A most name files output shown shown result
 refused_by U A most name files output shown bytes found how result is told at rose came =

@@ -1,7 +1,7 @@
 -- What the program answers: its outcome, and the text that it writes.
 use Rattle.std.specs.Prelude.{◌≡◌, ℕ, ℤ, List, [], ◌∷◌, ◌++◌, zero, suc, codes}
 use Rattle.std.specs.Fmt.{decimal}
-use Rattle.offline_replies.specs.Bytes.{asked, reply_to}
+use Rattle.offline_replies.specs.Bytes.{asked, IsReplyTo}
 use Rattle.offline_replies.specs.declared.bundle.reply.Ending.{Ending}
 use Rattle.offline_replies.specs.declared.bundle.reply.Ending.TheVariants as ending
 use Rattle.offline_replies.specs.declared.bundle.reply.Reply as bundle
@@ -68,7 +68,7 @@ told_as made = record { outcome = outcome_of made.ending; text = made.text }
 
 -- the reply to a query of a user at a moment, over the bytes of a bundle
 abbrev pub IsQueryReply : List ℕ → List ℕ → ℤ → List ℕ → Reply → Type 0
-IsQueryReply user query moment bytes reply = reply ≡ told_as (reply_to (asked user query moment) bytes)
+IsQueryReply user query moment bytes reply = (made : bundle.Reply) × IsReplyTo (asked user query moment) bytes made × (reply ≡ told_as made)
 
 -- at a moment that the clock shows
 abbrev pub IsQueryReplyNow : List ℕ → List ℕ → (ℤ → Type 0) → List ℕ → Reply → Type 0

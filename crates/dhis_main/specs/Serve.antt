@@ -4,7 +4,7 @@ use Rattle.std.specs.Option.{option_map}
 use Rattle.std.specs.Io.KnownBytes.{Appends, Keeps}
 use Rattle.dh_outside.specs.Faults.{Rose}
 use Rattle.dh_metadata.specs.declared.held.Records.{Records}
-use Rattle.meta_reader.specs.Read.{metadata_of_bytes}
+use Rattle.meta_reader.specs.Read.{IsMetadata}
 use Rattle.net_doors.specs.Doors as doors
 use Rattle.net_doors.specs.declared.ending.Ending.TheVariants as ending
 use Rattle.request_replies.specs.OverFile.{IsRefused}
@@ -47,7 +47,7 @@ OverFile told Holds = (bytes : List ℕ) × IfSome told (λ all. bytes ≡ all) 
 
 -- the bytes are metadata of which this holds
 abbrev pub OverMetadata : (Records → Type 0) → List ℕ → Type 0
-OverMetadata Holds bytes = (meta : Records) × (metadata_of_bytes bytes ≡ Ok meta) × Holds meta
+OverMetadata Holds bytes = (meta : Records) × IsMetadata bytes (Ok meta) × Holds meta
 
 -- A run that is done served all its links and wrote how many, or wrote why the metadata are refused; then the listener wasn't called, and
 -- neither was it where reading the file failed. Listening or accepting failed only where the listener counted a fault; then nothing was

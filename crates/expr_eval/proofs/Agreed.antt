@@ -25,7 +25,7 @@ use Rattle.expr_eval.proofs.Stored.{Values}
 
 -- ---- lists of arguments
 
-abbrev IsSome : Arguments → Type 0
+abbrev pub IsSome : Arguments → Type 0
 IsSome End = ⊥
 IsSome (Argument x xs) = Unit {0}
 
@@ -50,13 +50,13 @@ some_two binary.Remainder xs ys h = tt
 some_two binary.DaysBetween xs ys h = tt
 some_two binary.Comma xs ys h = some_more xs (syntax.alone (single ys)) h
 
-trees_some : (t : Shape) → IsSome (trees_in t)
+pub trees_some : (t : Shape) → IsSome (trees_in t)
 trees_some (Operand it) = tt
 trees_some (One operator operand) = tt
 trees_some (Two operator left right) = some_two operator (trees_in left) (trees_in right) (trees_some left)
 trees_some (Choice test one other) = tt
 
-too_many : (xs : Arguments) (y : Syntax) → IsSome xs → single (and_more xs (syntax.alone y)) ≡ syntax.Call syntax.Zing (and_more xs (syntax.alone y))
+pub too_many : (xs : Arguments) (y : Syntax) → IsSome xs → single (and_more xs (syntax.alone y)) ≡ syntax.Call syntax.Zing (and_more xs (syntax.alone y))
 too_many End y h = absurd h
 too_many (Argument x End) y h = refl
 too_many (Argument x (Argument z zs)) y h = refl

@@ -1,6 +1,6 @@
 -- The postfix form gives the meaning of the tree.
 use Rattle.std.proofs.Common.{◌≡◌, ℕ, suc, ◌+◌, ◌-◌, Bool, true, false, cond, not, List, [], ◌∷◌, ◌++◌, length, take, drop, reverse, map}
-use Rattle.std.proofs.Common.{Option, Some, None, Result, Ok, Err, refl, sym, ap, ◌∙◌, append_assoc, arith}
+use Rattle.std.proofs.Common.{Option, Some, None, Result, Ok, Err, refl, sym, ap, subst, ◌∙◌, append_assoc, arith}
 use Rattle.std.specs.Prelude.{is_none, unwrap_or, nat_lt, ◌&&◌, ◌||◌}
 use Rattle.std.specs.Option.{option_or}
 use Rattle.std.specs.List.{list_any, list_all}
@@ -29,6 +29,7 @@ use Rattle.expr_eval.specs.Meaning.{meaning, value_of}
 use Rattle.expr_eval.proofs.Agreed.{value_agrees, plain_agrees}
 use Rattle.expr_eval.proofs.Stored.{asked, first_present, Values, alone, valued_one, valued_two, valued_pair, values_of}
 use Rattle.expr_lang.specs.Stored.{syntax_of}
+use Rattle.expr_lang.specs.Syntax.{Syntax}
 use Rattle.expr_eval.specs.Given.{index_in, entry_at, given_by}
 use Rattle.expr_eval.specs.Code.{leaf_code, asked_code, first_code, argument_count, Codes, same_code, unary_code, binary_code, if_code}
 use Rattle.expr_eval.specs.Code.{codes_of, Go, put_on, put_day, act, go_to, run, top_value, outcome}
@@ -329,10 +330,10 @@ top_is (Ok c) = refl
 top_is (Err e) = refl
 
 -- the code of a tree, with the numbers of its plain items, means what the tree means
-pub means : (items : List Item) (shape : Shape) (form : Postfix) → form.code.items ≡ (codes_of (index_in items) shape).one
-    → form.plain.items ≡ map (index_in items) (plain_items shape) → Means items shape form
+of_shape : (items : List Item) (shape : Shape) (form : Postfix) → form.code.items ≡ (codes_of (index_in items) shape).one
+    → form.plain.items ≡ map (index_in items) (plain_items shape) → Means items (syntax_of shape) form
 unfolding outcome meaning
-means items shape form code plain = record {
+of_shape items shape form code plain = record {
   agrees = λ s entries.
       let given = given_by items entries in
       let runs : run entries form.code.items 0 [] ≡ then_with (values_of given shape).one (λ c. Ok (c ∷ [])) =
@@ -346,3 +347,8 @@ means items shape form code plain = record {
       ∙ ap (λ (p : List Item). cond (skips s (λ i. is_none (given i)) p) value.Missing (value_of_cell (value_of given (syntax_of shape))))
       (sym (plain_agrees shape));
 }
+
+-- the same of the tree that it is
+pub means : (items : List Item) (shape : Shape) (tree : Syntax) (form : Postfix) → syntax_of shape ≡ tree
+    → form.code.items ≡ (codes_of (index_in items) shape).one → form.plain.items ≡ map (index_in items) (plain_items shape) → Means items tree form
+means items shape tree form is code plain = subst (λ (t : Syntax). Means items t form) is (of_shape items shape form code plain)

@@ -1,5 +1,6 @@
 -- Where the items of a list stand.
-use Rattle.std.proofs.Common.{◌≡◌, ℕ, zero, suc, ◌+◌, ◌<◌, Bool, true, false, cond, ◌&&◌, List, [], ◌∷◌, Option, Some, None, refl, sym, ap, ◌∙◌, true≢false, arith}
+use Rattle.std.proofs.Common.{◌≡◌, ℕ, zero, suc, ◌+◌, ◌<◌, Bool, true, false, cond, ◌&&◌, List, [], ◌∷◌, Option, Some, None, refl, sym, ap, ◌∙◌, true≢false}
+use Rattle.std.proofs.Common.{arith}
 use Rattle.std.specs.Prelude.{nat_eq, slice_get, length, get_or, map}
 use Rattle.std.proofs.lemmas.Option.{slice_get_read}
 use Rattle.std.proofs.Math.Nat.{suc-ne-zero}
@@ -77,7 +78,8 @@ item-self item.EntityCount = refl
 
 item-is : (i j : Item) → same_item i j ≡ true → i ≡ j
 unfolding same_item
-item-is (item.Element a b c) (item.Element p q r) e = let parts = both _ _ e in let more = both _ _ parts.1 in λ k. item.Element (uid_is a p parts.0 k) (option_is b q more.0 k) (option_is c r more.1 k)
+item-is (item.Element a b c) (item.Element p q r) e = let parts = both _ _ e in let more =
+    both _ _ parts.1 in λ k. item.Element (uid_is a p parts.0 k) (option_is b q more.0 k) (option_is c r more.1 k)
 item-is (item.Element a b c) (item.Constant p) e = absurd (true≢false (sym e))
 item-is (item.Element a b c) (item.Group p) e = absurd (true≢false (sym e))
 item-is (item.Element a b c) item.Days e = absurd (true≢false (sym e))

@@ -16,8 +16,6 @@ use Rattle.expr_lang.specs.declared.tree.Item.{Item}
 use Rattle.expr_lang.specs.declared.tree.Item.TheVariants as item
 use Rattle.expr_lang.specs.declared.tree.Leaf.{Leaf}
 use Rattle.expr_lang.specs.declared.tree.Leaf.TheVariants as leaf
-use Rattle.expr_lang.specs.Shape.{Shape}
-use Rattle.expr_lang.specs.Stored.{syntax_of}
 use Rattle.expr_lang.specs.Syntax as syntax
 use Rattle.expr_lang.specs.Syntax.{Syntax, Arguments, End, Argument, Operand, Signed, Power, Between, Call}
 use Rattle.expr_eval.specs.declared.value.Value.{Value}
@@ -247,11 +245,6 @@ value_of_cell (Ok (cell.Number f)) = value.Number f
 value_of_cell (Ok (cell.Truth b)) = value.Truth b
 value_of_cell (Err v) = v
 
--- the value of a tree under a missing-value strategy
-abbrev pub value_under : Strategy → (Item → Option Fraction) → Syntax → Value
-value_under s given tree =
-    if skips s (λ i. is_none (given i)) (plain_of tree) then value.Missing else value_of_cell (value_of given tree)
-
--- the value of an expression, which has a tree in memory
-unfoldable pub meaning : Strategy → (Item → Option Fraction) → Shape → Value
-meaning s given shape = value_under s given (syntax_of shape)
+-- the value of an expression by its tree, under a missing-value strategy
+unfoldable pub meaning : Strategy → (Item → Option Fraction) → Syntax → Value
+meaning s given tree = if skips s (λ i. is_none (given i)) (plain_of tree) then value.Missing else value_of_cell (value_of given tree)

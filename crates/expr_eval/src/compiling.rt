@@ -165,7 +165,8 @@ fn emit_asked(
     requires within { n < length source.now.branches.now }
     requires sound { AreSound (length source.now.items.now) source.now.branches.now }
     requires different { AreDifferent source.now.items.now }
-    ensures { OnOk result (code.new.items ≡ code.old.items ++ asked_code (index_in source.now.items.now) wanted (shape_in source.now.items.now source.now.branches.now n)) }
+    ensures { OnOk result (code.new.items ≡ code.old.items ++ asked_code (index_in source.now.items.now) wanted
+        (shape_in source.now.items.now source.now.branches.now n)) }
 {
     match branch_at(source.items, source.branches, n) {
         Branch::Item(place) => put_asked(code, wanted, place),
@@ -179,7 +180,8 @@ fn emit_first(code: &mut Vec<Instr>, source: &Source<'_>, n: usize) -> Result<()
     requires within { n < length source.now.branches.now }
     requires sound { AreSound (length source.now.items.now) source.now.branches.now }
     requires different { AreDifferent source.now.items.now }
-    ensures { OnOk result (code.new.items ≡ code.old.items ++ first_code (index_in source.now.items.now) (shape_in source.now.items.now source.now.branches.now n)) }
+    ensures { OnOk result (code.new.items ≡ code.old.items ++ first_code (index_in source.now.items.now)
+        (shape_in source.now.items.now source.now.branches.now n)) }
 {
     match branch_at(source.items, source.branches, n) {
         Branch::Binary(binary, left, right) => {
@@ -244,7 +246,8 @@ fn emit_hidden(
     requires within { operand < length source.now.branches.now }
     requires sound { AreSound (length source.now.items.now) source.now.branches.now }
     requires different { AreDifferent source.now.items.now }
-    ensures { OnOk result (code.new.items ≡ code.old.items ++ hidden_code (index_in source.now.items.now) unary (shape_in source.now.items.now source.now.branches.now operand)) }
+    ensures { OnOk result (code.new.items ≡ code.old.items ++ hidden_code (index_in source.now.items.now) unary
+        (shape_in source.now.items.now source.now.branches.now operand)) }
 {
     match unary {
         Unary::IsNull => emit_asked(code, source, false, operand),
@@ -331,8 +334,10 @@ fn emit(
     requires within { n < length source.now.branches.now }
     requires sound { AreSound (length source.now.items.now) source.now.branches.now }
     requires different { AreDifferent source.now.items.now }
-    ensures code { OnOk result (code.new.items ≡ code.old.items ++ code_in list (codes_of (index_in source.now.items.now) (shape_in source.now.items.now source.now.branches.now n))) }
-    ensures plain { OnOk result (plain.new.items ≡ plain.old.items ++ map (index_in source.now.items.now) (plain_items (shape_in source.now.items.now source.now.branches.now n))) }
+    ensures code { OnOk result (code.new.items ≡ code.old.items ++ code_in list
+        (codes_of (index_in source.now.items.now) (shape_in source.now.items.now source.now.branches.now n))) }
+    ensures plain { OnOk result (plain.new.items ≡ plain.old.items ++ map (index_in source.now.items.now)
+        (plain_items (shape_in source.now.items.now source.now.branches.now n))) }
 {
     match branch_at(source.items, source.branches, n) {
         Branch::Number(millionths) => put_number(code, millionths),

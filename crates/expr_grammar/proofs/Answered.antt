@@ -14,15 +14,16 @@ use Rattle.expr_lang.specs.Build.{built}
 use Rattle.expr_lang.specs.Expr.{IsOf, expression_from, parse_of}
 use Rattle.expr_lang.specs.Parse.{cut_short, nodes_of_text, brackets_judged, judged_text, accepted, Accepts}
 use Rattle.expr_lang.specs.Reading.{read_text}
-use Rattle.expr_lang.specs.Shape.{Shape}
+use Rattle.expr_lang.specs.Stored.{syntax_of}
 use Rattle.expr_lang.specs.Survey.{survey_of, misfit_of}
 use Rattle.expr_lang.specs.Build.{shapes_behind}
 use Rattle.expr_lang.specs.Expr.{items_in, places_in}
 use Rattle.expr_lang.specs.Items.{Occurrence, occurrences, Lists}
-use Rattle.expr_grammar.specs.Items.{Different, ListsItems}
-use Rattle.expr_grammar.proofs.Stored.{items_of}
+use Rattle.expr_grammar.specs.Grammar.{Form, IsTextOf}
+use Rattle.expr_grammar.specs.Items.{items_of, Different, ListsItems}
+use Rattle.expr_grammar.specs.Laws.{OneTree}
+use Rattle.expr_grammar.proofs.Bridge.{told}
 use Rattle.expr_grammar.proofs.Stored.{tree_of}
-use Rattle.expr_grammar.proofs.Stored.{OneTree}
 use Rattle.expr_grammar.proofs.Listed.{items_at, items_so, different_so}
 use Rattle.expr_grammar.proofs.Stored.{AnswersBy}
 use Rattle.expr_grammar.proofs.Limits.{meant_by}
@@ -66,17 +67,17 @@ ok_is x y e = cc
 
 module _ (p : Place) (days : List (List ℕ)) (wanted : Option Sort) (text : List ℕ) where
   -- the tree of each form that the text is
-  one_so : (nodes : Nodes) (shape : Shape) → accepted p days wanted text ≡ Ok nodes → shape ≡ built text days nodes.nodes → OneTree p days text shape
+  one_so : (nodes : Nodes) (form : Form) → accepted p days wanted text ≡ Ok nodes → IsTextOf p text form → built text days nodes.nodes ≡ tree_of days form
   unfolding accepted
-  one_so nodes shape e tree form is =
+  one_so nodes form e is =
       let n = nodes_read p text nodes (text_ok text days wanted (nodes_of_text p text) nodes e) in
       let r = text_read p days text n.0 form is in
       let same : nodes ≡ r.nodes = ok_is nodes r.nodes (sym n.1 ∙ r.read) in
-      tree ∙ ap (λ (x : Nodes). built text days x.nodes) same ∙ r.tree
+      ap (λ (x : Nodes). built text days x.nodes) same ∙ r.tree
 
   one_of : (r : Result Expr ExprFault) (a : Result Nodes ExprFault) → accepted p days wanted text ≡ a → Accepts (IsOf text days) r a
       → IfOk r (λ expr. OneTree p days text expr.tree)
-  one_of (Ok expr) (Ok nodes) e h = one_so nodes expr.tree e h.tree
+  one_of (Ok expr) (Ok nodes) e h = λ form is. h.tree ∙ ap syntax_of (one_so nodes form e is) ∙ (told days p form is.0).stored
   one_of (Ok expr) (Err f) e h = absurd h
   one_of (Err f) a e h = tt
 
@@ -109,9 +110,10 @@ module _ (p : Place) (days : List (List ℕ)) (wanted : Option Sort) (text : Lis
       let same : r.nodes ≡ nodes = ok_is r.nodes nodes (sym r.read ∙ n.1) in
       let stack : shapes_behind text days nodes.nodes [] ≡ tree_of days F.0 ∷ [] = ap (λ (x : Nodes). shapes_behind text days x.nodes []) (sym same)
       ∙ r.evals.is [] in
-      let tree : tree_of days F.0 ≡ expr.tree = sym (one_so nodes expr.tree e is.tree F.0 F.1) in
+      let t = told days p F.0 F.1.0 in
       let items : items_at (occurrences text days nodes.nodes) ≡ items_of expr.tree = items_so text days nodes.nodes (tree_of days F.0) stack
-      ∙ ap items_of tree in
+      ∙ sym t.same.items
+      ∙ ap items_of (sym t.stored ∙ ap syntax_of (sym (one_so nodes F.0 e F.1)) ∙ sym is.tree) in
       subst (λ (l : List Item). Different l [] (items_in expr)) items
       (different_so (occurrences text days nodes.nodes) [] [] (items_in expr) (places_in expr) is.items)
 

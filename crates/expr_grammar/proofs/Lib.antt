@@ -45,3 +45,4 @@ pub mod Trim
 pub mod Ended
 pub mod OnlyPlace
 pub mod OneAnswer
+pub mod Readings

@@ -13,6 +13,7 @@ use Rattle.expr_lang.specs.Expr.{expression_from, parse_of}
 use Rattle.expr_lang.proofs.ExprLemmas.{IsOf-expression_of}
 use Rattle.expr_lang.specs.Parse.{accepted, cut_short, nodes_of_text, judged_text, brackets_judged}
 use Rattle.expr_lang.specs.Reading.{read_text}
+use Rattle.expr_lang.specs.Stored.{syntax_of}
 use Rattle.expr_lang.specs.Survey.{survey_of, misfit_of}
 use Rattle.expr_lang.specs.declared.survey.Known.{Known}
 use Rattle.expr_grammar.specs.Brackets.{crowded_bracket}
@@ -105,7 +106,7 @@ module _ (p : Place) (days : List (List ℕ)) (wanted : Option Sort) (text : Lis
   nodes_by found = read_by (nat_le (length text) 4096) (read_text p text) (read_text p (take 4096 text)) found refl refl
 
   meant_from : (r : Result Nodes ExprFault) → NodesBy p days wanted text r → AnswersBy p days wanted text (expression_from text days r)
-  meant_from (Ok nodes) by = (by.0, by.1, by.2, by.3, by.4 ∙ sym (IsOf-expression_of text days nodes).tree)
+  meant_from (Ok nodes) by = (by.0, by.1, by.2, by.3, ap syntax_of by.4 ∙ sym (IsOf-expression_of text days nodes).tree)
   meant_from (Err f) by = by
 
   -- what is meant is found in the grammar

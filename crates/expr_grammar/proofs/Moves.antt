@@ -17,7 +17,6 @@ use Rattle.expr_lang.specs.declared.tree.Binary.TheVariants as binary
 use Rattle.expr_lang.specs.declared.words.Symbol.{Symbol}
 use Rattle.expr_lang.specs.declared.words.Symbol.TheVariants as symbol
 use Rattle.expr_lang.specs.declared.words.Call.{Call}
-use Rattle.expr_lang.specs.declared.words.Call.TheVariants as call
 use Rattle.expr_lang.specs.declared.words.ItemForm.{ItemForm}
 use Rattle.expr_lang.specs.declared.words.ItemForm.TheVariants as form
 use Rattle.expr_lang.specs.declared.reading.Spot.{Spot}
@@ -39,7 +38,6 @@ use Rattle.expr_lang.specs.Token.{is_allowed_of, is_comparison_of}
 use Rattle.expr_lang.specs.Words.{text_of, start_of, operands_of, items_of_place, followers, marks_of, bracket_of}
 use Rattle.expr_grammar.specs.Grammar.{IsBlank, IsNumber, IsExponent, IsWord, IsAmong, IsCall, IsSign, sign_text, after_blanks, symbol_text, behind_point}
 use Rattle.expr_grammar.specs.Grammar.{number_value}
-use Rattle.expr_grammar.proofs.Stored.{applied}
 use Rattle.expr_grammar.proofs.Words.{first_is, all_of, among_all, IsRaised}
 use Rattle.expr_grammar.proofs.Tokens.{May}
 use Rattle.expr_grammar.proofs.Steps.{At, Goes, then_goes, step, word_step}

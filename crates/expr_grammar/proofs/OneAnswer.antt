@@ -27,7 +27,7 @@ use Rattle.expr_grammar.specs.Limits.{IsWritten, IsFlat, is_sorted, deep_place}
 use Rattle.expr_grammar.specs.Misfits.{first_misfit}
 use Rattle.expr_grammar.specs.Sorts.{depth_of}
 use Rattle.expr_grammar.proofs.Answered.{places_are, before_fault, ends_at}
-use Rattle.expr_grammar.proofs.Bridge.{told, stored_apart}
+use Rattle.expr_grammar.proofs.Bridge.{told}
 use Rattle.expr_grammar.proofs.Misfitting.{whole_first}
 use Rattle.expr_grammar.proofs.OnlyPlace.{only_place}
 use Rattle.expr_grammar.proofs.PrintedOpen.{crowded_is}
@@ -120,10 +120,7 @@ module _ (p : Place) (days : List (List ℕ)) (wanted : Option Sort) (text : Lis
   Answer r = IsAnswer p days wanted text r
 
   one_tree : (x y : Expression) → Answer (Ok x) → Answer (Ok y) → x.tree ≡ y.tree
-  one_tree x y h k =
-      let F = h.read.0 in
-      let whole = h.read.1.0.0 in
-      sym (stored_apart days p F x.tree whole h.read.4) ∙ stored_apart days p F y.tree whole ((alike F k.read.0 h.read.1 k.read.1).tree ∙ k.read.4)
+  one_tree x y h k = sym h.read.4 ∙ (alike h.read.0 k.read.0 h.read.1 k.read.1).tree ∙ k.read.4
 
   one_list : (x y : Expression) → Answer (Ok x) → Answer (Ok y) → (x.items ≡ y.items) × (x.places ≡ y.places)
   one_list x y h k =

@@ -14,9 +14,10 @@ use Rattle.expr_lang.specs.Parse.{accepted, cut_short, nodes_of_text, judged, ju
 use Rattle.expr_lang.specs.Print.{text_from}
 use Rattle.expr_lang.specs.Reading.{read_text}
 use Rattle.expr_lang.specs.Shape.{Shape}
+use Rattle.expr_lang.specs.Stored.{syntax_of}
 use Rattle.expr_lang.specs.Survey.{survey_of}
 use Rattle.expr_grammar.specs.Fewest.{open_of}
-use Rattle.expr_grammar.proofs.Stored.{IsReadAgain}
+use Rattle.expr_grammar.proofs.Bridge.{told, stored_apart}
 use Rattle.expr_grammar.specs.Grammar.{Form, IsTextOf}
 use Rattle.expr_grammar.proofs.Stored.{tree_of}
 use Rattle.expr_grammar.proofs.PrintedFewest.{printed_again}
@@ -111,7 +112,7 @@ read_again tree printed is p days wanted text F nodes whole same e =
 -- and so each text that means an expression
 module _ (text : List ℕ) (days : List (List ℕ)) where
   nodes_of : (r : Result Nodes ExprFault) (expr : Expression) → expression_from text days r ≡ Ok expr
-      → (nodes : Nodes) × (r ≡ Ok nodes) × (expr.tree ≡ built text days nodes.nodes)
+      → (nodes : Nodes) × (r ≡ Ok nodes) × (expr.tree ≡ syntax_of (built text days nodes.nodes))
   nodes_of (Ok nodes) expr e =
       (nodes, refl, ap (λ (x : Expression). x.tree) (ok_is expr (expression_of text days nodes) (sym e)) ∙ (IsOf-expression_of text days nodes).tree)
     where
@@ -122,17 +123,20 @@ module _ (text : List ℕ) (days : List (List ℕ)) where
   meant_from : (r : Result Nodes ExprFault) (nodes : Nodes) → r ≡ Ok nodes → expression_from text days r ≡ Ok (expression_of text days nodes)
   meant_from r nodes e = ap (expression_from text days) e
 
-pub accepted_again : (tree : Shape) (printed : List ℕ) → printed ≡ text_from 0 tree → IsReadAgain tree printed
+pub accepted_again : (tree : Shape) (printed : List ℕ) → printed ≡ text_from 0 tree
+    → (p : Place) (days : List (List ℕ)) (wanted : Option Sort) (text : List ℕ) (expr : Expression) → parse_of p days wanted text ≡ Ok expr
+    → expr.tree ≡ syntax_of tree
+    → (again : Expression) × (parse_of p days wanted printed ≡ Ok again) × (again.tree ≡ syntax_of tree)
 unfolding parse_of
-accepted_again tree printed is = record { read = again }
-  where
-    again : (p : Place) (days : List (List ℕ)) (wanted : Option Sort) (text : List ℕ) (expr : Expression)
-        → expression_from text days (accepted p days wanted text) ≡ Ok expr → expr.tree ≡ tree
-        → (again : Expression) × (expression_from printed days (accepted p days wanted printed) ≡ Ok again) × (again.tree ≡ tree)
-    again p days wanted text expr e same =
-        let n = nodes_of text days (accepted p days wanted text) expr e in
-        let w = was_read p days wanted text n.0 n.1 in
-        let F = text_sound p text w.from w.read in
-        let a = accepted_only p days wanted text F.0 n.0 F.1 n.1 in
-        let r = read_again tree printed is p days wanted text F.0 n.0 F.1 (sym a.3 ∙ sym n.2 ∙ same) n.1 in
-        (expression_of printed days r.0, meant_from printed days (accepted p days wanted printed) r.0 r.1, (IsOf-expression_of printed days r.0).tree ∙ r.2)
+accepted_again tree printed is p days wanted text expr e same =
+    let n = nodes_of text days (accepted p days wanted text) expr e in
+    let w = was_read p days wanted text n.0 n.1 in
+    let F = text_sound p text w.from w.read in
+    let a = accepted_only p days wanted text F.0 n.0 F.1 n.1 in
+    let t = told days p F.0 F.1.0 in
+    let stored : tree_of days F.0 ≡ tree = stored_apart days p F.0 tree F.1.0 (sym t.stored ∙ ap syntax_of (sym a.3) ∙ sym n.2 ∙ same) in
+    let r = read_again tree printed is p days wanted text F.0 n.0 F.1 stored n.1 in (
+      expression_of printed days r.0,
+      meant_from printed days (accepted p days wanted printed) r.0 r.1,
+      (IsOf-expression_of printed days r.0).tree ∙ ap syntax_of r.2,
+    )

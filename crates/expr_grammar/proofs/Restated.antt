@@ -1,8 +1,7 @@
 -- The public clauses, from what is proved by the words of what lies in memory.
 use Rattle.std.proofs.Common.{◌≡◌, ℕ, Bool, true, false, cond, List, [], ◌∷◌, ◌++◌, length, Option, Some, Result, Ok, Err, refl, sym, ap, subst}
 use Rattle.std.proofs.Common.{◌∙◌, arith}
-use Rattle.std.specs.Prelude.{nat_lt, IfOk}
-use Rattle.expr_lang.specs.declared.tree.Item.{Item as AnyItem}
+use Rattle.std.specs.Prelude.{nat_lt}
 use Rattle.expr_lang.specs.declared.tree.Place.{Place}
 use Rattle.expr_lang.specs.declared.tree.Sort.{Sort}
 use Rattle.expr_lang.specs.declared.tree.Sort.TheVariants as sort
@@ -17,23 +16,20 @@ use Rattle.expr_lang.specs.Expr.{parse_of}
 use Rattle.expr_lang.specs.Expression.{Expression}
 use Rattle.expr_lang.specs.Item.{item_from}
 use Rattle.expr_lang.specs.Leaves.{item_leaf}
-use Rattle.expr_lang.specs.Print.{text_from, left_level_of, right_level_of}
+use Rattle.expr_lang.specs.Print.{text_from, left_level_of, right_level_of, IsPrintOf}
 use Rattle.expr_lang.specs.Shape.{Shape}
 use Rattle.expr_lang.specs.Stored.{syntax_of}
 use Rattle.expr_lang.specs.Survey.{taken_by_of, taken_by_two}
 use Rattle.expr_lang.specs.Syntax.{Syntax}
 use Rattle.expr_grammar.specs.Brackets.{crowded_bracket}
-use Rattle.expr_grammar.specs.Fewest.{IsPrintedAgain, IsReadAgain}
+use Rattle.expr_grammar.specs.Fewest.{IsPrintedAgain}
 use Rattle.expr_grammar.specs.Grammar.{Form, Number, Item, Bracket, Power, Sign, Chain, Arguments, If, Condition, DaysBetween, Apply, IsForm, IsWhole, IsSign}
 use Rattle.expr_grammar.specs.Grammar.{Takes, arguments_level, symbol_text, spelled, after_blanks, sign_of, function_of, tree_of}
-use Rattle.expr_grammar.specs.Items.{items_of, Different}
-use Rattle.expr_grammar.specs.Laws.{OneTree}
 use Rattle.expr_grammar.specs.Limits.{IsFlat, is_sorted, AnswersBy}
 use Rattle.expr_grammar.specs.Misfits.{place_of, is_number, clash_of, misfits_of, least_of, first_misfit}
 use Rattle.expr_grammar.specs.Sorts.{depth_of, taken_signed, taken_called}
-use Rattle.expr_grammar.proofs.Answered.{found, one_tree, items_are}
+use Rattle.expr_grammar.proofs.Answered.{found}
 use Rattle.expr_grammar.proofs.Bridge.{Same, has_same, taken_same, operand_same, taken_operator, facts, told, stored_apart}
-use Rattle.expr_grammar.proofs.PrintedAgain.{accepted_again}
 use Rattle.expr_grammar.proofs.PrintedFewest.{printed_again}
 use Rattle.expr_grammar.proofs.Stored as old
 use Rattle.expr_grammar.proofs.Stored.{applied}
@@ -168,7 +164,7 @@ module _ (p : Place) (days : List (List ℕ)) (wanted : Option Sort) (text : Lis
     is,
     flat_from F is.0.0 flat,
     sorted_same F is.0.0 ∙ sorted,
-    sym (told days p F is.0.0).stored ∙ ap syntax_of same,
+    sym (told days p F is.0.0).stored ∙ same,
   )
   answers_from (Err (fault.Syntax at)) h = h
   answers_from (Err (fault.TooDeep at)) (F, is, deep, place) = (
@@ -181,53 +177,13 @@ module _ (p : Place) (days : List (List ℕ)) (wanted : Option Sort) (text : Lis
       (F, is, flat_from F is.0.0 flat, sorted_same F is.0.0 ∙ sorted, first_same F is.0.1 is.0.0 ∙ place)
   answers_from (Err fault.Memory) h = h
 
-  one_from : (r : Result Expression ExprFault) → IfOk r (λ expr. old.OneTree p days text expr.tree) → IfOk r (λ expr. OneTree p days text (syntax_of expr.tree))
-  one_from (Ok expr) h = λ form is. ap syntax_of (h form is) ∙ (told days p form is.0).stored
-  one_from (Err f) h = tt
-
-  items_from : (r : Result Expression ExprFault) → old.AnswersBy p days wanted text r → IfOk r (λ expr. Different (old.items_of expr.tree) [] expr.items)
-      → IfOk r (λ expr. Different (items_of (syntax_of expr.tree)) [] expr.items)
-  items_from (Ok expr) (F, is, flat, sorted, same) h =
-      let t = told days p F is.0.0 in
-      let items : old.items_of expr.tree ≡ items_of (syntax_of expr.tree) = sym (ap old.items_of same)
-      ∙ sym t.same.items
-      ∙ ap items_of (sym t.stored ∙ ap syntax_of same) in
-      subst (λ (l : List AnyItem). Different l [] expr.items) items h
-  items_from (Err f) a h = tt
-
   pub read_so : AnswersBy p days wanted text (parse_of p days wanted text)
   read_so = answers_from (parse_of p days wanted text) (found p days wanted text)
 
-  pub one_so : IfOk (parse_of p days wanted text) (λ expr. OneTree p days text (syntax_of expr.tree))
-  one_so = one_from (parse_of p days wanted text) (one_tree p days wanted text)
-
-  pub items_so : IfOk (parse_of p days wanted text) (λ expr. Different (items_of (syntax_of expr.tree)) [] expr.items)
-  items_so = items_from (parse_of p days wanted text) (found p days wanted text) (items_are p days wanted text)
-
 -- ---- what is printed
 
--- the form of a text that means an expression
-form_of : (p : Place) (days : List (List ℕ)) (wanted : Option Sort) (text : List ℕ) (expr : Expression) → parse_of p days wanted text ≡ Ok expr
-    → (F : Form) × IsWhole p F × (old.tree_of days F ≡ expr.tree)
-form_of p days wanted text expr e =
-    let h = subst (old.AnswersBy p days wanted text) e (found p days wanted text) in
-    (h.0, h.1.0.0, h.4)
-
-pub read_again_so : (tree : Shape) (text : List ℕ) → text ≡ text_from 0 tree → IsReadAgain (syntax_of tree) text
-read_again_so tree text is = record { read = again }
-  where
-    again : (p : Place) (days : List (List ℕ)) (wanted : Option Sort) (other : List ℕ) (expr : Expression)
-        → parse_of p days wanted other ≡ Ok expr → syntax_of expr.tree ≡ syntax_of tree
-        → (again : Expression) × (parse_of p days wanted text ≡ Ok again) × (syntax_of again.tree ≡ syntax_of tree)
-    again p days wanted other expr e same =
-        let f = form_of p days wanted other expr e in
-        let t = told days p f.0 f.1 in
-        let stored : old.tree_of days f.0 ≡ tree = stored_apart days p f.0 tree f.1 (sym t.stored ∙ ap syntax_of f.2 ∙ same) in
-        let r = (accepted_again tree text is).read p days wanted other expr e (sym f.2 ∙ stored) in
-        (r.0, r.1, ap syntax_of r.2)
-
-pub printed_again_so : (tree : Shape) (text : List ℕ) → text ≡ text_from 0 tree → IsPrintedAgain (syntax_of tree) text
-printed_again_so tree text is p days form h same =
+printed_so : (tree : Shape) (text : List ℕ) → text ≡ text_from 0 tree → IsPrintedAgain (syntax_of tree) text
+printed_so tree text is p days form h same =
     let r = printed_again tree text is p days form h (stored_apart days p form tree h same) in
     record {
       form = r.form;
@@ -237,3 +193,6 @@ printed_again_so tree text is p days form h same =
       flattest = λ other k e. r.flattest other k (stored_apart days p other tree k e);
       shortest = λ other others k e. r.shortest other others k (stored_apart days p other tree k.0 e);
     }
+
+pub printed_again_so : (tree : Syntax) (text : List ℕ) → IsPrintOf tree text → IsPrintedAgain tree text
+printed_again_so tree text is = subst (λ (t : Syntax). IsPrintedAgain t text) is.same (printed_so is.shape text is.written)

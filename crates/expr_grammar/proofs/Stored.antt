@@ -1,9 +1,8 @@
 -- What the public clauses say of trees, said of trees as they lie in memory: what is read and printed is proved by these words.
-use Rattle.std.proofs.Common.{◌≡◌, ℕ, suc, ◌-◌, ◌≤◌, Bool, true, false, cond, List, [], ◌∷◌, ◌++◌, length, Option, Some, None, Result, Ok, Err}
+use Rattle.std.proofs.Common.{◌≡◌, ℕ, suc, ◌≤◌, Bool, true, false, List, [], ◌∷◌, ◌++◌, length, Option, Some, None, Result, Ok, Err}
 use Rattle.std.specs.Prelude.{◌&&◌, max, nat_lt, if◌then◌else◌}
 use Rattle.std.specs.Str.Parse.{digits_value}
 use Rattle.expr_lang.specs.declared.tree.Item.{Item as AnyItem}
-use Rattle.expr_lang.specs.declared.tree.Leaf.{Leaf}
 use Rattle.expr_lang.specs.declared.tree.Leaf.TheVariants as leaf
 use Rattle.expr_lang.specs.declared.tree.Place.{Place}
 use Rattle.expr_lang.specs.declared.tree.Sort.{Sort}
@@ -17,11 +16,11 @@ use Rattle.expr_lang.specs.declared.fault.ExprFault.TheVariants as fault
 use Rattle.expr_lang.specs.declared.words.Symbol.TheVariants as symbol
 use Rattle.expr_lang.specs.declared.words.Call.{Call}
 use Rattle.expr_lang.specs.declared.words.Call.TheVariants as call
-use Rattle.expr_lang.specs.Expr.{parse_of}
 use Rattle.expr_lang.specs.Expression.{Expression}
 use Rattle.expr_lang.specs.Item.{item_from}
 use Rattle.expr_lang.specs.Leaves.{item_leaf}
 use Rattle.expr_lang.specs.Shape.{Shape, Operand, One, Two, Choice}
+use Rattle.expr_lang.specs.Stored.{syntax_of}
 use Rattle.expr_lang.specs.Survey.{same_sort, leaf_sort_of, taken_by_of, given_by_of, taken_by_two, given_by_two}
 use Rattle.expr_grammar.specs.Brackets.{crowded_bracket}
 use Rattle.expr_grammar.specs.Fewest.{brackets_of, open_of}
@@ -93,10 +92,6 @@ items_of (Operand it) = items_of_leaf it
 items_of (One operator operand) = items_of operand
 items_of (Two operator left right) = items_of left ++ items_of right
 items_of (Choice test one other) = (items_of test ++ items_of one) ++ items_of other
-
--- each form that the text is has this tree
-abbrev pub OneTree : Place → List (List ℕ) → List ℕ → Shape → Type 0
-OneTree place days text shape = (form : Form) → IsTextOf place text form → shape ≡ tree_of days form
 
 abbrev pub is_number : Shape → Bool
 is_number (Operand (leaf.Number n)) = true
@@ -174,7 +169,7 @@ is_sorted wanted tree = has_sort wanted tree && sorts_fit tree
 -- form, one of depth or of sorts that it has a form, which is the first of these that fails, and where.
 abbrev pub AnswersBy : Place → List (List ℕ) → Option Sort → List ℕ → Result Expression ExprFault → Type 0
 AnswersBy place days wanted text (Ok expr) =
-    (form : Form) × IsWritten place text form × IsFlat days form × (is_sorted wanted (tree_of days form) ≡ true) × (tree_of days form ≡ expr.tree)
+    (form : Form) × IsWritten place text form × IsFlat days form × (is_sorted wanted (tree_of days form) ≡ true) × (syntax_of (tree_of days form) ≡ expr.tree)
 AnswersBy place days wanted text (Err (fault.Syntax at)) = (form : Form) → ¬ (IsWritten place text form)
 AnswersBy place days wanted text (Err (fault.TooDeep at)) =
     (form : Form) × IsWritten place text form × (¬ (IsFlat days form)) × (deep_place days text form ≡ Some at)
@@ -196,9 +191,3 @@ pub record IsPrinted (place : Place) (days : List (List ℕ)) (tree : Shape) (te
 abbrev pub IsPrintedAgain : Shape → List ℕ → Type 0
 IsPrintedAgain tree text =
     (place : Place) (days : List (List ℕ)) (form : Form) → IsWhole place form → tree_of days form ≡ tree → IsPrinted place days tree text
-
--- A text means an expression with this tree where any text does.
-pub record IsReadAgain (tree : Shape) (text : List ℕ) : Type 0 where
-  pub read : (place : Place) (days : List (List ℕ)) (wanted : Option Sort) (other : List ℕ) (expr : Expression)
-      → parse_of place days wanted other ≡ Ok expr → expr.tree ≡ tree
-      → (again : Expression) × (parse_of place days wanted text ≡ Ok again) × (again.tree ≡ tree)

@@ -1,10 +1,12 @@
 -- What is an answer for a text, by the grammar alone, and that there is one only.
-use Rattle.std.specs.Prelude.{◌≡◌, ℕ, List, Option, Result, IfOk, IfErr}
+use Rattle.std.specs.Prelude.{◌≡◌, ℕ, List, Option, Result, Ok, Err, IfOk, IfErr}
 use Rattle.expr_lang.specs.declared.tree.Place.{Place}
 use Rattle.expr_lang.specs.declared.tree.Sort.{Sort}
 use Rattle.expr_lang.specs.declared.fault.ExprFault.{ExprFault}
+use Rattle.expr_lang.specs.declared.fault.ExprFault.TheVariants as fault
 use Rattle.expr_lang.specs.Expression.{Expression}
 use Rattle.expr_lang.specs.Faults.{IfSyntax}
+use Rattle.expr_lang.specs.Syntax.{Syntax}
 use Rattle.expr_grammar.specs.Continues.{GoesOnAt, EndsAt}
 use Rattle.expr_grammar.specs.Items.{ListsItems}
 use Rattle.expr_grammar.specs.Limits.{AnswersBy}
@@ -23,3 +25,24 @@ pub record IsAnswer (place : Place) (days : List (List ℕ)) (wanted : Option So
 abbrev pub HasOneAnswer : Place → List (List ℕ) → Option Sort → List ℕ → Type 0
 HasOneAnswer place days wanted text =
     (one other : Result Expression ExprFault) → IsAnswer place days wanted text one → IsAnswer place days wanted text other → one ≡ other
+
+-- what a call answers is so, unless memory ran out
+abbrev pub UnlessMemory : (Result Expression ExprFault → Type 0) → Result Expression ExprFault → Type 0
+UnlessMemory Is (Ok expr) = Is (Ok expr)
+UnlessMemory Is (Err (fault.Syntax at)) = Is (Err (fault.Syntax at))
+UnlessMemory Is (Err (fault.TooDeep at)) = Is (Err (fault.TooDeep at))
+UnlessMemory Is (Err (fault.Sort at)) = Is (Err (fault.Sort at))
+UnlessMemory Is (Err fault.Memory) = Unit {0}
+
+-- A reading of texts: an answer by the grammar for each. There is one (`proofs/Readings.antt`), and since a text has one answer, no
+-- other.
+pub record Reading : Type 0 where
+  pub answer : Place → List (List ℕ) → Option Sort → List ℕ → Result Expression ExprFault
+  pub is : (place : Place) (days : List (List ℕ)) (wanted : Option Sort) (text : List ℕ)
+      → IsAnswer place days wanted text (answer place days wanted text)
+
+-- Where any text is an expression with this tree, this text is one too.
+pub record IsReadAgain (tree : Syntax) (text : List ℕ) : Type 0 where
+  pub read : (place : Place) (days : List (List ℕ)) (wanted : Option Sort) (other : List ℕ) (expr : Expression)
+      → IsAnswer place days wanted other (Ok expr) → expr.tree ≡ tree
+      → (again : Expression) × IsAnswer place days wanted text (Ok again) × (again.tree ≡ tree)

@@ -1,11 +1,7 @@
 -- The text that is printed of a tree: no text of the grammar with this tree is shorter, has fewer brackets or has more of them
 -- open at once.
-use Rattle.std.specs.Prelude.{◌≡◌, ℕ, suc, ◌+◌, ◌≤◌, max, List, length, Option, Ok}
+use Rattle.std.specs.Prelude.{◌≡◌, ℕ, suc, ◌+◌, ◌≤◌, max, List, length}
 use Rattle.expr_lang.specs.declared.tree.Place.{Place}
-use Rattle.expr_lang.specs.declared.tree.Sort.{Sort}
-use Rattle.expr_lang.specs.Expr.{parse_of}
-use Rattle.expr_lang.specs.Expression.{Expression}
-use Rattle.expr_lang.specs.Stored.{syntax_of}
 use Rattle.expr_lang.specs.Syntax.{Syntax}
 use Rattle.expr_grammar.specs.Grammar.{Form, Number, Item, Bracket, Power, Sign, Chain, Arguments, If, Condition, DaysBetween, Apply, IsWhole, IsTextOf}
 use Rattle.expr_grammar.specs.Grammar.{tree_of}
@@ -47,9 +43,3 @@ pub record IsPrinted (place : Place) (days : List (List ℕ)) (tree : Syntax) (t
 abbrev pub IsPrintedAgain : Syntax → List ℕ → Type 0
 IsPrintedAgain tree text =
     (place : Place) (days : List (List ℕ)) (form : Form) → IsWhole place form → tree_of days form ≡ tree → IsPrinted place days tree text
-
--- A text means an expression with this tree where any text does.
-pub record IsReadAgain (tree : Syntax) (text : List ℕ) : Type 0 where
-  pub read : (place : Place) (days : List (List ℕ)) (wanted : Option Sort) (other : List ℕ) (expr : Expression)
-      → parse_of place days wanted other ≡ Ok expr → syntax_of expr.tree ≡ tree
-      → (again : Expression) × (parse_of place days wanted text ≡ Ok again) × (syntax_of again.tree ≡ tree)

@@ -8,5 +8,3 @@ pub mod Continues
 pub mod Items
 pub mod Misfits
 pub mod Brackets
-pub use Rattle.expr_lang.specs.Expr
-pub use Rattle.expr_lang.specs.Expression

@@ -5,7 +5,6 @@ use Rattle.expr_lang.specs.declared.tree.Sort.{Sort}
 use Rattle.expr_lang.specs.Expression.{Expression}
 use Rattle.expr_lang.specs.declared.fault.ExprFault.{ExprFault}
 use Rattle.expr_lang.specs.declared.fault.ExprFault.TheVariants as fault
-use Rattle.expr_lang.specs.Stored.{syntax_of}
 use Rattle.expr_lang.specs.Syntax.{Syntax}
 use Rattle.expr_grammar.specs.Brackets.{crowded_bracket}
 use Rattle.expr_grammar.specs.Fewest.{open_of}
@@ -32,7 +31,7 @@ is_sorted wanted tree = has_sort wanted tree && sorts_fit tree
 -- form, one of depth or of sorts that it has a form, which is the first of these that fails, and where.
 abbrev pub AnswersBy : Place → List (List ℕ) → Option Sort → List ℕ → Result Expression ExprFault → Type 0
 AnswersBy place days wanted text (Ok expr) =
-    (form : Form) × IsWritten place text form × IsFlat days form × (is_sorted wanted (tree_of days form) ≡ true) × (tree_of days form ≡ syntax_of expr.tree)
+    (form : Form) × IsWritten place text form × IsFlat days form × (is_sorted wanted (tree_of days form) ≡ true) × (tree_of days form ≡ expr.tree)
 AnswersBy place days wanted text (Err (fault.Syntax at)) = (form : Form) → ¬ (IsWritten place text form)
 AnswersBy place days wanted text (Err (fault.TooDeep at)) =
     (form : Form) × IsWritten place text form × (¬ (IsFlat days form)) × (deep_place days text form ≡ Some at)

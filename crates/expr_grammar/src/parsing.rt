@@ -1,13 +1,9 @@
 //! Reading expressions.
 
 ghost use Rattle.std.specs.Prelude.{◌≡◌, [], Some, None, IfOk};
-ghost use Rattle.expr_grammar.specs.Answer.{IsAnswer, HasOneAnswer};
+ghost use Rattle.expr_grammar.specs.Answer.{IsAnswer, HasOneAnswer, UnlessMemory};
 ghost use Rattle.expr_grammar.specs.Items.{items_of, Different};
 ghost use Rattle.expr_grammar.specs.Laws.{OneTree};
-ghost use Rattle.dh_base.specs.Memory.{Answers};
-ghost use Rattle.expr_lang.specs.Causes.{cause_of};
-ghost use Rattle.expr_lang.specs.Expr.{parse_of};
-ghost use Rattle.expr_lang.specs.Stored.{syntax_of};
 
 use expr_lang::{DayItems, Expr, ExprFault, Place, Sort};
 use std::alloc::Global;
@@ -15,16 +11,14 @@ use std::alloc::Global;
 /// The expression that a text is, of any sort. `days` has the elements and attributes whose values
 /// are days.
 pub fn parse(alloc: Global, text: &[u8], place: Place, days: &DayItems) -> Result<Expr, ExprFault>
-    // The answer is what the text means, unless memory runs out.
-    ensures value { Answers cause_of (parse_of place days.now None text.now) result }
-    // What it means is an answer by the grammar: the tree of a form with its items and their places, or why no form is accepted, and where.
-    ensures is { IsAnswer place days.now None text.now (parse_of place days.now None text.now) }
+    // The answer is one by the grammar: the tree of a form of the text with its items and their places, or why no form is accepted, and where.
+    ensures is { UnlessMemory (IsAnswer place days.now None text.now) result }
     // There is no other answer by the grammar.
     ensures sole { HasOneAnswer place days.now None text.now }
     // All forms that the text is have one tree.
-    ensures one { IfOk (parse_of place days.now None text.now) (λ expr. OneTree place days.now text.now (syntax_of expr.tree)) }
+    ensures one { IfOk result (λ expr. OneTree place days.now text.now expr.tree) }
     // Its items are those of the tree, in order of their first occurrence.
-    ensures items { IfOk (parse_of place days.now None text.now) (λ expr. Different (items_of (syntax_of expr.tree)) [] expr.items) }
+    ensures items { IfOk result (λ expr. Different (items_of expr.tree) [] expr.items) }
 {
     expr_lang::parse(alloc, text, place, days)
 }
@@ -37,11 +31,10 @@ pub fn parse_sorted(
     days: &DayItems,
     wanted: Sort,
 ) -> Result<Expr, ExprFault>
-    ensures value { Answers cause_of (parse_of place days.now (Some wanted) text.now) result }
-    ensures is { IsAnswer place days.now (Some wanted) text.now (parse_of place days.now (Some wanted) text.now) }
+    ensures is { UnlessMemory (IsAnswer place days.now (Some wanted) text.now) result }
     ensures sole { HasOneAnswer place days.now (Some wanted) text.now }
-    ensures one { IfOk (parse_of place days.now (Some wanted) text.now) (λ expr. OneTree place days.now text.now (syntax_of expr.tree)) }
-    ensures items { IfOk (parse_of place days.now (Some wanted) text.now) (λ expr. Different (items_of (syntax_of expr.tree)) [] expr.items) }
+    ensures one { IfOk result (λ expr. OneTree place days.now text.now expr.tree) }
+    ensures items { IfOk result (λ expr. Different (items_of expr.tree) [] expr.items) }
 {
     expr_lang::parse_sorted(alloc, text, place, days, wanted)
 }

@@ -1,22 +1,20 @@
 //! Expressions as text.
 
-ghost use Rattle.std.specs.Prelude.{◌≡◌, IfOk};
-ghost use Rattle.expr_grammar.specs.Fewest.{IsPrintedAgain, IsReadAgain};
-ghost use Rattle.expr_lang.specs.Print.{text_from};
-ghost use Rattle.expr_lang.specs.Stored.{syntax_of};
+ghost use Rattle.std.specs.Prelude.{IfOk};
+ghost use Rattle.expr_grammar.specs.Answer.{IsReadAgain};
+ghost use Rattle.expr_grammar.specs.Fewest.{IsPrintedAgain};
 
 use dh_base::memory::Memory;
 use expr_lang::Expr;
 use std::alloc::Global;
 
 /// The text of an expression: a shortest one with its tree, with the fewest brackets.
-#[tactic(auto, using(crate::proofs::Restated::printed_again_so, crate::proofs::Restated::read_again_so))]
+#[tactic(auto, using(crate::proofs::Restated::printed_again_so, crate::proofs::Readings::read_again_so))]
 pub fn print(alloc: Global, expr: &Expr) -> Result<Vec<u8>, Memory>
-    ensures text { IfOk result (λ text. text.items ≡ text_from 0 expr.now.tree) }
     // Where any text is accepted as this tree, this one is.
-    ensures again { IfOk result (λ text. IsReadAgain (syntax_of expr.now.tree) text.items) }
+    ensures again { IfOk result (λ text. IsReadAgain expr.now.tree text.items) }
     // Where the grammar has any text with this tree, this is one, and none is shorter, has fewer brackets or more of them open at once.
-    ensures fewest { IfOk result (λ text. IsPrintedAgain (syntax_of expr.now.tree) text.items) }
+    ensures fewest { IfOk result (λ text. IsPrintedAgain expr.now.tree text.items) }
 {
     expr_lang::print(alloc, expr)
 }

@@ -128,7 +128,8 @@ module _ (text : List ℕ) (days : List (List ℕ)) (at : ℕ) (old : Making) (i
   shape_under_one : shapes_on old.items old.branches (under_waiting old.stack) ≡ under_shape (shapes_on old.items old.branches old.stack)
   shape_under_one = sym (shape_under old.items old.branches old.stack)
 
-  shape_two : shape_in old.items old.branches (top_waiting (under_waiting old.stack)).node ≡ top_shape (under_shape (shapes_on old.items old.branches old.stack))
+  shape_two : shape_in old.items old.branches (top_waiting (under_waiting old.stack)).node ≡ top_shape
+      (under_shape (shapes_on old.items old.branches old.stack))
   shape_two = sym (shape_top old.items old.branches (under_waiting old.stack) is.missing) ∙ ap top_shape shape_under_one
 
   shape_under_two : shapes_on old.items old.branches (under_waiting (under_waiting old.stack))
@@ -155,32 +156,38 @@ module _ (text : List ℕ) (days : List (List ℕ)) (at : ℕ) (old : Making) (i
   pub next_unary : (o : Unary) → IsNext text days at (node.Unary o) old (with_unary at o old)
   next_unary o = record {
     known = λ i. unary_known_of at o (sym (known_top old.stack) i) ∷ sym (known_under old.stack) i;
-    shapes = shapes_topped old (unary_known_of at o (top_waiting old.stack).known) (branch.Unary o (top_waiting old.stack).node) (under_waiting old.stack) under_one
+    shapes = shapes_topped old (unary_known_of at o (top_waiting old.stack).known) (branch.Unary o (top_waiting old.stack).node)
+        (under_waiting old.stack) under_one
         ∙ (λ i. One o (shape_one i) ∷ shape_under_one i);
     listed = (refl, refl);
-    making = topped old (unary_known_of at o (top_waiting old.stack).known) (branch.Unary o (top_waiting old.stack).node) (under_waiting old.stack) is node_one under_one;
+    making = topped old (unary_known_of at o (top_waiting old.stack).known) (branch.Unary o (top_waiting old.stack).node)
+        (under_waiting old.stack) is node_one under_one;
   }
 
   pub next_binary : (o : Binary) → IsNext text days at (node.Binary o) old (with_binary at o old)
   next_binary o = record {
     known = λ i. binary_known_of at o (known_two i) (sym (known_top old.stack) i) ∷ known_under_two i;
-    shapes = shapes_topped old (binary_known_of at o (top_waiting (under_waiting old.stack)).known (top_waiting old.stack).known) (branch.Binary o (top_waiting (under_waiting old.stack)).node (top_waiting old.stack).node)
+    shapes = shapes_topped old (binary_known_of at o (top_waiting (under_waiting old.stack)).known (top_waiting old.stack).known)
+        (branch.Binary o (top_waiting (under_waiting old.stack)).node (top_waiting old.stack).node)
         (under_waiting (under_waiting old.stack)) under_two
         ∙ (λ i. Two o (shape_two i) (shape_one i) ∷ shape_under_two i);
     listed = (refl, refl);
-    making = topped old (binary_known_of at o (top_waiting (under_waiting old.stack)).known (top_waiting old.stack).known) (branch.Binary o (top_waiting (under_waiting old.stack)).node (top_waiting old.stack).node)
+    making = topped old (binary_known_of at o (top_waiting (under_waiting old.stack)).known (top_waiting old.stack).known)
+        (branch.Binary o (top_waiting (under_waiting old.stack)).node (top_waiting old.stack).node)
         (under_waiting (under_waiting old.stack)) is (node_two, node_one) under_two;
   }
 
   pub next_choice : IsNext text days at node.If old (with_choice at old)
   next_choice = record {
     known = λ i. if_known_of at (known_three i) (known_two i) (sym (known_top old.stack) i) ∷ known_under_three i;
-    shapes = shapes_topped old (if_known_of at (top_waiting (under_waiting (under_waiting old.stack))).known (top_waiting (under_waiting old.stack)).known (top_waiting old.stack).known)
+    shapes = shapes_topped old (if_known_of at (top_waiting (under_waiting (under_waiting old.stack))).known (top_waiting (under_waiting old.stack)).known
+        (top_waiting old.stack).known)
         (branch.If (top_waiting (under_waiting (under_waiting old.stack))).node (top_waiting (under_waiting old.stack)).node (top_waiting old.stack).node)
         (under_waiting (under_waiting (under_waiting old.stack))) under_three
         ∙ (λ i. Choice (shape_three i) (shape_two i) (shape_one i) ∷ shape_under_three i);
     listed = (refl, refl);
-    making = topped old (if_known_of at (top_waiting (under_waiting (under_waiting old.stack))).known (top_waiting (under_waiting old.stack)).known (top_waiting old.stack).known)
+    making = topped old (if_known_of at (top_waiting (under_waiting (under_waiting old.stack))).known (top_waiting (under_waiting old.stack)).known
+        (top_waiting old.stack).known)
         (branch.If (top_waiting (under_waiting (under_waiting old.stack))).node (top_waiting (under_waiting old.stack)).node (top_waiting old.stack).node)
         (under_waiting (under_waiting (under_waiting old.stack))) is (node_three, node_two, node_one) under_three;
   }

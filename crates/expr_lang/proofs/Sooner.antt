@@ -118,7 +118,8 @@ front_one c (b ∷ bs) some is fits =
     ap (λ (x : ℕ). cond (fits_of c x) (suc 0) 0) is ∙ ap (λ (t : Bool). cond t (suc 0) 0) fits
 
 sole_with : (w : Symbol) (c : ℕ) → text_of w ≡ c ∷ [] → better_with no_front w 1 ≡ whole w 1
-sole_with w c is = ap (λ (t : List ℕ). cond (nat_lt 0 1 || (nat_eq 0 1 && nat_eq 1 (length t))) (record { len = 1; symbol = cond (nat_eq 1 (length t)) (Some w) None }) no_front) is
+sole_with w c is = ap (λ (t : List ℕ). cond (nat_lt 0 1 || (nat_eq 0 1 && nat_eq 1 (length t)))
+    (record { len = 1; symbol = cond (nat_eq 1 (length t)) (Some w) None }) no_front) is
 
 sole_longest : (allowed : Allowed) (words : List Symbol) (w : Symbol) (c : ℕ) (bytes : List ℕ) → IsSole c w words → 0 < length bytes
     → slice_index bytes 0 ≡ c → is_allowed_of allowed w ≡ true → longest_from no_front allowed words bytes ≡ whole w 1
@@ -186,7 +187,8 @@ short_so : (len c d : ℕ) (word bytes : List ℕ) → nat_lt 0 len ≡ true →
     → slice_index word (len - 1) ≡ c → slice_index bytes (len - 1) ≡ d → fits_of c d ≡ false → falls_short_of len word bytes ≡ true
 unfolding falls_short_of
 short_so len c d word bytes some a b is there apart =
-    ap (λ (t : Bool). t && nat_le len (length word) && nat_le len (length bytes) && not (fits_of (slice_index word (len - 1)) (slice_index bytes (len - 1)))) some
+    ap (λ (t : Bool). t && nat_le len (length word) && nat_le len (length bytes) && not (fits_of (slice_index word (len - 1)) (slice_index bytes (len - 1))))
+    some
     ∙ ap (λ (t : Bool). true && t && nat_le len (length bytes) && not (fits_of (slice_index word (len - 1)) (slice_index bytes (len - 1)))) a
     ∙ ap (λ (t : Bool). true && true && t && not (fits_of (slice_index word (len - 1)) (slice_index bytes (len - 1)))) b
     ∙ ap (λ (x : ℕ). not (fits_of x (slice_index bytes (len - 1)))) is
@@ -604,7 +606,8 @@ unfolding text_of
 if_longest bytes long second all =
     let le = within_so 2 (length bytes) long in
     ap (λ (f : Front). better_of (better_of f IsNull bytes) IsNotNull bytes) (better_at no_front If bytes 2 all)
-    ∙ ap (λ (f : Front). better_of f IsNotNull bytes) (sym (short_stays (whole If 2) IsNull bytes (short_so 2 115 102 (text_of IsNull) bytes refl refl le refl second refl)))
+    ∙ ap (λ (f : Front). better_of f IsNotNull bytes) (sym (short_stays (whole If 2) IsNull bytes
+    (short_so 2 115 102 (text_of IsNull) bytes refl refl le refl second refl)))
     ∙ sym (short_stays (whole If 2) IsNotNull bytes (short_so 2 115 102 (text_of IsNotNull) bytes refl refl le refl second refl))
 
 if_so : (p : Place) (bytes : List ℕ) → 2 ≤ length bytes → slice_index bytes 0 ≡ 105 → slice_index bytes 1 ≡ 102
@@ -627,11 +630,13 @@ likely_so : (p : Place) (bytes : List ℕ) (name : Call) → 2 ≤ length bytes 
     → IsLikely p bytes name
 unfolding likely_call_of
 likely_so p bytes name long e =
-    by (nat_eq (slice_index bytes 0) 103) refl (nat_eq (slice_index bytes 0) 108) refl (nat_eq (slice_index bytes 0) 105 && nat_eq (slice_index bytes 1) 102) refl e
+    by (nat_eq (slice_index bytes 0) 103) refl (nat_eq (slice_index bytes 0) 108) refl
+    (nat_eq (slice_index bytes 0) 105 && nat_eq (slice_index bytes 1) 102) refl e
   where
     by : (g : Bool) → nat_eq (slice_index bytes 0) 103 ≡ g → (l : Bool) → nat_eq (slice_index bytes 0) 108 ≡ l
         → (i : Bool) → (nat_eq (slice_index bytes 0) 105 && nat_eq (slice_index bytes 1) 102) ≡ i
-        → cond g (Some call.Greatest) (cond l (Some call.Least) (cond i (Some call.If) (cond (nat_eq (slice_index bytes 0) 102) (list_call p) None))) ≡ Some name
+        → cond g (Some call.Greatest) (cond l (Some call.Least) (cond i (Some call.If) (cond (nat_eq (slice_index bytes 0) 102) (list_call p) None))) ≡ Some
+        name
         → IsLikely p bytes name
     by true is l ll i ii f = subst (IsLikely p bytes) (some_is call.Greatest name f) (λ all. greatest_so p bytes (same_byte (slice_index bytes 0) 103 is) all)
     by false is true ll i ii f = subst (IsLikely p bytes) (some_is call.Least name f) (λ all. least_so p bytes (same_byte (slice_index bytes 0) 108 ll) all)

@@ -10,6 +10,7 @@ use Rattle.expr_lang.specs.Build.{built}
 use Rattle.expr_lang.specs.Expression.{Expression}
 use Rattle.expr_lang.specs.Items.{occurrences, Lists, listed}
 use Rattle.expr_lang.specs.Parse.{accepted}
+use Rattle.expr_lang.specs.Stored.{syntax_of}
 
 -- the different items in order of their first occurrence
 abbrev pub items_in : Expr → List Item
@@ -21,12 +22,12 @@ places_in expr = expr.places
 
 -- an expression has the tree and the items of a text with these nodes
 pub record IsOf (text : List ℕ) (days : List (List ℕ)) (expr : Expr) (nodes : Nodes) : Type 0 where
-  pub tree : expr.tree ≡ built text days nodes.nodes
+  pub tree : expr.tree ≡ syntax_of (built text days nodes.nodes)
   pub items : Lists (occurrences text days nodes.nodes) (items_in expr) (places_in expr)
 
 -- the expression of a text with these nodes
 abbrev pub with_items : List ℕ → List (List ℕ) → Nodes → List Item × List ℕ → Expression
-with_items text days nodes items = record { tree = built text days nodes.nodes; items = items.0; places = items.1 }
+with_items text days nodes items = record { tree = syntax_of (built text days nodes.nodes); items = items.0; places = items.1 }
 
 unfoldable pub expression_of : List ℕ → List (List ℕ) → Nodes → Expression
 expression_of text days nodes = with_items text days nodes (listed (occurrences text days nodes.nodes))

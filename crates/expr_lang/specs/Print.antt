@@ -14,6 +14,8 @@ use Rattle.expr_lang.specs.declared.tree.Binary.TheVariants as binary
 use Rattle.expr_lang.specs.Words.{operator_text_of}
 use Rattle.expr_lang.specs.Reading.{level_of}
 use Rattle.expr_lang.specs.Shape.{Shape, Operand, One, Two, Choice}
+use Rattle.expr_lang.specs.Stored.{syntax_of}
+use Rattle.expr_lang.specs.Syntax.{Syntax}
 
 -- the digits of n / 10 ^ places after a point, up to the last that isn't 0
 abbrev pub decimals_text : ℕ → ℕ → List ℕ
@@ -131,3 +133,9 @@ text_from least (Two operator left right) =
     (opening_of operator ++ text_from (left_level_of operator) left ++ between_of operator ++ text_from (right_level_of operator) right ++ closing_of operator)
 text_from least (Choice test one other) =
     codes "if(" ++ text_from 0 test ++ codes "," ++ text_from 0 one ++ codes "," ++ text_from 0 other ++ codes ")"
+
+-- a text is that of a tree, as such a tree lies in memory
+pub record IsPrintOf (tree : Syntax) (text : List ℕ) : Type 0 where
+  pub shape : Shape
+  pub same : syntax_of shape ≡ tree
+  pub written : text ≡ text_from 0 shape

@@ -4,7 +4,9 @@ ghost use Rattle.std.specs.Prelude.{◌≡◌, ◌↔◌, slice_get, slice_index
 ghost use Rattle.expr_lang.specs.Branches.{shape_in};
 ghost use Rattle.expr_lang.specs.Build.{built};
 ghost use Rattle.expr_lang.specs.Items.{occurrences, ListsOne, Lists};
-ghost use Rattle.expr_lang.specs.Making.{mark_of, top_waiting, under_waiting, with_branch, with_unary, with_binary, with_choice, new_making, IsMaking, IsNext, IsNextLeaf, IsListed};
+ghost use Rattle.expr_lang.specs.Making.{mark_of, top_waiting, under_waiting, with_branch, with_unary, with_binary, with_choice, new_making, IsMaking, IsNext};
+ghost use Rattle.expr_lang.specs.Making.{IsNextLeaf, IsListed};
+ghost use Rattle.expr_lang.specs.Stored.{syntax_of};
 ghost use Rattle.expr_lang.specs.Survey.{survey_of};
 
 use crate::days::DayItems;
@@ -217,7 +219,7 @@ fn begin(alloc: Global, count: usize) -> Result<Making, Memory>
 fn finish(mut making: Making) -> (Known, Expr)
     requires { IsMaking making }
     ensures known { result.0 ≡ (top_waiting making.stack).known }
-    ensures tree { result.1.tree ≡ shape_in making.items making.branches (top_waiting making.stack).node }
+    ensures tree { result.1.tree ≡ syntax_of (shape_in making.items making.branches (top_waiting making.stack).node) }
     ensures items { result.1.items ≡ making.items }
     ensures places { result.1.places ≡ making.places }
 {
@@ -234,7 +236,7 @@ pub fn build(
     nodes: &[Spot],
 ) -> Result<(Known, Expr), Memory>
     ensures known { IfOk result (λ made. made.0 ≡ survey_of text.now days.now nodes.now) }
-    ensures tree { IfOk result (λ made. made.1.tree ≡ built text.now days.now nodes.now) }
+    ensures tree { IfOk result (λ made. made.1.tree ≡ syntax_of (built text.now days.now nodes.now)) }
     ensures items { IfOk result (λ made. Lists (occurrences text.now days.now nodes.now) made.1.items made.1.places) }
 {
     let mut making = begin(alloc, nodes.len())?;

@@ -15,16 +15,15 @@ pub struct Expr {
 impl Model for Expr {
     ghost use Rattle.expr_lang.specs.contracts.tree.Item as item;
     ghost use Rattle.expr_lang.specs.contracts.tree.Leaf as leaf;
-    ghost use Rattle.expr_lang.specs.contracts.tree.Unary as unary;
-    ghost use Rattle.expr_lang.specs.contracts.tree.Binary as binary;
     ghost use Rattle.expr_lang.specs.Expression.{Expression, expression_code};
     ghost use Rattle.expr_lang.specs.Branches.{tree_in, AreParts};
+    ghost use Rattle.expr_lang.specs.Stored.{syntax_of};
 
     ghost Value = { Expression };
 
-    ghost coded = { expression_code leaf.the_row.coded unary.the_row.coded binary.the_row.coded item.the_row.coded };
+    ghost coded = { expression_code leaf.the_row.coded item.the_row.coded };
 
-    ghost view = { λ e. record { tree = tree_in e.items e.branches; items = e.items; places = e.places } };
+    ghost view = { λ e. record { tree = syntax_of (tree_in e.items e.branches); items = e.items; places = e.places } };
 
     ghost invariant = { λ e. AreParts e.branches e.items e.places };
 }
@@ -32,10 +31,11 @@ impl Model for Expr {
 impl Expr {
     ghost use Rattle.std.specs.Prelude.{◌≡◌, ◌<◌, length, slice_index};
     ghost use Rattle.expr_lang.specs.Branches.{tree_in, AreSound, AreDifferent, AreParts};
+    ghost use Rattle.expr_lang.specs.Stored.{syntax_of};
 
     pub(crate) fn new(branches: Items<Branch>, items: Items<Item>, places: Items<usize>) -> Expr
         requires { AreParts branches items places }
-        ensures tree { result.tree ≡ tree_in items branches }
+        ensures tree { result.tree ≡ syntax_of (tree_in items branches) }
         ensures items { result.items ≡ items }
         ensures places { result.places ≡ places }
     {
@@ -49,7 +49,7 @@ impl Expr {
     /// The nodes, each after its operands. The last one is the whole expression, and the others need
     /// not all be part of it. Their depth is at most 512.
     pub fn branches(&self) -> &[Branch]
-        ensures tree { self.now.tree ≡ tree_in self.now.items result.now }
+        ensures tree { syntax_of (tree_in self.now.items result.now) ≡ self.now.tree }
         ensures some { 0 < length result.now }
         ensures sound { AreSound (length self.now.items) result.now }
         ensures different { AreDifferent self.now.items }

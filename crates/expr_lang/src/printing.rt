@@ -4,7 +4,7 @@ ghost use Rattle.std.specs.Prelude.{◌≡◌, ◌++◌, ◌<◌, ◌≤◌, ◌
 ghost use Rattle.std.specs.Fmt.{decimal};
 ghost use Rattle.expr_lang.specs.Print.{decimals_text, number_text, rate_name_of, more_text, named_text, item_text, unary_level_of};
 ghost use Rattle.expr_lang.specs.Print.{binary_level_of, exponent_text, before_of, behind_of, inner_level_of, opening_of, between_of, closing_of};
-ghost use Rattle.expr_lang.specs.Print.{left_level_of, right_level_of, text_from};
+ghost use Rattle.expr_lang.specs.Print.{left_level_of, right_level_of, text_from, IsPrintOf};
 ghost use Rattle.expr_lang.specs.Branches.{shape_in, AreSound};
 ghost use Rattle.expr_lang.specs.Words.{operator_text_of};
 
@@ -19,7 +19,7 @@ use std::alloc::Global;
 
 /// The text of an expression, with the fewest brackets.
 pub fn print(alloc: Global, expr: &Expr) -> Result<Vec<u8>, Memory>
-    ensures { IfOk result (λ text. text.items ≡ text_from 0 expr.now.tree) }
+    ensures { IfOk result (λ text. IsPrintOf expr.now.tree text.items) }
 {
     let mut out = Vec::new(alloc);
     let branches = expr.branches();

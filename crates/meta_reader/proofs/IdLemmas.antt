@@ -30,6 +30,7 @@ use Rattle.meta_rules.specs.declared.limits.LimitFault.{LimitFault}
 use Rattle.meta_rules.specs.declared.limits.LimitFault.TheVariants as limit
 use Rattle.meta_rules.specs.Limits.{limits, objects_of, passes, first_passed}
 use Rattle.meta_rules.specs.Days.{days_of}
+use Rattle.meta_rules.specs.Read.{Meaning}
 use Rattle.meta_rules.specs.Objects.{made_of, indicator_in, rule_in, program_indicator_in}
 use Rattle.dh_metadata.specs.Objects.{HaveIds, count_of}
 use Rattle.dh_metadata.specs.Known.{AreFew}
@@ -49,35 +50,35 @@ map_made f g make held same (x ∷ xs) =
     ap (λ y. y ∷ map f xs) (sym (same x)) ∙ ap (λ ys. g (make x (held x)) ∷ ys) (map_made f g make held same xs)
 
 -- the identifiers of the objects are those of the file
-pub have_ids : (parts : MetaParts) → HaveIds (records_in parts) (ids_of parts)
+pub have_ids : (meaning : Meaning) (parts : MetaParts) → HaveIds (records_in meaning parts) (ids_of parts)
 unfolding ids_of links_of unit_held unit_group_held category_option_held category_held category_combo_held option_combo_held element_held approval_level_held
     workflow_held data_set_held constant_held indicator_type_held indicator_held rule_held entity_type_held attribute_held program_held stage_held
     program_indicator_held role_held user_held user_group_held built_in_combo built_in_option_combo
-have_ids parts kind.OrganisationUnit = map_held _ _ (unit_held (ids_of parts)) (λ a. refl) parts.organisation_units
-have_ids parts kind.OrganisationUnitGroup = map_held _ _ (unit_group_held (ids_of parts)) (λ a. refl) parts.organisation_unit_groups
-have_ids parts kind.CategoryOption = map_held _ _ (category_option_held (ids_of parts)) (λ a. refl) parts.category_options
-have_ids parts kind.Category = map_held _ _ (category_held (ids_of parts)) (λ a. refl) parts.categories
-have_ids parts kind.CategoryCombo =
+have_ids meaning parts kind.OrganisationUnit = map_held _ _ (unit_held (ids_of parts)) (λ a. refl) parts.organisation_units
+have_ids meaning parts kind.OrganisationUnitGroup = map_held _ _ (unit_group_held (ids_of parts)) (λ a. refl) parts.organisation_unit_groups
+have_ids meaning parts kind.CategoryOption = map_held _ _ (category_option_held (ids_of parts)) (λ a. refl) parts.category_options
+have_ids meaning parts kind.Category = map_held _ _ (category_held (ids_of parts)) (λ a. refl) parts.categories
+have_ids meaning parts kind.CategoryCombo =
     ap (λ ids. built_in_combo.id ∷ ids) (map_held _ _ (category_combo_held (ids_of parts)) (λ a. refl) parts.category_combos)
-have_ids parts kind.CategoryOptionCombo =
+have_ids meaning parts kind.CategoryOptionCombo =
     ap (λ ids. built_in_option_combo.id ∷ ids) (map_held _ _ (option_combo_held (ids_of parts)) (λ a. refl) parts.category_option_combos)
-have_ids parts kind.DataElement = map_held _ _ (element_held (ids_of parts)) (λ a. refl) parts.data_elements
-have_ids parts kind.ApprovalLevel = map_held _ _ (approval_level_held (ids_of parts)) (λ a. refl) parts.data_approval_levels
-have_ids parts kind.Workflow = map_held _ _ (workflow_held (ids_of parts)) (λ a. refl) parts.data_approval_workflows
-have_ids parts kind.DataSet = map_held _ _ (data_set_held (ids_of parts)) (λ a. refl) parts.data_sets
-have_ids parts kind.Constant = map_held _ _ (constant_held (ids_of parts)) (λ a. refl) parts.constants
-have_ids parts kind.IndicatorType = map_held _ _ (indicator_type_held (ids_of parts)) (λ a. refl) parts.indicator_types
-have_ids parts kind.Indicator = map_made _ _ (indicator_in (days_of parts)) (indicator_held (ids_of parts)) (λ a. refl) parts.indicators
-have_ids parts kind.ValidationRule = map_made _ _ (rule_in (days_of parts)) (rule_held (ids_of parts)) (λ a. refl) parts.validation_rules
-have_ids parts kind.TrackedEntityType = map_held _ _ (entity_type_held (ids_of parts)) (λ a. refl) parts.tracked_entity_types
-have_ids parts kind.TrackedEntityAttribute = map_held _ _ (attribute_held (ids_of parts)) (λ a. refl) parts.tracked_entity_attributes
-have_ids parts kind.Program = map_held _ _ (program_held (ids_of parts)) (λ a. refl) parts.programs
-have_ids parts kind.ProgramStage = map_held _ _ (stage_held (ids_of parts)) (λ a. refl) parts.program_stages
-have_ids parts kind.ProgramIndicator =
-    map_made _ _ (program_indicator_in (days_of parts)) (program_indicator_held (ids_of parts)) (λ a. refl) parts.program_indicators
-have_ids parts kind.UserRole = map_held _ _ (role_held (ids_of parts)) (λ a. refl) parts.user_roles
-have_ids parts kind.User = map_held _ _ (user_held (ids_of parts)) (λ a. refl) parts.users
-have_ids parts kind.UserGroup = map_held _ _ (user_group_held (ids_of parts)) (λ a. refl) parts.user_groups
+have_ids meaning parts kind.DataElement = map_held _ _ (element_held (ids_of parts)) (λ a. refl) parts.data_elements
+have_ids meaning parts kind.ApprovalLevel = map_held _ _ (approval_level_held (ids_of parts)) (λ a. refl) parts.data_approval_levels
+have_ids meaning parts kind.Workflow = map_held _ _ (workflow_held (ids_of parts)) (λ a. refl) parts.data_approval_workflows
+have_ids meaning parts kind.DataSet = map_held _ _ (data_set_held (ids_of parts)) (λ a. refl) parts.data_sets
+have_ids meaning parts kind.Constant = map_held _ _ (constant_held (ids_of parts)) (λ a. refl) parts.constants
+have_ids meaning parts kind.IndicatorType = map_held _ _ (indicator_type_held (ids_of parts)) (λ a. refl) parts.indicator_types
+have_ids meaning parts kind.Indicator = map_made _ _ (indicator_in meaning (days_of parts)) (indicator_held (ids_of parts)) (λ a. refl) parts.indicators
+have_ids meaning parts kind.ValidationRule = map_made _ _ (rule_in meaning (days_of parts)) (rule_held (ids_of parts)) (λ a. refl) parts.validation_rules
+have_ids meaning parts kind.TrackedEntityType = map_held _ _ (entity_type_held (ids_of parts)) (λ a. refl) parts.tracked_entity_types
+have_ids meaning parts kind.TrackedEntityAttribute = map_held _ _ (attribute_held (ids_of parts)) (λ a. refl) parts.tracked_entity_attributes
+have_ids meaning parts kind.Program = map_held _ _ (program_held (ids_of parts)) (λ a. refl) parts.programs
+have_ids meaning parts kind.ProgramStage = map_held _ _ (stage_held (ids_of parts)) (λ a. refl) parts.program_stages
+have_ids meaning parts kind.ProgramIndicator =
+    map_made _ _ (program_indicator_in meaning (days_of parts)) (program_indicator_held (ids_of parts)) (λ a. refl) parts.program_indicators
+have_ids meaning parts kind.UserRole = map_held _ _ (role_held (ids_of parts)) (λ a. refl) parts.user_roles
+have_ids meaning parts kind.User = map_held _ _ (user_held (ids_of parts)) (λ a. refl) parts.users
+have_ids meaning parts kind.UserGroup = map_held _ _ (user_group_held (ids_of parts)) (λ a. refl) parts.user_groups
 
 -- so there are as many identifiers of each kind as objects
 pub counts : (ids : Ids) (r : Records) → HaveIds r ids → (of_kind : Kind) → length (ids_at ids of_kind) ≡ count_of r of_kind

@@ -4,3 +4,4 @@ pub mod IdLemmas
 pub mod FaultLemmas
 pub mod ReadyLemmas
 pub mod ValueLemmas
+pub mod OneMetadata

@@ -39,6 +39,7 @@ use Rattle.meta_links.specs.Held.{category_combo_held, option_combo_held, elemen
 use Rattle.meta_links.specs.Held.{entity_type_held, program_held, stage_held, program_indicator_held, user_held, user_group_held, built_in_combo}
 use Rattle.meta_links.specs.Held.{built_in_option_combo, links_of}
 use Rattle.meta_rules.specs.Days.{days_of}
+use Rattle.meta_rules.specs.Read.{Meaning}
 use Rattle.meta_rules.specs.Objects.{made_of, indicator_in, rule_in, program_indicator_in}
 use Rattle.dh_metadata.specs.Objects.{count_of}
 use Rattle.dh_metadata.specs.Linked.{AreBelow, IsBelow, Each, IsLinked, IsLinkedSharing, IsLinkedUnit, IsLinkedUnitGroup, IsLinkedOption, IsLinkedCategory}
@@ -208,25 +209,25 @@ user_group_linked : (ids : Ids) (r : Records) → Counts ids r → (raw : RawUse
 unfolding user_group_references user_group_held
 user_group_linked ids r same raw known = several_of ids r same _ kind.User raw.users known
 
-indicator_linked : (ids : Ids) (r : Records) → Counts ids r → (days : List (List ℕ)) (raw : RawIndicator) → Known ids (indicator_references raw)
-    → IsLinkedIndicator r (indicator_in days raw (indicator_held ids raw))
+indicator_linked : (ids : Ids) (r : Records) → Counts ids r → (meaning : Meaning) (days : List (List ℕ)) (raw : RawIndicator)
+    → Known ids (indicator_references raw) → IsLinkedIndicator r (indicator_in meaning days raw (indicator_held ids raw))
 unfolding indicator_references indicator_held
-indicator_linked ids r same days raw known =
+indicator_linked ids r same meaning days raw known =
     let both = known_parts ids (one (field_path kind.Indicator raw.place (codes "indicatorType")) kind.IndicatorType raw.indicator_type) _ known in
     record {
       indicator_type = one_of ids r same _ kind.IndicatorType raw.indicator_type both.0;
       sharing = sharing_linked ids r same kind.Indicator raw.place raw.sharing both.1;
     }
 
-rule_linked : (ids : Ids) (r : Records) → Counts ids r → (days : List (List ℕ)) (raw : RawRule) → Known ids (rule_references raw)
-    → IsLinkedRule r (rule_in days raw (rule_held ids raw))
+rule_linked : (ids : Ids) (r : Records) → Counts ids r → (meaning : Meaning) (days : List (List ℕ)) (raw : RawRule) → Known ids (rule_references raw)
+    → IsLinkedRule r (rule_in meaning days raw (rule_held ids raw))
 unfolding rule_references rule_held
-rule_linked ids r same days raw known = sharing_linked ids r same kind.ValidationRule raw.place raw.sharing known
+rule_linked ids r same meaning days raw known = sharing_linked ids r same kind.ValidationRule raw.place raw.sharing known
 
-program_indicator_linked : (ids : Ids) (r : Records) → Counts ids r → (days : List (List ℕ)) (raw : RawProgramIndicator)
-    → Known ids (program_indicator_references raw) → IsLinkedProgramIndicator r (program_indicator_in days raw (program_indicator_held ids raw))
+program_indicator_linked : (ids : Ids) (r : Records) → Counts ids r → (meaning : Meaning) (days : List (List ℕ)) (raw : RawProgramIndicator)
+    → Known ids (program_indicator_references raw) → IsLinkedProgramIndicator r (program_indicator_in meaning days raw (program_indicator_held ids raw))
 unfolding program_indicator_references program_indicator_held
-program_indicator_linked ids r same days raw known =
+program_indicator_linked ids r same meaning days raw known =
     let both = known_parts ids (one (field_path kind.ProgramIndicator raw.place (codes "program")) kind.Program raw.program) _ known in
     record {
       program = one_of ids r same _ kind.Program raw.program both.0;
@@ -267,11 +268,11 @@ unfolding built_in_option_combo
 built_in_option_linked r some = record { combo = some; options = none_below (length r.category_options) }
 
 -- references that are known are numbers of objects
-pub linked : (ids : Ids) (parts : MetaParts) → Counts ids (records_from parts (links_of ids parts)) → Known ids (references parts)
-    → IsLinked (records_from parts (links_of ids parts))
+pub linked : (meaning : Meaning) (ids : Ids) (parts : MetaParts) → Counts ids (records_from meaning parts (links_of ids parts)) → Known ids (references parts)
+    → IsLinked (records_from meaning parts (links_of ids parts))
 unfolding links_of references
-linked ids parts same known =
-    let r : Records = records_from parts (links_of ids parts) in
+linked meaning ids parts same known =
+    let r : Records = records_from meaning parts (links_of ids parts) in
     let days : List (List ℕ) = days_of parts in
     let both = known_parts ids (flat_map (references_in parts) kinds) (token_references parts.api_tokens) known in
     let of_kind : (n : ℕ) (k : Kind) → slice_get kinds n ≡ Some k → Known ids (references_in parts k) =
@@ -307,10 +308,10 @@ linked ids parts same known =
       data_sets =
           all_held ids data_set_references (data_set_held ids) (IsLinkedDataSet r) parts.data_sets (data_set_linked ids r same) (of_kind 9 kind.DataSet refl);
       indicators =
-          all_made ids indicator_references (indicator_held ids) (indicator_in days) (IsLinkedIndicator r) (indicator_linked ids r same days) parts.indicators
-          (of_kind 12 kind.Indicator refl);
+          all_made ids indicator_references (indicator_held ids) (indicator_in meaning days) (IsLinkedIndicator r) (indicator_linked ids r same meaning days)
+          parts.indicators (of_kind 12 kind.Indicator refl);
       rules =
-          all_made ids rule_references (rule_held ids) (rule_in days) (IsLinkedRule r) (rule_linked ids r same days) parts.validation_rules
+          all_made ids rule_references (rule_held ids) (rule_in meaning days) (IsLinkedRule r) (rule_linked ids r same meaning days) parts.validation_rules
           (of_kind 13 kind.ValidationRule refl);
       entity_types =
           all_held ids entity_type_references (entity_type_held ids) (IsLinkedEntityType r) parts.tracked_entity_types (entity_type_linked ids r same)
@@ -320,8 +321,8 @@ linked ids parts same known =
       stages =
           all_held ids stage_references (stage_held ids) (IsLinkedStage r) parts.program_stages (stage_linked ids r same) (of_kind 17 kind.ProgramStage refl);
       program_indicators =
-          all_made ids program_indicator_references (program_indicator_held ids) (program_indicator_in days) (IsLinkedProgramIndicator r)
-          (program_indicator_linked ids r same days) parts.program_indicators
+          all_made ids program_indicator_references (program_indicator_held ids) (program_indicator_in meaning days) (IsLinkedProgramIndicator r)
+          (program_indicator_linked ids r same meaning days) parts.program_indicators
           (of_kind 18 kind.ProgramIndicator refl);
       users = all_held ids user_references (user_held ids) (IsLinkedUser r) parts.users (user_linked ids r same) (of_kind 20 kind.User refl);
       user_groups =

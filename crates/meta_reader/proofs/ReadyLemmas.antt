@@ -18,6 +18,7 @@ use Rattle.dh_metadata.specs.Rows.{tree_rows, option_combo_rows}
 use Rattle.meta_rules.specs.Held.{IsHeld}
 use Rattle.meta_rules.specs.Limits.{first_passed}
 use Rattle.meta_rules.specs.declared.limits.LimitFault.{LimitFault}
+use Rattle.meta_rules.specs.Read.{Meaning}
 use Rattle.meta_rules.specs.Stages.{stages_broken}
 use Rattle.dh_metadata.specs.Objects.{HaveIds}
 use Rattle.dh_metadata.specs.Known.{AreFew, HaveRules}
@@ -30,12 +31,12 @@ use Rattle.meta_reader.proofs.LinkedLemmas.{linked}
 use Rattle.meta_reader.proofs.IdLemmas.{have_ids, counts, are_few, few_positions, own_ids, combos_below}
 use Rattle.meta_reader.proofs.FaultLemmas.{met_then, met_some, none_of}
 
-pub linked_of : (parts : MetaParts) → Known (ids_of parts) (references parts) → IsLinked (records_in parts)
-linked_of parts known = linked (ids_of parts) parts (counts (ids_of parts) (records_in parts) (have_ids parts)) known
+pub linked_of : (meaning : Meaning) (parts : MetaParts) → Known (ids_of parts) (references parts) → IsLinked (records_in meaning parts)
+linked_of meaning parts known = linked meaning (ids_of parts) parts (counts (ids_of parts) (records_in meaning parts) (have_ids meaning parts)) known
 
-pub rules_of : (parts : MetaParts) (held : Structure) → IsHeld (links_in parts) held
-    → first_passed parts held.positions.items ≡ None → HaveRules (records_in parts) held
-rules_of parts held ruled none = record {
+pub rules_of : (meaning : Meaning) (parts : MetaParts) (held : Structure) → IsHeld (links_in parts) held
+    → first_passed parts held.positions.items ≡ None → HaveRules (records_in meaning parts) held
+rules_of meaning parts held ruled none = record {
   tree = ruled.tree;
   combos = ruled.combos;
   workflows = ruled.approvals.workflows;
@@ -49,12 +50,12 @@ no_limit None (Some limit) none = absurd (cc)
 no_limit (Some fault) b none = absurd (cc)
 
 -- the faults that are seen late, by what was made and by the file
-pub late_is : (parts : MetaParts) (held : Structure) → IsHeld (links_in parts) held
-    → option_or (option_map broken (stages_broken (ids_of parts) (records_in parts).program_stages (records_in parts).program_indicators))
-    (option_map passed (first_passed parts held.positions.items)) ≡ late_fault (ids_of parts) parts (links_in parts)
+pub late_is : (meaning : Meaning) (parts : MetaParts) (held : Structure) → IsHeld (links_in parts) held
+    → option_or (option_map broken (stages_broken (ids_of parts) (records_in meaning parts).program_stages (records_in meaning parts).program_indicators))
+    (option_map passed (first_passed parts held.positions.items)) ≡ late_fault meaning (ids_of parts) parts (links_in parts)
 unfolding stage_fault limit_fault
-late_is parts held ruled =
-    ap (λ (ps : List (List ℤ)). option_or (stage_fault (ids_of parts) parts (links_in parts)) (option_map passed (first_passed parts ps)))
+late_is meaning parts held ruled =
+    ap (λ (ps : List (List ℤ)). option_or (stage_fault meaning (ids_of parts) parts (links_in parts)) (option_map passed (first_passed parts ps)))
     ruled.approvals.positions
 
 -- the faults that are seen late, by what was made
@@ -62,36 +63,36 @@ abbrev late_of : MetaParts → Ids → Records → Structure → Option MetaFaul
 late_of parts ids r held =
     option_or (option_map broken (stages_broken ids r.program_stages r.program_indicators)) (option_map passed (first_passed parts held.positions.items))
 
-late_at : (parts : MetaParts) (ids : Ids) (r : Records) (held : Structure) → ids ≡ ids_of parts → r ≡ records_in parts → IsHeld (links_in parts) held
-    → late_of parts ids r held ≡ late_fault (ids_of parts) parts (links_in parts)
-late_at parts ids r held same is ruled =
-    ap (λ (x : Ids). late_of parts x r held) same ∙ ap (λ (x : Records). late_of parts (ids_of parts) x held) is ∙ late_is parts held ruled
+late_at : (meaning : Meaning) (parts : MetaParts) (ids : Ids) (r : Records) (held : Structure) → ids ≡ ids_of parts
+    → r ≡ records_in meaning parts → IsHeld (links_in parts) held → late_of parts ids r held ≡ late_fault meaning (ids_of parts) parts (links_in parts)
+late_at meaning parts ids r held same is ruled =
+    ap (λ (x : Ids). late_of parts x r held) same ∙ ap (λ (x : Records). late_of parts (ids_of parts) x held) is ∙ late_is meaning parts held ruled
 
 -- a fault that is seen late is met
-pub late_met : (parts : MetaParts) (ids : Ids) (r : Records) (held : Structure) (met : Option MetaFault) (found : MetaFault) → ids ≡ ids_of parts
-    → r ≡ records_in parts → IsHeld (links_in parts) held
+pub late_met : (meaning : Meaning) (parts : MetaParts) (ids : Ids) (r : Records) (held : Structure) (met : Option MetaFault) (found : MetaFault)
+    → ids ≡ ids_of parts → r ≡ records_in meaning parts → IsHeld (links_in parts) held
     → met ≡ option_or (option_map broken (stages_broken ids r.program_stages r.program_indicators))
     (option_map passed (first_passed parts held.positions.items)) → met ≡ Some found
-    → IsFirst (late_fault (ids_of parts) parts (links_in parts)) (meta_cause found)
-late_met parts ids r held met found same is ruled late some =
-    met_some (late_fault (ids_of parts) parts (links_in parts)) found (sym (late ∙ late_at parts ids r held same is ruled) ∙ some)
+    → IsFirst (late_fault meaning (ids_of parts) parts (links_in parts)) (meta_cause found)
+late_met meaning parts ids r held met found same is ruled late some =
+    met_some (late_fault meaning (ids_of parts) parts (links_in parts)) found (sym (late ∙ late_at meaning parts ids r held same is ruled) ∙ some)
 
 -- and if none is, the records are in order
-pub ready : (parts : MetaParts) (ids : Ids) (r : Records) (held : Structure) (met : Option MetaFault) → ids ≡ ids_of parts
+pub ready : (meaning : Meaning) (parts : MetaParts) (ids : Ids) (r : Records) (held : Structure) (met : Option MetaFault) → ids ≡ ids_of parts
     → Known (ids_of parts) (references parts)
-    → r ≡ records_in parts → IsHeld (links_in parts) held
+    → r ≡ records_in meaning parts → IsHeld (links_in parts) held
     → met ≡ option_or (option_map broken (stages_broken ids r.program_stages r.program_indicators))
     (option_map passed (first_passed parts held.positions.items)) → met ≡ None
-    → (late_fault (ids_of parts) parts (links_in parts) ≡ None) × AreFew r × IsLinked r × HaveIds r ids × HaveRules r held
-ready parts ids r held met same known is ruled late none =
-    let all : late_fault (ids_of parts) parts (links_in parts) ≡ None = sym (late ∙ late_at parts ids r held same is ruled) ∙ none in
+    → (late_fault meaning (ids_of parts) parts (links_in parts) ≡ None) × AreFew r × IsLinked r × HaveIds r ids × HaveRules r held
+ready meaning parts ids r held met same known is ruled late none =
+    let all : late_fault meaning (ids_of parts) parts (links_in parts) ≡ None = sym (late ∙ late_at meaning parts ids r held same is ruled) ∙ none in
     let fits : first_passed parts held.positions.items ≡ None =
     no_limit (option_map broken (stages_broken ids r.program_stages r.program_indicators)) (first_passed parts held.positions.items) (sym late ∙ none) in (
       all,
-      subst AreFew (sym is) (are_few parts held.positions.items (records_in parts) (have_ids parts) fits),
-      subst IsLinked (sym is) (linked_of parts known),
-      subst (λ (x : Records). HaveIds x ids) (sym is) (subst (HaveIds (records_in parts)) (sym same) (have_ids parts)),
-      subst (λ (x : Records). HaveRules x held) (sym is) (rules_of parts held ruled fits),
+      subst AreFew (sym is) (are_few parts held.positions.items (records_in meaning parts) (have_ids meaning parts) fits),
+      subst IsLinked (sym is) (linked_of meaning parts known),
+      subst (λ (x : Records). HaveIds x ids) (sym is) (subst (HaveIds (records_in meaning parts)) (sym same) (have_ids meaning parts)),
+      subst (λ (x : Records). HaveRules x held) (sym is) (rules_of meaning parts held ruled fits),
     )
 
 -- the answer of what comes after is the answer if nothing was met before

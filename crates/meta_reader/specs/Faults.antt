@@ -14,6 +14,7 @@ use Rattle.dh_metadata.specs.Positions.{positions_of}
 use Rattle.meta_rules.specs.Limits.{first_passed}
 use Rattle.meta_rules.specs.declared.expr_fault.ExprFault.{ExprFault}
 use Rattle.meta_rules.specs.Names.{KindIds}
+use Rattle.meta_rules.specs.Read.{Meaning}
 use Rattle.meta_rules.specs.All.{expressions_unread, expressions_of}
 use Rattle.meta_rules.specs.Stages.{stages_broken}
 use Rattle.meta_reader.specs.declared.fault.MetaFault.{MetaFault}
@@ -49,33 +50,35 @@ unfoldable pub unknown_fault : KindIds → MetaParts → Option MetaFault
 unknown_fault ids parts = option_map unknown (first_unknown ids (references parts))
 
 -- an expression that isn't read
-unfoldable pub unread_fault : KindIds → MetaParts → Option MetaFault
-unread_fault ids parts = option_map unread (expressions_unread ids parts)
+unfoldable pub unread_fault : Meaning → KindIds → MetaParts → Option MetaFault
+unread_fault meaning ids parts = option_map unread (expressions_unread meaning ids parts)
 
 -- a rule between objects that is broken
 unfoldable pub rule_fault : MetaParts → Links → Option MetaFault
 rule_fault parts links = option_map broken (rules_broken parts links)
 
 -- a program indicator that names a stage of another program, or is aggregated in a way that is none of its own
-unfoldable pub stage_fault : KindIds → MetaParts → Links → Option MetaFault
-stage_fault ids parts links =
-    option_map broken (stages_broken ids links.program_stages (expressions_of parts (unread_of links)).program_indicators)
+unfoldable pub stage_fault : Meaning → KindIds → MetaParts → Links → Option MetaFault
+stage_fault meaning ids parts links =
+    option_map broken (stages_broken ids links.program_stages (expressions_of meaning parts (unread_of links)).program_indicators)
 
 -- a limit that is passed
 unfoldable pub limit_fault : MetaParts → Links → Option MetaFault
 limit_fault parts links = option_map passed (first_passed parts (positions_in links))
 
 -- the first fault that is seen where expressions are read and rules are kept
-abbrev pub late_fault : KindIds → MetaParts → Links → Option MetaFault
-late_fault ids parts links = option_or (stage_fault ids parts links) (limit_fault parts links)
+abbrev pub late_fault : Meaning → KindIds → MetaParts → Links → Option MetaFault
+late_fault meaning ids parts links = option_or (stage_fault meaning ids parts links) (limit_fault parts links)
 
 -- the first fault of objects that are linked
-abbrev pub linked_fault : KindIds → MetaParts → Links → Option MetaFault
-linked_fault ids parts links = option_or (option_or (unread_fault ids parts) (rule_fault parts links)) (late_fault ids parts links)
+abbrev pub linked_fault : Meaning → KindIds → MetaParts → Links → Option MetaFault
+linked_fault meaning ids parts links =
+    option_or (option_or (unread_fault meaning ids parts) (rule_fault parts links)) (late_fault meaning ids parts links)
 
 -- the first fault
-unfoldable pub fault_of : MetaParts → Option MetaFault
-fault_of parts = option_or (twice_fault parts) (option_or (unknown_fault (ids_of parts) parts) (linked_fault (ids_of parts) parts (links_in parts)))
+unfoldable pub fault_of : Meaning → MetaParts → Option MetaFault
+fault_of meaning parts =
+    option_or (twice_fault parts) (option_or (unknown_fault (ids_of parts) parts) (linked_fault meaning (ids_of parts) parts (links_in parts)))
 
 -- the fault itself; running out of memory is none
 abbrev pub meta_cause : MetaFault → Option MetaFault
@@ -91,7 +94,7 @@ abbrev pub unless_fault : Option MetaFault → Records → Result Records MetaFa
 unless_fault None records = Ok records
 unless_fault (Some fault) records = Err fault
 
--- The metadata of what a file says: its objects, each reference a number and each text an expression, with its tokens and
--- whether an approval has to be accepted; or the first fault.
-unfoldable pub metadata_of : MetaParts → Result Records MetaFault
-metadata_of parts = unless_fault (fault_of parts) (records_in parts)
+-- The metadata of what a file says, where texts mean this: its objects, each reference a number and each text an expression, with
+-- its tokens and whether an approval has to be accepted; or the first fault.
+unfoldable pub metadata_of : Meaning → MetaParts → Result Records MetaFault
+metadata_of meaning parts = unless_fault (fault_of meaning parts) (records_in meaning parts)

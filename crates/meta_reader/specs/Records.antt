@@ -5,6 +5,7 @@ use Rattle.dh_metadata.specs.declared.held.Records.{Records}
 use Rattle.meta_rules.specs.declared.all.Unread.{Unread}
 use Rattle.meta_rules.specs.declared.all.Expressions.{Expressions}
 use Rattle.meta_rules.specs.All.{expressions_of}
+use Rattle.meta_rules.specs.Read.{Meaning}
 use Rattle.dh_metadata.specs.Ids.{ids_of}
 use Rattle.meta_links.specs.Held.{links_of}
 
@@ -50,10 +51,10 @@ abbrev pub links_in : MetaParts → Links
 links_in parts = links_of (ids_of parts) parts
 
 -- objects that were linked, with the expressions of the file
-abbrev pub records_from : MetaParts → Links → Records
-records_from parts links = records_of parts links (expressions_of parts (unread_of links))
+abbrev pub records_from : Meaning → MetaParts → Links → Records
+records_from meaning parts links = records_of parts links (expressions_of meaning parts (unread_of links))
 
 -- what metadata has of a file: its objects, each reference a number and each text an expression, with its tokens and
 -- whether an approval has to be accepted
-abbrev pub records_in : MetaParts → Records
-records_in parts = records_from parts (links_in parts)
+abbrev pub records_in : Meaning → MetaParts → Records
+records_in meaning parts = records_from meaning parts (links_in parts)

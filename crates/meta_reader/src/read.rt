@@ -2,8 +2,9 @@
 
 ghost use Rattle.std.specs.Prelude.{◌≡◌};
 ghost use Rattle.dh_base.specs.Memory.{Answers};
+ghost use Rattle.expr_grammar.specs.Answer.{Reading};
 ghost use Rattle.meta_reader.specs.Faults.{meta_cause};
-ghost use Rattle.meta_reader.specs.Read.{told, metadata_of_bytes};
+ghost use Rattle.meta_reader.specs.Read.{told, metadata_by, HasOneMetadata};
 
 use crate::build::build;
 use crate::fault::{MetaFault, Which};
@@ -28,9 +29,11 @@ fn told(fault: FileFault) -> MetaFault
 
 /// The metadata that the bytes of a file are, or the first fault: of its length, its syntax, its form, and then
 /// of what it says.
-#[tactic(auto, using(crate::proofs::ValueLemmas::from_parts, crate::proofs::ValueLemmas::from_fault), unfolding(crate::specs::Read::metadata_of_bytes))]
 pub fn read(alloc: Global, bytes: &[u8]) -> Result<Metadata, MetaFault>
-    ensures value { Answers meta_cause (metadata_of_bytes bytes.now) result }
+    // The answer is what the file is however its expressions are read by the grammar, unless memory runs out.
+    ensures value { (reading : Reading) → Answers meta_cause (metadata_by reading bytes.now) result }
+    // The bytes alone say which answer that is.
+    ensures one { HasOneMetadata bytes.now }
 {
     match read_file(alloc, bytes) {
         Ok(parts) => build(alloc, parts),

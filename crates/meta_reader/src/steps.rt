@@ -5,6 +5,7 @@ ghost use Rattle.std.specs.Option.{option_or};
 ghost use Rattle.dh_categories.specs.Single.{CombosBelow};
 ghost use Rattle.org_tree.specs.Units.{HasOwnIds};
 ghost use Rattle.dh_base.specs.Memory.{Finds};
+ghost use Rattle.expr_grammar.specs.Answer.{Reading};
 ghost use Rattle.meta_rules.specs.All.{expressions_of};
 ghost use Rattle.meta_rules.specs.Stages.{stages_broken};
 ghost use Rattle.dh_metadata.specs.Ids.{ids_of, twice_of};
@@ -101,10 +102,12 @@ fn read(
     parts: &MetaParts,
     links: Unread,
 ) -> Result<Expressions, MetaFault>
+    ghost reading: { Reading }
     requires indicators { length parts.now.indicators ≡ length links.indicators }
     requires validation_rules { length parts.now.validation_rules ≡ length links.validation_rules }
     requires program_indicators { length parts.now.program_indicators ≡ length links.program_indicators }
-    ensures { Finds meta_cause (unread_fault ids.now parts.now) (λ made. made ≡ expressions_of parts.now links) result }
+    ensures { Finds meta_cause (unread_fault reading.answer ids.now parts.now)
+        (λ made. made ≡ expressions_of reading.answer parts.now links) result }
 {
     match read_all(alloc, ids, parts, links) {
         Ok(made) => Ok(made),
@@ -167,10 +170,12 @@ pub(crate) fn with_expressions(
     parts: &MetaParts,
     links: Links,
 ) -> Result<Records, MetaFault>
+    ghost reading: { Reading }
     requires indicators { length parts.now.indicators ≡ length links.indicators }
     requires validation_rules { length parts.now.validation_rules ≡ length links.validation_rules }
     requires program_indicators { length parts.now.program_indicators ≡ length links.program_indicators }
-    ensures { Finds meta_cause (unread_fault ids.now parts.now) (λ records. records ≡ records_from parts.now links) result }
+    ensures { Finds meta_cause (unread_fault reading.answer ids.now parts.now)
+        (λ records. records ≡ records_from reading.answer parts.now links) result }
 {
     let mut links = links;
     let unread = take_unread(alloc, &mut links);
@@ -240,13 +245,14 @@ pub(crate) fn tried(
     parts: &MetaParts,
     links: Links,
 ) -> Result<(Records, Structure), MetaFault>
+    ghost reading: { Reading }
     requires indicators { length parts.now.indicators ≡ length links.indicators }
     requires validation_rules { length parts.now.validation_rules ≡ length links.validation_rules }
     requires program_indicators { length parts.now.program_indicators ≡ length links.program_indicators }
     requires own_ids { HasOwnIds (tree_rows links.organisation_units) }
     requires in_range { CombosBelow (length links.category_combos) (option_combo_rows links.category_option_combos) }
-    ensures { Finds meta_cause (option_or (unread_fault ids.now parts.now) (rule_fault parts.now links)) (λ pair. (pair.0 ≡ records_from parts.now links)
-        × IsHeld links pair.1) result }
+    ensures { Finds meta_cause (option_or (unread_fault reading.answer ids.now parts.now) (rule_fault parts.now links))
+        (λ pair. (pair.0 ≡ records_from reading.answer parts.now links) × IsHeld links pair.1) result }
 {
     let held = ruled(alloc, parts, &links);
     match with_expressions(alloc, ids, parts, links) {

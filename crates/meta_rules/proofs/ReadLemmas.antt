@@ -1,7 +1,17 @@
--- The search for the first item that passes a test, one item further.
-use Rattle.std.proofs.Common.{◌≡◌, ℕ, zero, suc, ◌+◌, ◌<◌, Bool, cond, List, [], ◌∷◌, length, get_or, drop, Option, Some, refl, arith, add-one}
+-- The search for the first item that passes a test, one item further; and a text that isn't read.
+use Rattle.std.proofs.Common.{◌≡◌, ℕ, zero, suc, ◌+◌, ◌<◌, Bool, cond, List, [], ◌∷◌, length, get_or, drop, Option, Some, Err, refl, ap, subst, sym, arith}
+use Rattle.std.proofs.Common.{add-one}
+use Rattle.dh_base.specs.Memory.{IsFirst}
 use Rattle.expr_lang.specs.declared.tree.Item.{Item}
-use Rattle.meta_rules.specs.Read.{missing_place}
+use Rattle.expr_lang.specs.declared.tree.Place.{Place}
+use Rattle.expr_lang.specs.declared.tree.Sort.{Sort}
+use Rattle.expr_lang.specs.declared.fault.ExprFault.{ExprFault}
+use Rattle.expr_lang.specs.declared.fault.ExprFault.TheVariants as syntax_fault
+use Rattle.expr_grammar.specs.Answer.{IsAnswer, UnlessMemory, Reading}
+use Rattle.expr_grammar.proofs.Readings.{read_as}
+use Rattle.meta_rules.specs.declared.expr_fault.TextFault.{TextFault}
+use Rattle.meta_rules.specs.Names.{KindIds}
+use Rattle.meta_rules.specs.Read.{missing_place, text_fault_of, wrong_at, unread_at, text_cause}
 
 step_from : (test : Item → Bool) (items : List Item) (places : List ℕ) (n : ℕ) (x : Item) → n < length items → length items ≡ length places
     → missing_place test (drop n items) (drop n places)
@@ -16,3 +26,18 @@ pub missing_place-step : (test : Item → Bool) (items : List Item) (places : Li
     → missing_place test (drop n items) (drop n places)
     ≡ cond (test (get_or items n x)) (Some (get_or places n 0)) (missing_place test (drop (n + 1) items) (drop (n + 1) places))
 missing_place-step test items places n x within same = rw add-one (step_from test items places n x within same)
+
+-- a fault by the grammar is what a reading says
+module _ (reading : Reading) (ids : KindIds) (place : Place) (days : List (List ℕ)) (wanted : Sort) (text : List ℕ) where
+  met : (fault : ExprFault) → UnlessMemory (IsAnswer place days (Some wanted) text) (Err fault)
+      → IsFirst (unread_at reading.answer ids days place wanted text) (text_cause (text_fault_of fault))
+  unfolding unread_at
+  met (syntax_fault.Syntax at) is = ap (wrong_at ids) (read_as reading place days (Some wanted) text (Err (syntax_fault.Syntax at)) is)
+  met (syntax_fault.TooDeep at) is = ap (wrong_at ids) (read_as reading place days (Some wanted) text (Err (syntax_fault.TooDeep at)) is)
+  met (syntax_fault.Sort at) is = ap (wrong_at ids) (read_as reading place days (Some wanted) text (Err (syntax_fault.Sort at)) is)
+  met syntax_fault.Memory is = tt
+
+  pub refused : (fault : ExprFault) (told : TextFault) → told ≡ text_fault_of fault → UnlessMemory (IsAnswer place days (Some wanted) text) (Err fault)
+      → IsFirst (unread_at reading.answer ids days place wanted text) (text_cause told)
+  refused fault told same is =
+      subst (λ (t : TextFault). IsFirst (unread_at reading.answer ids days place wanted text) (text_cause t)) (sym same) (met fault is)

@@ -19,7 +19,7 @@ use Rattle.meta_rules.specs.declared.expr_fault.ExprFault.{ExprFault}
 use Rattle.meta_rules.specs.declared.expr_fault.ExprError.{ExprError}
 use Rattle.meta_rules.specs.declared.expr_fault.ExprError.TheVariants.{Unread, Memory}
 use Rattle.meta_rules.specs.Names.{KindIds}
-use Rattle.meta_rules.specs.Read.{unread_at, expr_in}
+use Rattle.meta_rules.specs.Read.{Meaning, unread_at, expr_in}
 
 -- what a fault carries; running out of memory carries nothing
 abbrev pub expr_cause : ExprError → Option ExprFault
@@ -27,8 +27,8 @@ expr_cause (Unread fault) = Some fault
 expr_cause Memory = None
 
 -- a text of an object isn't read
-unfoldable pub unread : KindIds → List (List ℕ) → List ℕ → Place → Sort → List ℕ → Option ExprFault
-unread ids days uid place wanted text = option_map (λ at. record { uid = uid; at = at }) (unread_at ids days place wanted text)
+unfoldable pub unread : Meaning → KindIds → List (List ℕ) → List ℕ → Place → Sort → List ℕ → Option ExprFault
+unread meaning ids days uid place wanted text = option_map (λ at. record { uid = uid; at = at }) (unread_at meaning ids days place wanted text)
 
 -- the first object of a list with a text that isn't read
 abbrev pub first_unread : {X : Type 0} → (X → Option ExprFault) → List X → Option ExprFault
@@ -36,23 +36,23 @@ first_unread unread_of [] = None
 first_unread unread_of (object ∷ objects) = option_or (unread_of object) (first_unread unread_of objects)
 
 -- numerator and denominator are numbers over aggregate data
-abbrev pub indicator_unread : KindIds → List (List ℕ) → RawIndicator → Option ExprFault
-indicator_unread ids days raw =
-    option_or (unread ids days raw.id Aggregate Number raw.numerator) (unread ids days raw.id Aggregate Number raw.denominator)
+abbrev pub indicator_unread : Meaning → KindIds → List (List ℕ) → RawIndicator → Option ExprFault
+indicator_unread meaning ids days raw =
+    option_or (unread meaning ids days raw.id Aggregate Number raw.numerator) (unread meaning ids days raw.id Aggregate Number raw.denominator)
 
 -- so are the two sides of a validation rule
-abbrev pub rule_unread : KindIds → List (List ℕ) → RawRule → Option ExprFault
-rule_unread ids days raw =
-    option_or (unread ids days raw.id Aggregate Number raw.left_side.0) (unread ids days raw.id Aggregate Number raw.right_side.0)
+abbrev pub rule_unread : Meaning → KindIds → List (List ℕ) → RawRule → Option ExprFault
+rule_unread meaning ids days raw =
+    option_or (unread meaning ids days raw.id Aggregate Number raw.left_side.0) (unread meaning ids days raw.id Aggregate Number raw.right_side.0)
 
 -- the expression of a program indicator is a number over an event, and its filter a truth
-abbrev pub filter_unread : KindIds → List (List ℕ) → List ℕ → Option (List ℕ) → Option ExprFault
-filter_unread ids days uid None = None
-filter_unread ids days uid (Some text) = unread ids days uid Program Truth text
+abbrev pub filter_unread : Meaning → KindIds → List (List ℕ) → List ℕ → Option (List ℕ) → Option ExprFault
+filter_unread meaning ids days uid None = None
+filter_unread meaning ids days uid (Some text) = unread meaning ids days uid Program Truth text
 
-abbrev pub program_indicator_unread : KindIds → List (List ℕ) → RawProgramIndicator → Option ExprFault
-program_indicator_unread ids days raw =
-    option_or (unread ids days raw.id Program Number raw.expression) (filter_unread ids days raw.id raw.filter)
+abbrev pub program_indicator_unread : Meaning → KindIds → List (List ℕ) → RawProgramIndicator → Option ExprFault
+program_indicator_unread meaning ids days raw =
+    option_or (unread meaning ids days raw.id Program Number raw.expression) (filter_unread meaning ids days raw.id raw.filter)
 
 -- an indicator of a file, with these expressions and references
 abbrev pub indicator_with : RawIndicator → List ℕ → Expr → Expr → IndicatorLinks → Indicator
@@ -68,9 +68,9 @@ indicator_with raw name numerator denominator links = record {
 }
 
 -- an indicator of a file, with its references and its expressions
-abbrev pub indicator_in : List (List ℕ) → RawIndicator → IndicatorLinks → Indicator
-indicator_in days raw links =
-    indicator_with raw raw.name (expr_in days Aggregate Number raw.numerator) (expr_in days Aggregate Number raw.denominator) links
+abbrev pub indicator_in : Meaning → List (List ℕ) → RawIndicator → IndicatorLinks → Indicator
+indicator_in meaning days raw links =
+    indicator_with raw raw.name (expr_in meaning days Aggregate Number raw.numerator) (expr_in meaning days Aggregate Number raw.denominator) links
 
 -- a validation rule
 abbrev pub rule_with : RawRule → List ℕ → Expr → Expr → Sharing → Rule
@@ -84,9 +84,9 @@ rule_with raw name left right links = record {
   sharing = links;
 }
 
-abbrev pub rule_in : List (List ℕ) → RawRule → Sharing → Rule
-rule_in days raw links =
-    rule_with raw raw.name (expr_in days Aggregate Number raw.left_side.0) (expr_in days Aggregate Number raw.right_side.0) links
+abbrev pub rule_in : Meaning → List (List ℕ) → RawRule → Sharing → Rule
+rule_in meaning days raw links =
+    rule_with raw raw.name (expr_in meaning days Aggregate Number raw.left_side.0) (expr_in meaning days Aggregate Number raw.right_side.0) links
 
 -- a program indicator
 abbrev pub program_indicator_with : RawProgramIndicator → List ℕ → Expr → Option Expr → ProgramIndicatorLinks → ProgramIndicator
@@ -102,9 +102,9 @@ program_indicator_with raw name expression filter links = record {
   sharing = links.sharing;
 }
 
-abbrev pub program_indicator_in : List (List ℕ) → RawProgramIndicator → ProgramIndicatorLinks → ProgramIndicator
-program_indicator_in days raw links =
-    program_indicator_with raw raw.name (expr_in days Program Number raw.expression) (option_map (expr_in days Program Truth) raw.filter) links
+abbrev pub program_indicator_in : Meaning → List (List ℕ) → RawProgramIndicator → ProgramIndicatorLinks → ProgramIndicator
+program_indicator_in meaning days raw links =
+    program_indicator_with raw raw.name (expr_in meaning days Program Number raw.expression) (option_map (expr_in meaning days Program Truth) raw.filter) links
 
 -- each object made of what stands at its place in two lists
 abbrev pub made_of : {A B C : Type 0} → (A → B → C) → List A → List B → List C

@@ -6,12 +6,15 @@ use Rattle.expr_lang.specs.declared.tree.Sort.{Sort}
 use Rattle.expr_lang.specs.declared.fault.ExprFault.{ExprFault}
 use Rattle.expr_lang.specs.declared.fault.ExprFault.TheVariants as syntax_fault
 use Rattle.expr_lang.specs.declared.tree.Leaf.TheVariants as leaf
-use Rattle.expr_lang.specs.Expr.{parse_of}
 use Rattle.expr_lang.specs.Expression.{Expression}
-use Rattle.expr_lang.specs.Shape.{Operand}
+use Rattle.expr_lang.specs.Syntax.{Operand}
 use Rattle.meta_rules.specs.declared.expr_fault.TextFault.{TextFault}
 use Rattle.meta_rules.specs.declared.expr_fault.TextFault.TheVariants.{At, Memory}
 use Rattle.meta_rules.specs.Names.{KindIds, is_missing}
+
+-- What texts mean: in a place, where items of these identifiers are days, and an expression of a sort is wanted or one of any.
+abbrev pub Meaning : Type 0
+Meaning = Place → List (List ℕ) → Option Sort → List ℕ → Result Expression ExprFault
 
 -- the byte that a fault of the language names
 abbrev pub byte_of : ExprFault → ℕ
@@ -36,8 +39,8 @@ wrong_at ids (Err fault) = Some (byte_of fault)
 wrong_at ids (Ok expression) = missing_place (is_missing ids) expression.items expression.places
 
 -- the byte at which a text isn't an expression of this place and sort, or at which it names an object that isn't there
-unfoldable pub unread_at : KindIds → List (List ℕ) → Place → Sort → List ℕ → Option ℕ
-unread_at ids days place wanted text = wrong_at ids (parse_of place days (Some wanted) text)
+unfoldable pub unread_at : Meaning → KindIds → List (List ℕ) → Place → Sort → List ℕ → Option ℕ
+unread_at meaning ids days place wanted text = wrong_at ids (meaning place days (Some wanted) text)
 
 -- what a fault carries; running out of memory carries nothing
 abbrev pub text_cause : TextFault → Option ℕ
@@ -50,5 +53,5 @@ read_or_zero (Ok expression) = expression
 read_or_zero (Err fault) = record { tree = Operand (leaf.Number 0); items = []; places = [] }
 
 -- the expression that a text is
-unfoldable pub expr_in : List (List ℕ) → Place → Sort → List ℕ → Expression
-expr_in days place wanted text = read_or_zero (parse_of place days (Some wanted) text)
+unfoldable pub expr_in : Meaning → List (List ℕ) → Place → Sort → List ℕ → Expression
+expr_in meaning days place wanted text = read_or_zero (meaning place days (Some wanted) text)

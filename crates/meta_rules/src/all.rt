@@ -1,6 +1,7 @@
 //! All expressions of metadata.
 
 ghost use Rattle.std.specs.Prelude.{◌≡◌, length};
+ghost use Rattle.expr_grammar.specs.Answer.{Reading};
 ghost use Rattle.meta_rules.specs.Days.{days_of};
 ghost use Rattle.dh_base.specs.Memory.{Finds};
 ghost use Rattle.meta_rules.specs.Objects.{expr_cause};
@@ -36,17 +37,19 @@ pub struct Expressions {
     pub program_indicators: Items<ProgramIndicator>,
 }
 
-/// Reads all expressions of a file. `links` has the references of each object.
+/// Reads all expressions of a file by the grammar. `links` has the references of each object.
 pub fn read_all(
     alloc: Global,
     ids: &Ids,
     parts: &MetaParts,
     links: Unread,
 ) -> Result<Expressions, ExprError>
+    ghost reading: { Reading }
     requires indicators { length parts.now.indicators ≡ length links.indicators }
     requires validation_rules { length parts.now.validation_rules ≡ length links.validation_rules }
     requires program_indicators { length parts.now.program_indicators ≡ length links.program_indicators }
-    ensures { Finds expr_cause (expressions_unread ids.now parts.now) (λ made. made ≡ expressions_of parts.now links) result }
+    ensures { Finds expr_cause (expressions_unread reading.answer ids.now parts.now)
+        (λ made. made ≡ expressions_of reading.answer parts.now links) result }
 {
     let days = days_of(alloc, parts)?;
     let Unread {

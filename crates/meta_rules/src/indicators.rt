@@ -2,6 +2,7 @@
 
 ghost use Rattle.std.specs.Prelude.{◌≡◌, length};
 ghost use Rattle.dh_base.specs.Memory.{Finds};
+ghost use Rattle.expr_grammar.specs.Answer.{Reading};
 ghost use Rattle.expr_lang.specs.declared.tree.Place.TheVariants.{Aggregate};
 ghost use Rattle.expr_lang.specs.declared.tree.Sort.TheVariants.{Number};
 ghost use Rattle.meta_rules.specs.Read.{expr_in};
@@ -23,8 +24,10 @@ fn texts(
     days: &DayItems,
     raw: &RawIndicator,
 ) -> Result<(Items<u8>, (Expr, Expr)), ExprError>
-    ensures { Finds expr_cause (indicator_unread ids.now days.now raw.now) (λ texts. (texts.0 ≡ raw.now.name)
-        × (texts.1.0 ≡ expr_in days.now Aggregate Number raw.now.numerator) × (texts.1.1 ≡ expr_in days.now Aggregate Number raw.now.denominator)) result }
+    ghost reading: { Reading }
+    ensures { Finds expr_cause (indicator_unread reading.answer ids.now days.now raw.now) (λ texts. (texts.0 ≡ raw.now.name)
+        × (texts.1.0 ≡ expr_in reading.answer days.now Aggregate Number raw.now.numerator)
+        × (texts.1.1 ≡ expr_in reading.answer days.now Aggregate Number raw.now.denominator)) result }
 {
     let read = read_numbers(
         alloc,
@@ -65,7 +68,9 @@ pub fn indicator(
     raw: &RawIndicator,
     links: IndicatorLinks,
 ) -> Result<Indicator, ExprError>
-    ensures { Finds expr_cause (indicator_unread ids.now days.now raw.now) (λ made. made ≡ indicator_in days.now raw.now links) result }
+    ghost reading: { Reading }
+    ensures { Finds expr_cause (indicator_unread reading.answer ids.now days.now raw.now)
+        (λ made. made ≡ indicator_in reading.answer days.now raw.now links) result }
 {
     match texts(alloc, ids, days, raw) {
         Ok(texts) => Ok(with_links(raw, texts, links)),
@@ -84,9 +89,10 @@ pub fn indicators(
     raw: &[RawIndicator],
     links: Items<IndicatorLinks>,
 ) -> Result<Vec<Indicator>, ExprError>
+    ghost reading: { Reading }
     requires { length raw.now ≡ length links }
-    ensures { Finds expr_cause (first_unread (indicator_unread ids.now days.now) raw.now)
-        (λ made. made.items ≡ made_of (indicator_in days.now) raw.now links) result }
+    ensures { Finds expr_cause (first_unread (indicator_unread reading.answer ids.now days.now) raw.now)
+        (λ made. made.items ≡ made_of (indicator_in reading.answer days.now) raw.now links) result }
 {
     let mut rest = waiting(alloc, links.items)?;
     let mut made = Vec::with_capacity(alloc, raw.len())?;

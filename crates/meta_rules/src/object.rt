@@ -1,6 +1,7 @@
 //! Reading an expression of an object.
 
 ghost use Rattle.std.specs.Prelude.{◌≡◌, IfOk};
+ghost use Rattle.expr_grammar.specs.Answer.{Reading};
 ghost use Rattle.expr_lang.specs.declared.tree.Place.TheVariants.{Aggregate};
 ghost use Rattle.expr_lang.specs.declared.tree.Sort.TheVariants.{Number};
 ghost use Rattle.std.specs.Option.{option_or};
@@ -27,7 +28,9 @@ pub fn read_of(
     place: Place,
     wanted: Sort,
 ) -> Result<Expr, ExprError>
-    ensures { Finds expr_cause (unread ids.now days.now uid place wanted text.now) (λ expr. expr ≡ expr_in days.now place wanted text.now) result }
+    ghost reading: { Reading }
+    ensures { Finds expr_cause (unread reading.answer ids.now days.now uid place wanted text.now)
+        (λ expr. expr ≡ expr_in reading.answer days.now place wanted text.now) result }
 {
     match read(alloc, ids, days, text, place, wanted) {
         Ok(expr) => Ok(expr),
@@ -44,7 +47,9 @@ pub fn read_number(
     uid: Uid,
     text: &[u8],
 ) -> Result<Expr, ExprError>
-    ensures { Finds expr_cause (unread ids.now days.now uid Aggregate Number text.now) (λ expr. expr ≡ expr_in days.now Aggregate Number text.now) result }
+    ghost reading: { Reading }
+    ensures { Finds expr_cause (unread reading.answer ids.now days.now uid Aggregate Number text.now)
+        (λ expr. expr ≡ expr_in reading.answer days.now Aggregate Number text.now) result }
 {
     read_of(alloc, ids, days, uid, text, Place::Aggregate, Sort::Number)
 }
@@ -58,8 +63,11 @@ pub fn read_numbers(
     first: &[u8],
     second: &[u8],
 ) -> Result<(Expr, Expr), ExprError>
-    ensures { Finds expr_cause (option_or (unread ids.now days.now uid Aggregate Number first.now) (unread ids.now days.now uid Aggregate Number second.now))
-        (λ pair. (pair.0 ≡ expr_in days.now Aggregate Number first.now) × (pair.1 ≡ expr_in days.now Aggregate Number second.now)) result }
+    ghost reading: { Reading }
+    ensures { Finds expr_cause (option_or (unread reading.answer ids.now days.now uid Aggregate Number first.now)
+        (unread reading.answer ids.now days.now uid Aggregate Number second.now))
+        (λ pair. (pair.0 ≡ expr_in reading.answer days.now Aggregate Number first.now)
+        × (pair.1 ≡ expr_in reading.answer days.now Aggregate Number second.now)) result }
 {
     let first = read_number(alloc, ids, days, uid, first)?;
     let second = read_number(alloc, ids, days, uid, second)?;

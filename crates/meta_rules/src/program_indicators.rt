@@ -2,6 +2,7 @@
 
 ghost use Rattle.std.specs.Prelude.{◌≡◌, length, option_map};
 ghost use Rattle.dh_base.specs.Memory.{Finds};
+ghost use Rattle.expr_grammar.specs.Answer.{Reading};
 ghost use Rattle.expr_lang.specs.declared.tree.Place.TheVariants.{Program};
 ghost use Rattle.expr_lang.specs.declared.tree.Sort.TheVariants.{Number, Truth};
 ghost use Rattle.meta_rules.specs.Read.{expr_in};
@@ -26,7 +27,9 @@ fn read_filter(
     uid: Uid,
     filter: &Option<Items<u8>>,
 ) -> Result<Option<Expr>, ExprError>
-    ensures { Finds expr_cause (filter_unread ids.now days.now uid filter.now) (λ read. read ≡ option_map (expr_in days.now Program Truth) filter.now) result }
+    ghost reading: { Reading }
+    ensures { Finds expr_cause (filter_unread reading.answer ids.now days.now uid filter.now)
+        (λ read. read ≡ option_map (expr_in reading.answer days.now Program Truth) filter.now) result }
 {
     match filter {
         None => Ok(None),
@@ -48,8 +51,10 @@ fn texts(
     days: &DayItems,
     raw: &RawProgramIndicator,
 ) -> Result<(Items<u8>, (Expr, Option<Expr>)), ExprError>
-    ensures { Finds expr_cause (program_indicator_unread ids.now days.now raw.now) (λ texts. (texts.0 ≡ raw.now.name)
-        × (texts.1.0 ≡ expr_in days.now Program Number raw.now.expression) × (texts.1.1 ≡ option_map (expr_in days.now Program Truth) raw.now.filter)) result }
+    ghost reading: { Reading }
+    ensures { Finds expr_cause (program_indicator_unread reading.answer ids.now days.now raw.now) (λ texts. (texts.0 ≡ raw.now.name)
+        × (texts.1.0 ≡ expr_in reading.answer days.now Program Number raw.now.expression)
+        × (texts.1.1 ≡ option_map (expr_in reading.answer days.now Program Truth) raw.now.filter)) result }
 {
     let expression = read_of(
         alloc,
@@ -93,7 +98,9 @@ pub fn program_indicator(
     raw: &RawProgramIndicator,
     links: ProgramIndicatorLinks,
 ) -> Result<ProgramIndicator, ExprError>
-    ensures { Finds expr_cause (program_indicator_unread ids.now days.now raw.now) (λ made. made ≡ program_indicator_in days.now raw.now links) result }
+    ghost reading: { Reading }
+    ensures { Finds expr_cause (program_indicator_unread reading.answer ids.now days.now raw.now)
+        (λ made. made ≡ program_indicator_in reading.answer days.now raw.now links) result }
 {
     match texts(alloc, ids, days, raw) {
         Ok(texts) => Ok(with_links(raw, texts, links)),
@@ -112,9 +119,10 @@ pub fn program_indicators(
     raw: &[RawProgramIndicator],
     links: Items<ProgramIndicatorLinks>,
 ) -> Result<Vec<ProgramIndicator>, ExprError>
+    ghost reading: { Reading }
     requires { length raw.now ≡ length links }
-    ensures { Finds expr_cause (first_unread (program_indicator_unread ids.now days.now) raw.now)
-        (λ made. made.items ≡ made_of (program_indicator_in days.now) raw.now links) result }
+    ensures { Finds expr_cause (first_unread (program_indicator_unread reading.answer ids.now days.now) raw.now)
+        (λ made. made.items ≡ made_of (program_indicator_in reading.answer days.now) raw.now links) result }
 {
     let mut rest = waiting(alloc, links.items)?;
     let mut made = Vec::with_capacity(alloc, raw.len())?;

@@ -1,7 +1,8 @@
 //! Reading one expression.
 
-ghost use Rattle.std.specs.Prelude.{◌≡◌, length, Some};
+ghost use Rattle.std.specs.Prelude.{◌≡◌, length};
 ghost use Rattle.dh_base.specs.Memory.{Finds};
+ghost use Rattle.expr_grammar.specs.Answer.{Reading};
 ghost use Rattle.expr_lang.specs.Expr.{items_in, places_in};
 ghost use Rattle.meta_rules.specs.Names.{is_missing};
 ghost use Rattle.meta_rules.specs.Read.{text_fault_of, missing_place, unread_at, text_cause, expr_in};
@@ -38,7 +39,7 @@ fn missing_at(ids: &Ids, expr: &Expr) -> Option<usize>
     None
 }
 
-/// The expression of this sort that a text is, if every object that it names is there.
+/// The expression of this sort that a text is by the grammar, if every object that it names is there.
 #[tactic(auto, unfolding(crate::specs::Read::unread_at, crate::specs::Read::expr_in))]
 pub fn read(
     alloc: Global,
@@ -48,7 +49,9 @@ pub fn read(
     place: Place,
     wanted: Sort,
 ) -> Result<Expr, TextFault>
-    ensures { Finds text_cause (unread_at ids.now days.now place wanted text.now) (λ expr. expr ≡ expr_in days.now place wanted text.now) result }
+    ghost reading: { Reading }
+    ensures { Finds text_cause (unread_at reading.answer ids.now days.now place wanted text.now)
+        (λ expr. expr ≡ expr_in reading.answer days.now place wanted text.now) result }
 {
     match parse_sorted(alloc, text, place, days, wanted) {
         Err(fault) => Err(told(fault)),

@@ -2,6 +2,7 @@
 
 ghost use Rattle.std.specs.Prelude.{◌≡◌, length};
 ghost use Rattle.dh_base.specs.Memory.{Finds};
+ghost use Rattle.expr_grammar.specs.Answer.{Reading};
 ghost use Rattle.expr_lang.specs.declared.tree.Place.TheVariants.{Aggregate};
 ghost use Rattle.expr_lang.specs.declared.tree.Sort.TheVariants.{Number};
 ghost use Rattle.meta_rules.specs.Read.{expr_in};
@@ -24,8 +25,10 @@ fn texts(
     days: &DayItems,
     raw: &RawRule,
 ) -> Result<(Items<u8>, (Expr, Expr)), ExprError>
-    ensures { Finds expr_cause (rule_unread ids.now days.now raw.now) (λ texts. (texts.0 ≡ raw.now.name)
-        × (texts.1.0 ≡ expr_in days.now Aggregate Number raw.now.left_side.0) × (texts.1.1 ≡ expr_in days.now Aggregate Number raw.now.right_side.0)) result }
+    ghost reading: { Reading }
+    ensures { Finds expr_cause (rule_unread reading.answer ids.now days.now raw.now) (λ texts. (texts.0 ≡ raw.now.name)
+        × (texts.1.0 ≡ expr_in reading.answer days.now Aggregate Number raw.now.left_side.0)
+        × (texts.1.1 ≡ expr_in reading.answer days.now Aggregate Number raw.now.right_side.0)) result }
 {
     let read = read_numbers(
         alloc,
@@ -61,7 +64,9 @@ pub fn rule(
     raw: &RawRule,
     links: Sharing,
 ) -> Result<Rule, ExprError>
-    ensures { Finds expr_cause (rule_unread ids.now days.now raw.now) (λ made. made ≡ rule_in days.now raw.now links) result }
+    ghost reading: { Reading }
+    ensures { Finds expr_cause (rule_unread reading.answer ids.now days.now raw.now)
+        (λ made. made ≡ rule_in reading.answer days.now raw.now links) result }
 {
     match texts(alloc, ids, days, raw) {
         Ok(texts) => Ok(with_links(raw, texts, links)),
@@ -80,8 +85,10 @@ pub fn rules(
     raw: &[RawRule],
     links: Items<Sharing>,
 ) -> Result<Vec<Rule>, ExprError>
+    ghost reading: { Reading }
     requires { length raw.now ≡ length links }
-    ensures { Finds expr_cause (first_unread (rule_unread ids.now days.now) raw.now) (λ made. made.items ≡ made_of (rule_in days.now) raw.now links) result }
+    ensures { Finds expr_cause (first_unread (rule_unread reading.answer ids.now days.now) raw.now)
+        (λ made. made.items ≡ made_of (rule_in reading.answer days.now) raw.now links) result }
 {
     let mut rest = waiting(alloc, links.items)?;
     let mut made = Vec::with_capacity(alloc, raw.len())?;

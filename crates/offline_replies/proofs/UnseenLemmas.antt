@@ -8,6 +8,7 @@ use Rattle.json_read.specs.Bytes.{document_of}
 use Rattle.json_read.specs.Forms.{Formed}
 use Rattle.dh_metadata.specs.declared.held.Records.{Records}
 use Rattle.meta_reader.specs.declared.fault.MetaFault.{MetaFault}
+use Rattle.meta_reader.proofs.OneMetadata.{one-metadata}
 use Rattle.query_lang.specs.declared.plain.Query.{Query}
 use Rattle.query_lang.specs.Query.{query_of}
 use Rattle.query_lang.specs.declared.query.TheConstants.{MOST_CELLS}
@@ -21,7 +22,7 @@ use Rattle.offline_replies.specs.Reply.{answer_reply}
 use Rattle.offline_replies.specs.Load.{log_of}
 use Rattle.offline_replies.specs.Answer.{seen_after, reply_to_query, reply_by_status, reply_by_load, reply_to_load, user_named, reply_by_user}
 use Rattle.offline_replies.specs.Answer.{reply_with_values}
-use Rattle.offline_replies.specs.Bytes.{Asked, values_in, reply_over, reply_to}
+use Rattle.offline_replies.specs.Bytes.{Asked, values_in, reply_over, IsReplyTo}
 use Rattle.offline_replies.specs.Unseen.{AreTaken, UnseenStays, IsUnseenReply}
 use Rattle.offline_replies.specs.declared.bundle.reply.Reply.{Reply}
 
@@ -56,17 +57,18 @@ stays ask r values reply is = λ user named are others moment day theirs same.
     (query_of (meta_after r (log_of r ask.moment values)) user (day_of ask.moment) MOST_CELLS ask.query) same
     ∙ sym (taken r ask.user ask.query ask.moment values user named are) ∙ sym is
 
-over-bytes : (ask : Asked) (bytes : List ℕ) (reply : Reply) → reply ≡ reply_to ask bytes → IsUnseenReply ask bytes reply
-unfolding reply_to
+over-bytes : (ask : Asked) (bytes : List ℕ) (reply : Reply) → IsReplyTo ask bytes reply → IsUnseenReply ask bytes reply
+unfolding IsReplyTo
 over-bytes ask bytes reply over = λ meta values read.
+    let same : over.0 ≡ Ok meta = one-metadata bytes over.0 (Ok meta) over.1 read.metadata_is in
     let is : reply ≡ reply_with_values meta ask.user ask.query ask.moment (Ok values) =
-    over
-    ∙ ap (λ (m : Result Records MetaFault). reply_over ask (values_in (document_of bytes)) m) read.metadata_is
+    over.2
+    ∙ ap (λ (m : Result Records MetaFault). reply_over ask (values_in (document_of bytes)) m) same
     ∙ ap (λ (v : Formed (List SetValue)). reply_with_values meta ask.user ask.query ask.moment v) read.values_are in
     record { reply_is = is; unseen = stays ask meta values reply is }
 
 -- of every reply
-pub unseen_bytes : (ask : Asked) (bytes : List ℕ) (result : Result Reply Memory) → IfOk result (λ reply. reply ≡ reply_to ask bytes)
+pub unseen_bytes : (ask : Asked) (bytes : List ℕ) (result : Result Reply Memory) → IfOk result (λ reply. IsReplyTo ask bytes reply)
     → IfOk result (IsUnseenReply ask bytes)
 unseen_bytes ask bytes (Ok reply) over = over-bytes ask bytes reply over
 unseen_bytes ask bytes (Err e) over = tt

@@ -1,11 +1,11 @@
 -- The reply to a query over the bytes of a bundle.
-use Rattle.std.specs.Prelude.{ℕ, ℤ, List, [], Option, None, Some, Result, Ok, Err, codes}
+use Rattle.std.specs.Prelude.{◌≡◌, ℕ, ℤ, List, [], Option, None, Some, Result, Ok, Err, codes}
 use Rattle.serde_json.specs.Data.{Data}
 use Rattle.json_read.specs.Bytes.{document_of}
 use Rattle.json_read.specs.Forms.{Formed}
 use Rattle.dh_metadata.specs.declared.held.Records.{Records}
 use Rattle.meta_reader.specs.Line.{line_of}
-use Rattle.meta_reader.specs.Read.{metadata_of_bytes}
+use Rattle.meta_reader.specs.Read.{IsMetadata}
 use Rattle.meta_reader.specs.declared.fault.MetaFault.{MetaFault}
 use Rattle.import_forms.specs.Sets.{values_at}
 use Rattle.import_forms.specs.declared.set.SetValue.{SetValue}
@@ -35,6 +35,7 @@ abbrev pub values_in : Option Data → Formed (List SetValue)
 values_in None = Ok []
 values_in (Some json) = values_of json
 
--- the reply to what is asked over the bytes of a bundle
-unfoldable pub reply_to : Asked → List ℕ → Reply
-reply_to ask bytes = reply_over ask (values_in (document_of bytes)) (metadata_of_bytes bytes)
+-- the reply to what is asked over the bytes of a bundle: over what these are, which is metadata or a first fault
+unfoldable pub IsReplyTo : Asked → List ℕ → Reply → Type 0
+IsReplyTo ask bytes reply =
+    (found : Result Records MetaFault) × IsMetadata bytes found × (reply ≡ reply_over ask (values_in (document_of bytes)) found)

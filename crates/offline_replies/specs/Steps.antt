@@ -6,9 +6,11 @@ use Rattle.json_read.specs.Given.{Gives}
 use Rattle.json_read.specs.declared.fault.FormFault.{FormFault}
 use Rattle.json_read.specs.declared.fault.FormFault.TheVariants as form
 use Rattle.meta_forms.specs.Parts.{parts_of}
+use Rattle.dh_metadata.specs.declared.held.Records.{Records}
 use Rattle.dh_metadata.specs.declared.parts.MetaParts.{MetaParts}
-use Rattle.meta_reader.specs.Faults.{metadata_of}
 use Rattle.meta_reader.specs.Line.{line_of}
+use Rattle.meta_reader.specs.Read.{IsMetadataOf}
+use Rattle.meta_reader.specs.declared.fault.MetaFault.{MetaFault}
 use Rattle.meta_reader.specs.declared.fault.MetaFault.TheVariants.{NotJson, Shape}
 use Rattle.import_forms.specs.declared.set.SetValue.{SetValue}
 use Rattle.offline_replies.specs.Bytes.{Asked, values_of, reply_over}
@@ -30,8 +32,8 @@ AreFormsIn (Some json) None = ⊥
 AreFormsIn (Some json) (Some read) = AreForms json read
 
 -- the reply, by what was found of the bundle on the way
-abbrev pub IsOverParts : Asked → MetaParts → Formed (List SetValue) → Reply → Type 0
-IsOverParts ask parts values reply = reply ≡ reply_over ask values (metadata_of parts)
+unfoldable pub IsOverParts : Asked → MetaParts → Formed (List SetValue) → Reply → Type 0
+IsOverParts ask parts values reply = (found : Result Records MetaFault) × IsMetadataOf parts found × (reply ≡ reply_over ask values found)
 
 abbrev pub IsOverForm : Asked → Formed MetaParts → Formed (List SetValue) → Reply → Type 0
 IsOverForm ask (Err path) values reply = reply ≡ meta_refused (line_of (Shape path))

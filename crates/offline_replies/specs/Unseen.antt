@@ -3,7 +3,7 @@ use Rattle.std.specs.Prelude.{◌≡◌, ℕ, ℤ, true, List, nat_eq, Some, Ok}
 use Rattle.json_read.specs.Bytes.{document_of}
 use Rattle.dh_periods.specs.Moment.{day_of}
 use Rattle.dh_metadata.specs.declared.held.Records.{Records}
-use Rattle.meta_reader.specs.Read.{metadata_of_bytes}
+use Rattle.meta_reader.specs.Read.{IsMetadata}
 use Rattle.engine.specs.declared.machine.Report.{Report}
 use Rattle.cell_values.specs.Seen.{SeenRecords, SameSeen}
 use Rattle.import_forms.specs.declared.set.SetValue.{SetValue}
@@ -14,7 +14,7 @@ use Rattle.offline_replies.specs.declared.bundle.reply.Reply.{Reply}
 
 -- a bundle has metadata and values
 pub record IsRead (bytes : List ℕ) (meta : Records) (values : List SetValue) : Type 0 where
-  pub metadata_is : metadata_of_bytes bytes ≡ Ok meta
+  pub metadata_is : IsMetadata bytes (Ok meta)
   pub values_are : values_in (document_of bytes) ≡ Ok values
 
 -- the values are all taken

@@ -6,12 +6,11 @@ use Rattle.dh_metadata.specs.declared.held.Records.{Records}
 use Rattle.json_read.specs.Bytes.{document_of}
 use Rattle.meta_reader.specs.File.{most_bytes, file_of, shaped_of}
 use Rattle.meta_reader.specs.declared.file_fault.FileFault.TheVariants as file
-use Rattle.dh_base.specs.Memory.{Answers}
-use Rattle.meta_reader.specs.Faults.{meta_cause}
 use Rattle.meta_reader.specs.declared.fault.MetaFault.{MetaFault}
 use Rattle.meta_reader.specs.declared.fault.MetaFault.TheVariants as fault
 use Rattle.meta_reader.specs.declared.fault.Which.TheVariants.{Bytes}
-use Rattle.meta_reader.specs.Read.{metadata_from, metadata_of_bytes}
+use Rattle.meta_reader.specs.Read.{IsMetadata}
+use Rattle.meta_reader.proofs.OneMetadata.{metadata-from-fault}
 use Rattle.request_session.specs.declared.ended.Ended.{Ended}
 use Rattle.request_session.specs.declared.ended.Ended.TheVariants.{ReadFault}
 use Rattle.request_replies.specs.OverFile.{OverMetadata, SessionOver, SessionOverAll, Refuses, RefusesLong}
@@ -21,33 +20,23 @@ use Rattle.request_replies.proofs.ServeLemmas.{served_over}
 
 -- ---- what reading the file came to
 
--- the file has this fault
-pub is_fault : (bytes : List ℕ) (found : MetaFault) → found ≢ fault.Memory
-    → Answers meta_cause (metadata_of_bytes bytes) (Err found) → metadata_of_bytes bytes ≡ Err found
-is_fault bytes fault.Memory other is = absurd (other refl)
-is_fault bytes fault.NotJson other is = is
-is_fault bytes (fault.Shape path) other is = is
-is_fault bytes (fault.Unknown uid path) other is = is
-is_fault bytes (fault.Twice uid) other is = is
-is_fault bytes (fault.Expr uid at) other is = is
-is_fault bytes (fault.Rule uid rule) other is = is
-is_fault bytes (fault.Limit limit) other is = is
-
 lt-test : (m n : ℕ) → m < n → nat_lt m n ≡ true
 lt-test m n less = grind arith
 
+long-file : (bytes : List ℕ) → most_bytes < length bytes → file_of bytes ≡ Err file.TooLong
+unfolding file_of
+long-file bytes long =
+    ap (λ b. cond b (Err file.TooLong) (option_map_or shaped_of (document_of bytes) (Err file.NotJson))) (lt-test most_bytes (length bytes) long)
+
 -- a file of more than the most bytes has that fault
-pub long_fault : (bytes : List ℕ) → most_bytes < length bytes → metadata_of_bytes bytes ≡ Err (fault.Limit Bytes)
-unfolding metadata_of_bytes file_of
-long_fault bytes long =
-    ap (λ b. metadata_from (cond b (Err file.TooLong) (option_map_or shaped_of (document_of bytes) (Err file.NotJson))))
-    (lt-test most_bytes (length bytes) long)
+pub long_fault : (bytes : List ℕ) → most_bytes < length bytes → IsMetadata bytes (Err (fault.Limit Bytes))
+long_fault bytes long = metadata-from-fault bytes file.TooLong (long-file bytes long)
 
 -- ---- what the session came to
 
 -- the metadata are refused
 pub refused_over : (shows : ℤ → Type 0) (bytes : List ℕ) (left left' written written' : Option (List ℕ)) (found : MetaFault) (how : SessionEnd)
-    → metadata_of_bytes bytes ≡ Err found → left' ≡ left → Refuses found written written' how → SessionOver shows bytes left left' written written' how
+    → IsMetadata bytes (Err found) → left' ≡ left → Refuses found written written' how → SessionOver shows bytes left left' written written' how
 refused_over shows bytes left left' written written' found end.Refused is same refuses = ((found, is, refuses), same)
 refused_over shows bytes left left' written written' found end.Unwritten is same refuses = ((found, is, refuses), same)
 refused_over shows bytes left left' written written' found (end.Ended how) is same refuses = absurd refuses
@@ -74,7 +63,7 @@ over_told shows bytes left left' written written' end.Memory input told other ov
 
 -- the metadata are taken
 pub taken_over : (shows : ℤ → Type 0) (bytes : List ℕ) (meta : Records) (left left' written written' : Option (List ℕ)) (how : SessionEnd)
-    → metadata_of_bytes bytes ≡ Ok meta → OverMetadata shows meta left left' written written' how → SessionOver shows bytes left left' written written' how
+    → IsMetadata bytes (Ok meta) → OverMetadata shows meta left left' written written' how → SessionOver shows bytes left left' written written' how
 taken_over shows bytes meta left left' written written' end.Refused reads over = absurd over
 taken_over shows bytes meta left left' written written' end.Unwritten reads over = absurd over
 taken_over shows bytes meta left left' written written' (end.Ended how) reads over = (meta, reads, over)

@@ -14,7 +14,8 @@ use Rattle.http_wire.specs.declared.request.Request.{Request}
 use Rattle.http_wire.proofs.NextLaws.{next_unique}
 use Rattle.dh_metadata.specs.declared.held.Records.{Records}
 use Rattle.meta_reader.specs.declared.fault.MetaFault.{MetaFault}
-use Rattle.meta_reader.specs.Read.{metadata_of_bytes}
+use Rattle.meta_reader.specs.Read.{IsMetadata}
+use Rattle.meta_reader.proofs.OneMetadata.{one-metadata}
 use Rattle.request_session.specs.Replies.{memory_reply, refused_text}
 use Rattle.request_session.specs.Session.{Requests, Replies, Session, keeps, counting, GoesOn, AsksToClose, EndsBy, WritesUpTo, is_decided}
 use Rattle.request_session.specs.declared.ended.Ended.{Ended}
@@ -77,7 +78,12 @@ one-over (Ok meta) input moments one other first second = text-same meta (counti
 one-over (Err fault) input moments one other first second = second ∙ sym first
 
 one-text : (file input : List ℕ) (moments : List ℤ) (text : List ℕ) → IsText file input moments text → IsOneText file input moments text
-one-text file input moments text is = (is, λ other also. one-over (metadata_of_bytes file) input moments text other is also)
+one-text file input moments text is = (
+  is,
+  λ other also.
+      one-over is.0 input moments text other is.2
+      (subst (λ (found : Result Records MetaFault). IsTextBy found input moments other) (one-metadata file also.0 is.0 also.1 is.1) also.2),
+)
 
 -- ---- the replies to the requests
 
@@ -232,7 +238,7 @@ broken-after meta requests moments replies last text whole_is replies_is lacks =
 )
 
 by-ends : (file input text : List ℕ) (meta : Records) (requests : List Request) (rest replies last : List ℕ) (moments : List ℤ)
-    → metadata_of_bytes file ≡ Ok meta → Requests (counting input) requests rest → text ≡ replies ++ last
+    → IsMetadata file (Ok meta) → Requests (counting input) requests rest → text ≡ replies ++ last
     → ((length moments ≡ length requests) × (replies ≡ replies_of meta 0 start requests moments)) ⊎ BreaksOff meta 0 start requests moments replies
     → LastIn (goes_on requests) rest last ⊎ (last ≡ memory_reply false)
     → IsOneText file input moments text ⊎ BreaksOffOver file input moments text
@@ -246,7 +252,7 @@ by-ends file input text meta requests rest replies last moments meta_is found wh
       ends = ends;
       text_is = whole_is ∙ ap (λ xs. xs ++ last) all.1;
     } in
-    inl (one-text file input moments text (subst (λ (read : Result Records MetaFault). IsTextBy read input moments text) (sym meta_is) over))
+    inl (one-text file input moments text (Ok meta, meta_is, over))
 by-ends file input text meta requests rest replies last moments meta_is found whole_is (inl all) (inr lacks) =
     inr (record {
       meta = meta;
@@ -266,7 +272,7 @@ by-ends file input text meta requests rest replies last moments meta_is found wh
       breaks = broken-before meta requests moments replies last text whole_is breaks;
     })
 
-session-text : (shows : ℤ → Type 0) (file input text : List ℕ) (meta : Records) (new : Seen) (ended_so : Ended) → metadata_of_bytes file ≡ Ok meta
+session-text : (shows : ℤ → Type 0) (file input text : List ℕ) (meta : Records) (new : Seen) (ended_so : Ended) → IsMetadata file (Ok meta)
     → is_decided ended_so ≡ true → Session (SessionStep shows) most_requests (counting input) ⊤ (started meta) new ended_so text
     → WritesText shows file input text
 session-text shows file input text meta new ended_so meta_is decided session =
@@ -278,13 +284,12 @@ session-text shows file input text meta new ended_so meta_is decided session =
           replies.is (ends-in session.requests session.rest session.last ended_so decided session.ends);
     }
 
-refused-text : (shows : ℤ → Type 0) (file input : List ℕ) (found : MetaFault) → metadata_of_bytes file ≡ Err found
+refused-text : (shows : ℤ → Type 0) (file input : List ℕ) (found : MetaFault) → IsMetadata file (Err found)
     → WritesText shows file input (refusal_line found)
 refused-text shows file input found is = record {
   moments = [];
   shown = tt;
-  is = inl (one-text file input [] (refusal_line found)
-      (subst (λ (read : Result Records MetaFault). IsTextBy read input [] (refusal_line found)) (sym is) refl));
+  is = inl (one-text file input [] (refusal_line found) (Err found, is, refl));
 }
 
 written-whole : (ended_so : Ended) (written written' : Option (List ℕ)) (text : List ℕ) → is_decided ended_so ≡ true

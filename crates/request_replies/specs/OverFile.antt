@@ -6,7 +6,7 @@ use Rattle.meta_reader.specs.declared.fault.MetaFault.{MetaFault}
 use Rattle.meta_reader.specs.declared.fault.MetaFault.TheVariants as fault
 use Rattle.meta_reader.specs.declared.fault.Which.TheVariants as which
 use Rattle.meta_reader.specs.Line.{line_of}
-use Rattle.meta_reader.specs.Read.{metadata_of_bytes}
+use Rattle.meta_reader.specs.Read.{IsMetadata}
 use Rattle.request_session.specs.Session.{AppendsFront}
 use Rattle.request_replies.specs.Serving.{Served, ServedOver}
 use Rattle.request_replies.specs.declared.over_file.SessionEnd.{SessionEnd}
@@ -18,7 +18,7 @@ refusal_line found = codes "dhis: metadata: " ++ line_of found ++ 10 ∷ []
 
 -- the line of the file's first fault is written so
 abbrev pub IsRefused : List ℕ → (List ℕ → Type 0) → Type 0
-IsRefused bytes Writes = (found : MetaFault) × (metadata_of_bytes bytes ≡ Err found) × Writes (refusal_line found)
+IsRefused bytes Writes = (found : MetaFault) × IsMetadata bytes (Err found) × Writes (refusal_line found)
 
 -- A session over a metadata file: the file is refused before the input is read, or the session is held over its
 -- metadata. If memory runs out before it begins nothing is read or written.
@@ -26,7 +26,7 @@ abbrev pub SessionOver : (ℤ → Type 0) → List ℕ → Option (List ℕ) →
 SessionOver shows bytes left left' written written' end.Refused = IsRefused bytes (Appends written written') × (left' ≡ left)
 SessionOver shows bytes left left' written written' end.Unwritten = IsRefused bytes (AppendsFront written written') × (left' ≡ left)
 SessionOver shows bytes left left' written written' (end.Ended how) =
-    (meta : Records) × (metadata_of_bytes bytes ≡ Ok meta) × Served shows left left' written written' meta how
+    (meta : Records) × IsMetadata bytes (Ok meta) × Served shows left left' written written' meta how
 SessionOver shows bytes left left' written written' end.Memory = Keeps written written' × (left' ≡ left)
 
 -- the same over all the bytes of the input
@@ -34,7 +34,7 @@ abbrev pub SessionOverAll : (ℤ → Type 0) → List ℕ → List ℕ → Optio
 SessionOverAll shows bytes input written written' end.Refused = IsRefused bytes (Appends written written')
 SessionOverAll shows bytes input written written' end.Unwritten = IsRefused bytes (AppendsFront written written')
 SessionOverAll shows bytes input written written' (end.Ended how) =
-    (meta : Records) × (metadata_of_bytes bytes ≡ Ok meta) × ServedOver shows input written written' meta how
+    (meta : Records) × IsMetadata bytes (Ok meta) × ServedOver shows input written written' meta how
 SessionOverAll shows bytes input written written' end.Memory = Keeps written written'
 
 -- what refusing the metadata comes to

@@ -5,7 +5,7 @@ use Rattle.std.specs.Io.KnownBytes.{Appends}
 use Rattle.std.specs.List.{AllByRecursion, list_all}
 use Rattle.dh_metadata.specs.declared.held.Records.{Records}
 use Rattle.meta_reader.specs.declared.fault.MetaFault.{MetaFault}
-use Rattle.meta_reader.specs.Read.{metadata_of_bytes}
+use Rattle.meta_reader.specs.Read.{IsMetadata}
 use Rattle.http_wire.specs.Next.{Found, ended, cut, refused, whole, IsNext}
 use Rattle.http_wire.specs.declared.request.Request.{Request}
 use Rattle.request_session.specs.Replies.{memory_reply, refused_text}
@@ -59,7 +59,7 @@ IsTextBy (Err fault) input moments text = text ≡ refusal_line fault
 
 -- the text of a session over a metadata file and an input, at these moments of its requests
 abbrev pub IsText : List ℕ → List ℕ → List ℤ → List ℕ → Type 0
-IsText file input moments text = IsTextBy (metadata_of_bytes file) input moments text
+IsText file input moments text = (found : Result Records MetaFault) × IsMetadata file found × IsTextBy found input moments text
 
 -- this is the text, and there is no other
 abbrev pub IsOneText : List ℕ → List ℕ → List ℤ → List ℕ → Type 0
@@ -73,7 +73,7 @@ BreaksOff meta before state requests moments text =
 -- the same over a metadata file and an input
 pub record BreaksOffOver (file input : List ℕ) (moments : List ℤ) (text : List ℕ) : Type 0 where
   pub meta : Records
-  pub meta_is : metadata_of_bytes file ≡ Ok meta
+  pub meta_is : IsMetadata file (Ok meta)
   pub requests : List Request
   pub rest : List ℕ
   pub found : Requests (counting input) requests rest

@@ -8,7 +8,8 @@ use Rattle.dh_outside.specs.Faults.{Rose}
 use Rattle.dh_outside.specs.Talk.{Talk, Says}
 use Rattle.dh_outside.specs.declared.Failed.{Failed}
 use Rattle.dh_metadata.specs.declared.held.Records.{Records}
-use Rattle.meta_reader.specs.Read.{metadata_of_bytes}
+use Rattle.meta_reader.specs.Read.{IsMetadata}
+use Rattle.meta_reader.proofs.OneMetadata.{some-metadata}
 use Rattle.meta_reader.specs.declared.fault.MetaFault.{MetaFault}
 use Rattle.net_doors.specs.Doors.{Shown}
 use Rattle.net_doors.specs.Serving.{Serving, EndsBy, HasServed}
@@ -101,10 +102,10 @@ listened U A before mid after most meta written written' result accepted back le
 -- ---- out of memory while the file was read
 
 unread-by : {N : Type 0} (U : N → Type 0) (A : Made → N → N → Type 0) (shown : Shown N) (most : ℕ) (bytes : List ℕ) (written : Option (List ℕ))
-    (found : Result Records MetaFault) → metadata_of_bytes bytes ≡ found → ServesOver U A shown shown most bytes written written end.Memory
+    (found : Result Records MetaFault) → IsMetadata bytes found → ServesOver U A shown shown most bytes written written end.Memory
 unread-by U A shown most bytes written (Ok meta) is = inr (meta, is, (kept written, inl refl))
 unread-by U A shown most bytes written (Err found) is = inl (found, is, kept written, refl)
 
 pub unread : {N : Type 0} (U : N → Type 0) (A : Made → N → N → Type 0) (shown : Shown N) (most : ℕ) (bytes : List ℕ) (written : Option (List ℕ))
     → ServesOver U A shown shown most bytes written written end.Memory
-unread U A shown most bytes written = unread-by U A shown most bytes written (metadata_of_bytes bytes) refl
+unread U A shown most bytes written = let file = some-metadata bytes in unread-by U A shown most bytes written file.0 file.1

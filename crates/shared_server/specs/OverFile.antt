@@ -5,7 +5,7 @@ use Rattle.std.specs.Io.KnownBytes.{Appends, Keeps}
 use Rattle.dh_outside.specs.Faults.{Rose}
 use Rattle.dh_metadata.specs.declared.held.Records.{Records}
 use Rattle.meta_reader.specs.declared.fault.MetaFault.{MetaFault}
-use Rattle.meta_reader.specs.Read.{metadata_of_bytes}
+use Rattle.meta_reader.specs.Read.{IsMetadata}
 use Rattle.net_doors.specs.Doors.{Shown}
 use Rattle.net_doors.specs.declared.ending.Ending.{Ending}
 use Rattle.net_doors.specs.declared.ending.Ending.TheVariants as ending
@@ -81,5 +81,5 @@ ServesMeta Untouched Answered before after most meta written written' end.Memory
 abbrev pub ServesOver : {N : Type 0} → (N → Type 0) → (Made → N → N → Type 0) → Shown N → Shown N → ℕ → List ℕ → Option (List ℕ) → Option (List ℕ) → ServeEnd
     → Type 0
 ServesOver Untouched Answered before after most bytes written written' how =
-    ((found : MetaFault) × (metadata_of_bytes bytes ≡ Err found) × Refuses found written written' how × (after ≡ before))
-    ⊎ ((meta : Records) × (metadata_of_bytes bytes ≡ Ok meta) × ServesMeta Untouched Answered before after most meta written written' how)
+    ((found : MetaFault) × IsMetadata bytes (Err found) × Refuses found written written' how × (after ≡ before))
+    ⊎ ((meta : Records) × IsMetadata bytes (Ok meta) × ServesMeta Untouched Answered before after most meta written written' how)

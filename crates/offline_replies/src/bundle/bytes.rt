@@ -4,9 +4,10 @@ ghost use Rattle.std.specs.Prelude.{◌≡◌, ◌<◌, ℕ, List, length, IfOk}
 ghost use Rattle.json_read.specs.Bytes.{document_of};
 ghost use Rattle.json_read.specs.Views.{data_of};
 ghost use Rattle.meta_reader.specs.File.{most_bytes};
-ghost use Rattle.offline_replies.specs.Bytes.{Asked, asked, reply_to};
+ghost use Rattle.offline_replies.specs.Bytes.{Asked, asked, IsReplyTo};
 ghost use Rattle.offline_replies.specs.Steps.{AreForms, AreFormsIn, IsOverDocument};
 ghost use Rattle.offline_replies.specs.Unseen.{IsUnseenReply};
+ghost use Rattle.offline_replies.specs.declared.bundle.reply.Reply.{Reply as Said};
 
 use crate::bundle::over::over_forms;
 use crate::bundle::reply::{Reply, meta_refused};
@@ -72,7 +73,7 @@ fn over_document(
 /// The reply to every query over a bundle of more than the most bytes.
 #[tactic(auto, using(crate::proofs::ReplyLemmas::long_reply))]
 pub fn reply_to_long(alloc: Global) -> Result<Reply, Memory>
-    ensures { IfOk result (λ reply. (ask : Asked) (bytes : List ℕ) → most_bytes < length bytes → reply ≡ reply_to ask bytes) }
+    ensures { IfOk result (λ reply. (ask : Asked) (bytes : List ℕ) → most_bytes < length bytes → IsReplyTo ask bytes reply) }
 {
     meta_refused(
         alloc,
@@ -91,7 +92,7 @@ fn over_bytes(
     moment: i64,
     bytes: &[u8],
 ) -> Result<Reply, Memory>
-    ensures { IfOk result (λ reply. reply ≡ reply_to (asked user.now query.now moment) bytes.now) }
+    ensures { IfOk result (λ reply. IsReplyTo (asked user.now query.now moment) bytes.now reply) }
 {
     if bytes.len() > MOST_BYTES {
         return reply_to_long(alloc);
@@ -108,7 +109,9 @@ pub fn reply_to_bytes(
     moment: i64,
     bytes: &[u8],
 ) -> Result<Reply, Memory>
-    ensures over { IfOk result (λ reply. reply ≡ reply_to (asked user.now query.now moment) bytes.now) }
+    ensures over { IfOk result (λ reply. IsReplyTo (asked user.now query.now moment) bytes.now reply) }
+    // there is no other
+    ensures sole { IfOk result (λ reply. (other : Said) → IsReplyTo (asked user.now query.now moment) bytes.now other → other ≡ reply) }
     // nothing that the user doesn't see changes it
     ensures unseen { IfOk result (IsUnseenReply (asked user.now query.now moment) bytes.now) }
 {

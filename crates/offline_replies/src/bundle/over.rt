@@ -270,7 +270,6 @@ fn over_metadata(
 }
 
 /// The reply over what a bundle says: its first fault, or the reply over its metadata and values.
-#[tactic(auto, using(crate::proofs::ReplyLemmas::over_refused))]
 pub(crate) fn over_forms(
     alloc: Global,
     user: &[u8],

@@ -62,7 +62,7 @@ fn report_over(alloc: Global, meta: Metadata, moment: i64, count: u32) -> Result
 /// Draws so many values, brings them to a log at a moment in seconds from 1970-01-01 in UTC, and
 /// tells how many records and changes they leave, and their total. The metadata file of the samples
 /// has no fault; the line of one would stand in place of the report.
-#[tactic(auto, unfolding(crate::specs::Generated::IsGenerated), using(crate::proofs::GeneratedLemmas::over_fault))]
+#[tactic(auto, unfolding(crate::specs::Generated::IsGenerated))]
 pub fn generated(alloc: Global, count: u32, moment: i64) -> Result<Items<u8>, Memory>
     requires { count ≤ 200000 }
     ensures { IfOk result (λ text. IsGenerated count moment text) }

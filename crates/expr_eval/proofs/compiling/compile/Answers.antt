@@ -1,4 +1,4 @@
-use Rattle.std.proofs.Common.{ℕ, List, ◌++◌, ◌-◌, length, map, sym, ap, ◌∙◌}
+use Rattle.std.proofs.Common.{ℕ, List, ◌++◌, ◌-◌, length, map, ap, ◌∙◌}
 use Rattle.expr_lang.specs.declared.tree.Item.{Item}
 use Rattle.expr_lang.specs.declared.tree.Branch.{Branch}
 use Rattle.expr_lang.specs.Branches.{shape_in}
@@ -13,16 +13,13 @@ use Rattle.expr_eval.proofs.compiling.compile.Goals as goal
 
 pub returns : goal.returns
 returns c =
-    let shape : Shape = c.args.expr.now.tree in
     let items : List Item = items_in c.args.expr.now in
     let branches : List Branch = c.branches-branches.result.now in
     let root : List Item → Shape = λ l. shape_in l branches (length branches - 1) in
-    means items shape _
+    means items (root items) c.args.expr.now.tree _ c.branches-branches.ensures.tree
     (c.in_ok-emit.ensures.code
     ∙ ap (λ (l : List Instr). l ++ (codes_of (index_in c.items-items.result.now) (root c.items-items.result.now)).one) c.in_ok-code.ensures.items
-    ∙ ap (λ (l : List Item). (codes_of (index_in l) (root l)).one) c.items-items.ensures
-    ∙ ap (λ (s : Shape). (codes_of (index_in items) s).one) (sym c.branches-branches.ensures.tree))
+    ∙ ap (λ (l : List Item). (codes_of (index_in l) (root l)).one) c.items-items.ensures)
     (c.in_ok-emit.ensures.plain
     ∙ ap (λ (l : List ℕ). l ++ map (index_in c.items-items.result.now) (plain_items (root c.items-items.result.now))) c.in_ok-plain.ensures.items
-    ∙ ap (λ (l : List Item). map (index_in l) (plain_items (root l))) c.items-items.ensures
-    ∙ ap (λ (s : Shape). map (index_in items) (plain_items s)) (sym c.branches-branches.ensures.tree))
+    ∙ ap (λ (l : List Item). map (index_in l) (plain_items (root l))) c.items-items.ensures)

@@ -5,7 +5,8 @@ use Rattle.expr_lang.proofs.build.advance.Goals as goal
 pub returns-in-Unary : goal.returns-in-Unary
 returns-in-Unary c =
     next_if c.args.text.now c.args.days.now c.args.spot.at c.args.spot.node (node.Unary c.in-Unary.unary) c.args.making.now _ c.put_unary.new.making
-    c.put_unary.result c.in-Unary.is c.put_unary.ensures (next_unary c.args.text.now c.args.days.now c.args.spot.at c.args.making.now c.requires c.in-Unary.unary)
+    c.put_unary.result c.in-Unary.is c.put_unary.ensures (next_unary c.args.text.now c.args.days.now c.args.spot.at c.args.making.now c.requires
+    c.in-Unary.unary)
 
 pub returns-in-Binary : goal.returns-in-Binary
 returns-in-Binary c =

@@ -1,5 +1,6 @@
-use Rattle.std.proofs.Common.{◌≡◌, ◌∙◌, length, sym, subst, arith}
+use Rattle.std.proofs.Common.{◌≡◌, ◌∙◌, length, sym, ap, subst, arith}
 use Rattle.expr_lang.specs.declared.reading.Node.TheVariants as node
+use Rattle.expr_lang.specs.Stored.{syntax_of}
 use Rattle.expr_lang.proofs.MakingLemmas.{IsMade, made_none, made_more, made_known, made_tree}
 use Rattle.expr_lang.proofs.build.build.Goals as goal
 
@@ -23,4 +24,4 @@ pub returns-clause-tree : goal.returns-clause-tree
 returns-clause-tree c =
     let end : c.loop-spot.spot-index ≡ length c.args.nodes.now = omega arith in
     c.finish.ensures.tree
-    ∙ made_tree c.args.text.now c.args.days.now c.args.nodes.now c.loop-spot.spot-index c.loop-spot.making end c.loop-spot.invariant
+    ∙ ap syntax_of (made_tree c.args.text.now c.args.days.now c.args.nodes.now c.loop-spot.spot-index c.loop-spot.making end c.loop-spot.invariant)

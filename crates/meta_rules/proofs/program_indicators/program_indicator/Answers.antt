@@ -3,7 +3,7 @@ use Rattle.meta_rules.specs.Objects.{program_indicator_with}
 use Rattle.meta_rules.proofs.program_indicators.program_indicator.Goals as goal
 
 pub returns-in-Ok : goal.returns-in-Ok
-returns-in-Ok c = (
+returns-in-Ok g c = (
   c.in-Ok.ensures.0,
   c.with_links.ensures ∙ λ i. program_indicator_with c.args.raw.now (c.in-Ok.ensures.1.0 i) (c.in-Ok.ensures.1.1 i) (c.in-Ok.ensures.1.2 i) c.args.links,
 )

@@ -4,15 +4,16 @@ use Rattle.meta_rules.proofs.MadeLemmas.{made_step}
 use Rattle.meta_rules.proofs.rules.rules.Goals as goal
 
 pub loop-each-preserved : goal.loop-each-preserved
-loop-each-preserved c =
-    let days = c.args.days.now in
+loop-each-preserved g c =
+    let unread_of = rule_unread g.reading.answer c.args.ids.now c.args.days.now in
+    let make = rule_in g.reading.answer c.args.days.now in
     let i = c.loop-each.each-index in
     let step =
-    made_step (rule_unread c.args.ids.now days) (rule_in days) c.args.raw.now c.args.links i c.each-item.result c.next-own.result
+    made_step unread_of make c.args.raw.now c.args.links i c.each-item.result c.next-own.result
     c.loop-each.rest c.next-own.new.rest c.loop-each.made.items c.in_ok-rule.field-0 c.loop-each-test.true c.each-item.is
     c.loop-each.invariant.rest c.next-own.ensures c.in_ok-rule.ensures.0 c.in_ok-rule.ensures.1 c.loop-each.invariant.made in
     record {
       unread = c.loop-each.invariant.unread ∙ step.unread;
       rest = step.left;
-      made = step.made ∙ ap (λ l. l ++ made_of (rule_in days) (drop (i + 1) c.args.raw.now) (drop (i + 1) c.args.links)) (sym c.in_ok-push.ensures.items);
+      made = step.made ∙ ap (λ l. l ++ made_of make (drop (i + 1) c.args.raw.now) (drop (i + 1) c.args.links)) (sym c.in_ok-push.ensures.items);
     }

@@ -3,10 +3,15 @@ use Rattle.meta_rules.specs.Objects.{first_unread, rule_unread, rule_in, made_of
 use Rattle.meta_rules.proofs.rules.rules.Given as goal
 
 abbrev pub invariant-loop-each : goal.invariant-loop-each
-invariant-loop-each l = record {
-  unread : first_unread (rule_unread l.ids l.days) l.raw ≡ first_unread (rule_unread l.ids l.days) (drop l.each-index l.raw);
+invariant-loop-each g l = record {
+  unread :
+      first_unread (rule_unread g.reading.answer l.ids l.days) l.raw
+      ≡ first_unread (rule_unread g.reading.answer l.ids l.days) (drop l.each-index l.raw);
   rest : l.rest ≡ drop l.each-index l.fn.links;
   made :
-      made_of (rule_in l.days) l.raw l.fn.links
-      ≡ l.made.items ++ made_of (rule_in l.days) (drop l.each-index l.raw) (drop l.each-index l.fn.links);
+      made_of (rule_in g.reading.answer l.days) l.raw l.fn.links
+      ≡ l.made.items ++ made_of (rule_in g.reading.answer l.days) (drop l.each-index l.raw) (drop l.each-index l.fn.links);
 }
+
+abbrev pub ghost-rule : goal.ghost-rule
+ghost-rule g a = g.reading
