@@ -141,15 +141,14 @@ cell_events-permutation r program periods units one other moved =
     (filter (is_event_in r program periods units) other) (filter-permutation (is_event_in r program periods units) one other moved)
 
 -- what is kept of a store, if memory suffices
-pub kept_store : {S : Type 0} (r : Records) (user program : ℕ) (periods : List PeriodName) (view : S → EventRow) (asked : List PeriodName) (days : Days)
-    (all taken : List EventRow) (result : Result (Vec S) Memory)
+pub kept_store : (r : Records) (user program : ℕ) (periods asked : List PeriodName) (days : Days) (all taken : List EventRow)
+    (result : Result (List EventRow) Memory)
     → asked ≡ periods → Cover asked days → rises event_cmp all ≡ true → taken ≡ events_of program days.from days.to all
-    → IfOk result (λ found. map view found.items ≡ seen_during r user program asked taken)
-    → IfOk result (λ found. AreDuring r user program periods all (map view found.items))
-kept_store r user program periods view asked days all taken (Ok found) same cover up from is =
-    subst (λ ps. AreDuring r user program ps all (map view found.items)) same
-    (during_store r user program asked days all (map view found.items) cover up (is ∙ ap (seen_during r user program asked) from))
-kept_store r user program periods view asked days all taken (Err e) same cover up from is = tt
+    → IfOk result (λ found. found ≡ seen_during r user program asked taken) → IfOk result (λ found. AreDuring r user program periods all found)
+kept_store r user program periods asked days all taken (Ok found) same cover up from is =
+    subst (λ ps. AreDuring r user program ps all found) same
+    (during_store r user program asked days all found cover up (is ∙ ap (seen_during r user program asked) from))
+kept_store r user program periods asked days all taken (Err e) same cover up from is = tt
 
 -- ---- enrollments
 

@@ -11,3 +11,4 @@ pub mod SumLemmas
 pub mod JoinLemmas
 pub mod MeasureLemmas
 pub mod TallyLemmas
+pub mod MicroLemmas

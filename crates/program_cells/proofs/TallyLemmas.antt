@@ -10,20 +10,23 @@ use Rattle.dh_base.specs.declared.plain.AggType.{AggType}
 use Rattle.dh_base.specs.declared.plain.AggType.TheVariants as kind
 use Rattle.dh_base.specs.Fractions.{Fraction, fraction_of, add_of, div_of}
 use Rattle.program_cells.specs.Code.{gathered}
-use Rattle.program_cells.specs.Tally.{taken_at, summed, numbered, by_sum, tallied}
+use Rattle.program_cells.specs.declared.sampled.Samples.{Samples}
+use Rattle.program_cells.specs.declared.sampled.Samples.TheVariants as stored
+use Rattle.program_cells.specs.Sampled.{samples_in, taken_in}
+use Rattle.program_cells.specs.Tally.{micro_sample, taken_at, summed, numbered, by_sum, tallied}
 use Rattle.program_cells.specs.Value.{unless_fault, sum_from, sum_of, some_of, whole, value_by, aggregated}
 use Rattle.program_cells.specs.Places.{places_from}
 use Rattle.program_cells.proofs.LoopLemmas.{rest_at}
 use Rattle.program_cells.proofs.PlaceLemmas.{items-are}
 
 -- a number more
-pub summed_number : (sum next : ℤ) (x : Fraction) (rest : List (Option (List Fraction)))
-    → unless_fault (add_of (fraction_of sum 1) x) ≡ Some (fraction_of next 1) → summed sum (Some (x ∷ []) ∷ rest) ≡ summed next rest
+pub summed_number : (den : ℕ) (sum next : ℤ) (x : Fraction) (rest : List (Option (List Fraction)))
+    → unless_fault (add_of (fraction_of sum den) x) ≡ Some (fraction_of next den) → summed den sum (Some (x ∷ []) ∷ rest) ≡ summed den next rest
 unfolding summed
-summed_number sum next x rest is = by (gathered rest)
+summed_number den sum next x rest is = by (gathered rest)
   where
-    by : (more : Option (List Fraction)) → option_and_then (sum_from (fraction_of sum 1)) (option_map (λ xs. (x ∷ []) ++ xs) more)
-        ≡ option_and_then (sum_from (fraction_of next 1)) more
+    by : (more : Option (List Fraction)) → option_and_then (sum_from (fraction_of sum den)) (option_map (λ xs. (x ∷ []) ++ xs) more)
+        ≡ option_and_then (sum_from (fraction_of next den)) more
     by None = refl
     by (Some xs) = ap (option_and_then (λ n. sum_from n xs)) is
 
@@ -40,12 +43,12 @@ numbered_number count next x rest is = by (gathered rest)
         ap Some many
 
 -- an event that gives none
-pub summed_none : (sum : ℤ) (rest : List (Option (List Fraction))) → summed sum (Some [] ∷ rest) ≡ summed sum rest
+pub summed_none : (den : ℕ) (sum : ℤ) (rest : List (Option (List Fraction))) → summed den sum (Some [] ∷ rest) ≡ summed den sum rest
 unfolding summed
-summed_none sum rest = by (gathered rest)
+summed_none den sum rest = by (gathered rest)
   where
-    by : (more : Option (List Fraction)) → option_and_then (sum_from (fraction_of sum 1)) (option_map (λ xs. [] ++ xs) more)
-        ≡ option_and_then (sum_from (fraction_of sum 1)) more
+    by : (more : Option (List Fraction)) → option_and_then (sum_from (fraction_of sum den)) (option_map (λ xs. [] ++ xs) more)
+        ≡ option_and_then (sum_from (fraction_of sum den)) more
     by None = refl
     by (Some xs) = refl
 
@@ -59,16 +62,15 @@ numbered_none count rest = by (gathered rest)
     by (Some xs) = refl
 
 -- the sample at a place, and those at the places after it
-pub taken_more : (samples : List (Option (Option Fraction))) (place : ℕ) (x : Option (Option Fraction)) (rest : List ℕ) → place < length samples
-    → x ≡ get_or samples place x → taken_at samples (place ∷ rest) ≡ option_map option_to_list x ∷ taken_at samples rest
+pub taken_more : {T : Type 0} (sample : T → Option (List Fraction)) (samples : List T) (place : ℕ) (x : T) (rest : List ℕ) → place < length samples
+    → x ≡ get_or samples place x → taken_at sample samples (place ∷ rest) ≡ sample x ∷ taken_at sample samples rest
 unfolding taken_at
-taken_more samples place x rest within at =
-    ap (λ o. map (option_map option_to_list) (cons_option o (filter_map (slice_get samples) rest)))
-    (slice_get-get_or samples place x within ∙ ap Some (sym at))
+taken_more sample samples place x rest within at =
+    ap (λ o. map sample (cons_option o (filter_map (slice_get samples) rest))) (slice_get-get_or samples place x within ∙ ap Some (sym at))
 
-pub taken_none : (samples : List (Option (Option Fraction))) → taken_at samples [] ≡ []
+pub taken_none : {T : Type 0} (sample : T → Option (List Fraction)) (samples : List T) → taken_at sample samples [] ≡ []
 unfolding taken_at
-taken_none samples = refl
+taken_none sample samples = refl
 
 -- what is left of the places
 pub left_at : {R : Type 0} (f g : List ℕ → R) (places : List ℕ) (i place : ℕ) (all : R) → i < length places → place ≡ get_or places i place
@@ -76,21 +78,23 @@ pub left_at : {R : Type 0} (f g : List ℕ → R) (places : List ℕ) (i place :
 left_at f g places i place all within at so_far is = so_far ∙ ap f (rest_at places i place within at) ∙ is
 
 -- where none is left
-pub summed_end : (samples : List (Option (Option Fraction))) (places : List ℕ) (i : ℕ) (sum : ℤ) (all : Option Fraction) → length places ≤ i
-    → all ≡ summed sum (taken_at samples (drop i places)) → all ≡ Some (fraction_of sum 1)
+pub summed_end : {T : Type 0} (sample : T → Option (List Fraction)) (samples : List T) (places : List ℕ) (i den : ℕ) (sum : ℤ)
+    (all : Option Fraction) → length places ≤ i
+    → all ≡ summed den sum (taken_at sample samples (drop i places)) → all ≡ Some (fraction_of sum den)
 unfolding summed taken_at
-summed_end samples places i sum all past so_far = so_far ∙ ap (λ ps. summed sum (taken_at samples ps)) (drop_all i places past)
+summed_end sample samples places i den sum all past so_far =
+    so_far ∙ ap (λ ps. summed den sum (taken_at sample samples ps)) (drop_all i places past)
 
-pub numbered_end : (samples : List (Option (Option Fraction))) (places : List ℕ) (i count : ℕ) (all : Option ℕ) → length places ≤ i
-    → all ≡ numbered count (taken_at samples (drop i places)) → all ≡ Some count
+pub numbered_end : {T : Type 0} (sample : T → Option (List Fraction)) (samples : List T) (places : List ℕ) (i count : ℕ) (all : Option ℕ)
+    → length places ≤ i → all ≡ numbered count (taken_at sample samples (drop i places)) → all ≡ Some count
 unfolding numbered taken_at
-numbered_end samples places i count all past so_far =
+numbered_end sample samples places i count all past so_far =
     let same : count + 0 ≡ count = omega arith in
-    so_far ∙ ap (λ ps. numbered count (taken_at samples ps)) (drop_all i places past) ∙ ap Some same
+    so_far ∙ ap (λ ps. numbered count (taken_at sample samples ps)) (drop_all i places past) ∙ ap Some same
 
 -- the value by the sum and the number
 pub tallied_is : (by : AggType) (taken : List (Option (List Fraction))) (sum : Fraction) (count : ℕ) (value : Option (Option (Option Fraction)))
-    → summed (pos 0) taken ≡ Some sum → numbered 0 taken ≡ Some count → value ≡ tallied by sum count
+    → summed 1 (pos 0) taken ≡ Some sum → numbered 0 taken ≡ Some count → value ≡ tallied by sum count
     → IfSome value (λ value. option_and_then (aggregated by) (gathered taken) ≡ value)
 unfolding summed numbered tallied aggregated
 tallied_is by taken sum count value sum_is count_is is =
@@ -122,15 +126,21 @@ tallied_is by taken sum count value sum_is count_is is =
         (sym same) (by_count xs (count == 0) same refl sums many)
 
 -- the samples at places, however they are written
-pub taken_are : (samples : List (Option (Option Fraction))) (places : List ℕ)
-    → map (option_map option_to_list) (filter_map (slice_get samples) places) ≡ taken_at samples places
+pub taken_are : {T : Type 0} (sample : T → Option (List Fraction)) (samples : List T) (places : List ℕ)
+    → map sample (filter_map (slice_get samples) places) ≡ taken_at sample samples places
 unfolding taken_at
-taken_are samples places = refl
+taken_are sample samples places = refl
 
 -- the samples of the members that pass
-pub taken_within : {X : Type 0} (of : X → Option (List Fraction)) (test : X → Bool) (xs : List X) (samples : List (Option (Option Fraction)))
-    (places : List ℕ) → map (option_map option_to_list) samples ≡ map of xs → places ≡ places_from 0 test xs
-    → taken_at samples places ≡ map of (filter test xs)
+pub taken_within : {X T : Type 0} (of : X → Option (List Fraction)) (test : X → Bool) (xs : List X) (sample : T → Option (List Fraction))
+    (samples : List T) (places : List ℕ) → map sample samples ≡ map of xs → places ≡ places_from 0 test xs
+    → taken_at sample samples places ≡ map of (filter test xs)
 unfolding taken_at
-taken_within of test xs samples places are is =
-    items-are of (option_map option_to_list) test xs samples (filter_map (slice_get samples) places) are (ap (filter_map (slice_get samples)) is)
+taken_within of test xs sample samples places are is =
+    items-are of sample test xs samples (filter_map (slice_get samples) places) are (ap (filter_map (slice_get samples)) is)
+
+-- the same of samples as they are stored
+pub taken-stored : {X : Type 0} (of : X → Option (List Fraction)) (test : X → Bool) (xs : List X) (samples : Samples) (places : List ℕ)
+    → samples_in samples ≡ map of xs → places ≡ places_from 0 test xs → taken_in samples places ≡ map of (filter test xs)
+taken-stored of test xs (stored.Micros list) places are is = taken_within of test xs micro_sample list.items places are is
+taken-stored of test xs (stored.Any list) places are is = taken_within of test xs (option_map option_to_list) list.items places are is

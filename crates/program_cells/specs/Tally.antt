@@ -1,20 +1,23 @@
 -- What samples come to, one after the other.
-use Rattle.std.specs.Prelude.{◌+◌, ◌==◌, if◌then◌else◌, Some, None, ℕ, ℤ, List, length, map, Option, option_map, option_and_then, slice_get}
+use Rattle.std.specs.Prelude.{◌+◌, ◌==◌, if◌then◌else◌, Some, None, ℕ, ℤ, List, [], ◌∷◌, length, map, Option, option_map, option_and_then, slice_get}
 use Rattle.std.specs.List.{filter_map}
-use Rattle.std.specs.Option.{option_to_list}
-use Rattle.dh_base.specs.Fractions.{Fraction, fraction_of, div_of}
+use Rattle.dh_base.specs.Fractions.{Fraction, fraction_of, of_micros, div_of}
 use Rattle.program_cells.specs.Code.{gathered}
 use Rattle.program_cells.specs.Value.{sum_from, some_of, unless_fault, whole}
 use Rattle.dh_base.specs.declared.plain.AggType.{AggType}
 use Rattle.dh_base.specs.declared.plain.AggType.TheVariants as kind
 
--- the samples at these places
-unfoldable pub taken_at : List (Option (Option Fraction)) → List ℕ → List (Option (List Fraction))
-taken_at samples places = map (option_map option_to_list) (filter_map (slice_get samples) places)
+-- the sample of so many millionths
+abbrev pub micro_sample : ℤ → Option (List Fraction)
+micro_sample micros = Some (of_micros micros ∷ [])
 
--- the sum of a whole number and of samples after it, if none of these is too wide
-unfoldable pub summed : ℤ → List (Option (List Fraction)) → Option Fraction
-summed sum taken = option_and_then (sum_from (fraction_of sum 1)) (gathered taken)
+-- the samples at these places, of a list in which they stand in some way
+unfoldable pub taken_at : {T : Type 0} → (T → Option (List Fraction)) → List T → List ℕ → List (Option (List Fraction))
+taken_at sample samples places = map sample (filter_map (slice_get samples) places)
+
+-- the sum of a number over this denominator and of samples after it, if none of these is too wide
+unfoldable pub summed : ℕ → ℤ → List (Option (List Fraction)) → Option Fraction
+summed den sum taken = option_and_then (sum_from (fraction_of sum den)) (gathered taken)
 
 -- how many samples there are with so many before them, if none is too wide
 unfoldable pub numbered : ℕ → List (Option (List Fraction)) → Option ℕ

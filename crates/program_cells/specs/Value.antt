@@ -12,7 +12,7 @@ use Rattle.expr_lang.specs.declared.tree.Item.{Item}
 use Rattle.expr_lang.specs.declared.tree.Item.TheVariants as item
 use Rattle.expr_lang.specs.declared.tree.Leaf.TheVariants as leaf
 use Rattle.expr_lang.specs.Expr.{items_in}
-use Rattle.expr_lang.specs.Shape.{Shape, Operand}
+use Rattle.expr_lang.specs.Syntax.{Syntax, Operand}
 use Rattle.expr_eval.specs.declared.indicator.PiFault.{PiFault}
 use Rattle.expr_eval.specs.declared.indicator.PiFault.TheVariants as fault
 use Rattle.expr_eval.specs.declared.value.Value.{Value}
@@ -153,7 +153,7 @@ measure_by item.EntityCount = measure.Entities
 measure_by _ = measure.Formula
 
 -- a count variable is a whole expression
-abbrev pub measure_of : Shape → Measure
+abbrev pub measure_of : Syntax → Measure
 measure_of (Operand (leaf.Item it)) = measure_by it
 measure_of _ = measure.Formula
 

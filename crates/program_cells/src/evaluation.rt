@@ -11,12 +11,13 @@ ghost use Rattle.std.specs.Prelude.{List};
 ghost use Rattle.table_rows.specs.declared.event.EventRow.{EventRow};
 ghost use Rattle.program_cells.specs.declared.measure.Measure.TheVariants as measure;
 ghost use Rattle.program_cells.specs.Cells.{alone};
-ghost use Rattle.program_cells.specs.Tally.{taken_at};
+ghost use Rattle.program_cells.specs.Tally.{micro_sample, taken_at};
 ghost use Rattle.program_cells.specs.Code.{measure_in, form_value, passes_form, sample_form, sample_alone, gathered, code_value, IsCodeOf};
 
 use crate::counting::count;
 use crate::items::{likely_samples, list_items};
 use crate::measure::{Measure, push_ids};
+use crate::micros::aggregate_at;
 use crate::placed::items_at;
 use crate::samples::aggregate;
 use crate::tally::value_by_tally;
@@ -299,7 +300,7 @@ fn value_by_list(
 ) -> Result<Option<Frac>, PiFault>
     ensures { (r : Records) (indicator : ProgramIndicator) (events : List EventRow) → IsCodeOf r indicator code.now
         → measure_in code.now.value ≡ measure.Formula
-        → taken_at samples.now places.now ≡ map (sample_alone code.now) events
+        → taken_at (option_map option_to_list) samples.now places.now ≡ map (sample_alone code.now) events
         → Values result (program_value r indicator (map alone events)) }
 {
     let found = items_at(alloc, samples, places)?;
@@ -315,11 +316,27 @@ pub(crate) fn value_at(
 ) -> Result<Option<Frac>, PiFault>
     ensures { (r : Records) (indicator : ProgramIndicator) (events : List EventRow) → IsCodeOf r indicator code.now
         → measure_in code.now.value ≡ measure.Formula
-        → taken_at samples.now places.now ≡ map (sample_alone code.now) events
+        → taken_at (option_map option_to_list) samples.now places.now ≡ map (sample_alone code.now) events
         → Values result (program_value r indicator (map alone events)) }
 {
     match value_by_tally(code.aggregation, samples, places) {
         Some(value) => told(value),
         None => value_by_list(alloc, code, samples, places),
     }
+}
+
+/// The same by the millionths at these places.
+pub(crate) fn value_of_micros(
+    alloc: Global,
+    code: &PiCode,
+    list: &[i64],
+    places: &[usize],
+) -> Result<Option<Frac>, PiFault>
+    ensures { (r : Records) (indicator : ProgramIndicator) (events : List EventRow) → IsCodeOf r indicator code.now
+        → measure_in code.now.value ≡ measure.Formula
+        → taken_at micro_sample list.now places.now ≡ map (sample_alone code.now) events
+        → Values result (program_value r indicator (map alone events)) }
+{
+    let value = aggregate_at(alloc, code.aggregation, list, places)?;
+    told(value)
 }

@@ -103,7 +103,7 @@ fn whole_of(micros: i64) -> Option<i64>
 }
 
 /// A number by its millionths. Most are whole, and such a one is made without a division of 128 bits.
-fn micros(micros: i64) -> Frac
+pub(crate) fn micros(micros: i64) -> Frac
     ensures { result ≡ of_micros micros }
 {
     match whole_of(micros) {
@@ -122,7 +122,7 @@ fn number(value: ItemValue) -> Frac
     }
 }
 
-fn entry_of(entries: &[(u32, ItemValue)], n: u32) -> Option<(u32, ItemValue)>
+pub(crate) fn entry_of(entries: &[(u32, ItemValue)], n: u32) -> Option<(u32, ItemValue)>
     ensures { result ≡ find (λ (entry : ℕ × ItemValue). entry.0 == n) entries.now }
 {
     entries.iter().copied().find(|entry| entry.0 == n)

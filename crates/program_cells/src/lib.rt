@@ -11,6 +11,7 @@ mod grouping;
 mod items;
 mod joined;
 mod measure;
+mod micros;
 mod placed;
 mod plan;
 mod sampled;

@@ -42,9 +42,10 @@ pub(crate) fn measure_of(expr: &Expr) -> Measure
     match branch_at(items, branches, branches.len() - 1) {
         Branch::Item(place) => measure_by(&items[place]),
         Branch::Day(_) => Measure::Formula,
-        Branch::Number(_) | Branch::Unary(_, _) | Branch::Binary(_, _, _) | Branch::If(_, _, _) => {
-            Measure::Formula
-        }
+        Branch::Unary(_, _) => Measure::Formula,
+        Branch::Binary(_, _, _) => Measure::Formula,
+        Branch::Number(_) => Measure::Formula,
+        Branch::If(_, _, _) => Measure::Formula,
     }
 }
 

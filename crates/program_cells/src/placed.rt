@@ -66,7 +66,7 @@ fn add(lists: &mut Vec<Items<usize>>, unit: usize, at: usize) -> Result<(), Memo
 }
 
 /// Puts the place of an event to those of its unit.
-fn put(lists: &mut Vec<Items<usize>>, event: &EventRow, at: usize) -> Result<(), Memory>
+pub(crate) fn put(lists: &mut Vec<Items<usize>>, event: &EventRow, at: usize) -> Result<(), Memory>
     ensures { (before : List EventRow) → at ≡ length before → ArePlaces order_of before lists.old.items
         → OnOk result (ArePlaces order_of (before ++ event.now ∷ []) lists.new.items) }
 {
@@ -78,12 +78,22 @@ fn put(lists: &mut Vec<Items<usize>>, event: &EventRow, at: usize) -> Result<(),
     }
 }
 
+/// An empty list for each of so many units, among which so many events are spread.
+pub(crate) fn lists_for(
+    alloc: Global,
+    events: usize,
+    count: u32,
+) -> Result<Vec<Items<usize>>, Memory>
+    ensures { IfOk result (λ lists. ArePlaces order_of [] lists.items) }
+{
+    empty_lists(alloc, count, events / (count as usize + 1))
+}
+
 /// The places of the events of each of so many units.
 fn places_of(alloc: Global, events: &[&EventRow], count: u32) -> Result<Vec<Items<usize>>, Memory>
     ensures { IfOk result (λ places. ArePlaces order_of (map (λ event. event.now) events.now) places.items) }
 {
-    let room = events.len() / (count as usize + 1);
-    let mut places = empty_lists(alloc, count, room)?;
+    let mut places = lists_for(alloc, events.len(), count)?;
     for at in 0..events.len() {
         put(&mut places, events[at], at)?;
     }
@@ -228,7 +238,7 @@ pub(crate) fn items_at<T: Copy>(
 
 impl<'a> PlacedEvents<'a> {
     ghost use Rattle.std.specs.Prelude.{◌≡◌, [], map, IfOk, IfSome};
-    ghost use Rattle.program_cells.specs.Places.{places_from};
+    ghost use Rattle.program_cells.specs.Places.{ArePlaces, order_of, places_from};
     ghost use Rattle.std.specs.List.{filter};
     ghost use Rattle.program_cells.specs.Cells.{alone};
     ghost use Rattle.program_cells.specs.Kept.{is_placed_in};
@@ -253,6 +263,14 @@ impl<'a> PlacedEvents<'a> {
     {
         let places = places_of(alloc, &events, count)?;
         Ok(PlacedEvents { events, places })
+    }
+
+    /// These events, where it is known where those of each unit stand.
+    pub(crate) fn at(events: Vec<&'a EventRow>, places: Vec<Items<usize>>) -> PlacedEvents<'a>
+        requires { ArePlaces order_of (map (λ event. event.now) events.items) places.items }
+        ensures { result ≡ map (λ event. event.now) events.entry.items }
+    {
+        PlacedEvents { events, places }
     }
 
     /// The events whose units lie in the ranges, each alone.

@@ -104,19 +104,6 @@ pub fn program_plan<S: RowStore>(
     plan_of(alloc, source, source.meta.program_indicator(number))
 }
 
-fn placed_during<'a, S: RowStore>(
-    alloc: Global,
-    source: &Source<'a, S>,
-    program: u32,
-    periods: &CellPeriods,
-) -> Result<PlacedEvents<'a>, Memory>
-    requires { IsSeer source.now.meta.now source.now.seer.now }
-    ensures { IfOk result (λ found. AreDuring source.now.meta.now source.now.seer.now.user program periods.now (S.events source.now.store.now) found) }
-{
-    let events = events_during(alloc, source, program, periods)?;
-    PlacedEvents::of(alloc, events, source.meta.count(Kind::OrganisationUnit))
-}
-
 // Where the cells have fewer than one in so many of the units, the samples of all events aren't worth working out.
 const MANY: usize = 8;
 
@@ -160,7 +147,7 @@ pub fn subjects_during<'a, S: RowStore>(
 {
     match plan.over {
         AnalyticsType::Event => {
-            let events = placed_during(alloc, source, plan.code.program, periods)?;
+            let events = events_during(alloc, source, plan.code.program, periods)?;
             event_subjects(alloc, &plan.code, events, are_few(units, source.meta))
         }
         AnalyticsType::Enrollment => {

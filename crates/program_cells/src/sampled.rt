@@ -1,11 +1,11 @@
 //! What a program indicator takes of each event of some periods, worked out once for the cells of all units.
-ghost use Rattle.std.specs.Prelude.{◌≡◌, ◌∷◌, [], Some, map, option_map, slice_get, IfOk, IfSome};
+ghost use Rattle.std.specs.Prelude.{◌≡◌, ◌∷◌, [], List, Some, map, option_map, slice_get, IfOk, IfSome};
 ghost use Rattle.std.specs.Option.{option_to_list};
 ghost use Rattle.expr_eval.specs.declared.indicator.PiValue.TheVariants as taken;
 ghost use Rattle.program_cells.specs.Code.{form_value, measure_in, sample_alone, IsCodeOf};
 ghost use Rattle.program_cells.specs.Value.{sample_by, program_value, Values};
 ghost use Rattle.std.specs.List.{filter};
-ghost use Rattle.program_cells.specs.Sampled.{item_sample};
+ghost use Rattle.program_cells.specs.Sampled.{item_sample, samples_in, taken_in};
 ghost use Rattle.table_rows.specs.declared.event.EventRow.{EventRow};
 ghost use Rattle.program_cells.specs.Cells.{alone};
 ghost use Rattle.program_cells.specs.Kept.{is_placed_in};
@@ -13,10 +13,9 @@ ghost use Rattle.program_cells.specs.declared.measure.Measure.TheVariants as mea
 ghost use Rattle.dh_metadata.specs.declared.held.Records.{Records};
 ghost use Rattle.dh_metadata.specs.declared.records.ProgramIndicator.{ProgramIndicator};
 
-use crate::evaluation::{sample, value_at};
-use crate::items::item as item_in;
+use crate::evaluation::{sample, value_at, value_of_micros};
+use crate::micros::micros_of;
 use crate::placed::PlacedEvents;
-use crate::samples::whole;
 use dh_base::frac::Frac;
 use dh_base::memory::Memory;
 use dh_sharing::ranges::ViewRanges;
@@ -32,20 +31,27 @@ use table_rows::EventRow;
 pub struct SampledEvents<'a> {
     code: &'a PiCode,
     events: PlacedEvents<'a>,
-    samples: Vec<Option<Option<Frac>>>,
+    samples: Samples,
+}
+
+/// What a form takes of each event.
+#[derive(Drop)]
+enum Samples {
+    /// The millionths of a number of each.
+    Micros(Vec<i64>),
+    Any(Vec<Option<Option<Frac>>>),
 }
 
 impl<'a> Model for SampledEvents<'a> {
-    ghost use Rattle.std.specs.Prelude.{◌≡◌, map, option_map};
-    ghost use Rattle.std.specs.Option.{option_to_list};
+    ghost use Rattle.std.specs.Prelude.{◌≡◌, map};
     ghost use Rattle.program_cells.specs.Code.{sample_alone};
-    ghost use Rattle.program_cells.specs.Sampled.{Sampled};
+    ghost use Rattle.program_cells.specs.Sampled.{Sampled, samples_in};
 
     ghost Value = { Sampled };
 
     ghost view = { λ sampled. record { code = sampled.code.now; events = sampled.events } };
 
-    ghost invariant = { λ sampled. map (option_map option_to_list) sampled.samples.items ≡ map (sample_alone sampled.code.now) sampled.events };
+    ghost invariant = { λ sampled. samples_in sampled.samples ≡ map (sample_alone sampled.code.now) sampled.events };
 }
 
 fn item_at<'a>(items: &'a [PiItem], place: usize) -> Option<&'a PiItem>
@@ -77,28 +83,6 @@ fn only_item<'a>(code: &'a PiCode, form: &Postfix) -> Option<&'a PiItem>
     }
 }
 
-/// The value of an item in an event, or 0.
-fn sample_of_item(item: &PiItem, event: &EventRow) -> Option<Option<Frac>>
-    ensures { option_map option_to_list result ≡ item_sample item.now event.now }
-{
-    Some(Some(item_in(from_ref(event), item).unwrap_or(whole(0))))
-}
-
-/// The value of an item in each event alone.
-fn samples_of_item(
-    alloc: Global,
-    item: &PiItem,
-    events: &[&EventRow],
-) -> Result<Vec<Option<Option<Frac>>>, Memory>
-    ensures { IfOk result (λ samples. map (option_map option_to_list) samples.items ≡ map (item_sample item.now) (map (λ event. event.now) events.now)) }
-{
-    let mut samples = Vec::with_capacity(alloc, events.len())?;
-    for event in events {
-        samples.push(sample_of_item(item, event))?;
-    }
-    Ok(samples)
-}
-
 /// The sample of each event alone, as the form gives it.
 fn samples_by_form(
     alloc: Global,
@@ -117,19 +101,40 @@ fn samples_by_form(
     Ok(samples)
 }
 
+/// The value of an item in each event alone.
+fn item_samples(alloc: Global, item: &PiItem, events: &[&EventRow]) -> Result<Samples, Memory>
+    ensures { IfOk result (λ samples. samples_in samples ≡ map (item_sample item.now) (map (λ event. event.now) events.now)) }
+{
+    let found = micros_of(alloc, item, events)?;
+    Ok(Samples::Micros(found))
+}
+
+fn form_samples(
+    alloc: Global,
+    code: &PiCode,
+    form: &Postfix,
+    events: &[&EventRow],
+) -> Result<Samples, Memory>
+    requires { code.now.value ≡ taken.Formula form.now }
+    ensures { IfOk result (λ samples. samples_in samples ≡ map (sample_alone code.now) (map (λ event. event.now) events.now)) }
+{
+    let found = samples_by_form(alloc, code, form, events)?;
+    Ok(Samples::Any(found))
+}
+
 /// The sample of each event alone.
 fn samples_of(
     alloc: Global,
     code: &PiCode,
     form: &Postfix,
     events: &[&EventRow],
-) -> Result<Vec<Option<Option<Frac>>>, Memory>
+) -> Result<Samples, Memory>
     requires { code.now.value ≡ taken.Formula form.now }
-    ensures { IfOk result (λ samples. map (option_map option_to_list) samples.items ≡ map (sample_alone code.now) (map (λ event. event.now) events.now)) }
+    ensures { IfOk result (λ samples. samples_in samples ≡ map (sample_alone code.now) (map (λ event. event.now) events.now)) }
 {
     match only_item(code, form) {
-        Some(item) => samples_of_item(alloc, item, events),
-        None => samples_by_form(alloc, code, form, events),
+        Some(item) => item_samples(alloc, item, events),
+        None => form_samples(alloc, code, form, events),
     }
 }
 
@@ -147,20 +152,38 @@ fn sample_of(
     sample(alloc, code, form, entries, from_ref(event))
 }
 
+/// The value by the samples at these places.
+fn value_at_places(
+    alloc: Global,
+    code: &PiCode,
+    samples: &Samples,
+    places: &[usize],
+) -> Result<Option<Frac>, PiFault>
+    ensures { (r : Records) (indicator : ProgramIndicator) (events : List EventRow) → IsCodeOf r indicator code.now
+        → measure_in code.now.value ≡ measure.Formula
+        → taken_in samples.now places.now ≡ map (sample_alone code.now) events
+        → Values result (program_value r indicator (map alone events)) }
+{
+    match samples {
+        Samples::Micros(list) => value_of_micros(alloc, code, list, places),
+        Samples::Any(list) => value_at(alloc, code, list, places),
+    }
+}
+
 /// The value over those of the events whose units lie in the ranges, where no list has the places of them all.
 fn value_of_several(
     alloc: Global,
     code: &PiCode,
     events: &PlacedEvents<'_>,
-    samples: &[Option<Option<Frac>>],
+    samples: &Samples,
     ranges: &ViewRanges,
 ) -> Result<Option<Frac>, PiFault>
-    requires { map (option_map option_to_list) samples.now ≡ map (sample_alone code.now) events.now }
+    requires { samples_in samples.now ≡ map (sample_alone code.now) events.now }
     ensures { (r : Records) (indicator : ProgramIndicator) → IsCodeOf r indicator code.now → measure_in code.now.value ≡ measure.Formula
         → Values result (program_value r indicator (map alone (filter (is_placed_in ranges.now) events.now))) }
 {
     let places = events.places_within(alloc, ranges)?;
-    value_at(alloc, code, samples, &places)
+    value_at_places(alloc, code, samples, &places)
 }
 
 /// The value over those of the events whose units lie in the ranges.
@@ -168,15 +191,15 @@ fn value_within(
     alloc: Global,
     code: &PiCode,
     events: &PlacedEvents<'_>,
-    samples: &[Option<Option<Frac>>],
+    samples: &Samples,
     ranges: &ViewRanges,
 ) -> Result<Option<Frac>, PiFault>
-    requires { map (option_map option_to_list) samples.now ≡ map (sample_alone code.now) events.now }
+    requires { samples_in samples.now ≡ map (sample_alone code.now) events.now }
     ensures { (r : Records) (indicator : ProgramIndicator) → IsCodeOf r indicator code.now → measure_in code.now.value ≡ measure.Formula
         → Values result (program_value r indicator (map alone (filter (is_placed_in ranges.now) events.now))) }
 {
     match events.own_places(ranges) {
-        Some(places) => value_at(alloc, code, samples, places),
+        Some(places) => value_at_places(alloc, code, samples, places),
         None => value_of_several(alloc, code, events, samples, ranges),
     }
 }

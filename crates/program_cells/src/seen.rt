@@ -1,20 +1,25 @@
 //! The events that a user sees.
-ghost use Rattle.std.specs.Prelude.{◌≡◌, ◌&&◌, nat_eq, true, map, IfOk};
+ghost use Rattle.std.specs.Prelude.{◌≡◌, ◌&&◌, nat_eq, true, map, IfOk, IfSome};
 ghost use Rattle.std.specs.List.{list_all};
 ghost use Rattle.cell_values.specs.Held.{IsSeer};
+ghost use Rattle.dh_sharing.specs.Ranges.{is_within};
 ghost use Rattle.dh_sharing.specs.declared.access.Right.TheVariants as right;
 ghost use Rattle.dh_metadata.specs.Users.{may_of};
 ghost use Rattle.dh_metadata.specs.declared.kind.Kind.TheVariants as kind;
 ghost use Rattle.program_cells.specs.Cells.{is_on_some};
 ghost use Rattle.program_cells.specs.Kept.{is_seen_during, seen_during, AreDuring};
+ghost use Rattle.program_cells.specs.Places.{ArePlaces, order_of};
 
 use crate::days::{days_of, is_on_some};
+use crate::placed::{PlacedEvents, lists_for, put};
 use cell_values::{CellPeriods, Seer, Source};
+use dh_base::items::Items;
 use dh_base::memory::Memory;
 use dh_metadata::kind::Kind;
 use dh_metadata::metadata::Metadata;
 use dh_periods::Period;
 use dh_sharing::access::Right;
+use dh_sharing::ranges::ViewRanges;
 use std::alloc::Global;
 use table_rows::{EventRow, RowStore};
 
@@ -37,6 +42,18 @@ fn is_due(program: u32, periods: &[Period], event: &EventRow) -> bool
     event.program == program && is_on_some(periods, &event.day)
 }
 
+/// Whether the number lies in the ranges. Those of most users are one, and it is looked at here.
+fn is_within(ranges: &ViewRanges, order: u32) -> bool
+    ensures { result ≡ is_within ranges.now order }
+{
+    let parts = ranges.parts();
+    if parts.len() == 1 {
+        parts[0].0 <= order && order < parts[0].1
+    } else {
+        ranges.holds(order)
+    }
+}
+
 /// Whether the event is of the program, on a day of the periods, and seen. That the user may read the data of the program is asked once for
 /// all events.
 fn is_seen_during(
@@ -50,27 +67,33 @@ fn is_seen_during(
     requires reads { may_of meta.now seer.now.user right.DataRead kind.Program program ≡ true }
     ensures { result ≡ is_seen_during meta.now seer.now.user program periods.now event.now }
 {
-    is_due(program, periods, event) && seer.views().holds(event.order)
+    is_due(program, periods, event) && is_within(seer.views(), event.order)
 }
 
-/// Whether all of the events are of the program, on days of the periods, and seen.
-fn are_seen(
+/// Where the events of each of the first `count` units stand, if all of the events are of the program, on days of the periods, and seen. Both
+/// are found in one pass, since what takes time is to reach each event.
+fn places_if_seen(
+    alloc: Global,
     meta: &Metadata,
     seer: &Seer,
     program: u32,
     periods: &[Period],
     events: &[&EventRow],
-) -> bool
+) -> Result<Option<Vec<Items<usize>>>, Memory>
     requires seer { IsSeer meta.now seer.now }
     requires reads { may_of meta.now seer.now.user right.DataRead kind.Program program ≡ true }
-    ensures { result ≡ list_all (is_seen_during meta.now seer.now.user program periods.now) (map (λ event. event.now) events.now) }
+    ensures seen { IfOk result (λ all. IfSome all (λ _. list_all (is_seen_during meta.now seer.now.user program periods.now)
+        (map (λ event. event.now) events.now) ≡ true)) }
+    ensures places { IfOk result (λ all. IfSome all (λ places. ArePlaces order_of (map (λ event. event.now) events.now) places.items)) }
 {
-    for event in events {
-        if !is_seen_during(meta, seer, program, periods, event) {
-            return false;
+    let mut places = lists_for(alloc, events.len(), meta.count(Kind::OrganisationUnit))?;
+    for at in 0..events.len() {
+        if !is_seen_during(meta, seer, program, periods, events[at]) {
+            return Ok(None);
         }
+        put(&mut places, events[at], at)?;
     }
-    true
+    Ok(Some(places))
 }
 
 fn picked<'a>(
@@ -95,6 +118,22 @@ fn picked<'a>(
     Ok(kept)
 }
 
+fn placed_of_picked<'a>(
+    alloc: Global,
+    meta: &Metadata,
+    seer: &Seer,
+    program: u32,
+    periods: &[Period],
+    events: &[&'a EventRow],
+) -> Result<PlacedEvents<'a>, Memory>
+    requires seer { IsSeer meta.now seer.now }
+    requires reads { may_of meta.now seer.now.user right.DataRead kind.Program program ≡ true }
+    ensures { IfOk result (λ kept. kept ≡ seen_during meta.now seer.now.user program periods.now (map (λ event. event.now) events.now)) }
+{
+    let some = picked(alloc, meta, seer, program, periods, events)?;
+    PlacedEvents::of(alloc, some, meta.count(Kind::OrganisationUnit))
+}
+
 /// Those of the events that are of the program, on days of the periods, and seen. Mostly these are all, and then none is moved.
 fn kept<'a>(
     alloc: Global,
@@ -103,18 +142,16 @@ fn kept<'a>(
     program: u32,
     periods: &[Period],
     events: Vec<&'a EventRow>,
-) -> Result<Vec<&'a EventRow>, Memory>
+) -> Result<PlacedEvents<'a>, Memory>
     requires { IsSeer meta.now seer.now }
-    ensures { IfOk result (λ kept. map (λ event. event.now) kept.items
-        ≡ seen_during meta.now seer.now.user program periods.now (map (λ event. event.now) events.entry.items)) }
+    ensures { IfOk result (λ kept. kept ≡ seen_during meta.now seer.now.user program periods.now (map (λ event. event.now) events.entry.items)) }
 {
     if !reads_program(meta, seer, program) {
-        return Ok(Vec::new(alloc));
+        return Ok(PlacedEvents::none(alloc));
     }
-    if are_seen(meta, seer, program, periods, &events) {
-        Ok(events)
-    } else {
-        picked(alloc, meta, seer, program, periods, &events)
+    match places_if_seen(alloc, meta, seer, program, periods, &events)? {
+        Some(places) => Ok(PlacedEvents::at(events, places)),
+        None => placed_of_picked(alloc, meta, seer, program, periods, &events),
     }
 }
 
@@ -124,10 +161,9 @@ pub(crate) fn events_during<'a, S: RowStore>(
     source: &Source<'a, S>,
     program: u32,
     periods: &CellPeriods,
-) -> Result<Vec<&'a EventRow>, Memory>
+) -> Result<PlacedEvents<'a>, Memory>
     requires { IsSeer source.now.meta.now source.now.seer.now }
-    ensures { IfOk result (λ found. AreDuring source.now.meta.now source.now.seer.now.user program periods.now (S.events source.now.store.now)
-        (map (λ event. event.now) found.items)) }
+    ensures { IfOk result (λ found. AreDuring source.now.meta.now source.now.seer.now.user program periods.now (S.events source.now.store.now) found) }
 {
     let asked = periods.periods();
     let days = days_of(asked);

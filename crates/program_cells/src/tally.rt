@@ -22,7 +22,7 @@ pub(crate) struct Tally {
 fn with_number(tally: &Tally, number: Frac) -> Option<Tally>
     requires { unsigned_abs tally.now.sum.number < 2 ^ 127 }
     ensures sum { (rest : List (Option (List Fraction)))
-        → IfSome result (λ next. summed tally.now.sum.number (Some (number ∷ []) ∷ rest) ≡ summed next.sum.number rest) }
+        → IfSome result (λ next. summed 1 tally.now.sum.number (Some (number ∷ []) ∷ rest) ≡ summed 1 next.sum.number rest) }
     ensures count { (rest : List (Option (List Fraction)))
         → IfSome result (λ next. numbered tally.now.count (Some (number ∷ []) ∷ rest) ≡ numbered next.count rest) }
     ensures fits { IfSome result (λ next. unsigned_abs next.sum.number < 2 ^ 127) }
@@ -37,7 +37,7 @@ fn with_number(tally: &Tally, number: Frac) -> Option<Tally>
 fn with_sample(tally: &Tally, sample: Option<Option<Frac>>) -> Option<Tally>
     requires { unsigned_abs tally.now.sum.number < 2 ^ 127 }
     ensures sum { (rest : List (Option (List Fraction)))
-        → IfSome result (λ next. summed tally.now.sum.number (option_map option_to_list sample ∷ rest) ≡ summed next.sum.number rest) }
+        → IfSome result (λ next. summed 1 tally.now.sum.number (option_map option_to_list sample ∷ rest) ≡ summed 1 next.sum.number rest) }
     ensures count { (rest : List (Option (List Fraction)))
         → IfSome result (λ next. numbered tally.now.count (option_map option_to_list sample ∷ rest) ≡ numbered next.count rest) }
     ensures fits { IfSome result (λ next. unsigned_abs next.sum.number < 2 ^ 127) }
@@ -51,10 +51,10 @@ fn with_sample(tally: &Tally, sample: Option<Option<Frac>>) -> Option<Tally>
 
 fn with_place(tally: &Tally, samples: &[Option<Option<Frac>>], place: usize) -> Option<Tally>
     requires { unsigned_abs tally.now.sum.number < 2 ^ 127 }
-    ensures sum { (rest : List ℕ) → IfSome result (λ next. summed tally.now.sum.number (taken_at samples.now (place ∷ rest))
-        ≡ summed next.sum.number (taken_at samples.now rest)) }
-    ensures count { (rest : List ℕ) → IfSome result (λ next. numbered tally.now.count (taken_at samples.now (place ∷ rest))
-        ≡ numbered next.count (taken_at samples.now rest)) }
+    ensures sum { (rest : List ℕ) → IfSome result (λ next. summed 1 tally.now.sum.number (taken_at (option_map option_to_list) samples.now (place ∷ rest))
+        ≡ summed 1 next.sum.number (taken_at (option_map option_to_list) samples.now rest)) }
+    ensures count { (rest : List ℕ) → IfSome result (λ next. numbered tally.now.count (taken_at (option_map option_to_list) samples.now (place ∷ rest))
+        ≡ numbered next.count (taken_at (option_map option_to_list) samples.now rest)) }
     ensures fits { IfSome result (λ next. unsigned_abs next.sum.number < 2 ^ 127) }
 {
     if place < samples.len() {
@@ -66,8 +66,9 @@ fn with_place(tally: &Tally, samples: &[Option<Option<Frac>>], place: usize) -> 
 
 /// The samples at these places together, if all are whole numbers.
 pub(crate) fn tally_at(samples: &[Option<Option<Frac>>], places: &[usize]) -> Option<Tally>
-    ensures sum { IfSome result (λ tally. summed (pos 0) (taken_at samples.now places.now) ≡ Some (fraction_of tally.sum.number 1)) }
-    ensures count { IfSome result (λ tally. numbered 0 (taken_at samples.now places.now) ≡ Some tally.count) }
+    ensures sum { IfSome result (λ tally. summed 1 (pos 0) (taken_at (option_map option_to_list) samples.now places.now)
+        ≡ Some (fraction_of tally.sum.number 1)) }
+    ensures count { IfSome result (λ tally. numbered 0 (taken_at (option_map option_to_list) samples.now places.now) ≡ Some tally.count) }
     ensures fits { IfSome result (λ tally. unsigned_abs tally.sum.number < 2 ^ 127) }
 {
     let mut tally = Tally {
@@ -95,14 +96,13 @@ fn by_sum(by: AggType, sum: Frac, count: usize) -> Option<Option<Option<Frac>>>
 }
 
 #[tactic(auto, unfolding(crate::specs::Tally::tallied))]
-fn tallied(by: AggType, tally: &Tally) -> Option<Option<Option<Frac>>>
-    requires { unsigned_abs tally.now.sum.number < 2 ^ 127 }
-    ensures { result ≡ tallied by (fraction_of tally.now.sum.number 1) tally.now.count }
+pub(crate) fn tallied(by: AggType, sum: Frac, count: usize) -> Option<Option<Option<Frac>>>
+    ensures { result ≡ tallied by sum count }
 {
-    if tally.count == 0 {
+    if count == 0 {
         return Some(Some(None));
     }
-    by_sum(by, Frac::of(tally.sum.number, 1), tally.count)
+    by_sum(by, sum, count)
 }
 
 /// The one number of the samples at these places by the aggregation type, where their sum and their number tell it and all are whole
@@ -112,8 +112,8 @@ pub(crate) fn value_by_tally(
     samples: &[Option<Option<Frac>>],
     places: &[usize],
 ) -> Option<Option<Option<Frac>>>
-    ensures { IfSome result (λ value. option_and_then (aggregated by) (gathered (taken_at samples.now places.now)) ≡ value) }
+    ensures { IfSome result (λ value. option_and_then (aggregated by) (gathered (taken_at (option_map option_to_list) samples.now places.now)) ≡ value) }
 {
     let tally = tally_at(samples, places)?;
-    tallied(by, &tally)
+    tallied(by, Frac::of(tally.sum.number, 1), tally.count)
 }

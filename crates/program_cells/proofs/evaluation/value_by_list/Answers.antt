@@ -8,4 +8,4 @@ pub returns : goal.returns
 returns c r indicator events is formula are =
     c.value_of_samples.ensures r indicator events is formula
     (ap (map (option_map option_to_list)) (c.deref.ensures.value ∙ c.in_ok-found.ensures)
-    ∙ taken_are c.args.samples.now c.args.places.now ∙ are)
+    ∙ taken_are (option_map option_to_list) c.args.samples.now c.args.places.now ∙ are)

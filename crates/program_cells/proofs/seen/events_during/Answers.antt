@@ -20,5 +20,5 @@ returns g c =
     c.in_ok-all.ensures.events
     ∙ ap (λ day. events_of c.args.program day (to_z w32 (of_z w32 days.to)) all) (to_z-of_z from)
     ∙ ap (λ day. events_of c.args.program days.from day all) (to_z-of_z to) in
-    kept_store r user c.args.program c.args.periods.now (λ event. event.now) c.periods-asked.result.now days all lent
+    kept_store r user c.args.program c.args.periods.now c.periods-asked.result.now days all lent
     c.kept.result c.periods-asked.ensures c.days_of-days.ensures holds.events_rise taken c.kept.ensures

@@ -9,9 +9,9 @@ returns-then-is_due c =
     let r = c.args.meta.now in
     let user = c.args.seer.now.user in
     let order = c.args.event.now.order in
-    let viewed : c.holds.result ≡ is_viewed r user order =
-    c.holds.ensures ∙ ap (λ views. is_within views order) c.views.ensures ∙ c.requires.seer.views order in
-    seen_here r user c.args.program c.args.periods.now c.args.event.now c.is_due.result c.holds.result c.requires.reads c.is_due.ensures
+    let viewed : c.is_within.result ≡ is_viewed r user order =
+    c.is_within.ensures ∙ ap (λ views. is_within views order) c.views.ensures ∙ c.requires.seer.views order in
+    seen_here r user c.args.program c.args.periods.now c.args.event.now c.is_due.result c.is_within.result c.requires.reads c.is_due.ensures
     c.if-is_due.true viewed
 
 pub returns-else-is_due : goal.returns-else-is_due

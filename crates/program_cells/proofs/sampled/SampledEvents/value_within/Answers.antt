@@ -1,7 +1,5 @@
-use Rattle.std.proofs.Common.{◌≡◌, ◌∙◌, map, ap, subst}
-use Rattle.std.specs.Prelude.{option_map}
+use Rattle.std.proofs.Common.{◌≡◌, map, subst}
 use Rattle.std.specs.List.{filter}
-use Rattle.std.specs.Option.{option_to_list}
 use Rattle.dh_metadata.specs.declared.held.Records.{Records}
 use Rattle.dh_metadata.specs.declared.records.ProgramIndicator.{ProgramIndicator}
 use Rattle.program_cells.specs.Cells.{alone}
@@ -13,7 +11,7 @@ use Rattle.program_cells.specs.declared.measure.Measure.TheVariants as measure
 use Rattle.program_cells.proofs.sampled.SampledEvents.value_within.Goals as goal
 
 pub value_within-requires : goal.value_within-requires
-value_within-requires c = ap (map (option_map option_to_list)) c.deref.ensures.value ∙ c.self.invariant
+value_within-requires c = c.self.invariant
 
 pub returns : goal.returns
 returns c =
