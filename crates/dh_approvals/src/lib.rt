@@ -1,6 +1,6 @@
 //! Approvals: who may approve and accept what, and the first reason why not.
 //!
-//! What a log says of approvals stands in `record_index`, up to which position a value is approved in `dh_records`.
+//! What a log says of approvals stands in `dh_changes`, up to which position a value is approved in `dh_records`.
 #![tactic(auto)]
 
 pub mod act;
