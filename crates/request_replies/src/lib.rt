@@ -13,5 +13,5 @@ pub mod texts;
 pub mod update;
 
 pub use laws::replies_keep;
-pub use over_file::{SessionEnd, refuse_long, session_over};
+pub use over_file::{SessionEnd, refusal_line, refuse_long, session_over};
 pub use replier::Replier;

@@ -29,9 +29,9 @@ pub enum SessionEnd {
     Memory,
 }
 
-// The line that tells why the metadata are refused.
+/// The line that tells why the metadata are refused, with its line feed.
 #[tactic(auto, unfolding(crate::specs::OverFile::refusal_line))]
-fn refusal_line(alloc: Global, fault: &MetaFault) -> Result<Vec<u8>, Memory>
+pub fn refusal_line(alloc: Global, fault: &MetaFault) -> Result<Vec<u8>, Memory>
     ensures { IfOk result (λ text. text.items ≡ refusal_line fault.now) }
 {
     let said = fault_line(alloc, fault)?;

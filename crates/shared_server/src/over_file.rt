@@ -4,7 +4,6 @@ ghost use Rattle.std.specs.Io.KnownBytes.{Appends};
 ghost use Rattle.dh_outside.specs.Faults.{Rose};
 ghost use Rattle.meta_reader.specs.declared.fault.MetaFault.TheVariants as fault;
 ghost use Rattle.meta_reader.specs.declared.fault.Which.TheVariants as which;
-ghost use Rattle.request_replies.specs.OverFile.{refusal_line};
 ghost use Rattle.request_session.specs.Session.{AppendsFront};
 ghost use Rattle.shared_server.specs.Links.{Answered, IsMadeFor, Untouched};
 ghost use Rattle.shared_server.specs.OverFile.{served_line, Finishes, Refuses, ServesMeta, ServesOver, ServesTold, Tells};
@@ -17,9 +16,9 @@ use dh_metadata::metadata::Metadata;
 use dh_outside::{Clock, Failed, Sink, write_all};
 use engine::Unkept;
 use meta_reader::fault::{MetaFault, Which};
-use meta_reader::line::fault_line;
 use meta_reader::read::read;
 use net_doors::{End, Ending, Listener, Served};
+use request_replies::refusal_line;
 use shared_engine::{Gate, Opened};
 use std::alloc::Global;
 use std::sync::Wait;
@@ -45,18 +44,6 @@ pub enum ServeEnd {
 pub struct Finished<L> {
     pub listener: L,
     pub end: ServeEnd,
-}
-
-// The line that tells why the metadata are refused.
-#[tactic(auto, unfolding(request_replies::specs::OverFile::refusal_line))]
-fn refusal_line(alloc: Global, fault: &MetaFault) -> Result<Vec<u8>, Memory>
-    ensures { IfOk result (λ text. text.items ≡ refusal_line fault.now) }
-{
-    let said = fault_line(alloc, fault)?;
-    let mut text = b"dhis: metadata: ".to_vec(alloc)?;
-    text.extend_from_slice(said.as_slice())?;
-    text.push(b'\n')?;
-    Ok(text)
 }
 
 // The line that tells how many links were served.
@@ -143,7 +130,6 @@ fn serve_and_tell<
 }
 
 // Listens and serves.
-
 fn listen_and_serve<
     R: Threads + Wait + Sync,
     C: Clock + Sync,
@@ -224,7 +210,6 @@ fn refuse_by<O: Sink, L>(
 }
 
 /// Serves over the metadata of a file, or writes why they are refused. It listens at the address once the metadata are read.
-
 pub fn serve_over<
     R: Threads + Wait + Sync,
     C: Clock + Sync,
