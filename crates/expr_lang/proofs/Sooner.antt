@@ -28,7 +28,7 @@ use Rattle.expr_lang.specs.Short.{falls_short_of}
 use Rattle.expr_lang.specs.Words.{text_of, call_text_of, letter_of, start_of, operands_of, items_of_place, followers, bracket_of}
 use Rattle.expr_lang.specs.Token.{fits_of, front_of, is_allowed_of, is_comparison_of, better_of, longest_from, longest_of, no_front, number_of}
 use Rattle.expr_lang.specs.Reading.{all_allowed, allowed_after, token_from, found, word_found, number_found}
-use Rattle.expr_lang.specs.Quick.{dollars, identifier, is_identifier_of, pair_form, pair_of, sole_operator_of, element_alone, element_of, braced_of}
+use Rattle.expr_lang.specs.Quick.{dollars, identifier, is_identifier_of, pair_form, pair_of, sole_operator_of, element_alone, element_of, attribute_alone, closed_of, braced_of}
 use Rattle.expr_lang.specs.Quick.{item_at_of, item_word, mark_after, follower_by, follower_of, operand_of, bracket_of_call, quick_by, quick_word_of}
 use Rattle.expr_lang.specs.Quick.{list_call, likely_call_of, whole_call_of, call_by, call_at_of, name_by, name_of}
 use Rattle.expr_lang.proofs.Letters.{stays}
@@ -234,6 +234,11 @@ constant_longest : (bytes : List ℕ) → IsFront 67 bytes → slice_index bytes
 unfolding text_of
 constant_longest bytes is ends = better_at no_front (symbol.Item form.Constant) bytes 14 (closed_front 67 125 bytes refl is ends)
 
+attribute_longest : (bytes : List ℕ) → IsFront 65 bytes → slice_index bytes 13 ≡ 125
+    → longest_from no_front all_allowed (symbol.Item form.Attribute ∷ []) bytes ≡ whole (symbol.Item form.Attribute) 14
+unfolding text_of
+attribute_longest bytes is ends = better_at no_front (symbol.Item form.Attribute) bytes 14 (closed_front 65 125 bytes refl is ends)
+
 -- ---- what the quick way finds
 
 some_is : {A : Type 0} (x y : A) → Some x ≡ Some y → x ≡ y
@@ -337,6 +342,28 @@ constant_item place.Program bytes front ends =
     item_so place.Program bytes (form.Constant, 14) (symbol.Item form.Constant ∷ []) 67 front.first refl front.long refl refl refl
     (constant_longest bytes front ends)
 
+attribute_so : (p : Place) (bytes : List ℕ) (r : ItemForm × ℕ) → IsFront 65 bytes → slice_index bytes 13 ≡ 125 → attribute_alone p ≡ Some r
+    → IsItem p bytes r
+unfolding start_of operands_of items_of_place text_of
+attribute_so place.Aggregate bytes r front ends e = absurd cc
+attribute_so place.Program bytes r front ends e =
+    subst (IsItem place.Program bytes) (some_is (form.Attribute, 14) r e)
+    (item_so place.Program bytes (form.Attribute, 14) (symbol.Item form.Attribute ∷ []) 65 front.first refl front.long refl refl refl
+    (attribute_longest bytes front ends))
+
+closed_so : (p : Place) (bytes : List ℕ) (r : ItemForm × ℕ) → ((c : ℕ) → nat_eq (slice_index bytes 0) c ≡ true → IsFront c bytes)
+    → slice_index bytes 13 ≡ 125 → closed_of p (slice_index bytes 0) ≡ Some r → IsItem p bytes r
+unfolding closed_of
+closed_so p bytes r front ends e =
+    by (nat_eq (slice_index bytes 0) 67) refl e
+  where
+    by : (t : Bool) → nat_eq (slice_index bytes 0) 67 ≡ t
+        → cond t (Some (form.Constant, 14)) (cond (nat_eq (slice_index bytes 0) 65) (attribute_alone p) None) ≡ Some r → IsItem p bytes r
+    by true is f = subst (IsItem p bytes) (some_is (form.Constant, 14) r f) (constant_item p bytes (front 67 is) ends)
+    by false is f =
+        let first = given (nat_eq (slice_index bytes 0) 65) (attribute_alone p) r f in
+        attribute_so p bytes r (front 65 first.0) ends first.1
+
 braced_so : (p : Place) (bytes : List ℕ) (r : ItemForm × ℕ) → slice_index bytes 1 ≡ 123 → 14 ≤ length bytes
     → front_of identifier (drop 2 bytes) ≡ 11 → braced_of p bytes ≡ Some r → IsItem p bytes r
 unfolding braced_of
@@ -347,14 +374,11 @@ braced_so p bytes r brace long named e =
     front c is = record { first = same_byte (slice_index bytes 0) c is; brace = brace; long = long; named = named }
 
     by : (t : Bool) → nat_eq (slice_index bytes 0) 35 ≡ t
-        → cond t (element_of p bytes) (cond (nat_eq (slice_index bytes 0) 67) (cond (nat_eq (slice_index bytes 13) 125) (Some (form.Constant, 14)) None) None)
-        ≡ Some r → IsItem p bytes r
+        → cond t (element_of p bytes) (cond (nat_eq (slice_index bytes 13) 125) (closed_of p (slice_index bytes 0)) None) ≡ Some r → IsItem p bytes r
     by true is f = element_so p bytes r (front 35 is) f
     by false is f =
-        let first = given (nat_eq (slice_index bytes 0) 67) _ r f in
-        let ends = given (nat_eq (slice_index bytes 13) 125) _ r first.1 in
-        subst (IsItem p bytes) (some_is (form.Constant, 14) r ends.1)
-        (constant_item p bytes (front 67 first.0) (same_byte (slice_index bytes 13) 125 ends.0))
+        let ends = given (nat_eq (slice_index bytes 13) 125) (closed_of p (slice_index bytes 0)) r f in
+        closed_so p bytes r front (same_byte (slice_index bytes 13) 125 ends.0) ends.1
 
 item_at_so : (p : Place) (bytes : List ℕ) (r : ItemForm × ℕ) → item_at_of p bytes ≡ Some r → IsItem p bytes r
 unfolding item_at_of

@@ -58,12 +58,19 @@ unfoldable pub element_of : Place → List ℕ → Option (ItemForm × ℕ)
 element_of place bytes =
     if nat_eq (slice_index bytes 13) 125 then element_alone place else if nat_eq (slice_index bytes 13) 46 then pair_of place bytes else None
 
+abbrev pub attribute_alone : Place → Option (ItemForm × ℕ)
+attribute_alone place.Aggregate = None
+attribute_alone place.Program = Some (form.Attribute, 14)
+
+-- the same of one identifier whose brace is closed, by its first byte
+unfoldable pub closed_of : Place → ℕ → Option (ItemForm × ℕ)
+closed_of place first = if nat_eq first 67 then Some (form.Constant, 14) else if nat_eq first 65 then attribute_alone place else None
+
 -- an item by its first byte, of which one identifier in braces is known
 unfoldable pub braced_of : Place → List ℕ → Option (ItemForm × ℕ)
 braced_of place bytes =
     if nat_eq (slice_index bytes 0) 35 then element_of place bytes
-    else if nat_eq (slice_index bytes 0) 67
-    then (if nat_eq (slice_index bytes 13) 125 then Some (form.Constant, 14) else None) else None
+    else if nat_eq (slice_index bytes 13) 125 then closed_of place (slice_index bytes 0) else None
 
 -- an item of one identifier or of two, and its length
 unfoldable pub item_at_of : Place → List ℕ → Option (ItemForm × ℕ)

@@ -20,8 +20,8 @@ use dh_base::memory::Memory;
 use dh_base::uid::Uid;
 use std::alloc::Global;
 
-/// Room for as many items, and operands that wait, as most expressions have.
-const SOME: usize = 16;
+/// Room for as many operands that wait as most expressions have.
+const MOST_WAITING: usize = 16;
 
 /// A whole operand that waits for its operator.
 #[derive(Clone, Copy)]
@@ -201,17 +201,18 @@ fn advance(making: &mut Making, text: &[u8], days: &DayItems, spot: Spot) -> Res
     }
 }
 
-/// Nothing yet, with room for so many nodes.
+/// Nothing yet, with room for so many nodes. Of the nodes of operators with two operands hardly more than half are items.
 fn begin(alloc: Global, count: usize) -> Result<Making, Memory>
     ensures { IfOk result (λ making. making ≡ new_making) }
 {
     let mut branches = Vec::with_capacity(alloc, count.saturating_add(1))?;
     branches.push(Branch::Number(0))?;
+    let operands = count / 2 + 1;
     Ok(Making {
         branches: Items::from(branches),
-        items: Items::from(Vec::with_capacity(alloc, SOME)?),
-        places: Items::from(Vec::with_capacity(alloc, SOME)?),
-        stack: Stack::with_room(alloc, SOME)?,
+        items: Items::from(Vec::with_capacity(alloc, operands)?),
+        places: Items::from(Vec::with_capacity(alloc, operands)?),
+        stack: Stack::with_room(alloc, MOST_WAITING)?,
     })
 }
 

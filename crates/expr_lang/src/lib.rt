@@ -3,6 +3,7 @@
 
 mod build;
 mod days;
+mod expected;
 mod expr;
 mod fault;
 mod item;

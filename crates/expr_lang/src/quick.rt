@@ -2,7 +2,7 @@
 
 ghost use Rattle.std.specs.Prelude.{◌≡◌, ◌≤◌, length};
 ghost use Rattle.expr_lang.specs.Token.{front_of};
-ghost use Rattle.expr_lang.specs.Quick.{sole_operator_of, is_identifier_of, pair_of, element_of, braced_of, item_at_of, dollars};
+ghost use Rattle.expr_lang.specs.Quick.{sole_operator_of, is_identifier_of, pair_of, element_of, closed_of, braced_of, item_at_of, dollars};
 ghost use Rattle.expr_lang.specs.Quick.{likely_call_of, whole_call_of, call_at_of};
 
 use crate::token::front_len;
@@ -80,6 +80,20 @@ fn element_at(place: Place, bytes: &[u8]) -> Option<(ItemForm, usize)>
     }
 }
 
+/// The same of one identifier whose brace is closed, by its first byte.
+#[tactic(auto, unfolding(crate::specs::Quick::closed_of))]
+fn closed_at(place: Place, first: u8) -> Option<(ItemForm, usize)>
+    ensures { result ≡ closed_of place first }
+{
+    if first == b'C' {
+        Some((ItemForm::Constant, 14))
+    } else if first == b'A' && matches!(place, Place::Program) {
+        Some((ItemForm::Attribute, 14))
+    } else {
+        None
+    }
+}
+
 #[tactic(auto, unfolding(crate::specs::Quick::braced_of))]
 fn braced_at(place: Place, bytes: &[u8]) -> Option<(ItemForm, usize)>
     requires { 14 ≤ length bytes.now }
@@ -87,8 +101,8 @@ fn braced_at(place: Place, bytes: &[u8]) -> Option<(ItemForm, usize)>
 {
     if bytes[0] == b'#' {
         element_at(place, bytes)
-    } else if bytes[0] == b'C' && bytes[13] == b'}' {
-        Some((ItemForm::Constant, 14))
+    } else if bytes[13] == b'}' {
+        closed_at(place, bytes[0])
     } else {
         None
     }

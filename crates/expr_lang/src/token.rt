@@ -74,11 +74,11 @@ pub fn front_len(word: &[u8], bytes: &[u8]) -> usize
     len
 }
 
-fn better(best: Front, symbol: Symbol, bytes: &[u8]) -> Front
+fn better(best: Front, symbol: Symbol, word: &[u8], bytes: &[u8]) -> Front
+    requires { word.now ≡ text_of symbol }
     ensures value { result ≡ better_of best symbol bytes.now }
     ensures within { best.len ≤ length bytes.now → result.len ≤ length bytes.now }
 {
-    let word = words::text(symbol);
     let len = front_len(word, bytes);
     if best.len < len || (best.len == len && len == word.len()) {
         let symbol = if len == word.len() {
@@ -94,10 +94,9 @@ fn better(best: Front, symbol: Symbol, bytes: &[u8]) -> Front
 
 /// Whether the last byte of the best front so far isn't one of the word's, which then has less of the text.
 #[tactic(auto, unfolding(crate::specs::Short::falls_short_of))]
-fn falls_short(len: usize, symbol: Symbol, bytes: &[u8]) -> bool
-    ensures { result ≡ falls_short_of len (text_of symbol) bytes.now }
+fn falls_short(len: usize, word: &[u8], bytes: &[u8]) -> bool
+    ensures { result ≡ falls_short_of len word.now bytes.now }
 {
-    let word = words::text(symbol);
     len > 0 && len <= word.len() && len <= bytes.len() && !fits(word[len - 1], bytes[len - 1])
 }
 
@@ -107,10 +106,11 @@ fn better_sooner(best: Front, symbol: Symbol, bytes: &[u8]) -> Front
     ensures value { result ≡ better_of best symbol bytes.now }
     ensures within { best.len ≤ length bytes.now → result.len ≤ length bytes.now }
 {
-    if falls_short(best.len, symbol, bytes) {
+    let word = words::text(symbol);
+    if falls_short(best.len, word, bytes) {
         best
     } else {
-        better(best, symbol, bytes)
+        better(best, symbol, word, bytes)
     }
 }
 

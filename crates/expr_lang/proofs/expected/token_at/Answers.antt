@@ -1,6 +1,6 @@
 use Rattle.std.proofs.Common.{sym}
 use Rattle.expr_lang.proofs.Sooner.{quick_so}
-use Rattle.expr_lang.proofs.reading.token_at.Goals as goal
+use Rattle.expr_lang.proofs.expected.token_at.Goals as goal
 
 pub returns-in-Some : goal.returns-in-Some
 returns-in-Some c =
