@@ -1,7 +1,10 @@
 -- One step of a list of items.
-use Rattle.std.proofs.Common.{◌≡◌, ℕ, ◌+◌, ◌<◌, List, [], ◌∷◌, ◌++◌, length, get_or, drop, Option, Some, None, refl, sym, ap, subst, ◌∙◌, inl, inr, ⊎_elim}
+use Rattle.std.proofs.Common.{◌≡◌, ℕ, ◌+◌, ◌<◌, ◌≤◌, List, [], ◌∷◌, ◌++◌, length, get_or, drop, Option, Some, None, refl, sym, ap, subst, ◌∙◌, inl, inr, ⊎_elim}
 use Rattle.std.proofs.Common.{arith}
+use Rattle.std.specs.Prelude.{slice_get, Contains}
+use Rattle.std.proofs.lemmas.Bool.{cases_lt}
 use Rattle.std.proofs.lemmas.List.{drop_more, drop_all}
+use Rattle.std.proofs.lemmas.Option.{slice_get_read, get_or_from_slice_get}
 use Rattle.expr_lang.specs.declared.tree.Item.{Item}
 use Rattle.expr_lang.specs.declared.reading.Spot.{Spot}
 use Rattle.expr_lang.specs.Leaves.{leaf_of_node}
@@ -56,3 +59,17 @@ pub listed_all : (text : List ℕ) (days : List (List ℕ)) (nodes : List Spot) 
 listed_all text days nodes n items places end before =
     before.goes_on items places (subst (λ (l : List Spot). ListsFrom (occurrences text days l) items places items places) (sym (drop_all n nodes (omega arith)))
     (refl, refl))
+
+-- an item that isn't before a place, nor at it
+pub none_more : (items : List Item) (i x : Item) (n : ℕ) → x ≡ get_or items n x → (¬ (x ≡ i))
+    → ((k : ℕ) → k < n → ¬ (slice_get items k ≡ Some i)) → (k : ℕ) → k < n + 1 → ¬ (slice_get items k ≡ Some i)
+none_more items i x n at other before k below there =
+    elim (cases_lt k n) [
+      | inl earlier ↦ before k earlier there
+      | inr later ↦
+          let same : k ≡ n = omega (arith, below, later) in
+          other (at ∙ get_or_from_slice_get items n i x (subst (λ (m : ℕ). slice_get items m ≡ Some i) same there))
+    ]
+
+pub none_in : (items : List Item) (i : Item) (n : ℕ) → n ≡ length items → ((k : ℕ) → k < n → ¬ (slice_get items k ≡ Some i)) → ¬ Contains items i
+none_in items i n end before there = before there.0 (omega (arith, end, there.1)) (slice_get_read items (length items) there.0 i refl there.1 (sym there.2))

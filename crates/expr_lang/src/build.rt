@@ -53,6 +53,8 @@ fn take(stack: &mut Stack<Waiting>) -> Waiting
     }
 }
 
+/// Stands in each caller, which then writes the node where it lies.
+#[inline(always)]
 fn put(making: &mut Making, known: Known, branch: Branch) -> Result<(), Memory>
     ensures { OnOk result (making.new ≡ with_branch known branch making.old) }
 {
@@ -143,6 +145,7 @@ fn place_of(items: &[Item], item: &Item) -> Option<usize>
 }
 
 /// The place of an item among those so far. One that isn't there is put at the end.
+#[inline(always)]
 fn list(
     items: &mut Items<Item>,
     places: &mut Items<usize>,

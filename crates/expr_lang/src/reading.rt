@@ -163,6 +163,7 @@ fn binding(frames: &Stack<Frame>, least: u8) -> Option<Spot>
 }
 
 /// Moves pending signs and operators that bind at least so tightly to the nodes.
+#[inline(always)]
 fn reduce(frames: &mut Stack<Frame>, nodes: &mut Items<Spot>, least: u8) -> Result<(), Memory>
     ensures frames { OnOk result (frames.new ≡ frames_reduced least frames.old) }
     ensures nodes { OnOk result (nodes.new ≡ nodes_reduced least frames.old nodes.old) }
