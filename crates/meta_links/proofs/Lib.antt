@@ -1,2 +1,2 @@
 pub mod Walk
-pub mod GroupLemmas
+pub mod Order

@@ -1,123 +1,74 @@
--- The kinds of objects in groups, each of which is linked by one call.
-use Rattle.std.specs.Prelude.{ℕ, List, [], ◌∷◌, ◌++◌, map}
-use Rattle.std.specs.List.{flat_map}
-use Rattle.dh_metadata.specs.declared.parts.MetaParts.{MetaParts}
+-- The lists of all kinds of objects as pairs of pairs, in the order of the kinds, and the tokens last.
+use Rattle.std.specs.Prelude.{ℕ, List}
+use Rattle.dh_sharing.specs.declared.rule.Sharing.{Sharing}
 use Rattle.dh_metadata.specs.declared.held.Links.{Links}
-use Rattle.meta_links.specs.Reference.{Reference}
-use Rattle.meta_links.specs.Table.{unit_references, unit_group_references, category_option_references, category_references, category_combo_references}
-use Rattle.meta_links.specs.Table.{option_combo_references, element_references, approval_level_references, workflow_references, data_set_references}
-use Rattle.meta_links.specs.Table.{constant_references, indicator_type_references, indicator_references, rule_references, entity_type_references}
-use Rattle.meta_links.specs.Table.{attribute_references, program_references, stage_references, program_indicator_references, role_references}
-use Rattle.meta_links.specs.Table.{user_references, user_group_references}
-use Rattle.meta_links.specs.Held.{unit_held, unit_group_held, category_option_held, category_held, category_combo_held, option_combo_held, element_held}
-use Rattle.meta_links.specs.Held.{approval_level_held, workflow_held, data_set_held, constant_held, indicator_type_held, indicator_held, rule_held}
-use Rattle.meta_links.specs.Held.{entity_type_held, attribute_held, program_held, stage_held, program_indicator_held, role_held, user_held, user_group_held}
-use Rattle.meta_links.specs.Held.{built_in_combo, built_in_option_combo}
-use Rattle.meta_links.specs.declared.groups.UnitLinks.{UnitLinks}
-use Rattle.meta_links.specs.declared.groups.ComboLinks.{ComboLinks}
-use Rattle.meta_links.specs.declared.groups.SetLinks.{SetLinks}
-use Rattle.meta_links.specs.declared.groups.RuleLinks.{RuleLinks}
-use Rattle.meta_links.specs.declared.groups.ProgramLinks.{ProgramLinks}
-use Rattle.meta_links.specs.declared.groups.UserLinks.{UserLinks}
+use Rattle.dh_metadata.specs.declared.records.Unit.{Unit}
+use Rattle.dh_metadata.specs.declared.records.UnitGroup.{UnitGroup}
+use Rattle.dh_metadata.specs.declared.records.CategoryOption.{CategoryOption}
+use Rattle.dh_metadata.specs.declared.records.Category.{Category}
+use Rattle.dh_metadata.specs.declared.records.CategoryCombo.{CategoryCombo}
+use Rattle.dh_metadata.specs.declared.records.OptionCombo.{OptionCombo}
+use Rattle.dh_metadata.specs.declared.records.Element.{Element}
+use Rattle.dh_metadata.specs.declared.records.ApprovalLevel.{ApprovalLevel}
+use Rattle.dh_metadata.specs.declared.records.Workflow.{Workflow}
+use Rattle.dh_metadata.specs.declared.records.DataSet.{DataSet}
+use Rattle.dh_metadata.specs.declared.records.Constant.{Constant}
+use Rattle.dh_metadata.specs.declared.records.IndicatorType.{IndicatorType}
+use Rattle.dh_metadata.specs.declared.records.IndicatorLinks.{IndicatorLinks}
+use Rattle.dh_metadata.specs.declared.records.EntityType.{EntityType}
+use Rattle.dh_metadata.specs.declared.records.Attribute.{Attribute}
+use Rattle.dh_metadata.specs.declared.records.Program.{Program}
+use Rattle.dh_metadata.specs.declared.records.Stage.{Stage}
+use Rattle.dh_metadata.specs.declared.records.ProgramIndicatorLinks.{ProgramIndicatorLinks}
+use Rattle.dh_metadata.specs.declared.records.Role.{Role}
+use Rattle.dh_metadata.specs.declared.records.User.{User}
+use Rattle.dh_metadata.specs.declared.records.UserGroup.{UserGroup}
 
-unfoldable pub units_references : MetaParts → List Reference
-units_references parts =
-    flat_map unit_references parts.organisation_units ++ flat_map unit_group_references parts.organisation_unit_groups
-    ++ flat_map category_option_references parts.category_options ++ flat_map category_references parts.categories
+abbrev pub Units : Type 0
+Units = (List Unit × List UnitGroup) × (List CategoryOption × List Category)
 
-unfoldable pub units_held : List (List (List ℕ)) → MetaParts → UnitLinks
-units_held ids parts = record {
-  organisation_units = map (unit_held ids) parts.organisation_units;
-  organisation_unit_groups = map (unit_group_held ids) parts.organisation_unit_groups;
-  category_options = map (category_option_held ids) parts.category_options;
-  categories = map (category_held ids) parts.categories;
-}
+abbrev pub Combos : Type 0
+Combos = (List CategoryCombo × List OptionCombo) × (List Element × List ApprovalLevel)
 
-unfoldable pub combos_references : MetaParts → List Reference
-combos_references parts =
-    flat_map category_combo_references parts.category_combos ++ flat_map option_combo_references parts.category_option_combos
-    ++ flat_map element_references parts.data_elements ++ flat_map approval_level_references parts.data_approval_levels
+abbrev pub Sets : Type 0
+Sets = (List Workflow × List DataSet) × (List Constant × List IndicatorType)
 
-unfoldable pub combos_held : List (List (List ℕ)) → MetaParts → ComboLinks
-combos_held ids parts = record {
-  category_combos = built_in_combo ∷ map (category_combo_held ids) parts.category_combos;
-  category_option_combos = built_in_option_combo ∷ map (option_combo_held ids) parts.category_option_combos;
-  data_elements = map (element_held ids) parts.data_elements;
-  data_approval_levels = map (approval_level_held ids) parts.data_approval_levels;
-}
+abbrev pub Rules : Type 0
+Rules = (List IndicatorLinks × List Sharing) × (List EntityType × List Attribute)
 
-unfoldable pub sets_references : MetaParts → List Reference
-sets_references parts =
-    flat_map workflow_references parts.data_approval_workflows ++ flat_map data_set_references parts.data_sets ++ flat_map constant_references parts.constants
-    ++ flat_map indicator_type_references parts.indicator_types
+abbrev pub Programs : Type 0
+Programs = (List Program × List Stage) × List ProgramIndicatorLinks
 
-unfoldable pub sets_held : List (List (List ℕ)) → MetaParts → SetLinks
-sets_held ids parts = record {
-  data_approval_workflows = map (workflow_held ids) parts.data_approval_workflows;
-  data_sets = map (data_set_held ids) parts.data_sets;
-  constants = map (constant_held ids) parts.constants;
-  indicator_types = map (indicator_type_held ids) parts.indicator_types;
-}
+abbrev pub Users : Type 0
+Users = (List Role × List User) × List UserGroup
 
-unfoldable pub rules_references : MetaParts → List Reference
-rules_references parts =
-    flat_map indicator_references parts.indicators ++ flat_map rule_references parts.validation_rules
-    ++ flat_map entity_type_references parts.tracked_entity_types ++ flat_map attribute_references parts.tracked_entity_attributes
+abbrev pub Groups : Type 0
+Groups = (((Units × Combos) × (Sets × Rules)) × (Programs × Users)) × List (List ℕ × ℕ)
 
-unfoldable pub rules_held : List (List (List ℕ)) → MetaParts → RuleLinks
-rules_held ids parts = record {
-  indicators = map (indicator_held ids) parts.indicators;
-  validation_rules = map (rule_held ids) parts.validation_rules;
-  tracked_entity_types = map (entity_type_held ids) parts.tracked_entity_types;
-  tracked_entity_attributes = map (attribute_held ids) parts.tracked_entity_attributes;
-}
-
-unfoldable pub programs_references : MetaParts → List Reference
-programs_references parts =
-    flat_map program_references parts.programs ++ flat_map stage_references parts.program_stages
-    ++ flat_map program_indicator_references parts.program_indicators
-
-unfoldable pub programs_held : List (List (List ℕ)) → MetaParts → ProgramLinks
-programs_held ids parts = record {
-  programs = map (program_held ids) parts.programs;
-  program_stages = map (stage_held ids) parts.program_stages;
-  program_indicators = map (program_indicator_held ids) parts.program_indicators;
-}
-
-unfoldable pub users_references : MetaParts → List Reference
-users_references parts = flat_map role_references parts.user_roles ++ flat_map user_references parts.users ++ flat_map user_group_references parts.user_groups
-
-unfoldable pub users_held : List (List (List ℕ)) → MetaParts → UserLinks
-users_held ids parts = record {
-  user_roles = map (role_held ids) parts.user_roles;
-  users = map (user_held ids) parts.users;
-  user_groups = map (user_group_held ids) parts.user_groups;
-}
-
--- all objects, from their groups
-abbrev pub assembled : UnitLinks → ComboLinks → SetLinks → RuleLinks → ProgramLinks → UserLinks → List (List ℕ × ℕ) → Links
-assembled units combos sets rules programs users tokens = record {
-  organisation_units = units.organisation_units;
-  organisation_unit_groups = units.organisation_unit_groups;
-  category_options = units.category_options;
-  categories = units.categories;
-  category_combos = combos.category_combos;
-  category_option_combos = combos.category_option_combos;
-  data_elements = combos.data_elements;
-  data_approval_levels = combos.data_approval_levels;
-  data_approval_workflows = sets.data_approval_workflows;
-  data_sets = sets.data_sets;
-  constants = sets.constants;
-  indicator_types = sets.indicator_types;
-  indicators = rules.indicators;
-  validation_rules = rules.validation_rules;
-  tracked_entity_types = rules.tracked_entity_types;
-  tracked_entity_attributes = rules.tracked_entity_attributes;
-  programs = programs.programs;
-  program_stages = programs.program_stages;
-  program_indicators = programs.program_indicators;
-  user_roles = users.user_roles;
-  users = users.users;
-  user_groups = users.user_groups;
-  api_tokens = tokens;
+-- all objects, from their lists
+abbrev pub assembled : Groups → Links
+assembled groups = record {
+  organisation_units = groups.0.0.0.0.0.0;
+  organisation_unit_groups = groups.0.0.0.0.0.1;
+  category_options = groups.0.0.0.0.1.0;
+  categories = groups.0.0.0.0.1.1;
+  category_combos = groups.0.0.0.1.0.0;
+  category_option_combos = groups.0.0.0.1.0.1;
+  data_elements = groups.0.0.0.1.1.0;
+  data_approval_levels = groups.0.0.0.1.1.1;
+  data_approval_workflows = groups.0.0.1.0.0.0;
+  data_sets = groups.0.0.1.0.0.1;
+  constants = groups.0.0.1.0.1.0;
+  indicator_types = groups.0.0.1.0.1.1;
+  indicators = groups.0.0.1.1.0.0;
+  validation_rules = groups.0.0.1.1.0.1;
+  tracked_entity_types = groups.0.0.1.1.1.0;
+  tracked_entity_attributes = groups.0.0.1.1.1.1;
+  programs = groups.0.1.0.0.0;
+  program_stages = groups.0.1.0.0.1;
+  program_indicators = groups.0.1.0.1;
+  user_roles = groups.0.1.1.0.0;
+  users = groups.0.1.1.0.1;
+  user_groups = groups.0.1.1.1;
+  api_tokens = groups.1;
 }

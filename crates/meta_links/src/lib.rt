@@ -2,12 +2,11 @@
 //! first that names no object is reported with its path in the file.
 #![tactic(auto)]
 
-mod both;
 mod built_in;
 mod copies;
+mod entries;
 pub mod fault;
 mod fields;
-mod groups;
 pub mod link;
 mod link_each;
 mod objects;

@@ -1,5 +1,5 @@
 //! All objects of a file with their references as numbers.
-ghost use Rattle.std.specs.Prelude.{◌≡◌, ◌++◌, IfOk, OnOk};
+ghost use Rattle.std.specs.Prelude.{◌≡◌, IfOk, OnOk};
 ghost use Rattle.meta_links.specs.Groups.{assembled};
 ghost use Rattle.meta_links.specs.Held.{links_of};
 ghost use Rattle.meta_links.specs.Table.{references};
@@ -7,30 +7,52 @@ ghost use Rattle.dh_base.specs.Memory.{Finds};
 ghost use Rattle.meta_links.specs.Reference.{first_unknown};
 ghost use Rattle.meta_links.specs.Told.{after, link_cause};
 
-use crate::both::both;
+use crate::built_in::{AllCombos, AllOptionCombos};
+use crate::entries::Listed;
 use crate::fault::LinkFault;
-use crate::groups::{
-    ComboLinks, ProgramLinks, RuleLinks, SetLinks, UnitLinks, UserLinks, link_combos,
-    link_programs, link_rules, link_sets, link_units, link_users,
-};
-use crate::tokens::link_tokens;
+use crate::link_each::Link;
+use crate::tokens::Tokens;
 use crate::unknown::Unknown;
 use dh_base::items::Items;
 use dh_base::memory::Memory;
 use dh_metadata::held::Links;
 use dh_metadata::ids::Ids;
 use dh_metadata::parts::MetaParts;
+use dh_metadata::records::{
+    ApprovalLevel, Attribute, Category, CategoryCombo, CategoryOption, Constant, DataSet, Element,
+    EntityType, IndicatorLinks, IndicatorType, OptionCombo, Program, ProgramIndicatorLinks, Role,
+    Stage, Unit, UnitGroup, User, UserGroup, Workflow,
+};
+use dh_sharing::rule::Sharing;
 use std::alloc::Global;
 
-// Units, combinations, data sets, rules, programs, users and tokens, as they were linked.
+// The objects of a file by their kinds, in the order of the kinds, and the tokens last.
+type Units = (
+    (Items<Unit>, Items<UnitGroup>),
+    (Items<CategoryOption>, Items<Category>),
+);
+
+type Combos = (
+    (Items<CategoryCombo>, Items<OptionCombo>),
+    (Items<Element>, Items<ApprovalLevel>),
+);
+
+type Sets = (
+    (Items<Workflow>, Items<DataSet>),
+    (Items<Constant>, Items<IndicatorType>),
+);
+
+type Rules = (
+    (Items<IndicatorLinks>, Items<Sharing>),
+    (Items<EntityType>, Items<Attribute>),
+);
+
+type Programs = ((Items<Program>, Items<Stage>), Items<ProgramIndicatorLinks>);
+
+type Users = ((Items<Role>, Items<User>), Items<UserGroup>);
+
 type Groups = (
-    (
-        (
-            (((UnitLinks, ComboLinks), SetLinks), RuleLinks),
-            ProgramLinks,
-        ),
-        UserLinks,
-    ),
+    (((Units, Combos), (Sets, Rules)), (Programs, Users)),
     Items<(Items<u8>, u32)>,
 );
 
@@ -56,49 +78,82 @@ fn look_up(
     unknown: &mut Unknown,
     parts: &MetaParts,
 ) -> Result<Groups, Memory>
-    ensures held { IfOk result (λ all.
-        assembled all.0.0.0.0.0.0 all.0.0.0.0.0.1 all.0.0.0.0.1 all.0.0.0.1 all.0.0.1 all.0.1 all.1
-        ≡ links_of ids.now parts.now) }
+    ensures held { IfOk result (λ groups. assembled groups ≡ links_of ids.now parts.now) }
     ensures told { OnOk result (unknown.new ≡ after ids.now unknown.old (references parts.now)) }
 {
-    let units = link_units(alloc, ids, unknown, parts)?;
-    let two = both(units, link_combos(alloc, ids, unknown, parts))?;
-    let three = both(two, link_sets(alloc, ids, unknown, parts))?;
-    let four = both(three, link_rules(alloc, ids, unknown, parts))?;
-    let five = both(four, link_programs(alloc, ids, unknown, parts))?;
-    let six = both(five, link_users(alloc, ids, unknown, parts))?;
-    let all = both(six, link_tokens(alloc, ids, unknown, &parts.api_tokens))?;
-    Ok(all)
+    let combos = AllCombos {
+        named: &parts.category_combos,
+    };
+    let option_combos = AllOptionCombos {
+        named: &parts.category_option_combos,
+    };
+    let units = (
+        (&parts.organisation_units, &parts.organisation_unit_groups),
+        (&parts.category_options, &parts.categories),
+    );
+    let combos = (
+        (combos, option_combos),
+        (&parts.data_elements, &parts.data_approval_levels),
+    );
+    let sets = (
+        (&parts.data_approval_workflows, &parts.data_sets),
+        (&parts.constants, &parts.indicator_types),
+    );
+    let rules = (
+        (&parts.indicators, &parts.validation_rules),
+        (
+            &parts.tracked_entity_types,
+            &parts.tracked_entity_attributes,
+        ),
+    );
+    let programs = (
+        (&parts.programs, &parts.program_stages),
+        &parts.program_indicators,
+    );
+    let users = ((&parts.user_roles, &parts.users), &parts.user_groups);
+    let lists = (((units, combos), (sets, rules)), (programs, users));
+    let tokens = Listed {
+        each: Tokens {},
+        entries: &parts.api_tokens,
+    };
+    (lists, tokens).link(alloc, ids, unknown)
 }
 
-// The objects of all groups. This can't fail.
+// The objects of all kinds. This can't fail.
 fn all_links(groups: Groups) -> Links
-    ensures { result ≡ assembled groups.0.0.0.0.0.0 groups.0.0.0.0.0.1 groups.0.0.0.0.1 groups.0.0.0.1 groups.0.0.1 groups.0.1 groups.1 }
+    ensures { result ≡ assembled groups }
 {
-    let ((((((units, combos), sets), rules), programs), users), api_tokens) = groups;
+    let (groups, api_tokens) = groups;
+    let (((units, combos), (sets, rules)), (programs, users)) = groups;
+    let ((organisation_units, organisation_unit_groups), (category_options, categories)) = units;
+    let ((category_combos, category_option_combos), (data_elements, data_approval_levels)) = combos;
+    let ((data_approval_workflows, data_sets), (constants, indicator_types)) = sets;
+    let ((indicators, validation_rules), (tracked_entity_types, tracked_entity_attributes)) = rules;
+    let ((programs, program_stages), program_indicators) = programs;
+    let ((user_roles, users), user_groups) = users;
     Links {
-        organisation_units: units.organisation_units,
-        organisation_unit_groups: units.organisation_unit_groups,
-        category_options: units.category_options,
-        categories: units.categories,
-        category_combos: combos.category_combos,
-        category_option_combos: combos.category_option_combos,
-        data_elements: combos.data_elements,
-        data_approval_levels: combos.data_approval_levels,
-        data_approval_workflows: sets.data_approval_workflows,
-        data_sets: sets.data_sets,
-        constants: sets.constants,
-        indicator_types: sets.indicator_types,
-        indicators: rules.indicators,
-        validation_rules: rules.validation_rules,
-        tracked_entity_types: rules.tracked_entity_types,
-        tracked_entity_attributes: rules.tracked_entity_attributes,
-        programs: programs.programs,
-        program_stages: programs.program_stages,
-        program_indicators: programs.program_indicators,
-        user_roles: users.user_roles,
-        users: users.users,
-        user_groups: users.user_groups,
+        organisation_units,
+        organisation_unit_groups,
+        category_options,
+        categories,
+        category_combos,
+        category_option_combos,
+        data_elements,
+        data_approval_levels,
+        data_approval_workflows,
+        data_sets,
+        constants,
+        indicator_types,
+        indicators,
+        validation_rules,
+        tracked_entity_types,
+        tracked_entity_attributes,
+        programs,
+        program_stages,
+        program_indicators,
+        user_roles,
+        users,
+        user_groups,
         api_tokens,
     }
 }

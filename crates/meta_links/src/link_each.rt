@@ -1,4 +1,4 @@
-//! The references of each object of a list.
+//! What references are looked up in: objects, lists of objects, and two of these one after the other.
 ghost use Rattle.std.specs.Prelude.{◌≡◌, ℕ, List, ◌++◌, IfOk, OnOk, map};
 ghost use Rattle.std.specs.List.{flat_map};
 ghost use Rattle.meta_links.specs.Reference.{Reference};
@@ -10,15 +10,15 @@ use dh_base::memory::Memory;
 use dh_metadata::ids::Ids;
 use std::alloc::Global;
 
-/// An object whose references are looked up.
+/// Something whose references are looked up.
 pub trait Link {
-    /// The object as it is held.
+    /// It as it is held.
     type Held: Drop;
 
-    /// Its references, in the order of its fields.
+    /// Its references, in their order in the file.
     ghost references: { Self → List Reference };
 
-    /// The object as it is held, by the identifiers of each kind.
+    /// It as it is held, by the identifiers of each kind.
     ghost held: { List (List (List ℕ)) → Self → Self.Held };
 
     /// Looks up the references.
@@ -27,8 +27,47 @@ pub trait Link {
         ensures told { OnOk result (unknown.new ≡ after ids.now unknown.old (references self.now)) };
 }
 
+/// One after the other. A caller that links several so holds nothing while it may have to return early.
+impl<A: Link, B: Link> Link for (A, B) {
+    type Held = (A::Held, B::Held);
+
+    ghost references = { λ pair. A.references pair.0 ++ B.references pair.1 };
+
+    ghost held = { λ ids pair. (A.held ids pair.0, B.held ids pair.1) };
+
+    #[tactic(auto, using(crate::proofs::Walk::parts))]
+    fn link(
+        &self,
+        alloc: Global,
+        ids: &Ids,
+        unknown: &mut Unknown,
+    ) -> Result<(A::Held, B::Held), Memory> {
+        let first = self.0.link(alloc, ids, unknown)?;
+        let second = self.1.link(alloc, ids, unknown)?;
+        Ok((first, second))
+    }
+}
+
+/// The objects of a list.
+impl<'a, T: Link> Link for &'a Items<T> {
+    type Held = Items<T::Held>;
+
+    ghost references = { λ objects. flat_map T.references objects.now };
+
+    ghost held = { λ ids objects. map (T.held ids) objects.now };
+
+    fn link(
+        &self,
+        alloc: Global,
+        ids: &Ids,
+        unknown: &mut Unknown,
+    ) -> Result<Items<T::Held>, Memory> {
+        link_each(alloc, ids, unknown, Vec::new(alloc), self.as_slice())
+    }
+}
+
 /// Objects as they are held, after some that are built in.
-fn link_each<T: Link>(
+pub fn link_each<T: Link>(
     alloc: Global,
     ids: &Ids,
     unknown: &mut Unknown,
@@ -43,35 +82,4 @@ fn link_each<T: Link>(
         all.push(object.link(alloc, ids, unknown)?)?;
     }
     Ok(Items::from(all))
-}
-
-/// The same of a list.
-pub fn link_all<T: Link>(
-    alloc: Global,
-    ids: &Ids,
-    unknown: &mut Unknown,
-    built_in: Vec<T::Held>,
-    objects: &Items<T>,
-) -> Result<Items<T::Held>, Memory>
-    ensures held { IfOk result (λ all. all ≡ built_in.items ++ map (T.held ids.now) objects.now) }
-    ensures told { OnOk result (unknown.new ≡ after ids.now unknown.old (flat_map T.references objects.now)) }
-{
-    link_each(alloc, ids, unknown, built_in, objects.as_slice())
-}
-
-/// The same of another list, beside what was linked before. What stands here isn't held by the caller
-/// while it may have to return early.
-pub fn link_beside<A: Drop, T: Link>(
-    first: A,
-    alloc: Global,
-    ids: &Ids,
-    unknown: &mut Unknown,
-    objects: &Items<T>,
-) -> Result<(A, Items<T::Held>), Memory>
-    ensures first { IfOk result (λ pair. pair.0 ≡ first) }
-    ensures held { IfOk result (λ pair. pair.1 ≡ map (T.held ids.now) objects.now) }
-    ensures told { OnOk result (unknown.new ≡ after ids.now unknown.old (flat_map T.references objects.now)) }
-{
-    let second = link_all(alloc, ids, unknown, Vec::new(alloc), objects)?;
-    Ok((first, second))
 }

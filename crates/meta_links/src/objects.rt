@@ -10,11 +10,12 @@ ghost use Rattle.meta_links.specs.Held.{element_held, approval_level_held, workf
 ghost use Rattle.meta_links.specs.Held.{rule_held, entity_type_held, attribute_held, program_held, stage_held, program_indicator_held, role_held, user_held};
 ghost use Rattle.meta_links.specs.Held.{user_group_held};
 
-use crate::copies::{copies_of, copy_of};
-use crate::fields::{one, optional, set_elements, several, several_in};
+use crate::copies::{Text, copies_of, copy_of};
+use crate::entries::Listed;
+use crate::fields::{One, Optional, SetElements, Several, SeveralIn};
 use crate::link_each::Link;
 use crate::path::Field;
-use crate::sharing::sharing;
+use crate::sharing::Shared;
 use crate::unknown::Unknown;
 use dh_base::memory::Memory;
 use dh_metadata::ids::Ids;
@@ -40,22 +41,21 @@ impl Link for RawUnit {
 
     ghost held = { unit_held };
 
-    #[tactic(auto, using(crate::proofs::Walk::parts), unfolding(crate::specs::Table::unit_references, crate::specs::Held::unit_held))]
+    #[tactic(auto, unfolding(crate::specs::Table::unit_references, crate::specs::Held::unit_held))]
     fn link(&self, alloc: Global, ids: &Ids, unknown: &mut Unknown) -> Result<Unit, Memory> {
-        let field = Field {
-            kind: Kind::OrganisationUnit,
-            place: self.place,
-            name: "parent",
+        let (kind, place) = (Kind::OrganisationUnit, self.place);
+        let name = Text { text: &self.name };
+        let parent = Optional {
+            at: Field {
+                kind,
+                place,
+                name: "parent",
+            },
+            of: Kind::OrganisationUnit,
+            uid: self.parent,
         };
-        let parent = optional(
-            alloc,
-            ids,
-            unknown,
-            field,
-            Kind::OrganisationUnit,
-            self.parent,
-        )?;
-        let name = copy_of(alloc, &self.name)?;
+        let fields = (name, parent);
+        let (name, parent) = fields.link(alloc, ids, unknown)?;
         Ok(Unit {
             id: self.id,
             name,
@@ -71,22 +71,23 @@ impl Link for RawUnitGroup {
 
     ghost held = { unit_group_held };
 
-    #[tactic(auto, using(crate::proofs::Walk::parts), unfolding(crate::specs::Table::unit_group_references, crate::specs::Held::unit_group_held))]
+    #[tactic(auto, unfolding(crate::specs::Table::unit_group_references, crate::specs::Held::unit_group_held, crate::specs::Reference::several))]
     fn link(&self, alloc: Global, ids: &Ids, unknown: &mut Unknown) -> Result<UnitGroup, Memory> {
-        let field = Field {
-            kind: Kind::OrganisationUnitGroup,
-            place: self.place,
-            name: "organisationUnits",
+        let (kind, place) = (Kind::OrganisationUnitGroup, self.place);
+        let name = Text { text: &self.name };
+        let organisation_units = Listed {
+            each: Several {
+                at: Field {
+                    kind,
+                    place,
+                    name: "organisationUnits",
+                },
+                of: Kind::OrganisationUnit,
+            },
+            entries: &self.organisation_units,
         };
-        let organisation_units = several(
-            alloc,
-            ids,
-            unknown,
-            field,
-            Kind::OrganisationUnit,
-            &self.organisation_units,
-        )?;
-        let name = copy_of(alloc, &self.name)?;
+        let fields = (name, organisation_units);
+        let (name, organisation_units) = fields.link(alloc, ids, unknown)?;
         Ok(UnitGroup {
             id: self.id,
             name,
@@ -102,22 +103,22 @@ impl Link for RawCategoryOption {
 
     ghost held = { category_option_held };
 
-    #[tactic(auto, using(crate::proofs::Walk::parts), unfolding(crate::specs::Table::category_option_references, crate::specs::Held::category_option_held))]
+    #[tactic(auto, unfolding(crate::specs::Table::category_option_references, crate::specs::Held::category_option_held))]
     fn link(
         &self,
         alloc: Global,
         ids: &Ids,
         unknown: &mut Unknown,
     ) -> Result<CategoryOption, Memory> {
-        let sharing = sharing(
-            alloc,
-            ids,
-            unknown,
-            Kind::CategoryOption,
-            self.place,
-            &self.sharing,
-        )?;
-        let name = copy_of(alloc, &self.name)?;
+        let (kind, place) = (Kind::CategoryOption, self.place);
+        let name = Text { text: &self.name };
+        let sharing = Shared {
+            kind,
+            place,
+            sharing: &self.sharing,
+        };
+        let fields = (name, sharing);
+        let (name, sharing) = fields.link(alloc, ids, unknown)?;
         Ok(CategoryOption {
             id: self.id,
             name,
@@ -133,22 +134,23 @@ impl Link for RawCategory {
 
     ghost held = { category_held };
 
-    #[tactic(auto, using(crate::proofs::Walk::parts), unfolding(crate::specs::Table::category_references, crate::specs::Held::category_held))]
+    #[tactic(auto, unfolding(crate::specs::Table::category_references, crate::specs::Held::category_held, crate::specs::Reference::several))]
     fn link(&self, alloc: Global, ids: &Ids, unknown: &mut Unknown) -> Result<Category, Memory> {
-        let field = Field {
-            kind: Kind::Category,
-            place: self.place,
-            name: "categoryOptions",
+        let (kind, place) = (Kind::Category, self.place);
+        let name = Text { text: &self.name };
+        let category_options = Listed {
+            each: Several {
+                at: Field {
+                    kind,
+                    place,
+                    name: "categoryOptions",
+                },
+                of: Kind::CategoryOption,
+            },
+            entries: &self.category_options,
         };
-        let category_options = several(
-            alloc,
-            ids,
-            unknown,
-            field,
-            Kind::CategoryOption,
-            &self.category_options,
-        )?;
-        let name = copy_of(alloc, &self.name)?;
+        let fields = (name, category_options);
+        let (name, category_options) = fields.link(alloc, ids, unknown)?;
         Ok(Category {
             id: self.id,
             name,
@@ -164,20 +166,28 @@ impl Link for RawCategoryCombo {
 
     ghost held = { category_combo_held };
 
-    #[tactic(auto, using(crate::proofs::Walk::parts), unfolding(crate::specs::Table::category_combo_references, crate::specs::Held::category_combo_held))]
+    #[tactic(auto, unfolding(crate::specs::Table::category_combo_references, crate::specs::Held::category_combo_held, crate::specs::Reference::several))]
     fn link(
         &self,
         alloc: Global,
         ids: &Ids,
         unknown: &mut Unknown,
     ) -> Result<CategoryCombo, Memory> {
-        let field = Field {
-            kind: Kind::CategoryCombo,
-            place: self.place,
-            name: "categories",
+        let (kind, place) = (Kind::CategoryCombo, self.place);
+        let name = Text { text: &self.name };
+        let categories = Listed {
+            each: Several {
+                at: Field {
+                    kind,
+                    place,
+                    name: "categories",
+                },
+                of: Kind::Category,
+            },
+            entries: &self.categories,
         };
-        let categories = several(alloc, ids, unknown, field, Kind::Category, &self.categories)?;
-        let name = copy_of(alloc, &self.name)?;
+        let fields = (name, categories);
+        let (name, categories) = fields.link(alloc, ids, unknown)?;
         Ok(CategoryCombo {
             id: self.id,
             name,
@@ -193,35 +203,32 @@ impl Link for RawOptionCombo {
 
     ghost held = { option_combo_held };
 
-    #[tactic(auto, using(crate::proofs::Walk::parts), unfolding(crate::specs::Table::option_combo_references, crate::specs::Held::option_combo_held))]
+    #[tactic(auto, unfolding(crate::specs::Table::option_combo_references, crate::specs::Held::option_combo_held, crate::specs::Reference::several))]
     fn link(&self, alloc: Global, ids: &Ids, unknown: &mut Unknown) -> Result<OptionCombo, Memory> {
-        let field = Field {
-            kind: Kind::CategoryOptionCombo,
-            place: self.place,
-            name: "categoryCombo",
+        let (kind, place) = (Kind::CategoryOptionCombo, self.place);
+        let name = Text { text: &self.name };
+        let category_combo = One {
+            at: Field {
+                kind,
+                place,
+                name: "categoryCombo",
+            },
+            of: Kind::CategoryCombo,
+            uid: self.category_combo,
         };
-        let category_combo = one(
-            alloc,
-            ids,
-            unknown,
-            field,
-            Kind::CategoryCombo,
-            self.category_combo,
-        )?;
-        let field = Field {
-            kind: Kind::CategoryOptionCombo,
-            place: self.place,
-            name: "categoryOptions",
+        let category_options = Listed {
+            each: Several {
+                at: Field {
+                    kind,
+                    place,
+                    name: "categoryOptions",
+                },
+                of: Kind::CategoryOption,
+            },
+            entries: &self.category_options,
         };
-        let category_options = several(
-            alloc,
-            ids,
-            unknown,
-            field,
-            Kind::CategoryOption,
-            &self.category_options,
-        )?;
-        let name = copy_of(alloc, &self.name)?;
+        let fields = ((name, category_combo), category_options);
+        let ((name, category_combo), category_options) = fields.link(alloc, ids, unknown)?;
         Ok(OptionCombo {
             id: self.id,
             name,
@@ -238,37 +245,33 @@ impl Link for RawElement {
 
     ghost held = { element_held };
 
-    #[tactic(auto, using(crate::proofs::Walk::parts), unfolding(crate::specs::Table::element_references, crate::specs::Held::element_held))]
+    #[tactic(auto, unfolding(crate::specs::Table::element_references, crate::specs::Held::element_held))]
     fn link(&self, alloc: Global, ids: &Ids, unknown: &mut Unknown) -> Result<Element, Memory> {
-        let field = Field {
-            kind: Kind::DataElement,
-            place: self.place,
-            name: "categoryCombo",
+        let (kind, place) = (Kind::DataElement, self.place);
+        let name = Text { text: &self.name };
+        let category_combo = One {
+            at: Field {
+                kind,
+                place,
+                name: "categoryCombo",
+            },
+            of: Kind::CategoryCombo,
+            uid: self.category_combo,
         };
-        let category_combo = one(
-            alloc,
-            ids,
-            unknown,
-            field,
-            Kind::CategoryCombo,
-            self.category_combo,
-        )?;
-        let sharing = sharing(
-            alloc,
-            ids,
-            unknown,
-            Kind::DataElement,
-            self.place,
-            &self.sharing,
-        )?;
-        let name = copy_of(alloc, &self.name)?;
+        let sharing = Shared {
+            kind,
+            place,
+            sharing: &self.sharing,
+        };
+        let fields = ((name, category_combo), sharing);
+        let ((name, category_combo), sharing) = fields.link(alloc, ids, unknown)?;
         Ok(Element {
             id: self.id,
             name,
             value_type: self.value_type,
             aggregation_type: self.aggregation_type,
-            category_combo,
             zero_is_significant: self.zero_is_significant,
+            category_combo,
             sharing,
         })
     }
@@ -285,8 +288,8 @@ impl Link for RawApprovalLevel {
     fn link(
         &self,
         alloc: Global,
-        ids: &Ids,
-        unknown: &mut Unknown,
+        _ids: &Ids,
+        _unknown: &mut Unknown,
     ) -> Result<ApprovalLevel, Memory> {
         let name = copy_of(alloc, &self.name)?;
         Ok(ApprovalLevel {
@@ -305,22 +308,23 @@ impl Link for RawWorkflow {
 
     ghost held = { workflow_held };
 
-    #[tactic(auto, using(crate::proofs::Walk::parts), unfolding(crate::specs::Table::workflow_references, crate::specs::Held::workflow_held))]
+    #[tactic(auto, unfolding(crate::specs::Table::workflow_references, crate::specs::Held::workflow_held, crate::specs::Reference::several))]
     fn link(&self, alloc: Global, ids: &Ids, unknown: &mut Unknown) -> Result<Workflow, Memory> {
-        let field = Field {
-            kind: Kind::Workflow,
-            place: self.place,
-            name: "dataApprovalLevels",
+        let (kind, place) = (Kind::Workflow, self.place);
+        let name = Text { text: &self.name };
+        let data_approval_levels = Listed {
+            each: Several {
+                at: Field {
+                    kind,
+                    place,
+                    name: "dataApprovalLevels",
+                },
+                of: Kind::ApprovalLevel,
+            },
+            entries: &self.data_approval_levels,
         };
-        let data_approval_levels = several(
-            alloc,
-            ids,
-            unknown,
-            field,
-            Kind::ApprovalLevel,
-            &self.data_approval_levels,
-        )?;
-        let name = copy_of(alloc, &self.name)?;
+        let fields = (name, data_approval_levels);
+        let (name, data_approval_levels) = fields.link(alloc, ids, unknown)?;
         Ok(Workflow {
             id: self.id,
             name,
@@ -337,66 +341,79 @@ impl Link for RawDataSet {
 
     ghost held = { data_set_held };
 
-    #[tactic(auto, using(crate::proofs::Walk::parts), unfolding(crate::specs::Table::data_set_references, crate::specs::Held::data_set_held))]
+    #[tactic(auto, unfolding(crate::specs::Table::data_set_references, crate::specs::Held::data_set_held))]
     fn link(&self, alloc: Global, ids: &Ids, unknown: &mut Unknown) -> Result<DataSet, Memory> {
-        let field = Field {
-            kind: Kind::DataSet,
-            place: self.place,
-            name: "dataSetElements",
+        let (kind, place) = (Kind::DataSet, self.place);
+        let name = Text { text: &self.name };
+        let data_set_elements = Listed {
+            each: SetElements {
+                at: Field {
+                    kind,
+                    place,
+                    name: "dataSetElements",
+                },
+            },
+            entries: &self.data_set_elements,
         };
-        let data_set_elements = set_elements(alloc, ids, unknown, field, &self.data_set_elements)?;
-        let field = Field {
-            kind: Kind::DataSet,
-            place: self.place,
-            name: "organisationUnits",
+        let organisation_units = Listed {
+            each: Several {
+                at: Field {
+                    kind,
+                    place,
+                    name: "organisationUnits",
+                },
+                of: Kind::OrganisationUnit,
+            },
+            entries: &self.organisation_units,
         };
-        let organisation_units = several(
-            alloc,
-            ids,
-            unknown,
-            field,
-            Kind::OrganisationUnit,
-            &self.organisation_units,
-        )?;
-        let field = Field {
-            kind: Kind::DataSet,
-            place: self.place,
-            name: "categoryCombo",
+        let category_combo = One {
+            at: Field {
+                kind,
+                place,
+                name: "categoryCombo",
+            },
+            of: Kind::CategoryCombo,
+            uid: self.category_combo,
         };
-        let category_combo = one(
-            alloc,
-            ids,
-            unknown,
-            field,
-            Kind::CategoryCombo,
-            self.category_combo,
-        )?;
-        let field = Field {
-            kind: Kind::DataSet,
-            place: self.place,
-            name: "workflow",
+        let workflow = Optional {
+            at: Field {
+                kind,
+                place,
+                name: "workflow",
+            },
+            of: Kind::Workflow,
+            uid: self.workflow,
         };
-        let workflow = optional(alloc, ids, unknown, field, Kind::Workflow, self.workflow)?;
-        let sharing = sharing(
-            alloc,
-            ids,
-            unknown,
-            Kind::DataSet,
-            self.place,
-            &self.sharing,
-        )?;
-        let name = copy_of(alloc, &self.name)?;
+        let sharing = Shared {
+            kind,
+            place,
+            sharing: &self.sharing,
+        };
+        let fields = (
+            (
+                (
+                    ((name, data_set_elements), organisation_units),
+                    category_combo,
+                ),
+                workflow,
+            ),
+            sharing,
+        );
+        let (
+            ((((name, data_set_elements), organisation_units), category_combo), workflow),
+            sharing,
+        ) = fields.link(alloc, ids, unknown)?;
         Ok(DataSet {
             id: self.id,
             name,
             period_type: self.period_type,
+            open_future_periods: self.open_future_periods,
+            expiry_days: self.expiry_days,
+            timely_days: self.timely_days,
             data_set_elements,
             organisation_units,
             category_combo,
             workflow,
-            open_future_periods: self.open_future_periods,
-            expiry_days: self.expiry_days,
-            timely_days: self.timely_days,
             sharing,
         })
     }
@@ -410,7 +427,7 @@ impl Link for RawConstant {
     ghost held = { constant_held };
 
     #[tactic(auto, using(crate::proofs::Walk::parts), unfolding(crate::specs::Table::constant_references, crate::specs::Held::constant_held))]
-    fn link(&self, alloc: Global, ids: &Ids, unknown: &mut Unknown) -> Result<Constant, Memory> {
+    fn link(&self, alloc: Global, _ids: &Ids, _unknown: &mut Unknown) -> Result<Constant, Memory> {
         let name = copy_of(alloc, &self.name)?;
         Ok(Constant {
             id: self.id,
@@ -431,8 +448,8 @@ impl Link for RawIndicatorType {
     fn link(
         &self,
         alloc: Global,
-        ids: &Ids,
-        unknown: &mut Unknown,
+        _ids: &Ids,
+        _unknown: &mut Unknown,
     ) -> Result<IndicatorType, Memory> {
         let name = copy_of(alloc, &self.name)?;
         Ok(IndicatorType {
@@ -450,34 +467,30 @@ impl Link for RawIndicator {
 
     ghost held = { indicator_held };
 
-    #[tactic(auto, using(crate::proofs::Walk::parts), unfolding(crate::specs::Table::indicator_references, crate::specs::Held::indicator_held))]
+    #[tactic(auto, unfolding(crate::specs::Table::indicator_references, crate::specs::Held::indicator_held))]
     fn link(
         &self,
         alloc: Global,
         ids: &Ids,
         unknown: &mut Unknown,
     ) -> Result<IndicatorLinks, Memory> {
-        let field = Field {
-            kind: Kind::Indicator,
-            place: self.place,
-            name: "indicatorType",
+        let (kind, place) = (Kind::Indicator, self.place);
+        let indicator_type = One {
+            at: Field {
+                kind,
+                place,
+                name: "indicatorType",
+            },
+            of: Kind::IndicatorType,
+            uid: self.indicator_type,
         };
-        let indicator_type = one(
-            alloc,
-            ids,
-            unknown,
-            field,
-            Kind::IndicatorType,
-            self.indicator_type,
-        )?;
-        let sharing = sharing(
-            alloc,
-            ids,
-            unknown,
-            Kind::Indicator,
-            self.place,
-            &self.sharing,
-        )?;
+        let sharing = Shared {
+            kind,
+            place,
+            sharing: &self.sharing,
+        };
+        let fields = (indicator_type, sharing);
+        let (indicator_type, sharing) = fields.link(alloc, ids, unknown)?;
         Ok(IndicatorLinks {
             indicator_type,
             sharing,
@@ -492,16 +505,16 @@ impl Link for RawRule {
 
     ghost held = { rule_held };
 
-    #[tactic(auto, using(crate::proofs::Walk::parts), unfolding(crate::specs::Table::rule_references, crate::specs::Held::rule_held))]
+    #[tactic(auto, unfolding(crate::specs::Table::rule_references, crate::specs::Held::rule_held))]
     fn link(&self, alloc: Global, ids: &Ids, unknown: &mut Unknown) -> Result<Sharing, Memory> {
-        sharing(
-            alloc,
-            ids,
-            unknown,
-            Kind::ValidationRule,
-            self.place,
-            &self.sharing,
-        )
+        let (kind, place) = (Kind::ValidationRule, self.place);
+        let sharing = &self.sharing;
+        Shared {
+            kind,
+            place,
+            sharing,
+        }
+        .link(alloc, ids, unknown)
     }
 }
 
@@ -512,17 +525,17 @@ impl Link for RawEntityType {
 
     ghost held = { entity_type_held };
 
-    #[tactic(auto, using(crate::proofs::Walk::parts), unfolding(crate::specs::Table::entity_type_references, crate::specs::Held::entity_type_held))]
+    #[tactic(auto, unfolding(crate::specs::Table::entity_type_references, crate::specs::Held::entity_type_held))]
     fn link(&self, alloc: Global, ids: &Ids, unknown: &mut Unknown) -> Result<EntityType, Memory> {
-        let sharing = sharing(
-            alloc,
-            ids,
-            unknown,
-            Kind::TrackedEntityType,
-            self.place,
-            &self.sharing,
-        )?;
-        let name = copy_of(alloc, &self.name)?;
+        let (kind, place) = (Kind::TrackedEntityType, self.place);
+        let name = Text { text: &self.name };
+        let sharing = Shared {
+            kind,
+            place,
+            sharing: &self.sharing,
+        };
+        let fields = (name, sharing);
+        let (name, sharing) = fields.link(alloc, ids, unknown)?;
         Ok(EntityType {
             id: self.id,
             name,
@@ -539,7 +552,7 @@ impl Link for RawAttribute {
     ghost held = { attribute_held };
 
     #[tactic(auto, using(crate::proofs::Walk::parts), unfolding(crate::specs::Table::attribute_references, crate::specs::Held::attribute_held))]
-    fn link(&self, alloc: Global, ids: &Ids, unknown: &mut Unknown) -> Result<Attribute, Memory> {
+    fn link(&self, alloc: Global, _ids: &Ids, _unknown: &mut Unknown) -> Result<Attribute, Memory> {
         let name = copy_of(alloc, &self.name)?;
         Ok(Attribute {
             id: self.id,
@@ -556,44 +569,45 @@ impl Link for RawProgram {
 
     ghost held = { program_held };
 
-    #[tactic(auto, using(crate::proofs::Walk::parts), unfolding(crate::specs::Table::program_references, crate::specs::Held::program_held))]
+    #[tactic(auto, unfolding(crate::specs::Table::program_references, crate::specs::Held::program_held, crate::specs::Reference::several_in))]
     fn link(&self, alloc: Global, ids: &Ids, unknown: &mut Unknown) -> Result<Program, Memory> {
-        let field = Field {
-            kind: Kind::Program,
-            place: self.place,
-            name: "trackedEntityType",
+        let (kind, place) = (Kind::Program, self.place);
+        let name = Text { text: &self.name };
+        let tracked_entity_type = Optional {
+            at: Field {
+                kind,
+                place,
+                name: "trackedEntityType",
+            },
+            of: Kind::TrackedEntityType,
+            uid: self.tracked_entity_type,
         };
-        let tracked_entity_type = optional(
-            alloc,
-            ids,
-            unknown,
-            field,
-            Kind::TrackedEntityType,
-            self.tracked_entity_type,
-        )?;
-        let field = Field {
-            kind: Kind::Program,
-            place: self.place,
-            name: "programTrackedEntityAttributes",
+        let program_tracked_entity_attributes = Listed {
+            each: SeveralIn {
+                at: Field {
+                    kind,
+                    place,
+                    name: "programTrackedEntityAttributes",
+                },
+                name: b"trackedEntityAttribute",
+                of: Kind::TrackedEntityAttribute,
+            },
+            entries: &self.program_tracked_entity_attributes,
         };
-        let program_tracked_entity_attributes = several_in(
-            alloc,
-            ids,
-            unknown,
-            field,
-            "trackedEntityAttribute",
-            Kind::TrackedEntityAttribute,
-            &self.program_tracked_entity_attributes,
-        )?;
-        let sharing = sharing(
-            alloc,
-            ids,
-            unknown,
-            Kind::Program,
-            self.place,
-            &self.sharing,
-        )?;
-        let name = copy_of(alloc, &self.name)?;
+        let sharing = Shared {
+            kind,
+            place,
+            sharing: &self.sharing,
+        };
+        let fields = (
+            (
+                (name, tracked_entity_type),
+                program_tracked_entity_attributes,
+            ),
+            sharing,
+        );
+        let (((name, tracked_entity_type), program_tracked_entity_attributes), sharing) =
+            fields.link(alloc, ids, unknown)?;
         Ok(Program {
             id: self.id,
             name,
@@ -612,29 +626,33 @@ impl Link for RawStage {
 
     ghost held = { stage_held };
 
-    #[tactic(auto, using(crate::proofs::Walk::parts), unfolding(crate::specs::Table::stage_references, crate::specs::Held::stage_held))]
+    #[tactic(auto, unfolding(crate::specs::Table::stage_references, crate::specs::Held::stage_held, crate::specs::Reference::several_in))]
     fn link(&self, alloc: Global, ids: &Ids, unknown: &mut Unknown) -> Result<Stage, Memory> {
-        let field = Field {
-            kind: Kind::ProgramStage,
-            place: self.place,
-            name: "program",
+        let (kind, place) = (Kind::ProgramStage, self.place);
+        let name = Text { text: &self.name };
+        let program = One {
+            at: Field {
+                kind,
+                place,
+                name: "program",
+            },
+            of: Kind::Program,
+            uid: self.program,
         };
-        let program = one(alloc, ids, unknown, field, Kind::Program, self.program)?;
-        let field = Field {
-            kind: Kind::ProgramStage,
-            place: self.place,
-            name: "programStageDataElements",
+        let program_stage_data_elements = Listed {
+            each: SeveralIn {
+                at: Field {
+                    kind,
+                    place,
+                    name: "programStageDataElements",
+                },
+                name: b"dataElement",
+                of: Kind::DataElement,
+            },
+            entries: &self.program_stage_data_elements,
         };
-        let program_stage_data_elements = several_in(
-            alloc,
-            ids,
-            unknown,
-            field,
-            "dataElement",
-            Kind::DataElement,
-            &self.program_stage_data_elements,
-        )?;
-        let name = copy_of(alloc, &self.name)?;
+        let fields = ((name, program), program_stage_data_elements);
+        let ((name, program), program_stage_data_elements) = fields.link(alloc, ids, unknown)?;
         Ok(Stage {
             id: self.id,
             name,
@@ -651,27 +669,30 @@ impl Link for RawProgramIndicator {
 
     ghost held = { program_indicator_held };
 
-    #[tactic(auto, using(crate::proofs::Walk::parts), unfolding(crate::specs::Table::program_indicator_references, crate::specs::Held::program_indicator_held))]
+    #[tactic(auto, unfolding(crate::specs::Table::program_indicator_references, crate::specs::Held::program_indicator_held))]
     fn link(
         &self,
         alloc: Global,
         ids: &Ids,
         unknown: &mut Unknown,
     ) -> Result<ProgramIndicatorLinks, Memory> {
-        let field = Field {
-            kind: Kind::ProgramIndicator,
-            place: self.place,
-            name: "program",
+        let (kind, place) = (Kind::ProgramIndicator, self.place);
+        let program = One {
+            at: Field {
+                kind,
+                place,
+                name: "program",
+            },
+            of: Kind::Program,
+            uid: self.program,
         };
-        let program = one(alloc, ids, unknown, field, Kind::Program, self.program)?;
-        let sharing = sharing(
-            alloc,
-            ids,
-            unknown,
-            Kind::ProgramIndicator,
-            self.place,
-            &self.sharing,
-        )?;
+        let sharing = Shared {
+            kind,
+            place,
+            sharing: &self.sharing,
+        };
+        let fields = (program, sharing);
+        let (program, sharing) = fields.link(alloc, ids, unknown)?;
         Ok(ProgramIndicatorLinks { program, sharing })
     }
 }
@@ -684,7 +705,7 @@ impl Link for RawRole {
     ghost held = { role_held };
 
     #[tactic(auto, using(crate::proofs::Walk::parts), unfolding(crate::specs::Table::role_references, crate::specs::Held::role_held))]
-    fn link(&self, alloc: Global, ids: &Ids, unknown: &mut Unknown) -> Result<Role, Memory> {
+    fn link(&self, alloc: Global, _ids: &Ids, _unknown: &mut Unknown) -> Result<Role, Memory> {
         let name = copy_of(alloc, &self.name)?;
         let authorities = copies_of(alloc, self.authorities.as_slice())?;
         Ok(Role {
@@ -702,41 +723,50 @@ impl Link for RawUser {
 
     ghost held = { user_held };
 
-    #[tactic(auto, using(crate::proofs::Walk::parts), unfolding(crate::specs::Table::user_references, crate::specs::Held::user_held))]
+    #[tactic(auto, unfolding(crate::specs::Table::user_references, crate::specs::Held::user_held, crate::specs::Reference::several))]
     fn link(&self, alloc: Global, ids: &Ids, unknown: &mut Unknown) -> Result<User, Memory> {
-        let field = Field {
-            kind: Kind::User,
-            place: self.place,
-            name: "organisationUnits",
+        let (kind, place) = (Kind::User, self.place);
+        let name = Text { text: &self.name };
+        let organisation_units = Listed {
+            each: Several {
+                at: Field {
+                    kind,
+                    place,
+                    name: "organisationUnits",
+                },
+                of: Kind::OrganisationUnit,
+            },
+            entries: &self.organisation_units,
         };
-        let organisation_units = several(
-            alloc,
-            ids,
-            unknown,
-            field,
-            Kind::OrganisationUnit,
-            &self.organisation_units,
+        let data_view_organisation_units = Listed {
+            each: Several {
+                at: Field {
+                    kind,
+                    place,
+                    name: "dataViewOrganisationUnits",
+                },
+                of: Kind::OrganisationUnit,
+            },
+            entries: &self.data_view_organisation_units,
+        };
+        let user_roles = Listed {
+            each: Several {
+                at: Field {
+                    kind,
+                    place,
+                    name: "userRoles",
+                },
+                of: Kind::UserRole,
+            },
+            entries: &self.user_roles,
+        };
+        let fields = (
+            ((name, organisation_units), data_view_organisation_units),
+            user_roles,
+        );
+        let (((name, organisation_units), data_view_organisation_units), user_roles) = fields.link(
+            alloc, ids, unknown,
         )?;
-        let field = Field {
-            kind: Kind::User,
-            place: self.place,
-            name: "dataViewOrganisationUnits",
-        };
-        let data_view_organisation_units = several(
-            alloc,
-            ids,
-            unknown,
-            field,
-            Kind::OrganisationUnit,
-            &self.data_view_organisation_units,
-        )?;
-        let field = Field {
-            kind: Kind::User,
-            place: self.place,
-            name: "userRoles",
-        };
-        let user_roles = several(alloc, ids, unknown, field, Kind::UserRole, &self.user_roles)?;
-        let name = copy_of(alloc, &self.name)?;
         Ok(User {
             id: self.id,
             name,
@@ -754,15 +784,23 @@ impl Link for RawUserGroup {
 
     ghost held = { user_group_held };
 
-    #[tactic(auto, using(crate::proofs::Walk::parts), unfolding(crate::specs::Table::user_group_references, crate::specs::Held::user_group_held))]
+    #[tactic(auto, unfolding(crate::specs::Table::user_group_references, crate::specs::Held::user_group_held, crate::specs::Reference::several))]
     fn link(&self, alloc: Global, ids: &Ids, unknown: &mut Unknown) -> Result<UserGroup, Memory> {
-        let field = Field {
-            kind: Kind::UserGroup,
-            place: self.place,
-            name: "users",
+        let (kind, place) = (Kind::UserGroup, self.place);
+        let name = Text { text: &self.name };
+        let users = Listed {
+            each: Several {
+                at: Field {
+                    kind,
+                    place,
+                    name: "users",
+                },
+                of: Kind::User,
+            },
+            entries: &self.users,
         };
-        let users = several(alloc, ids, unknown, field, Kind::User, &self.users)?;
-        let name = copy_of(alloc, &self.name)?;
+        let fields = (name, users);
+        let (name, users) = fields.link(alloc, ids, unknown)?;
         Ok(UserGroup {
             id: self.id,
             name,

@@ -1,11 +1,27 @@
-//! Paths of references in a metadata file.
-ghost use Rattle.std.specs.Prelude.{◌≡◌, ◌∷◌, ◌++◌, IfOk};
+//! The places of a metadata file at which references stand, and their paths.
+ghost use Rattle.std.specs.Prelude.{◌≡◌, IfOk};
 ghost use Rattle.std.specs.Fmt.{decimal};
 ghost use Rattle.meta_links.specs.Reference.{step, field_path};
-ghost use lib.Chars.{codes};
+ghost use Rattle.std.specs.Prelude.{ℕ, List};
 
 use dh_metadata::kind::Kind;
 use std::alloc::{AllocError, Global};
+
+/// A place in a metadata file.
+pub trait Place {
+    /// Its path.
+    ghost path: { Self → List ℕ };
+
+    /// Its path. It is made only where the place is reported.
+    fn path(&self, alloc: Global) -> Result<Vec<u8>, AllocError>
+        ensures { IfOk result (λ text. text.items ≡ path self.now) };
+}
+
+/// A list under a key of the file.
+#[derive(Clone, Copy)]
+pub struct Key<'a> {
+    pub key: &'a [u8],
+}
 
 /// A field of an object: the object's kind, its place in its list, and the field's name.
 #[derive(Clone, Copy)]
@@ -15,70 +31,69 @@ pub struct Field<'a> {
     pub name: &'a str,
 }
 
-/// A field of an entry of a list in a field: the list's field, the entry's place, and the name of its
-/// field.
+/// An entry of a list, by its place.
 #[derive(Clone, Copy)]
-pub struct Inner<'a> {
-    pub field: Field<'a>,
+pub struct Entry<P> {
+    pub list: P,
     pub place: usize,
-    pub name: &'a str,
 }
 
-/// The path of a field.
-pub fn field_path(alloc: Global, field: Field<'_>) -> Result<Vec<u8>, AllocError>
-    ensures { IfOk result (λ path. path.items ≡ field_path field.entry.kind field.entry.place field.entry.name.now) }
-{
-    let text = format!(in alloc; "{}.{}.{}", field.kind.key(), field.place, field.name)?;
-    Ok(text.into_bytes())
+/// A member of an object, by its name.
+#[derive(Clone, Copy)]
+pub struct Member<'a, P> {
+    pub object: P,
+    pub name: &'a [u8],
 }
 
-/// The text of a place in a list.
-pub fn place_text(alloc: Global, place: usize) -> Result<Vec<u8>, AllocError>
+impl<'a> Place for Key<'a> {
+    ghost path = { λ list. list.key.now };
+
+    fn path(&self, alloc: Global) -> Result<Vec<u8>, AllocError> {
+        self.key.to_vec(alloc)
+    }
+}
+
+impl<'a> Place for Field<'a> {
+    ghost path = { λ field. field_path field.kind field.place field.name.now };
+
+    fn path(&self, alloc: Global) -> Result<Vec<u8>, AllocError> {
+        let text = format!(in alloc; "{}.{}.{}", self.kind.key(), self.place, self.name)?;
+        Ok(text.into_bytes())
+    }
+}
+
+impl<P: Place> Place for Entry<P> {
+    ghost path = { λ entry. step (P.path entry.list) (decimal entry.place) };
+
+    fn path(&self, alloc: Global) -> Result<Vec<u8>, AllocError> {
+        let path = self.list.path(alloc)?;
+        let text = place_text(alloc, self.place)?;
+        longer(path, &text)
+    }
+}
+
+impl<'a, P: Place> Place for Member<'a, P> {
+    ghost path = { λ member. step (P.path member.object) member.name.now };
+
+    fn path(&self, alloc: Global) -> Result<Vec<u8>, AllocError> {
+        let path = self.object.path(alloc)?;
+        longer(path, self.name)
+    }
+}
+
+// The text of a place in a list.
+fn place_text(alloc: Global, place: usize) -> Result<Vec<u8>, AllocError>
     ensures { IfOk result (λ text. text.items ≡ decimal place) }
 {
     Ok(format!(in alloc; "{place}")?.into_bytes())
 }
 
-/// A path and one step more.
-pub fn longer(path: Vec<u8>, name: &[u8]) -> Result<Vec<u8>, AllocError>
+// A path and one step more.
+fn longer(path: Vec<u8>, name: &[u8]) -> Result<Vec<u8>, AllocError>
     ensures { IfOk result (λ all. all.items ≡ step path.items name.now) }
 {
     let mut all = path;
     all.push(b'.')?;
     all.extend_from_slice(name)?;
     Ok(all)
-}
-
-/// The path of an entry of a list in a field.
-pub fn entry_path(alloc: Global, field: Field<'_>, place: usize) -> Result<Vec<u8>, AllocError>
-    ensures { IfOk result (λ path. path.items ≡ step (field_path field.entry.kind field.entry.place field.entry.name.now) (decimal place)) }
-{
-    let path = field_path(alloc, field)?;
-    let text = place_text(alloc, place)?;
-    longer(path, &text)
-}
-
-/// The path of a field of an entry of a list in a field.
-pub fn inner_path(alloc: Global, inner: Inner<'_>) -> Result<Vec<u8>, AllocError>
-    ensures { IfOk result (λ path. path.items ≡ step
-        (step (field_path inner.entry.field.kind inner.entry.field.place inner.entry.field.name.now) (decimal inner.entry.place))
-        inner.entry.name.now) }
-{
-    let path = entry_path(alloc, inner.field, inner.place)?;
-    longer(path, inner.name.as_bytes())
-}
-
-/// The path of an entry under a key in a field.
-pub fn key_path(alloc: Global, field: Field<'_>, key: &[u8]) -> Result<Vec<u8>, AllocError>
-    ensures { IfOk result (λ path. path.items ≡ step (field_path field.entry.kind field.entry.place field.entry.name.now) key.now) }
-{
-    let path = field_path(alloc, field)?;
-    longer(path, key)
-}
-
-/// The path of the user of a token.
-pub fn token_path(alloc: Global, place: usize) -> Result<Vec<u8>, AllocError>
-    ensures { IfOk result (λ path. path.items ≡ step (step (codes "apiTokens") (decimal place)) (codes "user")) }
-{
-    Ok(format!(in alloc; "apiTokens.{place}.user")?.into_bytes())
 }

@@ -1,12 +1,13 @@
 //! The references of sharing settings.
 ghost use Rattle.std.specs.Prelude.{◌≡◌, ℕ, List, IfOk, OnOk};
 ghost use Rattle.meta_links.specs.Reference.{field_path, step, one, number_of};
-ghost use Rattle.meta_links.specs.Table.{entries, sharing_references};
-ghost use Rattle.meta_links.specs.Held.{shared_with, sharing_held};
-ghost use Rattle.meta_links.specs.Told.{after};
+ghost use Rattle.meta_links.specs.Table.{sharing_references};
+ghost use Rattle.meta_links.specs.Held.{sharing_held};
 
-use crate::fields::{keyed, optional};
-use crate::path::Field;
+use crate::entries::{Entries, Listed};
+use crate::fields::{One, Optional};
+use crate::link_each::Link;
+use crate::path::{Field, Member};
 use crate::unknown::Unknown;
 use dh_base::items::Items;
 use dh_base::memory::Memory;
@@ -19,68 +20,94 @@ use dh_sharing::rule::Sharing;
 use std::alloc::Global;
 
 /// How the object of a kind at a place is shared.
-#[tactic(auto, using(crate::proofs::Walk::parts), unfolding(crate::specs::Table::sharing_references, crate::specs::Held::sharing_held))]
-pub fn sharing(
-    alloc: Global,
-    ids: &Ids,
-    unknown: &mut Unknown,
-    kind: Kind,
-    place: u32,
-    sharing: &RawSharing,
-) -> Result<Sharing, Memory>
-    ensures held { IfOk result (λ held. held ≡ sharing_held ids.now sharing.now) }
-    ensures told { OnOk result (unknown.new ≡ after ids.now unknown.old (sharing_references kind place sharing.now)) }
-{
-    let name = "sharing.owner";
-    let field = Field { kind, place, name };
-    let owner = optional(alloc, ids, unknown, field, Kind::User, sharing.owner)?;
-    let name = "sharing.users";
-    let field = Field { kind, place, name };
-    let users = entries(alloc, ids, unknown, field, Kind::User, &sharing.users)?;
-    let name = "sharing.userGroups";
-    let field = Field { kind, place, name };
-    let groups = entries(alloc, ids, unknown, field, Kind::UserGroup, &sharing.groups)?;
-    Ok(Sharing {
-        owner,
-        public: sharing.public,
-        users,
-        groups,
-    })
+#[derive(Clone, Copy)]
+pub struct Shared<'a> {
+    pub kind: Kind,
+    pub place: u32,
+    pub sharing: &'a RawSharing,
 }
 
-// The users or user groups of some entries, with what each may do.
-#[tactic(auto, using(crate::proofs::Walk::parts), unfolding(crate::specs::Table::entries))]
-fn entries_of(
-    alloc: Global,
-    ids: &Ids,
-    unknown: &mut Unknown,
-    field: Field<'_>,
-    kind: Kind,
-    listed: &[(Items<u8>, Uid, Access)],
-) -> Result<Items<(u32, Access)>, Memory>
-    ensures held { IfOk result (λ held. held ≡ shared_with ids.now kind listed.now) }
-    ensures told { OnOk result (unknown.new ≡ after ids.now unknown.old
-        (entries (field_path field.entry.kind field.entry.place field.entry.name.now) kind listed.now)) }
-{
-    let mut all = Vec::new(alloc);
-    for entry in listed {
-        let number = keyed(alloc, ids, unknown, field, &entry.0, kind, entry.1)?;
-        all.push((number, entry.2))?;
+impl<'a> Link for Shared<'a> {
+    type Held = Sharing;
+
+    ghost references = { λ shared. sharing_references shared.kind shared.place shared.sharing.now };
+
+    ghost held = { λ ids shared. sharing_held ids shared.sharing.now };
+
+    #[tactic(auto, unfolding(crate::specs::Table::sharing_references, crate::specs::Held::sharing_held))]
+    fn link(&self, alloc: Global, ids: &Ids, unknown: &mut Unknown) -> Result<Sharing, Memory> {
+        let (kind, place) = (self.kind, self.place);
+        let owner = Optional {
+            at: Field {
+                kind,
+                place,
+                name: "sharing.owner",
+            },
+            of: Kind::User,
+            uid: self.sharing.owner,
+        };
+        let users = Listed {
+            each: SharedWith {
+                at: Field {
+                    kind,
+                    place,
+                    name: "sharing.users",
+                },
+                of: Kind::User,
+            },
+            entries: &self.sharing.users,
+        };
+        let groups = Listed {
+            each: SharedWith {
+                at: Field {
+                    kind,
+                    place,
+                    name: "sharing.userGroups",
+                },
+                of: Kind::UserGroup,
+            },
+            entries: &self.sharing.groups,
+        };
+        let ((owner, users), groups) = ((owner, users), groups).link(alloc, ids, unknown)?;
+        Ok(Sharing {
+            owner,
+            public: self.sharing.public,
+            users,
+            groups,
+        })
     }
-    Ok(Items::from(all))
 }
 
-fn entries(
-    alloc: Global,
-    ids: &Ids,
-    unknown: &mut Unknown,
-    field: Field<'_>,
-    kind: Kind,
-    listed: &Items<(Items<u8>, Uid, Access)>,
-) -> Result<Items<(u32, Access)>, Memory>
-    ensures held { IfOk result (λ held. held ≡ shared_with ids.now kind listed.now) }
-    ensures told { OnOk result (unknown.new ≡ after ids.now unknown.old
-        (entries (field_path field.entry.kind field.entry.place field.entry.name.now) kind listed.now)) }
-{
-    entries_of(alloc, ids, unknown, field, kind, listed.as_slice())
+/// Users or user groups under their keys, with what each may do.
+#[derive(Clone, Copy)]
+struct SharedWith<'a> {
+    at: Field<'a>,
+    of: Kind,
+}
+
+impl<'a> Entries for SharedWith<'a> {
+    type Entry = (Items<u8>, Uid, Access);
+
+    type Held = (u32, Access);
+
+    ghost references = { λ list place entry. one (step (field_path list.at.kind list.at.place list.at.name.now) entry.0) list.of entry.1 };
+
+    ghost held = { λ ids list entry. (number_of ids list.of entry.1, entry.2) };
+
+    fn link_entry(
+        &self,
+        alloc: Global,
+        ids: &Ids,
+        unknown: &mut Unknown,
+        _place: usize,
+        entry: &(Items<u8>, Uid, Access),
+    ) -> Result<(u32, Access), Memory> {
+        let at = Member {
+            object: self.at,
+            name: entry.0.as_slice(),
+        };
+        let (of, uid) = (self.of, entry.1);
+        let number = One { at, of, uid }.link(alloc, ids, unknown)?;
+        Ok((number, entry.2))
+    }
 }
