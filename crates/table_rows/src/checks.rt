@@ -1,32 +1,24 @@
 //! Whether lists are those of a store.
-ghost use Rattle.std.specs.Prelude.{◌≡◌};
+ghost use Rattle.std.specs.Prelude.{◌≡◌, Bool};
 ghost use Rattle.std.specs.List.{list_all, list_any};
-ghost use Rattle.std.specs.Ordering.{int_cmp, is_lt};
-ghost use Rattle.table_rows.specs.Order.{row_cmp};
-ghost use Rattle.table_rows.specs.Events.{event_cmp, reg_cmp, is_day_if_any, has_day, have_days, has_days};
+ghost use Rattle.table_rows.specs.Events.{is_day_if_any};
 ghost use Rattle.table_rows.specs.Rows.{same_place};
-ghost use Rattle.table_rows.specs.Store.{is_store, rises, have_own_places};
-ghost use Rattle.dh_base.specs.Limits.{is_day};
+ghost use Rattle.table_rows.specs.Store.{is_store, have_own_places};
 
 use crate::event::{EventRow, ItemValue, RegRow};
+use crate::ranked::rise;
 use crate::row::Row;
 use dh_base::limits::{MOST_RECORDS, is_day};
-
-fn rows_rise(rows: &[Row]) -> bool
-    ensures { result ≡ rises row_cmp rows.now }
-{
-    for i in 1..rows.len() {
-        if !rows[i - 1].is_before(&rows[i]) {
-            return false;
-        }
-    }
-    true
-}
 
 fn is_placed_again(row: &Row, later: &[Row]) -> bool
     ensures { result ≡ list_any (same_place row.now) later.now }
 {
-    later.iter().any(|other| row.has_place_of(other))
+    for other in later {
+        if row.has_place_of(other) {
+            return true;
+        }
+    }
+    false
 }
 
 fn have_own_places(rows: &[Row]) -> bool
@@ -40,45 +32,6 @@ fn have_own_places(rows: &[Row]) -> bool
     true
 }
 
-fn events_rise(events: &[EventRow]) -> bool
-    ensures { result ≡ rises event_cmp events.now }
-{
-    for i in 1..events.len() {
-        if !events[i - 1].is_before(&events[i]) {
-            return false;
-        }
-    }
-    true
-}
-
-fn regs_rise(regs: &[RegRow]) -> bool
-    ensures { result ≡ rises reg_cmp regs.now }
-{
-    for i in 1..regs.len() {
-        if !regs[i - 1].is_before(&regs[i]) {
-            return false;
-        }
-    }
-    true
-}
-
-fn all_rise<T: Ord>(items: &[T]) -> bool
-    ensures { result ≡ rises T.cmp items.now }
-{
-    for i in 1..items.len() {
-        if !items[i - 1].cmp(&items[i]).is_lt() {
-            return false;
-        }
-    }
-    true
-}
-
-fn years_rise(years: &[i32]) -> bool
-    ensures { result ≡ rises int_cmp years.now }
-{
-    all_rise(years)
-}
-
 fn is_day_if_any(day: Option<i32>) -> bool
     ensures { result ≡ is_day_if_any day }
 {
@@ -88,42 +41,61 @@ fn is_day_if_any(day: Option<i32>) -> bool
     }
 }
 
-fn has_day(entry: &(u32, ItemValue)) -> bool
-    ensures { result ≡ has_day entry.now }
-{
-    match entry.1 {
-        ItemValue::Day(day) => is_day(day),
-        ItemValue::Number(_) => true,
-        ItemValue::Plain => true,
+// What has days, which may lie outside of the years that a store holds.
+trait HasDays {
+    ghost lie: { Self → Bool };
+
+    fn has_days(&self) -> bool
+        ensures { result ≡ lie self.now };
+}
+
+impl HasDays for (u32, ItemValue) {
+    ghost use Rattle.table_rows.specs.Events.{has_day};
+
+    ghost lie = { has_day };
+
+    fn has_days(&self) -> bool {
+        match self.1 {
+            ItemValue::Day(day) => is_day(day),
+            ItemValue::Number(_) => true,
+            ItemValue::Plain => true,
+        }
     }
 }
 
-fn have_days(entries: &[(u32, ItemValue)]) -> bool
-    ensures { result ≡ have_days entries.now }
-{
-    entries.iter().all(|entry| has_day(entry))
+impl HasDays for EventRow {
+    ghost use Rattle.table_rows.specs.Events.{has_days};
+
+    ghost lie = { has_days };
+
+    #[tactic(auto, unfolding(crate::specs::Events::has_days))]
+    fn has_days(&self) -> bool {
+        is_day(self.day)
+            && is_day_if_any(self.enrolled)
+            && have_days(self.values.as_slice())
+            && have_days(self.attributes.as_slice())
+    }
 }
 
-#[tactic(auto, unfolding(crate::specs::Events::has_days))]
-fn has_days(event: &EventRow) -> bool
-    ensures { result ≡ has_days event.now }
-{
-    is_day(event.day)
-        && is_day_if_any(event.enrolled)
-        && have_days(event.values.as_slice())
-        && have_days(event.attributes.as_slice())
+impl HasDays for RegRow {
+    ghost use Rattle.dh_base.specs.Limits.{is_day};
+
+    ghost lie = { λ reg. is_day reg.day };
+
+    fn has_days(&self) -> bool {
+        is_day(self.day)
+    }
 }
 
-fn events_have_days(events: &[EventRow]) -> bool
-    ensures { result ≡ list_all has_days events.now }
+fn have_days<T: HasDays>(list: &[T]) -> bool
+    ensures { result ≡ list_all T.lie list.now }
 {
-    events.iter().all(|event| has_days(event))
-}
-
-fn regs_have_days(regs: &[RegRow]) -> bool
-    ensures { result ≡ list_all (λ reg. is_day reg.day) regs.now }
-{
-    regs.iter().all(|reg| is_day(reg.day))
+    for member in list {
+        if !member.has_days() {
+            return false;
+        }
+    }
+    true
 }
 
 /// Whether these are the lists of a store: each in its order without a repeat and of at most
@@ -136,11 +108,11 @@ pub fn is_store(rows: &[Row], events: &[EventRow], regs: &[RegRow], years: &[i32
     rows.len() <= MOST_RECORDS
         && events.len() <= MOST_RECORDS
         && regs.len() <= MOST_RECORDS
-        && rows_rise(rows)
-        && events_rise(events)
-        && regs_rise(regs)
-        && years_rise(years)
-        && events_have_days(events)
-        && regs_have_days(regs)
+        && rise(rows)
+        && rise(events)
+        && rise(regs)
+        && rise(years)
+        && have_days(events)
+        && have_days(regs)
         && have_own_places(rows)
 }

@@ -8,14 +8,14 @@ ghost use Rattle.dh_base.specs.declared.limits.TheConstants.{MOST_RECORDS};
 use crate::sample::Sample;
 
 /// Which sample of a series counts.
-#[derive(Clone, Copy, PartialEq, Eq)]
+#[derive(Clone, Copy)]
 pub(crate) enum End {
     First,
     Last,
 }
 
 /// The sum over the samples that count, and how many series have one.
-#[derive(Clone, Copy, PartialEq, Eq)]
+#[derive(Clone, Copy)]
 pub(crate) struct Found {
     pub micros: i128,
     pub series: u64,

@@ -10,7 +10,7 @@ use dh_periods::Period;
 use std::alloc::Global;
 
 /// The value of a data element of an event, or of an attribute.
-#[derive(Clone, Copy, PartialEq, Eq)]
+#[derive(Clone, Copy)]
 pub enum ItemValue {
     /// A number in millionths, of a value type that has one.
     Number(i64),
@@ -40,7 +40,7 @@ pub struct EventRow {
 }
 
 /// A data set that was registered as complete.
-#[derive(Clone, Copy, PartialEq, Eq)]
+#[derive(Clone, Copy)]
 pub struct RegRow {
     pub set: u32,
     pub period: Period,
@@ -48,20 +48,6 @@ pub struct RegRow {
     pub attribute: u32,
     /// The day of the registration.
     pub day: i32,
-}
-
-#[derive(Clone, Copy, PartialEq, Eq, PartialOrd, Ord)]
-struct EventKey {
-    day: i32,
-    id: Uid,
-}
-
-#[derive(Clone, Copy, PartialEq, Eq, PartialOrd, Ord)]
-struct RegKey {
-    set: u32,
-    period: Period,
-    order: u32,
-    attribute: u32,
 }
 
 fn copy_values(
@@ -85,15 +71,7 @@ impl EventRow {
     pub fn is_before(&self, other: &EventRow) -> bool
         ensures { result ≡ is_lt (event_cmp self.now other.now) }
     {
-        let own = EventKey {
-            day: self.day,
-            id: self.id,
-        };
-        let others = EventKey {
-            day: other.day,
-            id: other.id,
-        };
-        own.cmp(&others).is_lt()
+        (self.day, self.id).cmp(&(other.day, other.id)).is_lt()
     }
 
     /// A copy of it.
@@ -140,18 +118,8 @@ impl RegRow {
     pub fn is_before(&self, other: &RegRow) -> bool
         ensures { result ≡ is_lt (reg_cmp self.now other.now) }
     {
-        let own = RegKey {
-            set: self.set,
-            period: self.period,
-            order: self.order,
-            attribute: self.attribute,
-        };
-        let others = RegKey {
-            set: other.set,
-            period: other.period,
-            order: other.order,
-            attribute: other.attribute,
-        };
+        let own = (self.set, (self.period, (self.order, self.attribute)));
+        let others = (other.set, (other.period, (other.order, other.attribute)));
         own.cmp(&others).is_lt()
     }
 }

@@ -1,9 +1,9 @@
 //! The value of samples by an aggregation type.
 ghost use Rattle.std.specs.Prelude.{◌≡◌, ◌≤◌, ◌<◌, ◌*◌, ◌^◌, pos, IsTrue, unsigned_abs, length, map, option_map};
 ghost use Rattle.dh_base.specs.Fractions.{fraction_of, of_micros};
-ghost use Rattle.table_rows.specs.Samples.{in_series_order, numbered, number_of, weighted, total, lasts, firsts, outermost, backwards, series_of};
+ghost use Rattle.table_rows.specs.Samples.{in_series_order, numbered, number_of, weighted, total, outermost, series_of};
 ghost use Rattle.table_rows.specs.Values.{value_by, value_of_sum, mean, if_any, least, greatest, unless_none};
-ghost use Rattle.table_rows.specs.Order.{period_cmp};
+ghost use Rattle.table_rows.specs.Ends.{order_of};
 ghost use Rattle.dh_base.specs.declared.limits.TheConstants.{MOST_RECORDS};
 
 use crate::Sum;
@@ -101,41 +101,24 @@ fn over_days(samples: &[Sample], days: u32) -> Option<Frac>
     }
 }
 
-fn last_sum(samples: &[Sample]) -> Option<Frac>
+// The sum over the sample of each series that counts.
+fn sum_of_ends(samples: &[Sample], end: End) -> Option<Frac>
     requires few { length samples.now ≤ MOST_RECORDS }
     requires ordered { IsTrue (in_series_order samples.now) }
-    ensures { result ≡ if_any (numbered samples.now) (of_micros (total number_of (lasts (numbered samples.now)))) }
+    ensures { result ≡ if_any (numbered samples.now) (of_micros (total number_of (outermost (order_of end) (numbered samples.now)))) }
 {
-    let found = outermost(samples, End::Last)?;
+    let found = outermost(samples, end)?;
     Some(of_micros(found.micros))
 }
 
-fn first_sum(samples: &[Sample]) -> Option<Frac>
-    requires few { length samples.now ≤ MOST_RECORDS }
-    requires ordered { IsTrue (in_series_order samples.now) }
-    ensures { result ≡ if_any (numbered samples.now) (of_micros (total number_of (firsts (numbered samples.now)))) }
-{
-    let found = outermost(samples, End::First)?;
-    Some(of_micros(found.micros))
-}
-
-fn last_mean(samples: &[Sample]) -> Option<Frac>
+// Their mean.
+fn mean_of_ends(samples: &[Sample], end: End) -> Option<Frac>
     requires few { length samples.now ≤ MOST_RECORDS }
     requires ordered { IsTrue (in_series_order samples.now) }
     ensures { result ≡ if_any (numbered samples.now)
-        (mean (total number_of (lasts (numbered samples.now))) (length (series_of (numbered samples.now)))) }
+        (mean (total number_of (outermost (order_of end) (numbered samples.now))) (length (series_of (numbered samples.now)))) }
 {
-    let found = outermost(samples, End::Last)?;
-    Some(mean(found.micros, found.series))
-}
-
-fn first_mean(samples: &[Sample]) -> Option<Frac>
-    requires few { length samples.now ≤ MOST_RECORDS }
-    requires ordered { IsTrue (in_series_order samples.now) }
-    ensures { result ≡ if_any (numbered samples.now)
-        (mean (total number_of (firsts (numbered samples.now))) (length (series_of (numbered samples.now)))) }
-{
-    let found = outermost(samples, End::First)?;
+    let found = outermost(samples, end)?;
     Some(mean(found.micros, found.series))
 }
 
@@ -166,10 +149,10 @@ pub fn aggregate(kind: AggType, samples: &[Sample], days: u32) -> Option<Frac>
         AggType::Sum => total_value(samples),
         AggType::Average => mean_value(samples),
         AggType::AverageSumOrgUnit => over_days(samples, days),
-        AggType::Last => last_sum(samples),
-        AggType::First => first_sum(samples),
-        AggType::LastAverageOrgUnit => last_mean(samples),
-        AggType::FirstAverageOrgUnit => first_mean(samples),
+        AggType::Last => sum_of_ends(samples, End::Last),
+        AggType::First => sum_of_ends(samples, End::First),
+        AggType::LastAverageOrgUnit => mean_of_ends(samples, End::Last),
+        AggType::FirstAverageOrgUnit => mean_of_ends(samples, End::First),
         AggType::Count => count_value(samples),
         AggType::Min => least_value(samples),
         AggType::Max => greatest_value(samples),

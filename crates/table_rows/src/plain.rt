@@ -29,8 +29,8 @@ pub(crate) fn groups(alloc: Global, rows: &[Row], element: u32) -> Result<Items<
     Ok(Items::from(groups))
 }
 
-// Adds the group of a row that is asked for, where it isn't the last.
-fn add_group(groups: &mut Vec<Group>, row: &Row, asked: bool) -> Result<(), Memory>
+/// Adds the group of a row that is asked for, where it isn't the last.
+pub fn add_group(groups: &mut Vec<Group>, row: &Row, asked: bool) -> Result<(), Memory>
     ensures { OnOk result (groups.new.items ≡ with_group asked groups.old.items (group_of row.now)) }
 {
     if asked && differs_from_last(groups, row) {

@@ -9,7 +9,7 @@ use dh_periods::Period;
 use std::cmp::Ordering;
 
 /// A value in the tables. A unit stands by its order in the tree.
-#[derive(Clone, Copy, PartialEq, Eq)]
+#[derive(Clone, Copy)]
 pub struct Row {
     pub element: u32,
     pub combo: u32,
@@ -23,7 +23,7 @@ pub struct Row {
 }
 
 /// What rows are grouped by. Groups are ordered by these fields.
-#[derive(Clone, Copy, PartialEq, Eq, PartialOrd, Ord, Hash)]
+#[derive(Clone, Copy, PartialEq, Eq, PartialOrd, Ord)]
 pub struct Group {
     pub element: u32,
     pub combo: u32,
@@ -32,7 +32,7 @@ pub struct Group {
 }
 
 /// What rows are ordered by, field by field. It tells a row from all others of a store.
-#[derive(Clone, Copy, PartialEq, Eq, PartialOrd, Ord, Hash)]
+#[derive(Clone, Copy, PartialEq, Eq, PartialOrd, Ord)]
 pub struct RowKey {
     pub group: Group,
     /// The approved position, and 256 where there is none.

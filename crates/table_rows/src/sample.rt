@@ -1,11 +1,11 @@
 //! Samples and their order.
 ghost use Rattle.std.specs.Prelude.{◌≡◌, true, IsTrue};
-ghost use Rattle.std.specs.Ordering.{is_lt};
 ghost use Rattle.table_rows.specs.Store.{rises};
 ghost use Rattle.table_rows.specs.RowSamples.{sample_of};
 ghost use Rattle.table_rows.specs.Samples.{sample_cmp, in_series_order};
 
 use crate::Row;
+use crate::ranked::{Ranked, rise};
 use dh_periods::Period;
 
 /// What samples of several periods belong to: a data element, its option combination, an attribute
@@ -19,7 +19,7 @@ pub struct Series {
 }
 
 /// A value of one series in one period.
-#[derive(Clone, Copy, PartialEq, Eq)]
+#[derive(Clone, Copy)]
 pub struct Sample {
     pub series: Series,
     pub period: Period,
@@ -45,24 +45,16 @@ impl Sample {
     }
 }
 
-#[derive(Clone, Copy, PartialEq, Eq, PartialOrd, Ord)]
-struct SampleKey {
-    series: Series,
-    period: Period,
-}
+impl Ranked for Sample {
+    ghost use Rattle.table_rows.specs.Samples.{sample_cmp};
 
-fn is_before(a: &Sample, b: &Sample) -> bool
-    ensures { result ≡ is_lt (sample_cmp a.now b.now) }
-{
-    let left = SampleKey {
-        series: a.series,
-        period: a.period,
-    };
-    let right = SampleKey {
-        series: b.series,
-        period: b.period,
-    };
-    left.cmp(&right).is_lt()
+    ghost rank = { sample_cmp };
+
+    fn stands_before(&self, other: &Sample) -> bool {
+        (self.series, self.period)
+            .cmp(&(other.series, other.period))
+            .is_lt()
+    }
 }
 
 /// Whether the samples are sorted by series and period without a repeat, which is more than
@@ -71,16 +63,5 @@ pub fn is_sorted(samples: &[Sample]) -> bool
     ensures value { result ≡ rises sample_cmp samples.now }
     ensures order { result ≡ true → IsTrue (in_series_order samples.now) }
 {
-    samples_rise(samples)
-}
-
-fn samples_rise(samples: &[Sample]) -> bool
-    ensures { result ≡ rises sample_cmp samples.now }
-{
-    for i in 1..samples.len() {
-        if !is_before(&samples[i - 1], &samples[i]) {
-            return false;
-        }
-    }
-    true
+    rise(samples)
 }

@@ -3,7 +3,7 @@ ghost use Rattle.std.specs.Prelude.{◌≡◌, ◌≤◌, ◌+◌, ◌*◌, ◌^
 ghost use Rattle.table_rows.specs.Sums.{joined, no_sum, sum_of_number};
 
 /// The sum of some rows.
-#[derive(Clone, Copy, Drop, PartialEq, Eq)]
+#[derive(Clone, Copy, Drop)]
 pub struct Sum {
     /// The sum of their numbers, in millionths.
     pub micros: i128,

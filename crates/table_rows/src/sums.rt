@@ -14,7 +14,12 @@ use dh_periods::Period;
 pub(crate) fn any_number(samples: &[Sample]) -> bool
     ensures { result ≡ list_any has_number samples.now }
 {
-    samples.iter().any(|sample| sample.micros.is_some())
+    for sample in samples {
+        if sample.micros.is_some() {
+            return true;
+        }
+    }
+    false
 }
 
 /// The sum of the samples.

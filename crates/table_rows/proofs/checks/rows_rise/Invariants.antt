@@ -1,7 +1,0 @@
-use Rattle.std.proofs.Common.{◌≡◌, ◌-◌, drop}
-use Rattle.table_rows.specs.Order.{row_cmp}
-use Rattle.table_rows.specs.Store.{rises}
-use Rattle.table_rows.proofs.checks.rows_rise.Given as goal
-
-abbrev pub invariant-loop-i : goal.invariant-loop-i
-invariant-loop-i l = rises row_cmp l.rows ≡ rises row_cmp (drop (l.i - 1) l.rows)
