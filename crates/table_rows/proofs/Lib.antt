@@ -1,5 +1,6 @@
 pub mod RiseLemmas
 pub mod SumLemmas
+pub mod KeptLemmas
 pub mod StoreLemmas
 pub mod OrderLemmas
 pub mod GroupLemmas

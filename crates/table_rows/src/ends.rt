@@ -1,8 +1,8 @@
 //! Of each series the sample of the last or the first period.
-ghost use Rattle.std.specs.Prelude.{◌≡◌, ◌≤◌, ◌<◌, ◌+◌, ◌*◌, ◌^◌, pos, ◌+ℤ◌, ◌-ℤ◌, IsTrue, OnSome, IfSome, unsigned_abs, length, get_or, is_some};
+ghost use Rattle.std.specs.Prelude.{◌≡◌, ◌≤◌, ◌<◌, ◌+◌, ◌*◌, ◌^◌, ◌+ℤ◌, ◌-ℤ◌, IsTrue, OnSome, IfSome, unsigned_abs, length, get_or, is_some};
 ghost use Rattle.std.specs.Ordering.{is_gt};
 ghost use Rattle.table_rows.specs.Samples.{in_series_order, numbered, number_of, total, outermost, series_of, goes_beyond, same_series};
-ghost use Rattle.table_rows.specs.Ends.{order_of, next_run, found_if_any};
+ghost use Rattle.table_rows.specs.Ends.{order_of, begins_series, next_run, found_if_any};
 ghost use Rattle.dh_base.specs.declared.limits.TheConstants.{MOST_RECORDS};
 
 use crate::sample::Sample;
@@ -60,6 +60,13 @@ fn moved(sum: i128, old: i128, new: i128) -> i128
     sum - old + new
 }
 
+// Whether the sample is the first of its series.
+fn begins_series(run: &Run, best: &Sample, sample: &Sample) -> bool
+    ensures { result ≡ begins_series run.now best.now sample.now }
+{
+    run.series == 0 || sample.series != best.series
+}
+
 // The next sample, where `best` is the one that counts in the last series so far.
 fn with_sample(run: &Run, best: &Sample, sample: &Sample, at: usize, end: End) -> Run
     requires size { unsigned_abs run.now.micros ≤ 2 ^ 90 }
@@ -73,7 +80,7 @@ fn with_sample(run: &Run, best: &Sample, sample: &Sample, at: usize, end: End) -
     if sample.micros.is_none() {
         return *run;
     }
-    if run.series == 0 || sample.series != best.series {
+    if begins_series(run, best, sample) {
         return Run {
             micros: run.micros + number(sample),
             series: run.series + 1,

@@ -1,7 +1,7 @@
 //! Rows of events and of registrations.
-ghost use Rattle.std.specs.Prelude.{◌≡◌, map, IfOk};
+ghost use Rattle.std.specs.Prelude.{◌≡◌, ◌++◌, ◌∷◌, [], map, IfOk, OnOk};
 ghost use Rattle.std.specs.Ordering.{is_lt};
-ghost use Rattle.table_rows.specs.Events.{event_cmp, reg_cmp, is_event_of, is_reg_of};
+ghost use Rattle.table_rows.specs.Events.{event_cmp, reg_cmp, events_of, is_event_of, is_reg_of};
 
 use dh_base::items::Items;
 use dh_base::memory::Memory;
@@ -50,6 +50,14 @@ pub struct RegRow {
     pub day: i32,
 }
 
+/// The events that are asked for: of a program, from the one day to the other, both counted.
+#[derive(Clone, Copy)]
+pub struct EventsAsked {
+    pub program: u32,
+    pub from_day: i32,
+    pub to_day: i32,
+}
+
 fn copy_values(
     alloc: Global,
     values: &[(u32, ItemValue)],
@@ -93,6 +101,21 @@ impl EventRow {
             attributes,
         })
     }
+}
+
+/// Adds the event, if it is asked for.
+pub fn put_event<'a>(
+    found: &mut Vec<&'a EventRow>,
+    event: &'a EventRow,
+    asked: &EventsAsked,
+) -> Result<(), Memory>
+    ensures { OnOk result (map (λ event. event.now) found.new.items
+        ≡ map (λ event. event.now) found.old.items ++ events_of asked.now.program asked.now.from_day asked.now.to_day (event.now ∷ [])) }
+{
+    if event.is_of(asked.program, asked.from_day, asked.to_day) {
+        found.push(event)?;
+    }
+    Ok(())
 }
 
 /// Copies of lent events.

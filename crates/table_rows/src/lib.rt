@@ -17,7 +17,7 @@ mod sum;
 mod sums;
 
 pub use checks::is_store;
-pub use event::{EventRow, ItemValue, RegRow};
+pub use event::{EventRow, EventsAsked, ItemValue, RegRow, put_event};
 pub use kinds::{aggregate, value_of_sum};
 pub use list_rows::ListRows;
 pub use plain::add_group;

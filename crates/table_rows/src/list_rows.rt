@@ -2,7 +2,7 @@
 ghost use Rattle.std.specs.Prelude.{◌≡◌, ◌≤◌, ◌*◌, ◌^◌, List, ℤ, IsTrue, IfOk, unsigned_abs};
 ghost use Rattle.table_rows.specs.Store.{is_store};
 
-use crate::event::{EventRow, RegRow};
+use crate::event::{EventRow, EventsAsked, RegRow};
 use crate::plain;
 use crate::row::{Group, Row};
 use crate::store::RowStore;
@@ -88,7 +88,12 @@ impl RowStore for ListRows {
         from_day: i32,
         to_day: i32,
     ) -> Result<Vec<&EventRow>, Memory> {
-        plain::events_of(alloc, &self.events, program, from_day, to_day)
+        let asked = EventsAsked {
+            program,
+            from_day,
+            to_day,
+        };
+        plain::events_of(alloc, &self.events, &asked)
     }
 
     fn regs_of(&self, alloc: Global, set: u32) -> Result<Items<RegRow>, Memory> {

@@ -1,5 +1,5 @@
 //! What a store answers, from the lists that it stands for.
-ghost use Rattle.std.specs.Prelude.{◌≡◌, ◌≤◌, ◌<◌, ◌+◌, ◌*◌, ◌^◌, ◌∷◌, [], true, cond, length, map, unsigned_abs, IfOk, OnOk};
+ghost use Rattle.std.specs.Prelude.{◌≡◌, ◌≤◌, ◌<◌, ◌+◌, ◌*◌, ◌^◌, ◌∷◌, ◌++◌, [], true, cond, length, map, unsigned_abs, IfOk, OnOk};
 ghost use Rattle.table_rows.specs.Events.{events_of, regs_of};
 ghost use Rattle.table_rows.specs.Groups.{groups_of, differs_from_last, with_group};
 ghost use Rattle.table_rows.specs.Rows.{group_of, wanted_rows};
@@ -8,7 +8,7 @@ ghost use Rattle.table_rows.specs.Order.{row_cmp};
 ghost use Rattle.table_rows.specs.Store.{rises};
 ghost use Rattle.dh_base.specs.declared.limits.TheConstants.{MOST_RECORDS};
 
-use crate::event::{EventRow, RegRow};
+use crate::event::{EventRow, EventsAsked, RegRow, put_event};
 use crate::row::{Group, Row};
 use crate::sum::Sum;
 use dh_base::items::Items;
@@ -80,6 +80,16 @@ fn with_row(sum: &Sum, row: &Row, wanted: bool) -> Sum
     }
 }
 
+// Adds the row, where it is wanted.
+fn put_row(found: &mut Vec<Row>, row: &Row, wanted: bool) -> Result<(), Memory>
+    ensures { OnOk result (found.new.items ≡ found.old.items ++ cond wanted (row.now ∷ []) []) }
+{
+    if wanted {
+        found.push(*row)?;
+    }
+    Ok(())
+}
+
 pub(crate) fn rows_of(
     alloc: Global,
     rows: &[Row],
@@ -92,9 +102,7 @@ pub(crate) fn rows_of(
 {
     let mut found: Vec<Row> = Vec::new(alloc);
     for row in rows {
-        if row.is_wanted(group, need, from, to) {
-            found.push(*row)?;
-        }
+        put_row(&mut found, row, row.is_wanted(group, need, from, to))?;
     }
     Ok(Items::from(found))
 }
@@ -102,17 +110,14 @@ pub(crate) fn rows_of(
 pub(crate) fn events_of<'a>(
     alloc: Global,
     events: &'a [EventRow],
-    program: u32,
-    from_day: i32,
-    to_day: i32,
+    asked: &EventsAsked,
 ) -> Result<Vec<&'a EventRow>, Memory>
-    ensures { IfOk result (λ found. map (λ event. event.now) found.items ≡ events_of program from_day to_day events.now) }
+    ensures { IfOk result (λ found. map (λ event. event.now) found.items
+        ≡ events_of asked.now.program asked.now.from_day asked.now.to_day events.now) }
 {
     let mut found: Vec<&'a EventRow> = Vec::new(alloc);
     for event in events {
-        if event.is_of(program, from_day, to_day) {
-            found.push(event)?;
-        }
+        put_event(&mut found, event, asked)?;
     }
     Ok(found)
 }
