@@ -15,7 +15,7 @@ use Rattle.org_tree.proofs.OrderLemmas.{order-lt, order-differs}
 use Rattle.dh_metadata.specs.declared.held.Records.{Records}
 use Rattle.dh_metadata.specs.Approval.{unit_rows}
 use Rattle.dh_metadata.specs.Sets.{is_assigned}
-use Rattle.cell_values.specs.UnitPlaces.{unit_with}
+use Rattle.cell_values.specs.Places.{unit_with}
 use Rattle.cell_values.specs.Reporting.{is_assigned_at}
 use Rattle.cell_values.specs.Prepared.{AreAssigned}
 use Rattle.cell_values.proofs.CountLemmas.{count-one}

@@ -12,7 +12,7 @@ use Rattle.std.proofs.lemmas.List.Sorted.{IsNonDecreasingBy-from_sort}
 use Rattle.dh_sharing.specs.Ranges.{is_in_range, is_within, AreApart}
 use Rattle.table_rows.proofs.ShuffleLemmas.{closed-permutation, closed-filter, closed-length}
 use Rattle.cell_values.specs.Counts.{IsAscending, how_many_below, how_many_in, how_many_within}
-use Rattle.cell_values.proofs.DueSpanLemmas.{apart-rest, first-alone}
+use Rattle.cell_values.proofs.SpanLemmas.{apart-rest, first-alone}
 
 -- ---- the members of a list that pass a test
 

@@ -16,7 +16,8 @@ use Rattle.dh_sharing.proofs.RangeLemmas.{within-push}
 use Rattle.org_tree.specs.Count.{count_below}
 use Rattle.org_tree.proofs.CountLemmas.{count_below-agree, count_below-lt}
 use Rattle.cell_values.specs.Cells.{is_day_of, days_in}
-use Rattle.cell_values.specs.Spans.{covered, IsDayRange, AreDayRanges}
+use Rattle.cell_values.specs.Counts.{covered}
+use Rattle.cell_values.specs.Spans.{IsDayRange, AreDayRanges}
 use Rattle.cell_values.proofs.SpanLemmas.{covered-count}
 
 small_fits : (d e : ℤ) → neg_ℤ (pos 25567) ≤ℤ d → d ≤ℤ e → e ≤ℤ pos 48119 → FitsSigned w32 e

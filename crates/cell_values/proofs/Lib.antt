@@ -1,5 +1,3 @@
-pub mod UnitPlaceLemmas
-pub mod DueSpanLemmas
 pub mod CountLemmas
 pub mod AssignedLemmas
 pub mod PeriodLemmas

@@ -22,8 +22,8 @@ use Rattle.dh_sharing.proofs.RangeLemmas.{within-push}
 use Rattle.org_tree.proofs.CountLemmas.{count_below-agree, count_below-le}
 use Rattle.cell_values.specs.Reporting.{begins_in, begins_in_some, periods_due}
 use Rattle.cell_values.specs.Counts.{covered, with_day, AreBegins, AddsBegins}
-use Rattle.cell_values.proofs.UnitPlaceLemmas.{one_number}
-use Rattle.cell_values.proofs.DueSpanLemmas.{covered-count}
+use Rattle.cell_values.proofs.PlaceLemmas.{one_number}
+use Rattle.cell_values.proofs.SpanLemmas.{covered-count}
 
 -- ---- days that fit the machine's numbers
 

@@ -47,7 +47,7 @@ range-under us t y range h first end = record {
       ap (λ n. nat_le n order && nat_lt order range.1) first ∙ ap (λ n. nat_le (order_of us y) order && nat_lt order n) end ∙ interval-under us t y order h;
 }
 
-one_number : (a n : ℕ) → (nat_le a n && nat_lt n (a + 1)) ≡ nat_eq a n
+pub one_number : (a n : ℕ) → (nat_le a n && nat_lt n (a + 1)) ≡ nat_eq a n
 one_number a n = grind (arith, nat_tests)
 
 pub range-alone : (us : List UnitRow) (y order : ℕ) → order ≡ order_of us y → IsRangeAt us true y (order, order + 1)

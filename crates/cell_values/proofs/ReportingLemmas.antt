@@ -16,9 +16,10 @@ use Rattle.table_rows.specs.declared.event.RegRow.{RegRow}
 use Rattle.cell_values.specs.declared.reports.Report.{Report}
 use Rattle.cell_values.specs.declared.reports.Reports.{Reports}
 use Rattle.cell_values.specs.declared.due.Due.{Due}
-use Rattle.cell_values.specs.UnitPlaces.{is_at_some, AreOrdersAt}
+use Rattle.cell_values.specs.Places.{is_at_some, AreOrdersAt}
 use Rattle.cell_values.specs.Counts.{how_many_within}
-use Rattle.cell_values.specs.Reporting.{is_in_some, is_assigned_at, is_counted, is_report_in, periods_due, units_due, reports_of, reported, rate_with, rate_of}
+use Rattle.cell_values.specs.Cells.{is_in_some}
+use Rattle.cell_values.specs.Reporting.{is_assigned_at, is_counted, is_report_in, periods_due, units_due, reports_of, reported, rate_with, rate_of}
 use Rattle.cell_values.specs.Prepared.{AreAssigned, AreOrders, AreReports, IsDue, IsPrepared, rate_within}
 use Rattle.cell_values.proofs.CountLemmas.{count-agree, count-map, count-permutation, ascending-from_sort}
 use Rattle.cell_values.proofs.ReportLemmas.{AreOf}

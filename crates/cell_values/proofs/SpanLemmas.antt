@@ -9,7 +9,7 @@ use Rattle.std.proofs.lemmas.List.Folds.{Any-from_list_any}
 use Rattle.dh_sharing.specs.Ranges.{is_in_range, is_within, AreApart}
 use Rattle.org_tree.specs.Count.{count_below}
 use Rattle.org_tree.proofs.CountLemmas.{count_below-or, count_below-none}
-use Rattle.cell_values.specs.Spans.{covered}
+use Rattle.cell_values.specs.Counts.{covered}
 
 pub apart-rest : (x : ℕ × ℕ) (xs : List (ℕ × ℕ)) → AreApart (x ∷ xs) → AreApart xs
 apart-rest x xs apart = record {

@@ -15,7 +15,7 @@ use Rattle.dh_metadata.specs.Linked.{AreBelow}
 use Rattle.cell_values.specs.Cuts.{HoldsBoth}
 use Rattle.cell_values.specs.Places.{is_at_some, AreOrdersAt}
 use Rattle.cell_values.specs.Items.{is_group_unit, units_in}
-use Rattle.cell_values.specs.Spans.{covered}
+use Rattle.cell_values.specs.Counts.{covered}
 use Rattle.cell_values.proofs.SpanLemmas.{covered-count}
 
 -- no unit has an order after all

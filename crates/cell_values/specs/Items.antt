@@ -1,6 +1,6 @@
 -- The value of an item of an expression.
-use Rattle.std.specs.Prelude.{ℕ, Bool, true, ◌&&◌, pos, List, Option, None, Some, length, slice_get, option_map, option_and_then}
-use Rattle.dh_base.specs.Fractions.{Fraction, fraction_of, of_micros}
+use Rattle.std.specs.Prelude.{ℕ, Bool, true, ◌&&◌, List, Option, None, Some, length, slice_get, option_map, option_and_then}
+use Rattle.dh_base.specs.Fractions.{Fraction, of_micros}
 use Rattle.dh_periods.specs.declared.name.PeriodName.{PeriodName}
 use Rattle.expr_lang.specs.declared.tree.Item.{Item}
 use Rattle.expr_lang.specs.declared.tree.Item.TheVariants as item
@@ -12,13 +12,10 @@ use Rattle.dh_metadata.specs.declared.records.UnitGroup.{UnitGroup}
 use Rattle.dh_metadata.specs.Approval.{unit_rows}
 use Rattle.dh_metadata.specs.Objects.{find_of}
 use Rattle.table_rows.specs.declared.sample.Sample.{Sample}
-use Rattle.cell_values.specs.Reporting.{rate_of}
+use Rattle.cell_values.specs.Reporting.{whole, rate_of}
 use Rattle.cell_values.specs.Places.{is_at_some}
 use Rattle.cell_values.specs.Seen.{SeenRecords}
 use Rattle.cell_values.specs.Cells.{cell_of, days_in, aggregate_of}
-
-abbrev pub whole : ℕ → Fraction
-whole n = fraction_of (pos n) 1
 
 -- an option combination that may be named: which it is, where there is such a one
 abbrev pub named_combo : Records → Option (List ℕ) → Option (Option ℕ)

@@ -1,4 +1,3 @@
-pub mod UnitPlaces
 pub mod Reporting
 pub mod Counts
 pub mod Prepared

@@ -25,7 +25,8 @@ use Rattle.cell_values.specs.declared.rates.RateAsked.{RateAsked}
 use Rattle.cell_values.specs.Seen.{SeenRecords, sees_attribute, need_for}
 use Rattle.cell_values.specs.Cells.{cell_of, is_named, is_in_some, days_in, aggregate_of}
 use Rattle.cell_values.specs.Rates.{IsRatePlan}
-use Rattle.cell_values.specs.Items.{whole, named_combo, constant_value, group_value, item_value_of}
+use Rattle.cell_values.specs.Reporting.{whole}
+use Rattle.cell_values.specs.Items.{named_combo, constant_value, group_value, item_value_of}
 
 -- the group is of the combinations that are named, and the user may read its values
 unfoldable pub is_group_read : Records → ℕ → Option ℕ → Option ℕ → Group → Bool

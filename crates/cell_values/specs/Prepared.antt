@@ -12,7 +12,8 @@ use Rattle.table_rows.specs.declared.event.RegRow.{RegRow}
 use Rattle.cell_values.specs.declared.reports.Report.{Report}
 use Rattle.cell_values.specs.declared.reports.Reports.{Reports}
 use Rattle.cell_values.specs.declared.due.Due.{Due}
-use Rattle.cell_values.specs.Reporting.{is_assigned_at, same_report, reports_of, periods_due, is_in_some, rate_with}
+use Rattle.cell_values.specs.Reporting.{is_assigned_at, same_report, reports_of, periods_due, rate_with}
+use Rattle.cell_values.specs.Cells.{is_in_some}
 use Rattle.cell_values.specs.Counts.{IsAscending, how_many_within}
 
 abbrev pub differs_from : Option Report → Report → Bool

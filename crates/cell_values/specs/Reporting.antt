@@ -25,7 +25,8 @@ use Rattle.table_rows.specs.declared.event.RegRow.{RegRow}
 use Rattle.table_rows.specs.Events.{is_reg_of}
 use Rattle.table_rows.specs.Groups.{each_once}
 use Rattle.cell_values.specs.declared.reports.Report.{Report}
-use Rattle.cell_values.specs.UnitPlaces.{unit_with, is_at_some}
+use Rattle.cell_values.specs.Places.{unit_with, is_at_some}
+use Rattle.cell_values.specs.Cells.{is_in_some}
 
 -- ---- how many are due
 
@@ -85,10 +86,6 @@ is_counted r which set found reg =
 unfoldable pub reports_of : Records → Rate → ℕ → DataSet → List RegRow → List Report
 reports_of r which set found regs = each_once same_report (map report_of (filter (is_counted r which set found) regs))
 
--- the period lies in some of these
-abbrev pub is_in_some : List PeriodName → PeriodName → Bool
-is_in_some periods period = list_any (λ asked. is_inside period asked) periods
-
 -- the pair is of a period that lies in some of these, and of a unit under some of these
 abbrev pub is_report_in : Records → List PeriodName → List ℕ → Bool → Report → Bool
 is_report_in r periods units alone report =
@@ -99,6 +96,7 @@ reported r which set found periods units regs alone = length (filter (is_report_
 
 -- ---- the rate
 
+-- a count as a fraction
 abbrev pub whole : ℕ → Fraction
 whole n = fraction_of (pos n) 1
 

@@ -1,15 +1,11 @@
--- How many numbers ranges hold, and the days of periods as ranges.
-use Rattle.std.specs.Prelude.{◌≡◌, ℕ, ◌+◌, ◌-◌, ◌≤◌, false, List, [], ◌∷◌}
+-- The days of periods as ranges.
+use Rattle.std.specs.Prelude.{◌≡◌, ℕ, ◌≤◌, false, List}
 use Rattle.dh_periods.specs.declared.name.PeriodName.{PeriodName}
 use Rattle.dh_periods.specs.Calendar.{unix_day}
 use Rattle.dh_periods.specs.Days.{is_day_in}
 use Rattle.dh_sharing.specs.Ranges.{is_in_range, is_within}
 use Rattle.cell_values.specs.Cells.{is_day_of}
 use Rattle.dh_base.specs.declared.limits.TheConstants.{COUNTED_DAYS}
-
-abbrev pub covered : List (ℕ × ℕ) → ℕ
-covered [] = 0
-covered (range ∷ ranges) = (range.1 - range.0) + covered ranges
 
 -- the range holds exactly the days of the period
 pub record IsDayRange (period : PeriodName) (range : ℕ × ℕ) : Type 0 where

@@ -2,10 +2,11 @@
 ghost use Rattle.std.specs.Prelude.{◌≡◌, ◌<◌, ◌≤◌, ◌*◌, ◌^◌, length, IfOk};
 ghost use Rattle.dh_sharing.specs.Ranges.{AreApart};
 ghost use Rattle.dh_base.specs.declared.limits.TheConstants.{COUNTED_DAYS};
-ghost use Rattle.cell_values.specs.Reporting.{whole, percentage, rate_by, rate_with, is_in_some};
+ghost use Rattle.cell_values.specs.Reporting.{whole, percentage, rate_by, rate_with};
 ghost use Rattle.cell_values.specs.Prepared.{AreOrders, IsPrepared, rate_within};
 
 use crate::counts::how_many_within;
+use crate::groups::is_in_some;
 use crate::reports::{Report, Reports};
 use dh_base::frac::Frac;
 use dh_base::items::Items;
@@ -21,18 +22,6 @@ pub struct Due {
     pub periods: u32,
     /// The orders of the reports for these that were registered, ascending.
     pub orders: Items<u32>,
-}
-
-/// Whether the period lies in some of the others.
-fn is_in_some(periods: &[Period], period: &Period) -> bool
-    ensures { result ≡ is_in_some periods.now period.now }
-{
-    for asked in periods {
-        if period.inside(*asked) {
-            return true;
-        }
-    }
-    false
 }
 
 /// The orders of the reports whose period lies in some of these.
@@ -53,7 +42,8 @@ pub(crate) fn orders_in(
     Ok(Items::from(orders))
 }
 
-fn whole(count: u64) -> Frac
+/// A count as a fraction.
+pub(crate) fn whole(count: u64) -> Frac
     ensures { result ≡ whole count }
 {
     Frac::of(i128::from(count), 1)

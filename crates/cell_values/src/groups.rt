@@ -22,7 +22,8 @@ fn is_named(named: Option<u32>, n: u32) -> bool
     }
 }
 
-fn is_in_some(periods: &[Period], period: &Period) -> bool
+/// Whether the period lies in some of the others.
+pub(crate) fn is_in_some(periods: &[Period], period: &Period) -> bool
     ensures { result ≡ is_in_some periods.now period.now }
 {
     for asked in periods {

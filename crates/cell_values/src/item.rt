@@ -7,13 +7,14 @@ ghost use Rattle.dh_metadata.specs.Linked.{AreBelow};
 ghost use Rattle.dh_metadata.specs.Objects.{find_of};
 ghost use Rattle.cell_values.specs.Held.{IsSeer, AreCellUnits};
 ghost use Rattle.cell_values.specs.Seen.{seen_of, contents_of};
-ghost use Rattle.cell_values.specs.Items.{whole, named_combo, units_in, constant_value, group_value, item_value_of};
+ghost use Rattle.cell_values.specs.Items.{named_combo, units_in, constant_value, group_value, item_value_of};
 ghost use Rattle.cell_values.specs.Plans.{named_operand, operand_of, rate_asked_of, other_value_of, IsWay, IsItemPlan, groups_inside, planned_value};
 
 use crate::cell::{CellPeriods, CellUnits, Operand, Source};
+use crate::counts::covered;
 use crate::cuts::cut;
+use crate::due::whole;
 use crate::element::{ElementPlan, element_groups, element_plan, planned_value};
-use crate::period_days::covered;
 use crate::places::unit_ranges;
 use crate::rates::{RateAsked, RatePlan, rate_plan, rate_value};
 use crate::seer::Seer;
@@ -40,12 +41,6 @@ pub enum Way {
 pub struct ItemPlan {
     pub item: Item,
     pub way: Way,
-}
-
-fn whole(count: u32) -> Frac
-    ensures { result ≡ whole count }
-{
-    Frac::of(i128::from(count), 1)
 }
 
 fn named_combo(meta: &Metadata, id: &Option<Uid>) -> Option<Option<u32>>
@@ -258,7 +253,7 @@ fn group_item(
         group.organisation_units.as_slice(),
         units,
     )?;
-    Ok(Some(whole(count)))
+    Ok(Some(whole(u64::from(count))))
 }
 
 fn other_value<S: RowStore>(
@@ -274,7 +269,7 @@ fn other_value<S: RowStore>(
     match item {
         Item::Constant(id) => Ok(constant_item(source.meta, id)),
         Item::Group(id) => group_item(alloc, source.meta, source.seer, id, units),
-        Item::Days => Ok(Some(whole(periods.days()))),
+        Item::Days => Ok(Some(whole(u64::from(periods.days())))),
         _ => Ok(None),
     }
 }

@@ -19,7 +19,6 @@ mod rates;
 mod reports;
 mod seer;
 mod totals;
-mod unit_places;
 
 pub use cell::{CellPeriods, CellUnits, Operand, Source};
 pub use due::Due;

@@ -1,28 +1,16 @@
-//! Numbers in ranges, and the days of periods.
+//! The days of periods.
 ghost use Rattle.std.specs.Prelude.{◌≡◌, ◌<◌, ◌≤◌, ◌+ℤ◌, ◌≤ℤ◌, pos, neg_ℤ, length, IfOk};
-ghost use Rattle.dh_sharing.specs.Ranges.{AreApart};
 ghost use Rattle.cell_values.specs.Cells.{days_in};
-ghost use Rattle.cell_values.specs.Spans.{covered, IsDayRange, AreDayRanges};
+ghost use Rattle.cell_values.specs.Spans.{IsDayRange, AreDayRanges};
 
+use crate::counts::covered;
 use dh_base::memory::Memory;
 use dh_periods::Period;
 use dh_sharing::ranges::ViewRanges;
 use std::alloc::{AllocError, Global};
 
-/// How many numbers the ranges hold.
-pub(crate) fn covered(ranges: &[(u32, u32)]) -> u32
-    requires { AreApart ranges.now }
-    ensures { result ≡ covered ranges.now }
-{
-    let mut count = 0;
-    for range in ranges {
-        count += range.1 - range.0;
-    }
-    count
-}
-
 /// How many days the day lies after 1 January 1900.
-fn place_of(day: i32) -> u32
+pub(crate) fn place_of(day: i32) -> u32
     requires from { neg_ℤ (pos 25567) ≤ℤ day }
     requires to { day ≤ℤ pos 48119 }
     ensures value { pos result ≡ day +ℤ pos 25567 }

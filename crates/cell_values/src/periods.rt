@@ -1,5 +1,5 @@
 //! How many periods of a type lie in some others.
-ghost use Rattle.std.specs.Prelude.{◌≡◌, ◌<◌, ◌≤◌, ◌+ℤ◌, ◌≤ℤ◌, ◌||◌, ◌&&◌, ℕ, nat_lt, pos, neg_ℤ, IfOk, OnOk};
+ghost use Rattle.std.specs.Prelude.{◌≡◌, ◌<◌, ◌≤◌, ◌||◌, ◌&&◌, ℕ, nat_lt, IfOk, OnOk};
 ghost use Rattle.dh_sharing.specs.Ranges.{is_within};
 ghost use Rattle.dh_base.specs.declared.limits.TheConstants.{COUNTED_DAYS};
 ghost use Rattle.dh_periods.specs.Calendar.{unix_day};
@@ -7,20 +7,11 @@ ghost use Rattle.cell_values.specs.Reporting.{begins_in, periods_due};
 ghost use Rattle.cell_values.specs.Counts.{with_day, AreBegins, AddsBegins};
 
 use crate::counts::covered;
+use crate::period_days::place_of;
 use dh_base::memory::Memory;
 use dh_periods::{Period, PeriodType, containing};
 use dh_sharing::ranges::ViewRanges;
 use std::alloc::{AllocError, Global};
-
-/// How many days the day lies after 1 January 1900.
-fn place_of(day: i32) -> u32
-    requires from { neg_ℤ (pos 25567) ≤ℤ day }
-    requires to { day ≤ℤ pos 48119 }
-    ensures value { pos result ≡ day +ℤ pos 25567 }
-    ensures bound { result ≤ 73_686 }
-{
-    (day + 25_567) as u32
-}
 
 /// The day that is so many after 1 January 1900.
 fn day_at(place: u32) -> i32

@@ -11,7 +11,7 @@ ghost use Rattle.cell_values.specs.Prepared.{differs_from_last, with_report, Are
 use crate::assigned::{assigned, is_assigned_at};
 use crate::due::{Due, orders_in, rate_in};
 use crate::periods::periods_due;
-use crate::unit_places::unit_ranges;
+use crate::places::unit_ranges;
 use dh_base::frac::Frac;
 use dh_base::items::Items;
 use dh_base::memory::Memory;

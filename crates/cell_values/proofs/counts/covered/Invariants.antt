@@ -1,4 +1,4 @@
-use Rattle.cell_values.proofs.DueSpanLemmas.{Counted}
+use Rattle.cell_values.proofs.SpanLemmas.{Counted}
 use Rattle.cell_values.proofs.counts.covered.Given as goal
 
 abbrev pub invariant-loop-range : goal.invariant-loop-range

@@ -1,7 +1,7 @@
 use Rattle.std.proofs.Common.{◌∙◌, sym, subst, ap}
 use Rattle.dh_sharing.specs.Ranges.{AreApart}
 use Rattle.cell_values.specs.Places.{AreOrdersAt}
-use Rattle.cell_values.specs.Spans.{covered}
+use Rattle.cell_values.specs.Counts.{covered}
 use Rattle.cell_values.proofs.UnitLemmas.{units-counted}
 use Rattle.cell_values.proofs.item.units_in.Goals as goal
 

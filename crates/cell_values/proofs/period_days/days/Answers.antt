@@ -2,7 +2,7 @@ use Rattle.std.proofs.Common.{◌≡◌, ◌<◌, ◌∙◌, ℕ, List, subst, s
 use Rattle.dh_sharing.specs.Ranges.{HoldsTheSame}
 use Rattle.table_rows.proofs.StoreLemmas.{true_from}
 use Rattle.cell_values.specs.Cells.{days_in}
-use Rattle.cell_values.specs.Spans.{covered}
+use Rattle.cell_values.specs.Counts.{covered}
 use Rattle.cell_values.proofs.DayLemmas.{days-counted, days-some}
 use Rattle.cell_values.proofs.period_days.days.Goals as goal
 

@@ -1,6 +1,6 @@
 use Rattle.std.proofs.Common.{◌∙◌, List, ap, subst}
 use Rattle.org_tree.specs.Units.{UnitRow}
-use Rattle.cell_values.specs.UnitPlaces.{AreOrdersAt}
+use Rattle.cell_values.specs.Places.{AreOrdersAt}
 use Rattle.cell_values.specs.Prepared.{rate_within}
 use Rattle.cell_values.proofs.ReportingLemmas.{rate-is}
 use Rattle.cell_values.proofs.reports.Reports.rate.Goals as goal
