@@ -1,6 +1,7 @@
 -- The value of a cell by what was worked out before it.
-use Rattle.std.proofs.Common.{◌≡◌, ◌∙◌, ℕ, ◌+◌, ◌<◌, Bool, true, false, ◌&&◌, List, [], ◌∷◌, ◌++◌, length, map, take, get_or, Option, Some, None, refl, sym, ap}
-use Rattle.std.proofs.lemmas.List.{map-append, take_more}
+use Rattle.std.proofs.Common.{◌≡◌, ◌∙◌, ℕ, ◌+◌, ◌<◌, Bool, true, false, cond, ◌&&◌, List, [], ◌∷◌, ◌++◌, length, map, take, get_or, Option, Some, None, refl, sym, ap}
+use Rattle.std.proofs.lemmas.List.{map-append, map_more, take_more}
+use Rattle.std.proofs.lemmas.List.Elements.{filter_more}
 use Rattle.std.specs.Prelude.{option_map, option_and_then, slice_get}
 use Rattle.std.specs.List.{filter}
 use Rattle.dh_base.specs.declared.plain.AggType.{AggType}
@@ -187,6 +188,25 @@ module _ (r : Records) (shown : SeenRecords) (periods : List PeriodName) (units 
   item-other item.EntityCount is no_rate = refl
 
 -- a plan more is one of the next item
+-- a loop over members that lists what f makes of each
+pub mapped-more : {X Y : Type 0} (f : X → Y) (xs : List X) (found more : List Y) (i : ℕ) (x : X) (y : Y) → i < length xs → x ≡ get_or xs i x
+    → found ≡ map f (take i xs) → more ≡ found ++ y ∷ [] → y ≡ f x → more ≡ map f (take (i + 1) xs)
+mapped-more f xs found more i x y within at before is made =
+    is
+    ∙ ap (λ v. found ++ v ∷ []) (made ∙ ap f at)
+    ∙ ap (λ all. all ++ f (get_or xs i x) ∷ []) before
+    ∙ sym (map_more f xs i x within)
+
+-- a loop over members that keeps those that pass a test
+pub kept-more : {X : Type 0} (p : X → Bool) (xs found more : List X) (i : ℕ) (x : X) (b : Bool) → i < length xs → x ≡ get_or xs i x
+    → found ≡ filter p (take i xs) → more ≡ found ++ cond b (x ∷ []) [] → b ≡ p x → more ≡ filter p (take (i + 1) xs)
+kept-more p xs found more i x b within at before is passes =
+    is
+    ∙ ap (λ v. found ++ cond v (x ∷ []) []) passes
+    ∙ ap (λ y. found ++ cond (p y) (y ∷ []) []) at
+    ∙ ap (λ all. all ++ cond (p (get_or xs i x)) (get_or xs i x ∷ []) []) before
+    ∙ sym (filter_more p xs i x within)
+
 pub items-more : (plans after : List ItemPlan) (plan : ItemPlan) (items : List Item) (i : ℕ) (x : Item)
     → after ≡ plans ++ plan ∷ [] → map (λ (p : ItemPlan). p.item) plans ≡ take i items → i < length items → get_or items i x ≡ x → plan.item ≡ x
     → map (λ (p : ItemPlan). p.item) after ≡ take (i + 1) items

@@ -1,5 +1,5 @@
 //! The groups of an element, and those of a cell.
-ghost use Rattle.std.specs.Prelude.{◌≡◌, IfOk};
+ghost use Rattle.std.specs.Prelude.{◌≡◌, ◌++◌, ◌∷◌, [], cond, IfOk, OnOk};
 ghost use Rattle.std.specs.List.{filter};
 ghost use Rattle.cell_values.specs.Held.{IsSeer};
 ghost use Rattle.cell_values.specs.Cells.{is_named, is_in_some};
@@ -12,6 +12,16 @@ use dh_metadata::metadata::Metadata;
 use dh_periods::Period;
 use std::alloc::{AllocError, Global};
 use table_rows::Group;
+
+/// Puts the item last, if it is to be kept.
+pub(crate) fn push_if<T: Copy>(list: &mut Vec<T>, item: &T, keeps: bool) -> Result<(), AllocError>
+    ensures { OnOk result (list.new.items ≡ list.old.items ++ cond keeps (item.now ∷ []) []) }
+{
+    if keeps {
+        list.push(*item)?;
+    }
+    Ok(())
+}
 
 fn is_named(named: Option<u32>, n: u32) -> bool
     ensures { result ≡ is_named named n }
@@ -59,9 +69,7 @@ pub(crate) fn read_groups(
 {
     let mut kept = Vec::new(alloc);
     for group in groups {
-        if is_read(meta, seer, group, operand) {
-            kept.push(*group)?;
-        }
+        push_if(&mut kept, group, is_read(meta, seer, group, operand))?;
     }
     Ok(kept)
 }
@@ -76,9 +84,7 @@ pub(crate) fn inside(
 {
     let mut kept = Vec::new(alloc);
     for group in groups {
-        if is_in_some(periods, &group.period) {
-            kept.push(*group)?;
-        }
+        push_if(&mut kept, group, is_in_some(periods, &group.period))?;
     }
     Ok(kept)
 }

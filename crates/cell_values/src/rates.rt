@@ -8,6 +8,7 @@ ghost use Rattle.cell_values.specs.Rates.{IsRatePlan};
 ghost use Rattle.cell_values.specs.Seen.{seen_regs};
 
 use crate::cell::{CellPeriods, CellUnits, Source};
+use crate::groups::push_if;
 use crate::seer::Seer;
 use crate::{Due, Reports};
 use dh_base::frac::Frac;
@@ -44,9 +45,7 @@ fn seen_regs(
 {
     let mut kept = Vec::new(alloc);
     for reg in regs {
-        if seer.sees_reg(meta, reg) {
-            kept.push(*reg)?;
-        }
+        push_if(&mut kept, reg, seer.sees_reg(meta, reg))?;
     }
     Ok(kept)
 }

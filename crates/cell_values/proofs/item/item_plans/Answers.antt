@@ -1,5 +1,6 @@
-use Rattle.std.proofs.Common.{◌≡◌, sym, subst}
+use Rattle.std.proofs.Common.{◌≡◌, ◌∙◌, map, sym, ap, subst}
 use Rattle.std.specs.List.{All}
+use Rattle.std.proofs.lemmas.List.{take_all}
 use Rattle.std.proofs.lemmas.List.Elements.{All-push}
 use Rattle.table_rows.specs.Store.{Contents}
 use Rattle.cell_values.specs.declared.item.ItemPlan.{ItemPlan}
@@ -19,3 +20,14 @@ loop-item-preserved g c =
       items = items-more c.loop-item.plans.items c.push.new.self.items c.in_ok-plan.plan c.args.items.now c.loop-item.item-index c.item-item.result
           c.in_ok-push.ensures.items c.loop-item.invariant.items c.loop-item-test.true (sym c.item-item.is) c.in_ok-plan.ensures.item;
     }
+
+pub returns-clause-plans : goal.returns-clause-plans
+returns-clause-plans g c =
+    let s = c.args.source.now.store.now in
+    let held : Contents = contents_of (g.S.RowStore.rows s) (g.S.RowStore.events s) (g.S.RowStore.regs s) in
+    subst (All (IsItemPlan c.args.source.now.meta.now c.args.source.now.seer.now.user held)) (sym c.from.ensures) c.loop-item.invariant.are
+
+pub returns-clause-items : goal.returns-clause-items
+returns-clause-items g c =
+    ap (map (λ (plan : ItemPlan). plan.item)) c.from.ensures ∙ c.loop-item.invariant.items
+    ∙ take_all c.loop-item.item-index c.args.items.now c.loop-item-test.false
