@@ -1,4 +1,4 @@
-use Rattle.std.proofs.Common.{◌≡◌, ◌∙◌, ℕ, List, ap}
+use Rattle.std.proofs.Common.{◌∙◌, ℕ, List, ap}
 use lib.Chars.{codes}
 use Rattle.dh_sharing.specs.declared.access.Access.{Access}
 use Rattle.dh_metadata.specs.declared.kind.Kind.TheVariants as kind
