@@ -11,7 +11,12 @@ use dh_base::items::Items;
 fn is_one_of(authorities: &[Items<u8>], authority: &[u8]) -> bool
     ensures { result ≡ list_any (λ own. bytes_eq own authority.now) authorities.now }
 {
-    authorities.iter().any(|own| own.as_slice() == authority)
+    for own in authorities {
+        if own.as_slice() == authority {
+            return true;
+        }
+    }
+    false
 }
 
 fn role_has(roles: &[Role], authority: &[u8], role: u32) -> bool
@@ -27,8 +32,10 @@ fn role_has(roles: &[Role], authority: &[u8], role: u32) -> bool
 pub fn is_granted(roles: &[Role], user: &User, authority: &[u8]) -> bool
     ensures { result ≡ is_granted roles.now user.now authority.now }
 {
-    user.user_roles
-        .as_slice()
-        .iter()
-        .any(|role| role_has(roles, authority, *role))
+    for role in user.user_roles.as_slice() {
+        if role_has(roles, authority, *role) {
+            return true;
+        }
+    }
+    false
 }

@@ -34,7 +34,7 @@ pub enum ValueType {
 }
 
 /// How the sides of a validation rule have to compare.
-#[derive(Clone, Copy, PartialEq, Eq)]
+#[derive(Clone, Copy)]
 pub enum Operator {
     /// `equal_to`
     EqualTo,
@@ -55,7 +55,7 @@ pub enum Operator {
 }
 
 /// Whether the events of a program hang on enrollments.
-#[derive(Clone, Copy, PartialEq, Eq)]
+#[derive(Clone, Copy)]
 pub enum ProgramType {
     /// `WITH_REGISTRATION`
     WithRegistration,
@@ -64,7 +64,7 @@ pub enum ProgramType {
 }
 
 /// What a program indicator runs over.
-#[derive(Clone, Copy, PartialEq, Eq)]
+#[derive(Clone, Copy)]
 pub enum AnalyticsType {
     /// `EVENT`
     Event,
