@@ -1,4 +1,5 @@
 mod PairLemmas
+mod LoopLemmas
 mod OrderLemmas
 mod ListLemmas
 pub mod FitLemmas

@@ -1,0 +1,23 @@
+use Rattle.std.proofs.Common.{refl}
+use Rattle.dh_changes.specs.World.{facts}
+use Rattle.tracker_import.specs.Outcomes.{sofar_of}
+use Rattle.tracker_import.specs.Verdicts as verdicts
+use Rattle.tracker_import.proofs.LoopLemmas.{folded-more}
+use Rattle.tracker_import.proofs.verdict.with_entities.Goals as goal
+
+pub loop-asked-preserved : goal.loop-asked-preserved
+loop-asked-preserved c =
+    let asking = c.args.asking.now in
+    let before = c.loop-asked.batch in
+    let after = c.with_entity.new.batch in
+    record {
+      sofar =
+          folded-more (verdicts.with_entities (facts asking.world.now) asking.meta.now asking.who asking.strategy)
+          (verdicts.with_entity (facts asking.world.now) asking.meta.now asking.who asking.strategy) (λ x more s. refl) c.args.list.now c.loop-asked.asked-index
+          c.asked-item.result
+          (verdicts.with_entities (facts asking.world.now) asking.meta.now asking.who asking.strategy c.args.list.now
+          (sofar_of c.args.batch.now.verdict c.args.batch.now.judged))
+          (sofar_of before.verdict before.judged) (sofar_of after.verdict after.judged) c.loop-asked-test.true c.asked-item.is
+          c.loop-asked.invariant.sofar c.in_ok-with_entity.ensures.sofar;
+      held = c.in_ok-with_entity.ensures.held;
+    }
