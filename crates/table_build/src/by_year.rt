@@ -13,7 +13,7 @@ ghost use Rattle.table_sums.specs.YearParts.{part_of, together, years_in};
 ghost use Rattle.dh_base.specs.declared.limits.TheConstants.{MOST_RECORDS};
 
 use crate::events::events_of;
-use crate::named::{events_named, regs_named};
+use crate::named::named_in;
 use crate::others::with_others;
 use crate::placed::rows_left;
 use crate::reading::Reading;
@@ -21,7 +21,9 @@ use crate::regs::regs_of;
 use crate::world::world_of;
 use crate::years::years_of;
 use dh_base::memory::Memory;
+use dh_base::uid::Uid;
 use dh_changes::change::Change;
+use dh_changes::keys::RegKey;
 use dh_changes::world::World;
 use dh_metadata::metadata::Metadata;
 use std::alloc::Global;
@@ -55,7 +57,7 @@ fn events_left(
 ) -> Result<Vec<EventRow>, Memory>
     ensures { IfOk result (λ events. events.items ≡ tracker.events_of meta.now (facts world.now) (log.events_named (writes_of (map arc_value changes.now)))) }
 {
-    let ids = events_named(alloc, changes)?;
+    let ids: Vec<Uid> = named_in(alloc, changes)?;
     events_of(alloc, meta, world, &ids)
 }
 
@@ -68,7 +70,7 @@ fn regs_left(
 ) -> Result<Vec<RegRow>, Memory>
     ensures { IfOk result (λ regs. regs.items ≡ registrations.regs_of meta.now (facts world.now) (log.regs_named (writes_of (map arc_value changes.now)))) }
 {
-    let keys = regs_named(alloc, changes)?;
+    let keys: Vec<RegKey> = named_in(alloc, changes)?;
     regs_of(alloc, meta, world, &keys)
 }
 

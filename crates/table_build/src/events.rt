@@ -28,7 +28,7 @@ pub struct EventObjects {
 }
 
 /// What events are ordered by, field by field.
-#[derive(Clone, Copy, PartialEq, Eq, PartialOrd, Ord, Hash)]
+#[derive(Clone, Copy, PartialEq, Eq, PartialOrd, Ord)]
 pub struct EventPlace {
     /// The day on which it occurred.
     pub day: i32,

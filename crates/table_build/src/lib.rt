@@ -6,7 +6,7 @@ pub mod events;
 mod in_year;
 mod items;
 mod left;
-mod named;
+pub mod named;
 mod others;
 mod placed;
 pub mod reading;

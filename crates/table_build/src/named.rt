@@ -1,87 +1,94 @@
-//! The keys of registrations and events that writes name.
-ghost use Rattle.std.specs.Prelude.{◌≡◌, ◌++◌, map, OnOk, IfOk};
+//! The keys that writes name.
+ghost use Rattle.std.specs.Prelude.{◌≡◌, ◌++◌, Option, map, OnOk, IfOk};
 ghost use Rattle.std.specs.Arc.{arc_value};
-ghost use Rattle.table_build.specs.Log.{writes_of, reg_named, event_named, regs_named, events_named};
+ghost use Rattle.std.specs.List.{filter_map};
+ghost use Rattle.dh_changes.specs.declared.change.Write.{Write as LogWrite};
+ghost use Rattle.table_build.specs.Log.{writes_of};
 
 use dh_base::memory::Memory;
 use dh_base::uid::Uid;
 use dh_changes::change::{Change, Write};
-use dh_changes::keys::RegKey;
+use dh_changes::keys::{RegKey, ValueKey};
 use std::alloc::Global;
 use std::sync::Arc;
 
-fn reg_named(write: &Write) -> Option<RegKey>
-    ensures { result ≡ reg_named write.now }
-{
-    match write {
-        Write::Complete { key, .. } => Some(*key),
-        Write::Uncomplete { key } => Some(*key),
-        _ => None,
+/// A key that a write may name.
+pub trait Named {
+    /// The key that a write names.
+    ghost named: { LogWrite → Option Self };
+
+    /// The key that the write names.
+    fn named_by(write: &Write) -> Option<Self>
+        ensures { result ≡ named write.now };
+}
+
+impl Named for ValueKey {
+    ghost use Rattle.table_build.specs.Log.{value_named};
+
+    ghost named = { value_named };
+
+    fn named_by(write: &Write) -> Option<ValueKey> {
+        match write {
+            Write::ValueSet { key, .. } => Some(*key),
+            Write::ValueCleared { key } => Some(*key),
+            _ => None,
+        }
     }
 }
 
-fn event_named(write: &Write) -> Option<Uid>
-    ensures { result ≡ event_named write.now }
-{
-    match write {
-        Write::EventWritten(event) => Some(event.get().id),
-        Write::EventDeleted(id) => Some(*id),
-        _ => None,
+impl Named for RegKey {
+    ghost use Rattle.table_build.specs.Log.{reg_named};
+
+    ghost named = { reg_named };
+
+    fn named_by(write: &Write) -> Option<RegKey> {
+        match write {
+            Write::Complete { key, .. } => Some(*key),
+            Write::Uncomplete { key } => Some(*key),
+            _ => None,
+        }
     }
 }
 
-fn put_regs(keys: &mut Vec<RegKey>, writes: &[Write]) -> Result<(), Memory>
-    ensures { OnOk result (keys.new.items ≡ keys.old.items ++ regs_named writes.now) }
+// Events are named by their identifiers.
+impl Named for Uid {
+    ghost use Rattle.table_build.specs.Log.{event_named};
+
+    ghost named = { event_named };
+
+    fn named_by(write: &Write) -> Option<Uid> {
+        match write {
+            Write::EventWritten(event) => Some(event.get().id),
+            Write::EventDeleted(id) => Some(*id),
+            _ => None,
+        }
+    }
+}
+
+fn put<T: Drop + Named>(keys: &mut Vec<T>, writes: &[Write]) -> Result<(), Memory>
+    ensures { OnOk result (keys.new.items ≡ keys.old.items ++ filter_map T.named writes.now) }
 {
     for write in writes {
-        if let Some(key) = reg_named(write) {
+        if let Some(key) = T::named_by(write) {
             keys.push(key)?;
         }
     }
     Ok(())
 }
 
-fn put_events(ids: &mut Vec<Uid>, writes: &[Write]) -> Result<(), Memory>
-    ensures { OnOk result (ids.new.items ≡ ids.old.items ++ events_named writes.now) }
+fn put_change<T: Drop + Named>(keys: &mut Vec<T>, change: &Change) -> Result<(), Memory>
+    ensures { OnOk result (keys.new.items ≡ keys.old.items ++ filter_map T.named change.now.writes) }
 {
-    for write in writes {
-        if let Some(id) = event_named(write) {
-            ids.push(id)?;
-        }
-    }
-    Ok(())
+    put(keys, change.writes.as_slice())
 }
 
-fn put_change_regs(keys: &mut Vec<RegKey>, change: &Change) -> Result<(), Memory>
-    ensures { OnOk result (keys.new.items ≡ keys.old.items ++ regs_named change.now.writes) }
+/// The keys that the writes of the changes name, in the order of the writes.
+pub fn named_in<T: Drop + Named>(alloc: Global, changes: &[Arc<Change>]) -> Result<Vec<T>, Memory>
+    ensures { IfOk result (λ keys. keys.items ≡ filter_map T.named (writes_of (map arc_value changes.now))) }
 {
-    put_regs(keys, change.writes.as_slice())
-}
-
-fn put_change_events(ids: &mut Vec<Uid>, change: &Change) -> Result<(), Memory>
-    ensures { OnOk result (ids.new.items ≡ ids.old.items ++ events_named change.now.writes) }
-{
-    put_events(ids, change.writes.as_slice())
-}
-
-/// The keys of registrations that the writes of the changes name.
-pub fn regs_named(alloc: Global, changes: &[Arc<Change>]) -> Result<Vec<RegKey>, Memory>
-    ensures { IfOk result (λ keys. keys.items ≡ regs_named (writes_of (map arc_value changes.now))) }
-{
-    let mut keys = Vec::new(alloc);
+    let mut keys: Vec<T> = Vec::new(alloc);
     for change in changes {
-        put_change_regs(&mut keys, &**change)?;
+        put_change(&mut keys, &**change)?;
     }
     Ok(keys)
-}
-
-/// The identifiers of events that the writes of the changes name.
-pub fn events_named(alloc: Global, changes: &[Arc<Change>]) -> Result<Vec<Uid>, Memory>
-    ensures { IfOk result (λ ids. ids.items ≡ events_named (writes_of (map arc_value changes.now))) }
-{
-    let mut ids = Vec::new(alloc);
-    for change in changes {
-        put_change_events(&mut ids, &**change)?;
-    }
-    Ok(ids)
 }

@@ -13,11 +13,12 @@ ghost use Rattle.dh_base.specs.declared.limits.TheConstants.{MOST_RECORDS};
 
 use crate::events::{EventPlace, places_of};
 use crate::in_year::{events_in, regs_in};
-use crate::named::{events_named, regs_named};
+use crate::named::named_in;
 use crate::others::with_others;
 use crate::placed::rows_left;
 use crate::world::world_of;
 use dh_base::memory::Memory;
+use dh_base::uid::Uid;
 use dh_changes::change::Change;
 use dh_changes::keys::RegKey;
 use dh_changes::world::World;
@@ -61,7 +62,7 @@ fn places_named(
 ) -> Result<Vec<EventPlace>, Memory>
     ensures { IfOk result (λ places. places.items ≡ tracker.places_of (facts world.now) (log.events_named (writes_of (map arc_value changes.now)))) }
 {
-    let ids = events_named(alloc, changes)?;
+    let ids: Vec<Uid> = named_in(alloc, changes)?;
     places_of(alloc, world, &ids)
 }
 
@@ -72,7 +73,7 @@ impl<'a> Reading<'a> {
     {
         let others = with_others(alloc, changes)?;
         let world = world_of(alloc, &others)?;
-        let regs = regs_named(alloc, &others)?;
+        let regs: Vec<RegKey> = named_in(alloc, &others)?;
         let places = places_named(alloc, &world, &others)?;
         Ok(Reading {
             changes,

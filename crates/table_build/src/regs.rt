@@ -27,7 +27,7 @@ pub struct RegObjects {
 }
 
 /// What registrations are ordered by, field by field.
-#[derive(Clone, Copy, PartialEq, Eq, PartialOrd, Ord, Hash)]
+#[derive(Clone, Copy, PartialEq, Eq, PartialOrd, Ord)]
 pub struct RegPlace {
     pub set: u32,
     pub period: Period,
@@ -35,8 +35,9 @@ pub struct RegPlace {
     pub attribute: u32,
 }
 
+/// The numbers of the objects that a key names, if all stand in the metadata.
 #[tactic(auto, unfolding(crate::specs::Regs::objects_of))]
-pub(crate) fn objects_of(meta: &Metadata, key: &RegKey) -> Option<RegObjects>
+pub fn objects_of(meta: &Metadata, key: &RegKey) -> Option<RegObjects>
     ensures value { result ≡ known.objects_of meta.now key.now }
     ensures in_range { IfSome result (λ objects. objects.unit < length meta.now.organisation_units) }
 {

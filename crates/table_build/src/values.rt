@@ -34,8 +34,8 @@ pub struct ValueObjects {
     pub attribute: u32,
 }
 
-// The number of a key's attribute option combination, which often is its category option combination too.
-fn attribute_of(meta: &Metadata, key: &ValueKey, combo: u32) -> Option<u32>
+/// The number of a key's attribute option combination, which often is its category option combination too.
+pub fn attribute_of(meta: &Metadata, key: &ValueKey, combo: u32) -> Option<u32>
     requires { find_of meta.now CategoryOptionCombo key.now.combo ≡ Some combo }
     ensures { result ≡ find_of meta.now CategoryOptionCombo key.now.attribute }
 {
@@ -96,8 +96,9 @@ fn approved_with(
     )
 }
 
+/// The row of a key that holds this text, whose objects have these numbers.
 #[tactic(auto, unfolding(crate::specs::Values::row_with))]
-pub(crate) fn row_with(
+pub fn row_with(
     meta: &Metadata,
     world: &World,
     key: &ValueKey,

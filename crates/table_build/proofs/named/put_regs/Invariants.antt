@@ -1,7 +1,0 @@
-use Rattle.std.proofs.Common.{◌≡◌, ◌++◌, drop}
-use Rattle.std.specs.List.{filter_map}
-use Rattle.table_build.specs.Log.{reg_named}
-use Rattle.table_build.proofs.named.put_regs.Given as goal
-
-abbrev pub invariant-loop-write : goal.invariant-loop-write
-invariant-loop-write l = l.fn.keys.items ++ filter_map reg_named l.writes ≡ l.keys.items ++ filter_map reg_named (drop l.write-index l.writes)
