@@ -1,11 +1,31 @@
 -- What the writes of changes name, change by change.
-use Rattle.std.proofs.Common.{◌≡◌, ◌∙◌, ℕ, ◌+◌, ◌<◌, List, [], ◌∷◌, ◌++◌, Option, length, take, drop, get_or, map, refl, sym, ap, add-one, drop-cons}
-use Rattle.std.specs.List.{filter_map}
+use Rattle.std.proofs.Common.{◌≡◌, ◌∙◌, ℕ, ◌+◌, ◌<◌, List, [], ◌∷◌, ◌++◌, Option, Some, None, length, take, drop, get_or, map, refl, sym, ap, add-one, drop-cons}
+use Rattle.std.specs.List.{filter_map, cons_option}
+use Rattle.std.specs.Option.{option_to_list}
 use Rattle.std.proofs.lemmas.List.{append_assoc, append-nil, map-append, take_more}
 use Rattle.std.proofs.lemmas.List.Elements.{filter_map-append}
 use Rattle.dh_changes.specs.declared.change.Change.{Change}
 use Rattle.dh_changes.specs.declared.change.Write.{Write}
 use Rattle.table_build.specs.Log.{writes_of}
+
+found-first : {K : Type 0} (o : Option K) (rest : List K) → option_to_list o ++ rest ≡ cons_option o rest
+found-first None rest = refl
+found-first (Some x) rest = refl
+
+-- a member more of a list of which those are gathered that something is found of
+pub found-step : {X K : Type 0} (find : X → Option K) (xs : List X) (i : ℕ) (x : X) (o : Option K) (all old new : List K) → i < length xs → x ≡ get_or xs i x
+    → o ≡ find x → new ≡ old ++ option_to_list o → all ≡ old ++ filter_map find (drop i xs)
+    → all ≡ new ++ filter_map find (drop (i + 1) xs)
+found-step find xs i x o all old new within is found put so_far =
+    let rest = filter_map find (drop (i + 1) xs) in
+    let here : drop i xs ≡ get_or xs i x ∷ drop (i + 1) xs = rw add-one (drop-cons xs i x within) in
+    so_far
+    ∙ ap (λ l. old ++ filter_map find l) here
+    ∙ ap (λ y. old ++ cons_option (find y) rest) (sym is)
+    ∙ ap (λ p. old ++ cons_option p rest) (sym found)
+    ∙ ap (λ l. old ++ l) (sym (found-first o rest))
+    ∙ sym (append_assoc old (option_to_list o) rest)
+    ∙ ap (λ l. l ++ rest) (sym put)
 
 module _ {A K : Type 0} (of : A → Change) (named : Write → Option K) where
   pub named-step : (changes : List A) (i : ℕ) (a : A) (change : Change) (all old new : List K) → i < length changes → a ≡ get_or changes i a → change ≡ of a

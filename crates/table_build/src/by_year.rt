@@ -2,6 +2,7 @@
 ghost use Rattle.std.specs.Prelude.{◌≡◌, ◌≤◌, length, map, IsTrue, IfOk};
 ghost use Rattle.std.specs.List.{list_all};
 ghost use Rattle.std.specs.Arc.{arc_value};
+ghost use Rattle.dh_changes.specs.Facts.{facts_in};
 ghost use Rattle.dh_changes.specs.World.{facts};
 ghost use Rattle.table_build.specs.Events as tracker;
 ghost use Rattle.table_build.specs.Regs as registrations;
@@ -74,6 +75,30 @@ fn regs_left(
     regs_of(alloc, meta, world, &keys)
 }
 
+// The tables of what the changes leave, of the world after those of them that write something else than data values.
+fn tables_left(
+    alloc: Global,
+    meta: &Metadata,
+    world: &World,
+    others: &[Arc<Change>],
+    changes: &[Arc<Change>],
+) -> Result<Tables, Memory>
+    requires others { map arc_value others.now ≡ log.with_others (map arc_value changes.now) }
+    requires world { facts world.now ≡ facts_in (writes_of (map arc_value others.now)) }
+    requires few { length (writes_of (map arc_value changes.now)) ≤ MOST_RECORDS }
+    requires days { IsTrue (list_all is_of_days (writes_of (map arc_value changes.now))) }
+    ensures contents { IfOk result (λ tables. together tables.parts ≡ contents_in (listed_in meta.now (writes_of (map arc_value changes.now)))) }
+    ensures years { IfOk result (λ tables. years_in tables.parts ≡ (listed_in meta.now (writes_of (map arc_value changes.now))).years) }
+    ensures base_cut { IfOk result (λ tables. tables.base_cut ≡ length changes.now) }
+{
+    let rows = rows_left(alloc, meta, world, changes, &None)?;
+    let events = events_left(alloc, meta, world, others)?;
+    let regs = regs_left(alloc, meta, world, others)?;
+    let years = years_of(alloc, &rows, &regs, &events)?;
+    let tables = tables_of(alloc, rows, events, regs, &years, changes.len() as u64)?;
+    Ok(tables)
+}
+
 /// The tables of the rows, registrations and events that the changes leave, under these metadata, with a part of each
 /// year in which one stands. The log is read once for all years.
 pub fn build(alloc: Global, meta: &Metadata, changes: &[Arc<Change>]) -> Result<Tables, Memory>
@@ -85,10 +110,7 @@ pub fn build(alloc: Global, meta: &Metadata, changes: &[Arc<Change>]) -> Result<
 {
     let others = with_others(alloc, changes)?;
     let world = world_of(alloc, &others)?;
-    let rows = rows_left(alloc, meta, &world, changes, &None)?;
-    let events = events_left(alloc, meta, &world, &others)?;
-    let regs = regs_left(alloc, meta, &world, &others)?;
-    let years = years_of(alloc, &rows, &regs, &events)?;
-    let tables = tables_of(alloc, rows, events, regs, &years, changes.len() as u64)?;
-    Ok(tables)
+    let tables = tables_left(alloc, meta, &world, &others, changes);
+    drop(world);
+    tables
 }

@@ -2,6 +2,7 @@
 ghost use Rattle.std.specs.Prelude.{◌≡◌, ◌++◌, Option, map, OnOk, IfOk};
 ghost use Rattle.std.specs.Arc.{arc_value};
 ghost use Rattle.std.specs.List.{filter_map};
+ghost use Rattle.std.specs.Option.{option_to_list};
 ghost use Rattle.dh_changes.specs.declared.change.Write.{Write as LogWrite};
 ghost use Rattle.table_build.specs.Log.{writes_of};
 
@@ -65,13 +66,21 @@ impl Named for Uid {
     }
 }
 
+// Adds what is found, if anything is.
+fn put_found<T: Drop>(keys: &mut Vec<T>, found: Option<T>) -> Result<(), Memory>
+    ensures { OnOk result (keys.new.items ≡ keys.old.items ++ option_to_list found) }
+{
+    if let Some(key) = found {
+        keys.push(key)?;
+    }
+    Ok(())
+}
+
 fn put<T: Drop + Named>(keys: &mut Vec<T>, writes: &[Write]) -> Result<(), Memory>
     ensures { OnOk result (keys.new.items ≡ keys.old.items ++ filter_map T.named writes.now) }
 {
     for write in writes {
-        if let Some(key) = T::named_by(write) {
-            keys.push(key)?;
-        }
+        put_found(keys, T::named_by(write))?;
     }
     Ok(())
 }

@@ -72,8 +72,8 @@ impl<'a> Reading<'a> {
         ensures { IfOk result (λ reading. reading ≡ map arc_value changes.now) }
     {
         let others = with_others(alloc, changes)?;
-        let world = world_of(alloc, &others)?;
         let regs: Vec<RegKey> = named_in(alloc, &others)?;
+        let world = world_of(alloc, &others)?;
         let places = places_named(alloc, &world, &others)?;
         Ok(Reading {
             changes,

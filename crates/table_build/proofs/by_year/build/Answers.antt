@@ -1,55 +1,12 @@
-use Rattle.std.proofs.Common.{◌∙◌, map, ap, sym, subst}
+use Rattle.std.proofs.Common.{◌∙◌, map, ap, sym}
 use Rattle.std.specs.Arc.{arc_value}
-use Rattle.dh_changes.specs.World.{facts}
-use Rattle.table_rows.specs.Store.{Listed, contents_in}
-use Rattle.table_sums.specs.YearParts.{AreOfYears, listed_as}
+use Rattle.dh_changes.specs.Facts.{facts_in}
 use Rattle.table_build.specs.Log.{writes_of}
-use Rattle.table_build.proofs.OtherLemmas.{known-agree, made-of-others}
-use Rattle.table_build.proofs.StoreLemmas.{made-store, years-seen}
-use Rattle.table_build.proofs.YearLemmas.{listed-years}
 use Rattle.table_build.proofs.by_year.build.Goals as goal
 
-pub rows_left-requires : goal.rows_left-requires
-rows_left-requires c =
-    (known-agree (map arc_value c.args.changes.now) (map arc_value c.deref.result.now) (facts c.in_ok-world.world)
-    (ap (map arc_value) c.deref.ensures.value ∙ c.in_ok-others.ensures) c.in_ok-world.ensures).approval
+pub tables_left-tables-requires-clause-others : goal.tables_left-tables-requires-clause-others
+tables_left-tables-requires-clause-others c = ap (map arc_value) c.deref-2.ensures.value ∙ c.in_ok-others.ensures
 
-pub tables_of-requires : goal.tables_of-requires
-tables_of-requires c =
-    subst (AreOfYears (listed_as c.in_ok-rows.rows.items c.in_ok-events.events.items c.in_ok-regs.regs.items)) (sym c.deref-7.ensures.value)
-    (listed-years c.in_ok-rows.rows.items c.in_ok-events.events.items c.in_ok-regs.regs.items c.in_ok-years.years.items
-    (years-seen _ _ _ _ _ _ _ c.in_ok-years.ensures c.deref-4.ensures.value c.deref-5.ensures.value c.deref-6.ensures.value)
-    (made-store c.args.meta.now (writes_of (map arc_value c.args.changes.now)) c.in_ok-rows.rows.items c.in_ok-events.events.items c.in_ok-regs.regs.items
-    c.in_ok-years.years.items c.requires.few c.requires.days c.in_ok-rows.ensures.own_places
-    (made-of-others c.args.meta.now (map arc_value c.args.changes.now) (map arc_value c.deref.result.now) (map arc_value c.deref-2.result.now)
-    (map arc_value c.deref-3.result.now) (facts c.in_ok-world.world) c.in_ok-rows.rows.items c.in_ok-events.events.items c.in_ok-regs.regs.items
-    c.in_ok-years.years.items
-    (ap (map arc_value) c.deref.ensures.value ∙ c.in_ok-others.ensures) (ap (map arc_value) c.deref-2.ensures.value ∙ c.in_ok-others.ensures)
-    (ap (map arc_value) c.deref-3.ensures.value ∙ c.in_ok-others.ensures)
-    c.in_ok-world.ensures c.in_ok-rows.ensures.rows c.in_ok-events.ensures c.in_ok-regs.ensures
-    (years-seen _ _ _ _ _ _ _ c.in_ok-years.ensures c.deref-4.ensures.value c.deref-5.ensures.value c.deref-6.ensures.value))))
-
-pub returns-clause-contents : goal.returns-clause-contents
-returns-clause-contents c =
-    c.in_ok-tables.ensures.contents
-    ∙ ap contents_in
-    (made-of-others c.args.meta.now (map arc_value c.args.changes.now) (map arc_value c.deref.result.now) (map arc_value c.deref-2.result.now)
-    (map arc_value c.deref-3.result.now) (facts c.in_ok-world.world) c.in_ok-rows.rows.items c.in_ok-events.events.items c.in_ok-regs.regs.items
-    c.in_ok-years.years.items
-    (ap (map arc_value) c.deref.ensures.value ∙ c.in_ok-others.ensures) (ap (map arc_value) c.deref-2.ensures.value ∙ c.in_ok-others.ensures)
-    (ap (map arc_value) c.deref-3.ensures.value ∙ c.in_ok-others.ensures)
-    c.in_ok-world.ensures c.in_ok-rows.ensures.rows c.in_ok-events.ensures c.in_ok-regs.ensures
-    (years-seen _ _ _ _ _ _ _ c.in_ok-years.ensures c.deref-4.ensures.value c.deref-5.ensures.value c.deref-6.ensures.value))
-
-pub returns-clause-years : goal.returns-clause-years
-returns-clause-years c =
-    c.in_ok-tables.ensures.years
-    ∙ c.deref-7.ensures.value
-    ∙ ap (λ (listed : Listed). listed.years)
-    (made-of-others c.args.meta.now (map arc_value c.args.changes.now) (map arc_value c.deref.result.now) (map arc_value c.deref-2.result.now)
-    (map arc_value c.deref-3.result.now) (facts c.in_ok-world.world) c.in_ok-rows.rows.items c.in_ok-events.events.items c.in_ok-regs.regs.items
-    c.in_ok-years.years.items
-    (ap (map arc_value) c.deref.ensures.value ∙ c.in_ok-others.ensures) (ap (map arc_value) c.deref-2.ensures.value ∙ c.in_ok-others.ensures)
-    (ap (map arc_value) c.deref-3.ensures.value ∙ c.in_ok-others.ensures)
-    c.in_ok-world.ensures c.in_ok-rows.ensures.rows c.in_ok-events.ensures c.in_ok-regs.ensures
-    (years-seen _ _ _ _ _ _ _ c.in_ok-years.ensures c.deref-4.ensures.value c.deref-5.ensures.value c.deref-6.ensures.value))
+pub tables_left-tables-requires-clause-world : goal.tables_left-tables-requires-clause-world
+tables_left-tables-requires-clause-world c =
+    c.in_ok-world.ensures ∙ ap (λ others. facts_in (writes_of (map arc_value others))) (c.deref.ensures.value ∙ sym c.deref-2.ensures.value)
