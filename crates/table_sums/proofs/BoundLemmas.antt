@@ -1,17 +1,16 @@
 -- What stands before a bound is a first part of the rows.
-use Rattle.std.proofs.Common.{◌≡◌, ◌∙◌, ℕ, zero, suc, ◌+◌, ◌-◌, ◌*◌, ◌^◌, ◌<◌, ◌≤◌, ◌⊎◌, Bool, true, false, not, List, [], ◌∷◌, length, get_or, inl, inr}
+use Rattle.std.proofs.Common.{◌≡◌, ◌∙◌, ℕ, zero, suc, ◌+◌, ◌-◌, ◌*◌, ◌^◌, ◌<◌, ◌≤◌, ◌⊎◌, Bool, true, false, not, List, length, get_or, inl, inr}
 use Rattle.std.proofs.Common.{refl, sym, ap, arith, Ordering, Less, Equal, Greater}
-use Rattle.std.specs.Prelude.{nat_lt, nat_le}
+use Rattle.std.specs.Prelude.{nat_lt}
 use Rattle.std.specs.Cmp.{IsTotalOrder}
 use Rattle.std.specs.Ordering.{is_lt, is_gt, ordering_then, ordering_reverse, nat_cmp}
 use Rattle.std.proofs.Math.Nat.{pow-succ'}
-use Rattle.std.proofs.lemmas.Bool.{cases_Bool, false≢true, leb-true, ltb-true}
+use Rattle.std.proofs.lemmas.Bool.{cases_Bool, false≢true, ltb-true}
 use Rattle.std.proofs.lemmas.Map.Keys.{le_from_not_gt}
 use Rattle.std.proofs.lemmas.Bool.Decides.{nat_tests}
 use Rattle.table_rows.specs.declared.row.Row.{Row}
-use Rattle.table_rows.specs.declared.row.Group.{Group}
 use Rattle.table_rows.specs.Rows.{group_of, key_of}
-use Rattle.table_rows.specs.Order.{row_cmp, key_cmp, group_cmp}
+use Rattle.table_rows.specs.Order.{row_cmp}
 use Rattle.table_rows.specs.Store.{rises}
 use Rattle.table_rows.proofs.OrderLemmas.{row_total, key_total, group_total, group_upto}
 use Rattle.table_rows.proofs.RiseLemmas.{sorted_from_rises, sorted-far}

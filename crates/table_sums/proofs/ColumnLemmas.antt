@@ -1,5 +1,5 @@
 -- Rows in columns are those that they were made of.
-use Rattle.std.proofs.Common.{◌≡◌, ◌∙◌, ℕ, zero, suc, ◌+◌, ◌<◌, Bool, true, false, cond, List, [], ◌∷◌, length, map, get_or, ℤ, pos}
+use Rattle.std.proofs.Common.{◌≡◌, ◌∙◌, ℕ, zero, suc, ◌<◌, Bool, true, false, cond, List, [], ◌∷◌, length, map, get_or, ℤ, pos}
 use Rattle.std.proofs.Common.{Option, Some, None, refl, sym}
 use Rattle.std.proofs.Common.{ap, arith}
 use Rattle.std.proofs.lemmas.List.{get_or-map, length-map}
@@ -124,5 +124,3 @@ row-here groups gs starts members ms numbers rows i h n r columns are within is_
     ∙ ap (λ v. row_from (head_from groups (get_or v i (member_of d 0))) (get_or numbers i n)) is_members
     ∙ rows_in-at groups members numbers i (member_of d 0) n d columns.even short
     ∙ ap (λ rs. get_or rs i d) (sym are)
-
-pub ruleset columns = (rows_in-length)

@@ -1,11 +1,11 @@
 -- The groups of an element, found by steps from group to group.
-use Rattle.std.proofs.Common.{◌≡◌, ◌∙◌, ℕ, zero, suc, ◌+◌, ◌-◌, ◌<◌, ◌≤◌, ◌⊎◌, Bool, true, false, not, cond, ◌&&◌, List, [], ◌∷◌, ◌++◌, length, map, take}
-use Rattle.std.proofs.Common.{get_or, Option, Some, None, inl, inr, refl, sym, ap, subst, arith, length-append, add-zero}
+use Rattle.std.proofs.Common.{◌≡◌, ◌∙◌, ℕ, zero, suc, ◌+◌, ◌-◌, ◌<◌, ◌≤◌, Bool, true, false, not, cond, List, [], ◌∷◌, ◌++◌, length, map, take}
+use Rattle.std.proofs.Common.{get_or, Option, Some, None, inl, inr, refl, sym, ap, subst, arith, length-append}
 use Rattle.std.specs.Prelude.{nat_eq, nat_le, nat_lt, slice_get}
 use Rattle.std.specs.List.{filter}
 use Rattle.std.specs.Ordering.{is_gt}
 use Rattle.std.proofs.Math.Nat.{le_refl}
-use Rattle.std.proofs.Math.Seq.{get_or-append_seam, take-length}
+use Rattle.std.proofs.Math.Seq.{get_or-append_seam}
 use Rattle.std.proofs.lemmas.Bool.{cases_Bool, false≢true}
 use Rattle.std.proofs.lemmas.Bool.Decides.{nat_tests}
 use Rattle.std.proofs.lemmas.List.{get_or-take, get_or_default, length-take-le}
@@ -21,7 +21,6 @@ use Rattle.table_rows.proofs.RiseLemmas.{sorted_from_rises, sorted-far}
 use Rattle.table_rows.proofs.GroupLemmas.{Step, groups_upto, groups-more, last_of}
 use Rattle.table_sums.specs.declared.search.Bound.TheVariants as bound
 use Rattle.table_sums.specs.Bounds.{is_before, IsCut, NextGroup}
-use Rattle.table_sums.proofs.BoundLemmas.{lt_or_eq}
 use Rattle.table_sums.proofs.PartLemmas.{none-pass}
 
 -- ---- before the first group

@@ -1,4 +1,5 @@
 pub mod ColumnLemmas
+pub mod MappedLemmas
 pub mod BoundLemmas
 pub mod SumLemmas
 pub mod PartLemmas

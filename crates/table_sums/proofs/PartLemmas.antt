@@ -1,21 +1,18 @@
 -- The rows of a group in a range of orders, one approved position after the other.
-use Rattle.std.proofs.Common.{◌≡◌, ◌∙◌, ℕ, zero, suc, ◌+◌, ◌*◌, ◌<◌, ◌≤◌, ◌⊎◌, max, min, Bool, true, false, not, cond, ◌&&◌, ◌||◌, List, [], ◌∷◌, ◌++◌}
-use Rattle.std.proofs.Common.{length, take, drop, get_or, Option, Some, None, inl, inr, refl, sym, ap, subst, arith, Ordering, Less, Equal, Greater}
+use Rattle.std.proofs.Common.{◌≡◌, ◌∙◌, ℕ, zero, suc, ◌+◌, ◌*◌, ◌<◌, ◌≤◌, max, min, Bool, true, false, cond, ◌&&◌, ◌||◌, List, [], ◌∷◌, ◌++◌}
+use Rattle.std.proofs.Common.{length, take, drop, get_or, Option, Some, None, inl, inr, refl, sym, ap, arith, Ordering, Less, Equal, Greater}
 use Rattle.std.specs.Prelude.{All, nat_lt, nat_le, nat_eq}
 use Rattle.std.specs.List.{filter, AllByRecursion}
-use Rattle.std.specs.Ordering.{is_lt, is_gt, is_eq, ordering_then, nat_cmp}
+use Rattle.std.specs.Ordering.{is_lt, is_eq, ordering_then, nat_cmp}
 use Rattle.std.proofs.Math.Nat.{le_refl, mul-add, mul-le-mul_left}
 use Rattle.std.proofs.lemmas.List.{append-nil, append_assoc, take_more, drop-append-le, length-take-le}
 use Rattle.std.proofs.lemmas.Bool.{cases_Bool, false≢true, leb-true}
 use Rattle.std.proofs.lemmas.Bool.Decides.{nat_tests}
 use Rattle.std.proofs.lemmas.List.Elements.{recursion_from_All}
-use Rattle.dh_base.specs.declared.plain.Need.{Need}
 use Rattle.dh_base.specs.declared.plain.Need.TheVariants as need
 use Rattle.table_rows.specs.declared.row.Row.{Row}
-use Rattle.table_rows.specs.declared.row.Group.{Group}
-use Rattle.table_rows.specs.declared.row.RowKey.{RowKey}
-use Rattle.table_rows.specs.Rows.{group_of, key_of, position_of, is_in_group, in_range, meets, is_wanted, wanted_rows, same_group}
-use Rattle.table_rows.specs.Order.{group_cmp, key_cmp}
+use Rattle.table_rows.specs.Rows.{group_of, position_of, is_in_group, in_range, meets, is_wanted, wanted_rows}
+use Rattle.table_rows.specs.Order.{group_cmp}
 use Rattle.table_rows.proofs.OrderLemmas.{group_ties, group_cmp-self, same_group-true}
 use Rattle.table_rows.specs.declared.sum.Sum.{Sum}
 use Rattle.table_rows.specs.Sums.{joined, no_sum, sum_over, sum_of_row, sum_of_rows}
@@ -23,7 +20,7 @@ use Rattle.table_rows.proofs.SumLemmas.{sum_over-append}
 use Rattle.table_rows.proofs.CellLemmas.{filter-never}
 use Rattle.table_sums.specs.declared.range.Part.{Part}
 use Rattle.table_sums.specs.declared.search.Bound.TheVariants as bound
-use Rattle.table_sums.specs.Bounds.{is_before, is_place_below as below, IsCut}
+use Rattle.table_sums.specs.Bounds.{is_before, is_place_below as below}
 use Rattle.table_sums.specs.Running.{is_placed, IsPlaced, ArePlaced}
 use Rattle.table_sums.specs.Parts.{key_at, is_upto, IsRun}
 

@@ -3,7 +3,6 @@ use Rattle.std.specs.Prelude.{◌≡◌, ℕ, ◌+◌, ◌<◌, ◌≤◌, cond,
 use Rattle.std.specs.Ordering.{is_lt, is_gt}
 use Rattle.table_rows.specs.declared.row.Row.{Row}
 use Rattle.table_rows.specs.declared.row.Group.{Group}
-use Rattle.table_rows.specs.declared.row.RowKey.{RowKey}
 use Rattle.table_rows.specs.Groups.{with_group}
 use Rattle.table_rows.specs.Rows.{key_of, group_of, same_group}
 use Rattle.table_rows.specs.Order.{key_cmp, group_cmp}

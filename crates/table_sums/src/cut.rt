@@ -1,7 +1,7 @@
 //! Tables of lists that are cut by year.
 ghost use Rattle.std.specs.Prelude.{◌≡◌, ◌++◌, ◌∷◌, [], true, map, OnOk, IfOk};
 ghost use Rattle.table_rows.specs.Store.{is_store};
-ghost use Rattle.table_sums.specs.YearParts.{AreOfYears, ArePartitions, listed_as, part_of, part_with, together, years_in};
+ghost use Rattle.table_sums.specs.YearParts.{AreOfYears, listed_as, part_of, part_with, together, years_in};
 
 use crate::by_year::{lists_by_year, take_at};
 use crate::part::Partition;

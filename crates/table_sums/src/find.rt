@@ -14,7 +14,7 @@ use dh_base::items::Items;
 use dh_base::memory::Memory;
 use dh_base::plain::Need;
 use std::alloc::Global;
-use table_rows::{Group, Row, Sum};
+use table_rows::{Group, Row, RowStore, Sum};
 
 /// Where a year stands among ascending years.
 pub(crate) fn place_of(years: &[i32], year: i32) -> Option<usize>
@@ -90,7 +90,7 @@ pub(crate) fn sum_in(
     ensures size { IsSized result }
 {
     match place_of(years, group.period.year()) {
-        Some(at) => parts[at].range_sum(group, need, from, to),
+        Some(at) => RowStore::range_sum(parts[at].store(), *group, need, from, to),
         None => Sum::none(),
     }
 }
@@ -110,7 +110,7 @@ pub(crate) fn rows_in(
     ensures { IfOk result (λ found. found ≡ wanted_rows group.now need from to (rows_together parts.now)) }
 {
     match place_of(years, group.period.year()) {
-        Some(at) => parts[at].rows_of(alloc, group, need, from, to),
+        Some(at) => RowStore::rows_of(parts[at].store(), alloc, *group, need, from, to),
         None => Ok(Items::new(alloc)),
     }
 }

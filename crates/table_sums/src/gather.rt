@@ -1,5 +1,5 @@
 //! The groups of rows one after the other, and each row in its group.
-ghost use Rattle.std.specs.Prelude.{◌≡◌, ◌-◌, ◌≤◌, ◌<◌, ◌++◌, ◌∷◌, [], true, cond, nat_lt, length, map, take, IfOk, OnOk};
+ghost use Rattle.std.specs.Prelude.{◌≡◌, ◌-◌, ◌≤◌, ◌<◌, ◌++◌, ◌∷◌, [], true, cond, nat_lt, length, IfOk, OnOk};
 ghost use Rattle.dh_base.specs.declared.limits.TheConstants.{MOST_RECORDS};
 ghost use Rattle.table_rows.specs.Groups as known;
 ghost use Rattle.table_rows.specs.Order.{row_cmp};
@@ -10,7 +10,7 @@ ghost use Rattle.table_sums.specs.Gathered.{IsGathered};
 
 use dh_base::memory::Memory;
 use std::alloc::Global;
-use table_rows::{Group, Row};
+use table_rows::{Group, Row, add_group};
 
 /// A row without its number and without what all rows of its group share: 12 bytes.
 #[derive(Clone, Copy)]
@@ -30,26 +30,6 @@ pub(crate) struct Gathered {
     /// Where the rows of each group begin.
     pub starts: Vec<u32>,
     pub members: Vec<Member>,
-}
-
-// Whether the row is in another group than the last.
-fn differs_from_last(groups: &[Group], row: &Row) -> bool
-    ensures { result ≡ known.differs_from_last groups.now (group_of row.now) }
-{
-    match groups.last() {
-        Some(last) => !row.is_in(last),
-        None => true,
-    }
-}
-
-/// Adds the row's group, where it isn't the last one.
-pub(crate) fn add_group(groups: &mut Vec<Group>, row: &Row) -> Result<(), Memory>
-    ensures { OnOk result (groups.new.items ≡ known.with_group true groups.old.items (group_of row.now)) }
-{
-    if differs_from_last(groups, row) {
-        groups.push(row.group())?;
-    }
-    Ok(())
 }
 
 // Where the last group begins, if it was added for the row in this place.
@@ -95,7 +75,7 @@ fn put_row(gathered: &mut Gathered, row: &Row) -> Result<(), Memory>
     ensures members { OnOk result (gathered.new.members.items
         ≡ gathered.old.members.items ++ member_of row.now (length gathered.new.groups.items - 1) ∷ []) }
 {
-    add_group(&mut gathered.groups, row)?;
+    add_group(&mut gathered.groups, row, true)?;
     let groups = gathered.groups.len();
     put_start(&mut gathered.starts, groups, gathered.members.len())?;
     put_member(&mut gathered.members, row, groups)

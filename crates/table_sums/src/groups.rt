@@ -1,13 +1,10 @@
 //! The groups of an element, by steps from group to group.
-ghost use Rattle.std.specs.Prelude.{◌≡◌, ◌+◌, ◌≤◌, ◌<◌, ◌++◌, ◌∷◌, [], ℕ, true, length, get_or, IfOk};
-ghost use Rattle.table_rows.specs.declared.row.Row.{Row};
+ghost use Rattle.std.specs.Prelude.{◌≡◌, ◌<◌, true, length, IfOk};
 ghost use Rattle.table_rows.specs.Groups as known;
 ghost use Rattle.table_rows.specs.Order.{row_cmp};
-ghost use Rattle.table_rows.specs.Rows.{group_of};
 ghost use Rattle.table_rows.specs.Store.{rises};
 ghost use Rattle.table_sums.specs.Bounds.{NextGroup};
 
-use crate::gather::add_group;
 use crate::rows::Rows;
 use crate::search::{Bound, place_of};
 use crate::steps::Steps;
@@ -15,7 +12,7 @@ use dh_base::items::Items;
 use dh_base::memory::Memory;
 use std::alloc::Global;
 use std::sync::ledger::Ledger;
-use table_rows::{Group, Row};
+use table_rows::{Group, Row, add_group};
 
 // Adds the group of the row in a place. Where the rows of that group end.
 fn next_group<L: Ledger>(
@@ -28,7 +25,7 @@ fn next_group<L: Ledger>(
     requires within { place < length rows.now }
     ensures { IfOk result (λ next. NextGroup rows.now place groups.old.items groups.new.items next) }
 {
-    add_group(groups, &rows.row(place, steps))?;
+    add_group(groups, &rows.row(place, steps), true)?;
     Ok(rows.group_end(place, steps))
 }
 

@@ -146,7 +146,12 @@ fn row_from(head: &Head, number: i64) -> Row
 fn numbers_of(alloc: Global, rows: &[Row]) -> Result<Vec<i64>, Memory>
     ensures { IfOk result (λ numbers. numbers.items ≡ map number_of rows.now) }
 {
-    Ok(rows.iter().map(|row| number_of(row)).collect(alloc)?)
+    let mut numbers = Vec::new(alloc);
+    numbers.reserve(rows.len())?;
+    for row in rows {
+        numbers.push(number_of(row))?;
+    }
+    Ok(numbers)
 }
 
 impl Rows {
@@ -157,22 +162,14 @@ impl Rows {
         requires few { length rows.now ≤ MOST_RECORDS }
         ensures { IfOk result (λ kept. kept ≡ rows.now) }
     {
-        let gathered = gather(alloc, rows)?;
         let numbers = numbers_of(alloc, rows)?;
+        let gathered = gather(alloc, rows)?;
         Ok(Rows {
             groups: gathered.groups,
             starts: gathered.starts,
             members: gathered.members,
             numbers,
         })
-    }
-
-    /// How many rows there are.
-    #[tactic(auto, using(crate::proofs::ColumnLemmas::columns))]
-    pub fn len(&self) -> usize
-        ensures { result ≡ length self.now }
-    {
-        self.members.len()
     }
 
     /// How many rows are of groups before the bound. It reads no row.

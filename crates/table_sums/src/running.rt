@@ -3,7 +3,7 @@ ghost use Rattle.std.specs.Prelude.{◌≡◌, ◌+◌, ◌-◌, ◌-ℤ◌, ◌
 ghost use Rattle.std.specs.Prelude.{IfOk, OnOk};
 ghost use Rattle.table_rows.specs.Order.{row_cmp};
 ghost use Rattle.table_rows.specs.Store.{rises};
-ghost use Rattle.table_rows.specs.Sums.{sum_of_rows, sum_of_row, IsSized, joined};
+ghost use Rattle.table_rows.specs.Sums.{sum_of_rows, sum_of_row, joined};
 ghost use Rattle.table_sums.specs.Running.{AreSums, ArePlaced, IsFit, IsPlaced};
 ghost use Rattle.dh_base.specs.declared.limits.TheConstants.{MOST_RECORDS};
 
@@ -30,16 +30,22 @@ fn put_sum(sums: &mut Sums, sum: &Sum) -> Result<(), Memory>
     Ok(())
 }
 
+// A list of one member, with room for so many more.
+fn list_from<T: Copy>(alloc: Global, first: T, more: usize) -> Result<Vec<T>, Memory>
+    ensures { IfOk result (λ list. list.items ≡ first ∷ []) }
+{
+    let mut list = Vec::new(alloc);
+    list.reserve(more)?;
+    list.push(first)?;
+    Ok(list)
+}
+
 fn first_sum(alloc: Global, count: usize) -> Result<Sums, Memory>
     ensures micros { IfOk result (λ sums. sums.micros.items ≡ pos 0 ∷ []) }
     ensures plain { IfOk result (λ sums. sums.plain.items ≡ 0 ∷ []) }
 {
-    let mut micros = Vec::new(alloc);
-    micros.reserve(count)?;
-    micros.push(0)?;
-    let mut plain = Vec::new(alloc);
-    plain.reserve(count)?;
-    plain.push(0)?;
+    let micros = list_from(alloc, 0i128, count)?;
+    let plain = list_from(alloc, 0u32, count)?;
     Ok(Sums { micros, plain })
 }
 
@@ -139,8 +145,8 @@ impl RunningRows {
         requires few { length rows.now ≤ MOST_RECORDS }
         ensures { IfOk result (λ list. list ≡ rows.now) }
     {
-        let kept = Rows::of(alloc, rows)?;
         let sums = sums_of(alloc, rows)?;
+        let kept = Rows::of(alloc, rows)?;
         Ok(RunningRows {
             rows: kept,
             sums,

@@ -1,6 +1,6 @@
 //! Where the rows end that stand before a bound.
 ghost use Rattle.std.specs.Prelude.{◌≡◌, ◌+◌, ◌-◌, ◌<◌, ◌≤◌, ◌^◌, ℕ, true, false, not, length, get_or};
-ghost use Rattle.std.specs.Ordering.{is_lt, is_gt};
+ghost use Rattle.std.specs.Ordering.{is_gt};
 ghost use Rattle.table_rows.specs.declared.row.Row.{Row};
 ghost use Rattle.table_rows.specs.Order.{row_cmp, group_cmp};
 ghost use Rattle.table_rows.specs.Store.{rises};
@@ -11,7 +11,7 @@ ghost use Rattle.table_sums.specs.declared.search.Bound.TheVariants as bounds;
 use crate::rows::Rows;
 use crate::steps::Steps;
 use std::sync::ledger::Ledger;
-use table_rows::{Group, RowKey};
+use table_rows::{Group, Ranked, RowKey};
 
 /// A bound in rows that stand in their order.
 #[derive(Clone, Copy)]
@@ -26,12 +26,6 @@ pub enum Bound {
     UptoGroup(Group),
 }
 
-fn is_below(group: &Group, other: &Group) -> bool
-    ensures { result ≡ is_lt (group_cmp group.now other.now) }
-{
-    group.cmp(other).is_lt()
-}
-
 fn is_upto(group: &Group, other: &Group) -> bool
     ensures { result ≡ not (is_gt (group_cmp group.now other.now)) }
 {
@@ -43,7 +37,7 @@ fn is_group_before(bound: &Bound, group: &Group) -> bool
     ensures { result ≡ is_group_before bound.now group.now }
 {
     match bound {
-        Bound::Key(key) => is_below(group, &key.group),
+        Bound::Key(key) => group.stands_before(&key.group),
         Bound::Element(element) => group.element < *element,
         Bound::UptoElement(element) => group.element <= *element,
         Bound::UptoGroup(last) => is_upto(group, last),

@@ -1,12 +1,11 @@
 //! The store that keeps running sums of its rows.
-ghost use Rattle.std.specs.Prelude.{◌≡◌, ◌≤◌, ◌+◌, ◌*◌, ◌^◌, ◌<◌, [], ℕ, All, length, IsTrue, IfOk};
+ghost use Rattle.std.specs.Prelude.{◌≡◌, ◌<◌, [], IsTrue, IfOk};
 ghost use Rattle.table_rows.specs.Groups as known;
 ghost use Rattle.table_rows.specs.Rows.{wanted_rows};
 ghost use Rattle.table_rows.specs.Store.{is_store};
 ghost use Rattle.table_rows.specs.Sums.{sum_of_rows, IsSized};
-ghost use Rattle.table_sums.specs.Running.{IsPlaced};
 
-use crate::days::{Asked, events_between};
+use crate::days::events_between;
 use crate::groups::groups_of;
 use crate::range::{Part, rows_of_part, sum_of_part};
 use crate::running::RunningRows;
@@ -17,7 +16,7 @@ use dh_base::plain::Need;
 use std::alloc::Global;
 use std::marker::{Brand, Model};
 use std::sync::ledger::{Blank, Ledger};
-use table_rows::{EventRow, Group, ListRows, RegRow, Row, RowStore, Sum};
+use table_rows::{EventRow, EventsAsked, Group, ListRows, RegRow, Row, RowStore, Sum};
 
 /// A store that finds rows by binary search and takes sums as differences of running sums.
 #[derive(Drop)]
@@ -110,25 +109,6 @@ fn rows_from<L: Ledger>(
     rows_of_part(alloc, list, part, need, &mut steps)
 }
 
-fn groups_in(alloc: Global, list: &RunningRows, element: u32) -> Result<Items<Group>, Memory>
-    ensures { IfOk result (λ groups. groups ≡ known.groups_of element list.now) }
-{
-    groups_from::<Brand>(alloc, Blank::new(1), list, element)
-}
-
-fn sum_in(list: &RunningRows, part: &Part, need: Need) -> Sum
-    ensures sum { result ≡ sum_of_rows (wanted_rows part.now.group need part.now.from part.now.to list.now) }
-    ensures size { IsSized result }
-{
-    sum_from::<Brand>(Blank::new(1), list, part, need)
-}
-
-fn rows_in(alloc: Global, list: &RunningRows, part: &Part, need: Need) -> Result<Items<Row>, Memory>
-    ensures { IfOk result (λ found. found ≡ wanted_rows part.now.group need part.now.from part.now.to list.now) }
-{
-    rows_from::<Brand>(alloc, Blank::new(1), list, part, need)
-}
-
 impl SummedRows {
     /// The rows in their order, of which each read is counted.
     pub fn running(&self) -> &RunningRows
@@ -148,11 +128,11 @@ impl RowStore for SummedRows {
     ghost built = { λ store. store.years };
 
     fn groups(&self, alloc: Global, element: u32) -> Result<Items<Group>, Memory> {
-        groups_in(alloc, &self.list, element)
+        groups_from::<Brand>(alloc, Blank::new(1), &self.list, element)
     }
 
     fn range_sum(&self, group: Group, need: Need, from: u32, to: u32) -> Sum {
-        sum_in(&self.list, &Part { group, from, to }, need)
+        sum_from::<Brand>(Blank::new(1), &self.list, &Part { group, from, to }, need)
     }
 
     fn rows_of(
@@ -163,7 +143,8 @@ impl RowStore for SummedRows {
         from: u32,
         to: u32,
     ) -> Result<Items<Row>, Memory> {
-        rows_in(alloc, &self.list, &Part { group, from, to }, need)
+        let part = Part { group, from, to };
+        rows_from::<Brand>(alloc, Blank::new(1), &self.list, &part, need)
     }
 
     #[tactic(auto, using(crate::proofs::DayLemmas::events_up))]
@@ -174,7 +155,7 @@ impl RowStore for SummedRows {
         from_day: i32,
         to_day: i32,
     ) -> Result<Vec<&EventRow>, Memory> {
-        let asked = Asked {
+        let asked = EventsAsked {
             program,
             from_day,
             to_day,

@@ -1,16 +1,16 @@
 //! The tables, as parts by year.
-ghost use Rattle.std.specs.Prelude.{◌≡◌, map, IfOk};
-ghost use Rattle.table_sums.specs.YearParts.{YearPart, ArePartitions, years_in, rows_together, events_together, regs_together};
+ghost use Rattle.std.specs.Prelude.{◌≡◌, IfOk};
+ghost use Rattle.table_sums.specs.YearParts.{ArePartitions, years_in, rows_together, events_together, regs_together};
 
 use crate::find::{rows_in, sum_in};
 use crate::part::Partition;
-use crate::year_gather::{Asked, events_in, groups_in, regs_in};
+use crate::year_gather::{events_in, groups_in, regs_in};
 use dh_base::items::Items;
 use dh_base::memory::Memory;
 use dh_base::plain::Need;
 use std::alloc::Global;
 use std::marker::Model;
-use table_rows::{EventRow, Group, RegRow, Row, RowStore, Sum};
+use table_rows::{EventRow, EventsAsked, Group, RegRow, Row, RowStore, Sum};
 
 /// A store of parts by ascending year.
 #[derive(Drop)]
@@ -99,7 +99,7 @@ impl RowStore for Tables {
         from_day: i32,
         to_day: i32,
     ) -> Result<Vec<&EventRow>, Memory> {
-        let asked = Asked {
+        let asked = EventsAsked {
             program,
             from_day,
             to_day,

@@ -13,7 +13,7 @@ use crate::ranked::merged;
 use dh_base::items::Items;
 use dh_base::memory::Memory;
 use std::alloc::Global;
-use table_rows::{EventRow, Group, RegRow};
+use table_rows::{EventRow, EventsAsked, Group, RegRow, RowStore};
 
 fn with_groups(
     alloc: Global,
@@ -25,7 +25,7 @@ fn with_groups(
     requires more { IsStrictlySortedBy group_cmp (groups_of element part.now.contents.rows) }
     ensures { IfOk result (λ all. all.items ≡ ascending group_cmp (groups.now ++ groups_of element part.now.contents.rows)) }
 {
-    let more = part.groups(alloc, element)?;
+    let more = RowStore::groups(part.store(), alloc, element)?;
     merged(alloc, groups, more.as_slice())
 }
 
@@ -55,7 +55,7 @@ fn with_regs(
     requires more { IsStrictlySortedBy reg_cmp (regs_of set part.now.contents.regs) }
     ensures { IfOk result (λ all. all.items ≡ ascending reg_cmp (regs.now ++ regs_of set part.now.contents.regs)) }
 {
-    let more = part.regs_of(alloc, set)?;
+    let more = RowStore::regs_of(part.store(), alloc, set)?;
     merged(alloc, regs, more.as_slice())
 }
 
@@ -71,24 +71,22 @@ pub(crate) fn regs_in(alloc: Global, parts: &[Partition], set: u32) -> Result<It
     Ok(Items::from(regs))
 }
 
-/// The events that are asked for, by program and days.
-#[derive(Clone, Copy)]
-pub(crate) struct Asked {
-    pub program: u32,
-    pub from_day: i32,
-    pub to_day: i32,
-}
-
 fn add_events<'a>(
     alloc: Global,
     events: &mut Vec<&'a EventRow>,
     part: &'a Partition,
-    asked: &Asked,
+    asked: &EventsAsked,
 ) -> Result<(), Memory>
     ensures { OnOk result (map (λ event. event.now) events.new.items
         ≡ map (λ event. event.now) events.old.items ++ events_of asked.now.program asked.now.from_day asked.now.to_day part.now.contents.events) }
 {
-    let mut more = part.lend_events(alloc, asked.program, asked.from_day, asked.to_day)?;
+    let mut more = RowStore::lend_events(
+        part.store(),
+        alloc,
+        asked.program,
+        asked.from_day,
+        asked.to_day,
+    )?;
     events.append(&mut more)?;
     Ok(())
 }
@@ -99,7 +97,7 @@ pub(crate) fn events_in<'a>(
     alloc: Global,
     parts: &'a [Partition],
     years: &[i32],
-    asked: &Asked,
+    asked: &EventsAsked,
 ) -> Result<Vec<&'a EventRow>, Memory>
     requires parts { ArePartitions parts.now }
     requires years { years.now ≡ years_in parts.now }

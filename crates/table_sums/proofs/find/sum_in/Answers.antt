@@ -1,4 +1,6 @@
-use Rattle.std.proofs.Common.{◌∙◌, FitsSigned, w32, to_z, of_z, to_z-of_z, ap, rules}
+use Rattle.std.proofs.Common.{◌∙◌, List, FitsSigned, w32, to_z, of_z, to_z-of_z, ap, rules}
+use Rattle.table_rows.specs.declared.row.Row.{Row}
+use Rattle.table_rows.specs.Rows.{wanted_rows}
 use Rattle.table_rows.specs.Sums.{sum_of_rows}
 use Rattle.table_sums.proofs.YearPartLemmas.{found-in, none-in, nothing-sums, years-rise-in}
 use Rattle.table_sums.proofs.find.sum_in.Goals as goal
@@ -10,6 +12,7 @@ pub returns-in-Some-clause-sum : goal.returns-in-Some-clause-sum
 returns-in-Some-clause-sum c =
     let fits : FitsSigned w32 c.year.result = search rules in
     c.range_sum.ensures.sum
+    ∙ ap (λ (rows : List Row). sum_of_rows (wanted_rows c.args.group.now c.args.need c.args.from c.args.to rows)) c.store.ensures.rows
     ∙ ap sum_of_rows (found-in c.args.parts.now c.args.years.now c.index-parts-at.result c.in-Some.at (to_z w32 (of_z w32 c.year.result)) c.args.group.now
     c.args.need c.args.from c.args.to c.requires.parts c.requires.years (to_z-of_z fits ∙ c.year.ensures) c.in-Some.ensures.found c.in-Some.ensures.year
     c.index-parts-at.is)

@@ -1,4 +1,4 @@
-use Rattle.std.proofs.Common.{◌≡◌, ◌<◌, length, sym, subst, ℕ, get_or, rules}
+use Rattle.std.proofs.Common.{◌≡◌, ◌<◌, sym, subst, ℕ, get_or, rules}
 use Rattle.table_sums.specs.declared.gather.Member.{Member}
 use Rattle.table_sums.proofs.ColumnLemmas.{within-columns}
 use Rattle.table_sums.proofs.SpanLemmas.{member-before}
