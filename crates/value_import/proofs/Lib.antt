@@ -5,3 +5,4 @@ pub mod JudgedLemmas
 pub mod TextSizes
 pub mod DayLemmas
 pub mod WriteLemmas
+mod LoopLemmas

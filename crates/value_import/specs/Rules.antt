@@ -52,15 +52,15 @@ unfoldable pub capture_units : Records → ℕ → List ℕ
 capture_units r user = option_map_or (λ (found : users.User). found.organisation_units) (slice_get r.users user) []
 
 -- the unit is under a capture unit of the user
-unfoldable pub is_captured : Facts → Records → Place → ℕ → Bool
-is_captured facts r place user = list_any (λ capture. is_under (tree facts r) place.unit capture) (capture_units r user)
+unfoldable pub is_captured : Facts → Records → ℕ → ℕ → Bool
+is_captured facts r unit user = list_any (λ capture. is_under (tree facts r) unit capture) (capture_units r user)
 
 -- the unit isn't assigned to the set; the user may not write there; the unit isn't under a capture unit
 unfoldable pub place_conditions : Facts → Records → Who → Place → List Condition
 place_conditions facts r who place =
     (C8, not (is_assigned r place.set place.unit))
     ∷ (C9, of_user (λ user. not (may_write facts r place user)) who)
-    ∷ (C10, of_user (λ user. not (is_captured facts r place user)) who)
+    ∷ (C10, of_user (λ user. not (is_captured facts r place.unit user)) who)
     ∷ []
 
 -- so many periods of its type may be open after the one with today

@@ -1,4 +1,4 @@
-//! The dates of completions.
+//! Dates.
 
 ghost use Rattle.std.specs.Prelude.{◌≡◌};
 ghost use Rattle.value_import.specs.Dates.{is_time, dated, day_told};
@@ -18,8 +18,9 @@ fn is_time(rest: &[u8]) -> bool
     }
 }
 
+/// The day of a text whose first ten bytes are a date. What follows them begins with `T`, or is nothing.
 #[tactic(auto, unfolding(crate::specs::Dates::dated))]
-fn dated(text: &[u8]) -> Option<i32>
+pub fn dated(text: &[u8]) -> Option<i32>
     ensures { result ≡ dated text.now }
 {
     if text.len() < DATE {

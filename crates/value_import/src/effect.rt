@@ -5,13 +5,14 @@ ghost use Rattle.dh_changes.specs.World.{facts};
 ghost use Rattle.value_import.specs.Outcomes.{IsKnown};
 ghost use Rattle.value_import.specs.Ranges.{IsValueWithin};
 ghost use Rattle.value_import.specs.Rules.{first_of, of_user};
-ghost use Rattle.value_import.specs.Values.{is_delete_all, is_delete, has_value, is_summed, is_zero, is_idle_zero, is_create, is_update, is_misplaced};
+ghost use Rattle.value_import.specs.Values.{is_delete, has_value, is_summed, is_zero, is_idle_zero};
 ghost use Rattle.value_import.specs.Values.{is_approved, value_conditions, stored, zeroed, accepted};
 
 use crate::asking::Asking;
 use crate::judged::Judged;
 use crate::place::ValuePlace;
 use crate::rules::{is_too_early, is_too_late};
+use crate::strategy::{is_delete_all, is_misplaced};
 use dh_base::codes::Code;
 use dh_base::memory::Memory;
 use dh_base::plain::AggType;
@@ -33,39 +34,6 @@ use std::alloc::Global;
 pub struct Slot {
     pub key: ValueKey,
     pub held: bool,
-}
-
-fn is_delete_all(strategy: ImportStrategy) -> bool
-    ensures { result ≡ is_delete_all strategy }
-{
-    match strategy {
-        ImportStrategy::Create => false,
-        ImportStrategy::Update => false,
-        ImportStrategy::CreateAndUpdate => false,
-        ImportStrategy::Delete => true,
-    }
-}
-
-fn is_create(strategy: ImportStrategy) -> bool
-    ensures { result ≡ is_create strategy }
-{
-    match strategy {
-        ImportStrategy::Create => true,
-        ImportStrategy::Update => false,
-        ImportStrategy::CreateAndUpdate => false,
-        ImportStrategy::Delete => false,
-    }
-}
-
-fn is_update(strategy: ImportStrategy) -> bool
-    ensures { result ≡ is_update strategy }
-{
-    match strategy {
-        ImportStrategy::Create => false,
-        ImportStrategy::Update => true,
-        ImportStrategy::CreateAndUpdate => false,
-        ImportStrategy::Delete => false,
-    }
 }
 
 /// Whether the value is to be taken away.
@@ -116,13 +84,6 @@ fn is_idle_zero(meta: &Metadata, element: u32, text: &[u8]) -> bool
 {
     let found = meta.element(element);
     is_summed(found.aggregation_type) && (!found.zero_is_significant && is_zero(found, text))
-}
-
-#[tactic(auto, unfolding(crate::specs::Values::is_misplaced))]
-fn is_misplaced(strategy: ImportStrategy, deletes: bool, held: bool) -> bool
-    ensures { result ≡ is_misplaced strategy deletes held }
-{
-    (is_create(strategy) && held) || ((is_update(strategy) || deletes) && !held)
 }
 
 #[tactic(auto, unfolding(crate::specs::Values::is_approved, crate::specs::Values::option_combo_id))]

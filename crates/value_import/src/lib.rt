@@ -4,13 +4,14 @@
 mod asking;
 mod batch;
 mod completion;
-mod dates;
+pub mod dates;
 mod effect;
 mod judge;
 pub mod judged;
 mod names;
 pub mod place;
-mod rights;
+pub mod rights;
 mod rules;
+pub mod strategy;
 mod value;
 pub mod verdict;

@@ -72,11 +72,11 @@ fn is_under_any(tree: &Tree, unit: u32, captures: &[u32]) -> bool
 
 /// Whether the unit is under a capture unit of the user.
 #[tactic(auto, unfolding(crate::specs::Rules::is_captured, crate::specs::Rules::capture_units))]
-pub fn is_captured(world: &World, meta: &Metadata, place: &Place, user: u32) -> bool
+pub fn is_captured(world: &World, meta: &Metadata, unit: u32, user: u32) -> bool
     requires user { user < length meta.now.users }
-    requires place { IsWithin meta.now place.now }
-    ensures { result ≡ is_captured (facts world.now) meta.now place.now user }
+    requires unit { unit < length meta.now.organisation_units }
+    ensures { result ≡ is_captured (facts world.now) meta.now unit user }
 {
     let captures = &meta.user(user).organisation_units;
-    is_under_any(tree_of(world, meta), place.unit, captures.as_slice())
+    is_under_any(tree_of(world, meta), unit, captures.as_slice())
 }

@@ -29,10 +29,10 @@ fn may_not_write(world: &World, meta: &Metadata, who: Who, place: &Place) -> boo
 fn is_out_of_scope(world: &World, meta: &Metadata, who: Who, place: &Place) -> bool
     requires who { IsKnown meta.now who }
     requires place { IsWithin meta.now place.now }
-    ensures { result ≡ of_user (λ user. not (is_captured (facts world.now) meta.now place.now user)) who }
+    ensures { result ≡ of_user (λ user. not (is_captured (facts world.now) meta.now place.now.unit user)) who }
 {
     match who {
-        Who::User(user) => !is_captured(world, meta, place, user),
+        Who::User(user) => !is_captured(world, meta, place.unit, user),
         Who::Loader => false,
     }
 }
