@@ -1,9 +1,10 @@
 ghost use Rattle.std.specs.Prelude.{◌≡◌, ◌<◌, ◌≤◌, ◌^◌, Some, None, [], length, map, true, slice_get, slice_index_or, IfOk, IfSome};
 ghost use Rattle.dh_metadata.specs.Approval.{unit_rows, option_combo_rows, levels_at, need_of};
 ghost use Rattle.dh_metadata.specs.Known.{AreFew, AreMade, HaveRules};
-ghost use Rattle.dh_metadata.specs.Linked.{Each, AreBelow, IsBelow, IsLinked, IsLinkedUnit, IsLinkedUnitGroup, IsLinkedOption};
-ghost use Rattle.dh_metadata.specs.Linked.{IsLinkedOptionCombo, IsLinkedElement, IsLinkedWorkflow, IsLinkedDataSet, IsLinkedIndicator};
+ghost use Rattle.dh_metadata.specs.Linked.{Each, AreBelow, IsBelow, IsLinked, IsLinkedUnit, IsLinkedUnitGroup, IsLinkedOption, IsLinkedCategory};
+ghost use Rattle.dh_metadata.specs.Linked.{IsLinkedCombo, IsLinkedOptionCombo, IsLinkedElement, IsLinkedWorkflow, IsLinkedDataSet, IsLinkedIndicator};
 ghost use Rattle.dh_metadata.specs.Linked.{IsLinkedRule, IsLinkedEntityType, IsLinkedProgram, IsLinkedStage, IsLinkedProgramIndicator, IsLinkedUser};
+ghost use Rattle.dh_metadata.specs.Linked.{IsLinkedUserGroup};
 ghost use Rattle.dh_metadata.specs.Objects.{count_of, find_of, is_shared, sharing_of, HaveIds};
 ghost use Rattle.dh_metadata.specs.Sets.{has_element, is_assigned, sets_with};
 ghost use Rattle.dh_metadata.specs.Users.{facts_of, has_authority, may_of, user_of, view_units_of};
@@ -17,8 +18,9 @@ use crate::made::{Made, make};
 use crate::members::has;
 use crate::needs::{least_level, need_from};
 use crate::records::{
-    Attribute, CategoryOption, Constant, DataSet, Element, EntityType, Indicator, IndicatorType,
-    OptionCombo, Program, ProgramIndicator, Rule, Stage, Unit, UnitGroup, User, Workflow,
+    ApprovalLevel, Attribute, Category, CategoryCombo, CategoryOption, Constant, DataSet, Element,
+    EntityType, Indicator, IndicatorType, OptionCombo, Program, ProgramIndicator, Role, Rule,
+    Stage, Unit, UnitGroup, User, UserGroup, Workflow,
 };
 use crate::structure::Structure;
 use dh_base::items::Items;
@@ -133,6 +135,24 @@ impl Metadata {
         object_at(self.records.category_options.as_slice(), n)
     }
 
+    /// The category with that number.
+    pub fn category(&self, n: u32) -> &Category
+        requires { n < length self.now.categories }
+        ensures value { slice_get self.now.categories n ≡ Some result.now }
+        ensures linked { IsLinkedCategory self.now result.now }
+    {
+        object_at(self.records.categories.as_slice(), n)
+    }
+
+    /// The category combination with that number.
+    pub fn combo(&self, n: u32) -> &CategoryCombo
+        requires { n < length self.now.category_combos }
+        ensures value { slice_get self.now.category_combos n ≡ Some result.now }
+        ensures linked { IsLinkedCombo self.now result.now }
+    {
+        object_at(self.records.category_combos.as_slice(), n)
+    }
+
     /// The category option combination with that number.
     pub fn option_combo(&self, n: u32) -> &OptionCombo
         requires { n < length self.now.category_option_combos }
@@ -149,6 +169,14 @@ impl Metadata {
         ensures linked { IsLinkedElement self.now result.now }
     {
         object_at(self.records.data_elements.as_slice(), n)
+    }
+
+    /// The approval level with that number.
+    pub fn approval_level(&self, n: u32) -> &ApprovalLevel
+        requires { n < length self.now.data_approval_levels }
+        ensures { slice_get self.now.data_approval_levels n ≡ Some result.now }
+    {
+        object_at(self.records.data_approval_levels.as_slice(), n)
     }
 
     /// The approval workflow with that number.
@@ -247,6 +275,14 @@ impl Metadata {
         object_at(self.records.program_indicators.as_slice(), n)
     }
 
+    /// The user role with that number.
+    pub fn role(&self, n: u32) -> &Role
+        requires { n < length self.now.user_roles }
+        ensures { slice_get self.now.user_roles n ≡ Some result.now }
+    {
+        object_at(self.records.user_roles.as_slice(), n)
+    }
+
     /// The user with that number.
     pub fn user(&self, n: u32) -> &User
         requires { n < length self.now.users }
@@ -254,6 +290,15 @@ impl Metadata {
         ensures linked { IsLinkedUser self.now result.now }
     {
         object_at(self.records.users.as_slice(), n)
+    }
+
+    /// The user group with that number.
+    pub fn user_group(&self, n: u32) -> &UserGroup
+        requires { n < length self.now.user_groups }
+        ensures value { slice_get self.now.user_groups n ≡ Some result.now }
+        ensures linked { IsLinkedUserGroup self.now result.now }
+    {
+        object_at(self.records.user_groups.as_slice(), n)
     }
 
     /// The tree of the organisation units.
