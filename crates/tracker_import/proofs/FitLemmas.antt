@@ -29,7 +29,7 @@ use Rattle.tracker_import.specs.declared.pairs.ItemKind.TheVariants as item
 use Rattle.tracker_import.specs.declared.judged.Judged.{Judged}
 use Rattle.tracker_import.specs.declared.judged.Judged.TheVariants as judged
 use Rattle.tracker_import.specs.Pairs.{has_unknown, has_unfit, merged}
-use Rattle.tracker_import.specs.Rules.{first_in, right_conditions, standing_conditions, day_in, event_status_of, enrollment_status_of}
+use Rattle.tracker_import.specs.Rules.{first_in, right_conditions, standing_conditions, day_in, pending_status_of, event_status_of, enrollment_status_of}
 use Rattle.tracker_import.specs.Rules.{status_in, judged_by, put}
 use Rattle.tracker_import.specs.Entities.{entity_names, entity_name_conditions, entity_value_conditions, entity_conflict}
 use Rattle.tracker_import.specs.Entities.{attributes_of, entity_after, judged_entity}
@@ -100,7 +100,7 @@ three false false true = omega arith
 three false false false = tt
 
 event_status-below : (text : Option (List ℕ)) → IfSome (status_in event_status_of text) (λ status. status < event_statuses)
-unfolding event_status_of
+unfolding event_status_of pending_status_of
 event_status-below None = omega arith
 event_status-below (Some text) =
     six (bytes_eq text (codes "ACTIVE")) (bytes_eq text (codes "COMPLETED")) (bytes_eq text (codes "VISITED")) (bytes_eq text (codes "SCHEDULE"))

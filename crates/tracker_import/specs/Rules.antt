@@ -7,19 +7,18 @@ use Rattle.dh_base.specs.declared.codes.Code.{Code}
 use Rattle.dh_base.specs.Uid.{uid_of}
 use Rattle.dh_base.specs.declared.codes.Code.TheVariants.{T6, T7, T13, T14}
 use Rattle.dh_sharing.specs.declared.access.Right.TheVariants.{DataWrite}
-use Rattle.org_tree.specs.Units.{is_under}
 use Rattle.dh_metadata.specs.declared.held.Records.{Records}
 use Rattle.dh_metadata.specs.declared.kind.Kind.{Kind}
 use Rattle.dh_changes.specs.Facts.{Facts}
 use Rattle.dh_changes.specs.Said.{same_id}
 use Rattle.dh_changes.specs.declared.outcome.Who.{Who}
 use Rattle.dh_changes.specs.declared.outcome.ImportStrategy.{ImportStrategy}
-use Rattle.dh_records.specs.Access.{access, tree}
+use Rattle.dh_records.specs.Access.{access}
 use Rattle.dh_changes.specs.declared.change.Write.{Write}
 use Rattle.tracker_import.specs.declared.judged.Judged.{Judged}
 use Rattle.tracker_import.specs.declared.judged.Judged.TheVariants as judged
 use Rattle.value_import.specs.Dates.{dated}
-use Rattle.value_import.specs.Rules.{Condition, first_of, of_user, capture_units}
+use Rattle.value_import.specs.Rules.{Condition, first_of, of_user, is_captured}
 use Rattle.value_import.specs.Values.{is_delete_all, is_misplaced}
 
 -- the identifier that a text is
@@ -32,10 +31,6 @@ first_in [] = None
 first_in (list ∷ more) = option_or (first_of list) (first_in more)
 
 -- ---- where, and by whom
-
--- the unit is under a capture unit of the user
-unfoldable pub is_captured : Facts → Records → ℕ → ℕ → Bool
-is_captured facts r unit user = list_any (λ capture. is_under (tree facts r) unit capture) (capture_units r user)
 
 -- the unit isn't under a capture unit of who asks
 unfoldable pub is_outside : Facts → Records → Who → Option ℕ → Bool
@@ -77,15 +72,19 @@ is_no_day text = option_map_or (λ own. is_none (dated own)) text false
 abbrev pub day_in : Option (List ℕ) → Option ℤ
 day_in text = option_and_then dated text
 
+-- the places of the statuses of an event that hasn't occurred
+unfoldable pub pending_status_of : List ℕ → Option ℕ
+pending_status_of text =
+    cond (bytes_eq text (codes "SCHEDULE")) (Some 3)
+    (cond (bytes_eq text (codes "OVERDUE")) (Some 4)
+    (cond (bytes_eq text (codes "SKIPPED")) (Some 5) None))
+
 -- the places of the statuses of an event, counted from 0
 unfoldable pub event_status_of : List ℕ → Option ℕ
 event_status_of text =
     cond (bytes_eq text (codes "ACTIVE")) (Some 0)
     (cond (bytes_eq text (codes "COMPLETED")) (Some 1)
-    (cond (bytes_eq text (codes "VISITED")) (Some 2)
-    (cond (bytes_eq text (codes "SCHEDULE")) (Some 3)
-    (cond (bytes_eq text (codes "OVERDUE")) (Some 4)
-    (cond (bytes_eq text (codes "SKIPPED")) (Some 5) None)))))
+    (cond (bytes_eq text (codes "VISITED")) (Some 2) (pending_status_of text)))
 
 -- the same of an enrollment
 unfoldable pub enrollment_status_of : List ℕ → Option ℕ

@@ -162,85 +162,39 @@ fn copied_entity(alloc: Global, entity: &Entity) -> Result<Entity, Memory>
     })
 }
 
-fn note_entity(
-    alloc: Global,
-    entities: &mut HashMap<Uid, Option<Entity>>,
-    write: &Write,
-) -> Result<(), Memory>
-    ensures { OnOk result (NotesEntity write.now entities.old entities.new) }
-{
-    match write {
-        Write::ValueSet { .. } => {}
-        Write::ValueCleared { .. } => {}
-        Write::EventWritten(_) => {}
-        Write::EventDeleted(_) => {}
-        Write::EnrollmentWritten(_) => {}
-        Write::EnrollmentDeleted(_) => {}
-        Write::EntityWritten(entity) => {
-            let written = entity.get();
-            let copy = copied_entity(alloc, written)?;
-            entities.insert(written.id, Some(copy))?;
-        }
-        Write::EntityDeleted(id) => {
-            entities.insert(*id, None)?;
-        }
-        Write::Approve(_) => {}
-        Write::Unapprove(_) => {}
-        Write::Accept(_) => {}
-        Write::Unaccept(_) => {}
-        Write::Complete { .. } => {}
-        Write::Uncomplete { .. } => {}
-    }
-    Ok(())
-}
-
-fn note_enrollment(
-    enrollments: &mut HashMap<Uid, Option<EnrollmentPlace>>,
-    write: &Write,
-) -> Result<(), Memory>
-    ensures { OnOk result (NotesEnrollment write.now enrollments.old enrollments.new) }
-{
-    match write {
-        Write::ValueSet { .. } => {}
-        Write::ValueCleared { .. } => {}
-        Write::EventWritten(_) => {}
-        Write::EventDeleted(_) => {}
-        Write::EnrollmentWritten(enrollment) => {
-            let written = enrollment.get();
-            enrollments.insert(written.id, enrollment_place(Some(written)))?;
-        }
-        Write::EnrollmentDeleted(id) => {
-            enrollments.insert(*id, None)?;
-        }
-        Write::EntityWritten(_) => {}
-        Write::EntityDeleted(_) => {}
-        Write::Approve(_) => {}
-        Write::Unapprove(_) => {}
-        Write::Accept(_) => {}
-        Write::Unaccept(_) => {}
-        Write::Complete { .. } => {}
-        Write::Uncomplete { .. } => {}
-    }
-    Ok(())
-}
-
-fn note_event(events: &mut HashMap<Uid, Option<EventPlace>>, write: &Write) -> Result<(), Memory>
-    ensures { OnOk result (NotesEvent write.now events.old events.new) }
+// Notes what a write says.
+fn note(alloc: Global, notes: &mut Notes, write: &Write) -> Result<(), Memory>
+    ensures entity { OnOk result (NotesEntity write.now notes.old.entities notes.new.entities) }
+    ensures enrollment { OnOk result (NotesEnrollment write.now notes.old.enrollments notes.new.enrollments) }
+    ensures event { OnOk result (NotesEvent write.now notes.old.events notes.new.events) }
 {
     match write {
         Write::ValueSet { .. } => {}
         Write::ValueCleared { .. } => {}
         Write::EventWritten(event) => {
-            let written = event.get();
-            events.insert(written.id, event_place(Some(written)))?;
+            let event = event.get();
+            notes.events.insert(event.id, event_place(Some(event)))?;
         }
         Write::EventDeleted(id) => {
-            events.insert(*id, None)?;
+            notes.events.insert(*id, None)?;
         }
-        Write::EnrollmentWritten(_) => {}
-        Write::EnrollmentDeleted(_) => {}
-        Write::EntityWritten(_) => {}
-        Write::EntityDeleted(_) => {}
+        Write::EnrollmentWritten(enrollment) => {
+            let enrollment = enrollment.get();
+            notes
+                .enrollments
+                .insert(enrollment.id, enrollment_place(Some(enrollment)))?;
+        }
+        Write::EnrollmentDeleted(id) => {
+            notes.enrollments.insert(*id, None)?;
+        }
+        Write::EntityWritten(entity) => {
+            let entity = entity.get();
+            let copy = copied_entity(alloc, entity)?;
+            notes.entities.insert(entity.id, Some(copy))?;
+        }
+        Write::EntityDeleted(id) => {
+            notes.entities.insert(*id, None)?;
+        }
         Write::Approve(_) => {}
         Write::Unapprove(_) => {}
         Write::Accept(_) => {}
@@ -262,9 +216,7 @@ fn accept(
     ensures writes { OnOk result (writes.new ≡ writes.old ++ write ∷ []) }
     ensures said { OnOk result (AreSaid notes.new.entities notes.new.enrollments notes.new.events writes.new) }
 {
-    note_entity(alloc, &mut notes.entities, &write)?;
-    note_enrollment(&mut notes.enrollments, &write)?;
-    note_event(&mut notes.events, &write)?;
+    note(alloc, notes, &write)?;
     writes.push(write)?;
     Ok(())
 }

@@ -1,10 +1,8 @@
 //! Where who asks may write, and what.
 
 ghost use Rattle.std.specs.Prelude.{◌≡◌, ◌<◌, true, length};
-ghost use Rattle.std.specs.List.{list_any};
-ghost use Rattle.dh_metadata.specs.Linked.{AreBelow, IsBelow};
+ghost use Rattle.dh_metadata.specs.Linked.{IsBelow};
 ghost use Rattle.dh_metadata.specs.Objects.{count_of, is_shared};
-ghost use Rattle.org_tree.specs.Units as units;
 ghost use Rattle.dh_changes.specs.World.{facts};
 ghost use Rattle.value_import.specs.Outcomes.{IsKnown};
 ghost use Rattle.value_import.specs.Rules.{first_of};
@@ -13,35 +11,10 @@ ghost use Rattle.tracker_import.specs.Rules as rules;
 use crate::asking::Asking;
 use dh_base::codes::Code;
 use dh_changes::outcome::Who;
-use dh_changes::world::World;
 use dh_metadata::kind::Kind;
-use dh_metadata::metadata::Metadata;
-use dh_records::access::{may, tree_of};
+use dh_records::access::may;
 use dh_sharing::access::Right;
-use org_tree::tree::Tree;
-
-fn is_under_any(tree: &Tree, unit: u32, captures: &[u32]) -> bool
-    requires unit { unit < length tree.now }
-    requires captures { AreBelow (length tree.now) captures.now }
-    ensures { result ≡ list_any (λ capture. units.is_under tree.now unit capture) captures.now }
-{
-    for capture in captures {
-        if tree.is_under(unit, *capture) {
-            return true;
-        }
-    }
-    false
-}
-
-#[tactic(auto, unfolding(crate::specs::Rules::is_captured, value_import::specs::Rules::capture_units))]
-fn is_captured(world: &World, meta: &Metadata, unit: u32, user: u32) -> bool
-    requires user { user < length meta.now.users }
-    requires unit { unit < length meta.now.organisation_units }
-    ensures { result ≡ rules.is_captured (facts world.now) meta.now unit user }
-{
-    let captures = &meta.user(user).organisation_units;
-    is_under_any(tree_of(world, meta), unit, captures.as_slice())
-}
+use value_import::rights::is_captured;
 
 #[tactic(auto, unfolding(crate::specs::Rules::is_outside))]
 fn is_outside(asking: &Asking<'_>, unit: Option<u32>) -> bool

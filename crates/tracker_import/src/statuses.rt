@@ -5,6 +5,23 @@ ghost use Rattle.tracker_import.specs.Rules as rules;
 
 use dh_base::items::Items;
 
+/// The place of the status of an event that hasn't occurred.
+#[tactic(auto, unfolding(crate::specs::Rules::pending_status_of))]
+fn pending_status_of(text: &[u8]) -> Option<u8>
+    ensures { result ≡ rules.pending_status_of text.now }
+{
+    if text == b"SCHEDULE".as_slice() {
+        return Some(3);
+    }
+    if text == b"OVERDUE".as_slice() {
+        return Some(4);
+    }
+    if text == b"SKIPPED".as_slice() {
+        return Some(5);
+    }
+    None
+}
+
 /// The place of an event's status.
 #[tactic(auto, unfolding(crate::specs::Rules::event_status_of))]
 fn event_status_of(text: &[u8]) -> Option<u8>
@@ -19,16 +36,7 @@ fn event_status_of(text: &[u8]) -> Option<u8>
     if text == b"VISITED".as_slice() {
         return Some(2);
     }
-    if text == b"SCHEDULE".as_slice() {
-        return Some(3);
-    }
-    if text == b"OVERDUE".as_slice() {
-        return Some(4);
-    }
-    if text == b"SKIPPED".as_slice() {
-        return Some(5);
-    }
-    None
+    pending_status_of(text)
 }
 
 /// The place of an enrollment's status.

@@ -27,7 +27,6 @@ use crate::items::id_in;
 use crate::judged::Judged;
 use crate::names::EnrollmentPlace;
 use crate::places::{EventPlace, Live};
-use crate::standing::is_delete_all;
 use dh_base::items::Items;
 use dh_base::memory::Memory;
 use dh_base::uid::Uid;
@@ -42,6 +41,7 @@ use import_forms::enrollment::BundleEnrollment;
 use import_forms::entity::BundleEntity;
 use import_forms::event::BundleEvent;
 use std::alloc::Global;
+use value_import::strategy::is_delete_all;
 
 fn entity_of<'a>(world: &'a World, batch: &'a Batch, id: &Option<Uid>) -> Option<&'a Entity>
     requires { IsBatch batch.now }
