@@ -5,7 +5,7 @@ use dh_base::memory::Memory;
 use std::alloc::{AllocError, AllocFailed};
 
 /// Why nothing was read.
-#[derive(Clone, Copy, PartialEq, Eq)]
+#[derive(Clone, Copy)]
 pub enum ReadFault {
     /// The bytes are too few, or not in the form.
     Bad,

@@ -5,7 +5,7 @@ use dh_base::memory::Memory;
 use thiserror::Error;
 
 /// How large a log may grow, and how many updates its server may make.
-#[derive(Clone, Copy, PartialEq, Eq)]
+#[derive(Clone, Copy)]
 pub struct Limits {
     /// Writes in the log, at most 4,194,304.
     pub writes: u64,
