@@ -1,5 +1,5 @@
 -- Objects made one after the other.
-use Rattle.std.proofs.Common.{◌≡◌, ◌∙◌, ℕ, zero, suc, ◌+◌, ◌<◌, List, [], ◌∷◌, ◌++◌, length, get_or, drop, Option, None, refl, sym, ap}
+use Rattle.std.proofs.Common.{◌≡◌, ◌∙◌, ℕ, zero, suc, ◌+◌, ◌<◌, List, [], ◌∷◌, ◌++◌, length, get_or, drop, Option, None, sym, ap}
 use Rattle.std.proofs.Common.{add-one, drop-cons, append_assoc}
 use Rattle.std.specs.Option.{option_or}
 use Rattle.meta_rules.specs.declared.expr_fault.ExprFault.{ExprFault}

@@ -1,5 +1,5 @@
 -- The search for the first item that passes a test, one item further; and a text that isn't read.
-use Rattle.std.proofs.Common.{◌≡◌, ℕ, zero, suc, ◌+◌, ◌<◌, Bool, cond, List, [], ◌∷◌, length, get_or, drop, Option, Some, Err, refl, ap, subst, sym, arith}
+use Rattle.std.proofs.Common.{◌≡◌, ℕ, zero, suc, ◌+◌, ◌<◌, Bool, cond, List, [], ◌∷◌, length, get_or, drop, Some, Err, refl, ap, subst, sym, arith}
 use Rattle.std.proofs.Common.{add-one}
 use Rattle.dh_base.specs.Memory.{IsFirst}
 use Rattle.expr_lang.specs.declared.tree.Item.{Item}

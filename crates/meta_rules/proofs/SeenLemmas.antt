@@ -1,5 +1,5 @@
 -- What is kept of an element's workflows.
-use Rattle.std.proofs.Common.{◌≡◌, ℕ, suc, ◌+◌, ◌<◌, Bool, true, false, not, cond, ◌==◌, ◌||◌, List, [], ◌∷◌, ◌++◌, map, length, get_or, take, set, Option}
+use Rattle.std.proofs.Common.{◌≡◌, ℕ, suc, ◌+◌, ◌<◌, Bool, true, false, not, cond, ◌==◌, ◌||◌, List, [], ◌∷◌, ◌++◌, map, length, get_or, take, set}
 use Rattle.std.proofs.Common.{Some, None, refl, sym, ap, ◌∙◌, subst, inl, inr, arith, get_or-set_same, get_or-set_other, append_assoc}
 use Rattle.std.specs.Prelude.{slice_get}
 use Rattle.std.specs.List.{list_any}
@@ -11,7 +11,7 @@ use Rattle.org_tree.proofs.CountLemmas.{first_below-agree, first_below_tells}
 use Rattle.dh_metadata.specs.declared.records.DataSet.{DataSet}
 use Rattle.meta_rules.specs.declared.workflows.Seen.{Seen}
 use Rattle.meta_rules.specs.declared.workflows.Seen.TheVariants.{Nothing, One, Several}
-use Rattle.dh_metadata.specs.Workflows.{workflow_by, workflows_by, workflow_of, AreWorkflows}
+use Rattle.dh_metadata.specs.Workflows.{workflow_by, workflows_by, AreWorkflows}
 use Rattle.meta_rules.specs.Workflows.{have_several, is_torn}
 use Rattle.meta_rules.specs.Seen.{met, all_met, one_seen, is_several, seen_at, several_at, TakesEntries, TakesSet, HaveSeen}
 

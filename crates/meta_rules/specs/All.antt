@@ -1,5 +1,5 @@
 -- All expressions of metadata.
-use Rattle.std.specs.Prelude.{ℕ, List, Option}
+use Rattle.std.specs.Prelude.{Option}
 use Rattle.std.specs.Option.{option_or}
 use Rattle.dh_metadata.specs.declared.parts.MetaParts.{MetaParts}
 use Rattle.meta_rules.specs.declared.all.Unread.{Unread}

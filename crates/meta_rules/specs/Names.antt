@@ -1,5 +1,6 @@
 -- The objects that items name.
-use Rattle.std.specs.Prelude.{ℕ, Bool, false, not, ◌||◌, List, Option, is_some}
+use Rattle.std.specs.Prelude.{◌≡◌, ℕ, ◌-◌, Bool, true, false, not, ◌||◌, List, Option, Some, None, is_some, IfSome, nat_eq, slice_get, option_and_then}
+use Rattle.std.specs.Prelude.{if◌then◌else◌}
 use Rattle.std.specs.Option.{option_map_or}
 use Rattle.dh_metadata.specs.Places.{place_of}
 use Rattle.dh_metadata.specs.Ids.{ids_at}
@@ -35,3 +36,15 @@ is_missing ids item.EnrollmentDate = false
 is_missing ids item.EventCount = false
 is_missing ids item.EnrollmentCount = false
 is_missing ids item.EntityCount = false
+
+-- the stage that an item names, and the one before a place
+abbrev pub stage_named : Item → Option (List ℕ)
+stage_named (item.StageElement stage element) = Some stage
+stage_named _ = None
+
+unfoldable pub stage_before : List Item → ℕ → Option (List ℕ)
+stage_before items n = if nat_eq n 0 then None else option_and_then stage_named (slice_get items (n - 1))
+
+-- a stage is there, if one is known
+abbrev pub IsStageThere : KindIds → Option (List ℕ) → Type 0
+IsStageThere ids known = IfSome known (λ stage. is_there ids kind.ProgramStage stage ≡ true)

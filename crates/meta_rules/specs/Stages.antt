@@ -1,5 +1,5 @@
 -- Stages and aggregation of program indicators.
-use Rattle.std.specs.Prelude.{ℕ, Bool, true, false, not, cond, ◌==◌, ◌||◌, List, [], ◌∷◌, Option, None, Some, slice_get}
+use Rattle.std.specs.Prelude.{◌≡◌, ℕ, Bool, true, false, not, cond, ◌==◌, ◌||◌, List, [], ◌∷◌, Option, None, Some, slice_get, IfSome}
 use Rattle.std.specs.List.{list_any}
 use Rattle.std.specs.Option.{option_map_or, option_or}
 use Rattle.dh_metadata.specs.Places.{place_of}
@@ -23,6 +23,10 @@ abbrev pub is_stage_of : KindIds → List Stage → ℕ → List ℕ → Bool
 is_stage_of ids stages program stage =
     option_map_or (λ place. option_map_or (λ (found : Stage). found.program == program) (slice_get stages place) false)
     (place_of (ids_at ids ProgramStage) stage) false
+
+-- a stage is of the program, if one is known
+abbrev pub IsStageOf : KindIds → List Stage → ℕ → Option (List ℕ) → Type 0
+IsStageOf ids stages program known = IfSome known (λ stage. is_stage_of ids stages program stage ≡ true)
 
 -- the item names a stage that isn't of the program
 abbrev pub is_foreign : KindIds → List Stage → ℕ → Item → Bool

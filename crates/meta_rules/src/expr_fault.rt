@@ -10,7 +10,7 @@ use std::alloc::{AllocError, AllocFailed};
 use thiserror::Error;
 
 /// Why a text isn't an expression of its place.
-#[derive(Clone, Copy, Debug, PartialEq, Eq, Error)]
+#[derive(Clone, Copy, Debug, Error)]
 pub enum TextFault {
     /// The byte from 0 at which it isn't read, or at which an item stands that names no object.
     #[error("the expression is wrong at byte {0}")]
@@ -28,14 +28,14 @@ impl From<Memory> for TextFault {
 }
 
 /// An expression that isn't read: its object, and the byte from 0.
-#[derive(Clone, Copy, Debug, PartialEq, Eq)]
+#[derive(Clone, Copy, Debug)]
 pub struct ExprFault {
     pub uid: Uid,
     pub at: usize,
 }
 
 /// Why the expressions of metadata are refused.
-#[derive(Clone, Copy, Debug, PartialEq, Eq, Error)]
+#[derive(Clone, Copy, Debug, Error)]
 pub enum ExprError {
     #[error("an expression of the metadata is wrong")]
     Unread(ExprFault),

@@ -10,7 +10,7 @@ use std::alloc::{AllocError, AllocFailed};
 use thiserror::Error;
 
 /// A rule between objects.
-#[derive(Clone, Copy, Debug, PartialEq, Eq)]
+#[derive(Clone, Copy, Debug)]
 pub enum BrokenRule {
     /// The organisation units aren't a tree of at most 12 levels.
     Tree,
@@ -47,14 +47,14 @@ impl BrokenRule {
 }
 
 /// A rule that is broken, and the object that breaks it. It is `None` where no unit is the root.
-#[derive(Clone, Copy, Debug, PartialEq, Eq)]
+#[derive(Clone, Copy, Debug)]
 pub struct RuleFault {
     pub uid: Option<Uid>,
     pub which: BrokenRule,
 }
 
 /// Why objects are refused.
-#[derive(Clone, Copy, Debug, PartialEq, Eq, Error)]
+#[derive(Clone, Copy, Debug, Error)]
 pub enum RuleError {
     #[error("a rule of the metadata is broken")]
     Broken(RuleFault),

@@ -1,6 +1,6 @@
 //! All rules between objects but those of program indicators.
 
-ghost use Rattle.std.specs.Prelude.{◌≡◌, ◌^◌, ◌<◌, length};
+ghost use Rattle.std.specs.Prelude.{◌^◌, ◌<◌, length};
 ghost use Rattle.dh_categories.specs.Single.{CombosBelow};
 ghost use Rattle.org_tree.specs.Units.{HasOwnIds};
 ghost use Rattle.dh_metadata.specs.Rows.{option_combo_rows};

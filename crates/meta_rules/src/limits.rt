@@ -9,7 +9,7 @@ use dh_metadata::kind::Kind;
 use dh_metadata::parts::MetaParts;
 
 /// A limit that is passed.
-#[derive(Clone, Copy, PartialEq, Eq)]
+#[derive(Clone, Copy)]
 pub enum LimitFault {
     /// A key has too many objects of this kind.
     Objects(Kind),

@@ -1,6 +1,6 @@
 //! Category combinations that data sets name for their elements.
 
-ghost use Rattle.std.specs.Prelude.{◌≡◌, ℕ, List, Option, length, is_some};
+ghost use Rattle.std.specs.Prelude.{◌≡◌, Option, length, is_some};
 ghost use Rattle.org_tree.specs.Count.{first_below};
 ghost use Rattle.meta_rules.specs.Overrides.{differs, entry_overrides, set_overrides, override_fault, override_broken};
 

@@ -8,7 +8,7 @@ ghost use Rattle.meta_rules.specs.Names.{is_missing};
 ghost use Rattle.meta_rules.specs.Read.{text_fault_of, missing_place, unread_at, text_cause, expr_in};
 
 use crate::expr_fault::TextFault;
-use crate::names::is_missing;
+use crate::names::{is_missing, stage_before};
 use dh_metadata::ids::Ids;
 use expr_grammar::parse_sorted;
 use expr_lang::{DayItems, Expr, Place, Sort};
@@ -32,7 +32,8 @@ fn missing_at(ids: &Ids, expr: &Expr) -> Option<usize>
 {
     let items = expr.items();
     for n in 0..items.len() {
-        if is_missing(ids, &items[n]) {
+        let known = stage_before(items, n);
+        if is_missing(ids, known, &items[n]) {
             return Some(expr.item_at(n));
         }
     }

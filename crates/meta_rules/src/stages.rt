@@ -3,9 +3,10 @@
 ghost use Rattle.std.specs.Prelude.{◌≡◌, not};
 ghost use Rattle.std.specs.List.{list_any};
 ghost use Rattle.expr_lang.specs.Expr.{items_in};
-ghost use Rattle.meta_rules.specs.Stages.{is_stage_of, is_foreign, is_foreign_filter, is_aggregated, indicator_broken, stages_broken};
+ghost use Rattle.meta_rules.specs.Stages.{IsStageOf, is_stage_of, is_foreign, is_foreign_filter, is_aggregated, indicator_broken, stages_broken};
 
 use crate::fault::{BrokenRule, RuleFault};
+use crate::names::{is_known, stage_before};
 use dh_base::plain::AggType;
 use dh_base::uid::Uid;
 use dh_metadata::ids::Ids;
@@ -26,12 +27,29 @@ fn is_stage_of(ids: &Ids, stages: &[Stage], program: u32, stage: Uid) -> bool
     }
 }
 
-/// Whether an item names a stage that isn't of the program.
-fn is_foreign(ids: &Ids, stages: &[Stage], program: u32, item: &Item) -> bool
+#[tactic(auto, using(crate::proofs::StageLemmas::own_so))]
+fn is_foreign_stage(
+    ids: &Ids,
+    stages: &[Stage],
+    program: u32,
+    known: Option<Uid>,
+    stage: Uid,
+) -> bool
+    requires { IsStageOf ids.now stages.now program known }
+    ensures { result ≡ not (is_stage_of ids.now stages.now program stage) }
+{
+    !is_known(known, stage) && !is_stage_of(ids, stages, program, stage)
+}
+
+/// Whether an item names a stage that isn't of the program. A stage may be known to be of it.
+fn is_foreign(ids: &Ids, stages: &[Stage], program: u32, known: Option<Uid>, item: &Item) -> bool
+    requires { IsStageOf ids.now stages.now program known }
     ensures { result ≡ is_foreign ids.now stages.now program item.now }
 {
     match item {
-        Item::StageElement { stage, element: _ } => !is_stage_of(ids, stages, program, *stage),
+        Item::StageElement { stage, element: _ } => {
+            is_foreign_stage(ids, stages, program, known, *stage)
+        }
         _ => false,
     }
 }
@@ -39,9 +57,14 @@ fn is_foreign(ids: &Ids, stages: &[Stage], program: u32, item: &Item) -> bool
 fn names_foreign(ids: &Ids, stages: &[Stage], program: u32, expr: &Expr) -> bool
     ensures { result ≡ list_any (is_foreign ids.now stages.now program) (items_in expr.now) }
 {
-    expr.items()
-        .iter()
-        .any(|item| is_foreign(ids, stages, program, item))
+    let items = expr.items();
+    for n in 0..items.len() {
+        let known = stage_before(items, n);
+        if is_foreign(ids, stages, program, known, &items[n]) {
+            return true;
+        }
+    }
+    false
 }
 
 fn is_foreign_filter(ids: &Ids, stages: &[Stage], program: u32, filter: &Option<Expr>) -> bool

@@ -1,6 +1,6 @@
 //! The organisation units as a tree.
 
-ghost use Rattle.std.specs.Prelude.{◌≡◌, ◌⊎◌, ◌^◌, ◌<◌, Some, length, IfOk, option_map, slice_get};
+ghost use Rattle.std.specs.Prelude.{◌≡◌, ◌^◌, ◌<◌, Some, length, IfOk};
 ghost use Rattle.org_tree.specs.Units.{HasOwnIds};
 ghost use Rattle.dh_base.specs.Memory.{Finds};
 ghost use Rattle.meta_rules.specs.Faults.{rule_cause};

@@ -1,4 +1,4 @@
-use Rattle.std.proofs.Common.{◌≡◌, ◌∙◌, Some, Ok, sym, ap}
+use Rattle.std.proofs.Common.{◌∙◌, Some, Ok, sym, ap}
 use Rattle.expr_grammar.proofs.Readings.{read_as}
 use Rattle.meta_rules.specs.Read.{wrong_at, unread_at, read_or_zero, expr_in}
 use Rattle.meta_rules.proofs.ReadLemmas.{refused}

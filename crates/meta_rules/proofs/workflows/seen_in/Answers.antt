@@ -1,4 +1,4 @@
-use Rattle.std.proofs.Common.{◌≡◌, sym, subst, take, get_or}
+use Rattle.std.proofs.Common.{subst}
 use Rattle.dh_metadata.specs.declared.records.DataSet.{DataSet}
 use Rattle.meta_rules.specs.Seen.{TakesSet}
 use Rattle.meta_rules.proofs.SeenLemmas.{HaveSeen-more}

@@ -1,4 +1,4 @@
-use Rattle.std.proofs.Common.{◌≡◌, ◌∙◌, ℕ, List, Option, Some, None, length, map, sym, ap, subst}
+use Rattle.std.proofs.Common.{◌≡◌, ◌∙◌, ℕ, List, Some, None, length, map, sym, ap, subst}
 use Rattle.std.specs.Option.{option_map}
 use Rattle.org_tree.specs.Count.{first_below}
 use Rattle.meta_rules.specs.declared.workflows.Seen.{Seen}
