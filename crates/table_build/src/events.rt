@@ -7,6 +7,7 @@ ghost use Rattle.table_build.specs.Ordered.{put_all};
 ghost use Rattle.table_build.specs.Events as known;
 
 use crate::items::{attribute_values, element_values};
+use crate::lists::put_found;
 use dh_base::items::Items;
 use dh_base::memory::Memory;
 use dh_base::uid::Uid;
@@ -201,9 +202,8 @@ pub(crate) fn rows_at(
 {
     let mut rows = Vec::new(alloc);
     for place in places {
-        if let Some(row) = event_at(alloc, meta, world, *place)? {
-            rows.push(row)?;
-        }
+        let row = event_at(alloc, meta, world, *place)?;
+        put_found(&mut rows, row)?;
     }
     Ok(rows)
 }

@@ -2,6 +2,7 @@
 ghost use Rattle.std.specs.Prelude.{◌≡◌, ◌<◌, length, IfOk};
 ghost use Rattle.table_build.specs.Items as known;
 
+use crate::lists::put_found;
 use dh_base::items::Items;
 use dh_base::memory::Memory;
 use dh_base::uid::Uid;
@@ -84,9 +85,7 @@ pub fn element_values(
 {
     let mut values = Vec::new(alloc);
     for pair in pairs {
-        if let Some(value) = element_value(meta, pair) {
-            values.push(value)?;
-        }
+        put_found(&mut values, element_value(meta, pair))?;
     }
     Ok(Items::from(values))
 }
@@ -119,9 +118,7 @@ pub fn attribute_values(
 {
     let mut values = Vec::new(alloc);
     for pair in pairs {
-        if let Some(value) = attribute_value(meta, pair) {
-            values.push(value)?;
-        }
+        put_found(&mut values, attribute_value(meta, pair))?;
     }
     Ok(Items::from(values))
 }

@@ -6,6 +6,7 @@ pub mod events;
 mod in_year;
 mod items;
 mod left;
+pub mod lists;
 pub mod named;
 mod others;
 mod placed;

@@ -2,10 +2,10 @@
 ghost use Rattle.std.specs.Prelude.{◌≡◌, ◌++◌, Option, map, OnOk, IfOk};
 ghost use Rattle.std.specs.Arc.{arc_value};
 ghost use Rattle.std.specs.List.{filter_map};
-ghost use Rattle.std.specs.Option.{option_to_list};
 ghost use Rattle.dh_changes.specs.declared.change.Write.{Write as LogWrite};
 ghost use Rattle.table_build.specs.Log.{writes_of};
 
+use crate::lists::put_found;
 use dh_base::memory::Memory;
 use dh_base::uid::Uid;
 use dh_changes::change::{Change, Write};
@@ -64,16 +64,6 @@ impl Named for Uid {
             _ => None,
         }
     }
-}
-
-// Adds what is found, if anything is.
-fn put_found<T: Drop>(keys: &mut Vec<T>, found: Option<T>) -> Result<(), Memory>
-    ensures { OnOk result (keys.new.items ≡ keys.old.items ++ option_to_list found) }
-{
-    if let Some(key) = found {
-        keys.push(key)?;
-    }
-    Ok(())
 }
 
 fn put<T: Drop + Named>(keys: &mut Vec<T>, writes: &[Write]) -> Result<(), Memory>
