@@ -11,17 +11,18 @@ ghost use Rattle.dh_base.specs.Decimals.{decimal_of};
 ghost use Rattle.meta_forms.specs.Entries.{is_visible, is_token, token_in, constant_of, acceptance_of, set_elements_of, attributes_of, stage_elements_of};
 ghost use Rattle.meta_forms.specs.Entries.{side_of, tokens_of};
 
+use crate::entries::{Entry, entries};
 use crate::field::{optional_reference, reference};
 use crate::named::named_or;
-use crate::path::here;
 use dh_base::decimal::{Micros, read_decimal};
 use dh_base::items::Items;
 use dh_base::plain::Strategy;
 use dh_base::uid::Uid;
 use json::Value;
 use json_read::fault::FormFault;
-use json_read::form::{ReadJson, field, field_or, listed, require_object};
+use json_read::form::{ReadJson, field, field_or, require_object};
 use json_read::look::{integer, text};
+use json_read::path::here;
 use std::alloc::{AllocError, Global};
 
 /// An element of a data set, and the category combination that is named beside it.
@@ -89,6 +90,16 @@ impl ReadJson for SetElement {
     }
 }
 
+impl Entry for SetElement {
+    type Held = (Uid, Option<Uid>);
+
+    ghost held = { λ entry. (entry.element, entry.combo) };
+
+    fn into_held(self) -> (Uid, Option<Uid>) {
+        (self.element, self.combo)
+    }
+}
+
 impl ReadJson for ProgramAttribute {
     ghost use Rattle.meta_forms.specs.Entries.{attribute_of};
 
@@ -102,6 +113,16 @@ impl ReadJson for ProgramAttribute {
     }
 }
 
+impl Entry for ProgramAttribute {
+    type Held = Uid;
+
+    ghost held = { λ entry. entry.attribute };
+
+    fn into_held(self) -> Uid {
+        self.attribute
+    }
+}
+
 impl ReadJson for StageElement {
     ghost use Rattle.meta_forms.specs.Entries.{stage_element_of};
 
@@ -112,6 +133,16 @@ impl ReadJson for StageElement {
         require_object(alloc, value)?;
         let element = reference(alloc, value, "dataElement")?;
         Ok(StageElement { element })
+    }
+}
+
+impl Entry for StageElement {
+    type Held = Uid;
+
+    ghost held = { λ entry. entry.element };
+
+    fn into_held(self) -> Uid {
+        self.element
     }
 }
 
@@ -226,6 +257,16 @@ impl ReadJson for Token {
     }
 }
 
+impl Entry for Token {
+    type Held = (Items<u8>, Uid);
+
+    ghost held = { λ entry. (entry.token.text, entry.user) };
+
+    fn into_held(self) -> (Items<u8>, Uid) {
+        (self.token.text, self.user)
+    }
+}
+
 impl ReadJson for Settings {
     ghost use Rattle.meta_forms.specs.Entries.{settings_of};
 
@@ -246,17 +287,6 @@ impl ReadJson for Settings {
     }
 }
 
-fn set_pairs(alloc: Global, entries: &[SetElement]) -> Result<Items<(Uid, Option<Uid>)>, AllocError>
-    ensures { IfOk result (λ list. list ≡ map (λ entry. (entry.element, entry.combo)) entries.now) }
-{
-    Ok(Items {
-        items: entries
-            .iter()
-            .map(|entry| (entry.element, entry.combo))
-            .collect(alloc)?,
-    })
-}
-
 /// The elements of a data set.
 #[tactic(auto, unfolding(crate::specs::Entries::set_elements_of))]
 pub fn set_elements(
@@ -265,16 +295,7 @@ pub fn set_elements(
 ) -> Result<Items<(Uid, Option<Uid>)>, FormFault>
     ensures { Gives (set_elements_of (data_of value.now)) result }
 {
-    let found: Items<SetElement> = listed(alloc, value, "dataSetElements")?;
-    Ok(set_pairs(alloc, found.as_slice())?)
-}
-
-fn attribute_ids(alloc: Global, entries: &[ProgramAttribute]) -> Result<Items<Uid>, AllocError>
-    ensures { IfOk result (λ list. list ≡ map (λ entry. entry.attribute) entries.now) }
-{
-    Ok(Items {
-        items: entries.iter().map(|entry| entry.attribute).collect(alloc)?,
-    })
+    entries::<SetElement>(alloc, value, "dataSetElements")
 }
 
 /// The attributes of a program.
@@ -282,16 +303,7 @@ fn attribute_ids(alloc: Global, entries: &[ProgramAttribute]) -> Result<Items<Ui
 pub fn attributes(alloc: Global, value: &Value<'_>) -> Result<Items<Uid>, FormFault>
     ensures { Gives (attributes_of (data_of value.now)) result }
 {
-    let found: Items<ProgramAttribute> = listed(alloc, value, "programTrackedEntityAttributes")?;
-    Ok(attribute_ids(alloc, found.as_slice())?)
-}
-
-fn stage_element_ids(alloc: Global, entries: &[StageElement]) -> Result<Items<Uid>, AllocError>
-    ensures { IfOk result (λ list. list ≡ map (λ entry. entry.element) entries.now) }
-{
-    Ok(Items {
-        items: entries.iter().map(|entry| entry.element).collect(alloc)?,
-    })
+    entries::<ProgramAttribute>(alloc, value, "programTrackedEntityAttributes")
 }
 
 /// The elements of a program stage.
@@ -299,8 +311,7 @@ fn stage_element_ids(alloc: Global, entries: &[StageElement]) -> Result<Items<Ui
 pub fn stage_elements(alloc: Global, value: &Value<'_>) -> Result<Items<Uid>, FormFault>
     ensures { Gives (stage_elements_of (data_of value.now)) result }
 {
-    let found: Items<StageElement> = listed(alloc, value, "programStageDataElements")?;
-    Ok(stage_element_ids(alloc, found.as_slice())?)
+    entries::<StageElement>(alloc, value, "programStageDataElements")
 }
 
 /// A side of a validation rule: its expression and its missing-value strategy.
@@ -316,25 +327,12 @@ pub fn rule_side(
     Ok((side.expression, side.strategy))
 }
 
-fn token_pairs(alloc: Global, tokens: Items<Token>) -> Result<Items<(Items<u8>, Uid)>, AllocError>
-    ensures { IfOk result (λ list. list ≡ map (λ entry. (entry.token.text, entry.user)) tokens) }
-{
-    Ok(Items {
-        items: tokens
-            .items
-            .into_iter()
-            .map(|entry| (entry.token.text, entry.user))
-            .collect(alloc)?,
-    })
-}
-
 /// The tokens, each with the identifier of its user.
 #[tactic(auto, unfolding(crate::specs::Entries::tokens_of))]
 pub fn tokens(alloc: Global, value: &Value<'_>) -> Result<Items<(Items<u8>, Uid)>, FormFault>
     ensures { Gives (tokens_of (data_of value.now)) result }
 {
-    let found: Items<Token> = listed(alloc, value, "apiTokens")?;
-    Ok(token_pairs(alloc, found)?)
+    entries::<Token>(alloc, value, "apiTokens")
 }
 
 /// Whether an approval has to be accepted before the level above may approve.

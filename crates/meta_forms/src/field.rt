@@ -6,15 +6,17 @@ ghost use Rattle.json_read.specs.Forms.{field_of, field_or_of};
 ghost use Rattle.json_read.specs.Given.{Gives};
 ghost use Rattle.meta_forms.specs.Fields.{name_of, reference_at, reference_or_at, optional_reference_at, references_at, whole_within, whole_of};
 
-use crate::path::{at_key, found_at};
+use crate::entries::{Entry, entries};
+use crate::path::found_at;
 use dh_base::items::Items;
 use dh_base::uid::Uid;
 use json::Value;
 use json_read::fault::FormFault;
-use json_read::form::{field, field_or, listed, optional};
+use json_read::form::{field, field_or, optional};
 use json_read::look::{integer, member};
+use json_read::path::at_key;
 use json_read::reference::Reference;
-use std::alloc::{AllocError, Global};
+use std::alloc::Global;
 
 /// The name of an object, which by default is its identifier.
 #[tactic(auto, unfolding(crate::specs::Fields::name_of))]
@@ -61,15 +63,14 @@ pub fn optional_reference(
     Ok(found.map(|reference| reference.id))
 }
 
-fn ids_of(alloc: Global, references: &[Reference]) -> Result<Items<Uid>, AllocError>
-    ensures { IfOk result (λ list. list ≡ map (λ reference. reference.id) references.now) }
-{
-    Ok(Items {
-        items: references
-            .iter()
-            .map(|reference| reference.id)
-            .collect(alloc)?,
-    })
+impl Entry for Reference {
+    type Held = Uid;
+
+    ghost held = { λ reference. reference.id };
+
+    fn into_held(self) -> Uid {
+        self.id
+    }
 }
 
 /// A list of references.
@@ -77,8 +78,7 @@ fn ids_of(alloc: Global, references: &[Reference]) -> Result<Items<Uid>, AllocEr
 pub fn references(alloc: Global, value: &Value<'_>, key: &str) -> Result<Items<Uid>, FormFault>
     ensures { Gives (references_at key.now (data_of value.now)) result }
 {
-    let found: Items<Reference> = listed(alloc, value, key)?;
-    Ok(ids_of(alloc, found.as_slice())?)
+    entries::<Reference>(alloc, value, key)
 }
 
 #[tactic(auto, unfolding(crate::specs::Fields::whole_within))]

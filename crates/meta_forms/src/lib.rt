@@ -4,6 +4,7 @@
 
 mod aggregate;
 mod both;
+mod entries;
 mod entry;
 mod field;
 mod formulas;

@@ -7,7 +7,7 @@ ghost use Rattle.json_read.specs.Forms.{field_of, field_or_of};
 ghost use Rattle.json_read.specs.Given.{Gives};
 ghost use Rattle.meta_forms.specs.Fields.{named_in, name_of_table, listed_or, name_or_other};
 
-use crate::path::{at_key, found_at};
+use crate::path::found_at;
 use dh_base::plain::{AggType, Strategy};
 use dh_metadata::names::{
     AnalyticsType, Operator, ProgramType, ValueType, aggregation_named, analytics_type_named,
@@ -18,6 +18,7 @@ use dh_sharing::access::Access;
 use json::Value;
 use json_read::fault::FormFault;
 use json_read::look::{member, text};
+use json_read::path::at_key;
 use std::alloc::Global;
 
 /// A value that a file writes as a name of a table.

@@ -9,7 +9,6 @@ ghost use Rattle.json_read.specs.Given.{Gives};
 ghost use Rattle.meta_forms.specs.Objects.{IsPlace, named_form, object_of, objects_of, list_of, objects_at};
 
 use crate::field::name;
-use crate::path::{here, seen_from};
 use dh_base::items::Items;
 use dh_base::uid::Uid;
 use dh_metadata::built_in::is_built_in;
@@ -17,6 +16,7 @@ use json::Value;
 use json_read::fault::FormFault;
 use json_read::form::{field, require_object};
 use json_read::look::{items, member};
+use json_read::path::{here, seen_from};
 use std::alloc::{AllocError, Global};
 
 /// A record of an object that stands at a place of a key's list and has an identifier and a name.

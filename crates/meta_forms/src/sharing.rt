@@ -8,7 +8,6 @@ ghost use Rattle.meta_forms.specs.Sharing.{open_access, open_sharing, member_of,
 ghost use Rattle.meta_forms.specs.Sharing.{sharing_form, sharing_of};
 
 use crate::named::{named_at, named_or};
-use crate::path::{at_key, seen_from};
 use dh_base::items::Items;
 use dh_base::uid::Uid;
 use dh_metadata::raw::RawSharing;
@@ -17,6 +16,7 @@ use json::Value;
 use json_read::fault::FormFault;
 use json_read::form::{field, optional, require_object};
 use json_read::look::{self, member};
+use json_read::path::{at_key, seen_from};
 use std::alloc::{AllocError, Global};
 use std::collections::BTreeMap;
 
