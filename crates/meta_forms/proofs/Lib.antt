@@ -1,2 +1,3 @@
 pub mod BothLemmas
 pub mod DefaultLemmas
+pub mod MemberLemmas
