@@ -1,9 +1,8 @@
 -- What is put at places, one key after the other, gives the places of the keys and the rows of what they hold.
-use Rattle.std.proofs.Common.{◌≡◌, ◌∙◌, true, false, Bool, cond, List, [], ◌∷◌, inl, inr, Option, Some, None, length, map, refl, sym, ap, subst}
+use Rattle.std.proofs.Common.{◌≡◌, ◌∙◌, true, false, Bool, cond, List, [], ◌∷◌, inl, inr, Option, Some, None, map, refl, sym, ap}
 use Rattle.std.proofs.Common.{Ordering, Less, Equal, Greater}
 use Rattle.std.specs.Prelude.{option_map, option_and_then}
-use Rattle.std.specs.Cmp.{IsTotalOrder, tied_itself}
-use Rattle.std.specs.FinMap.{IsAntisymmetric}
+use Rattle.std.specs.Cmp.{tied_itself}
 use Rattle.std.specs.List.{AllByRecursion, filter_map, cons_option}
 use Rattle.std.specs.List.Sorted.{IsSortedByKey, IsStableByKey, IsStrictlySortedBy}
 use Rattle.std.specs.Option.{option_or}
@@ -30,12 +29,12 @@ use Rattle.table_build.proofs.LastLemmas.{put-last}
 use Rattle.table_build.proofs.MemberLemmas.{IsIn, at-member, each-member, in_order-from, in_order-has, in_order-is}
 use Rattle.table_build.proofs.OrderLemmas.{same-key}
 use Rattle.table_build.proofs.OrderedLemmas.{keys-keyed, put_all-keyed, in_order-sorted}
-use Rattle.table_build.proofs.PlaceLemmas.{last_at, put-lookup, put-sorted, last-in, InPlace, put-in_place, rows_in, found-row, row-found}
+use Rattle.table_build.proofs.PlaceLemmas.{last_at, put-lookup, put-sorted, last-in, InPlace, put-in_place, found-row, row-found}
 use Rattle.table_latest.specs.declared.places.RowPlace.{RowPlace}
 use Rattle.table_latest.specs.Keys.{place_at, place_cmp, place_of}
 use Rattle.table_latest.proofs.SearchLemmas.{place_total}
 use Rattle.latest_build.specs.Held.{Held, place_in, row_in, held_with, held_at, entries_of, places_held, rows_held, places_last, rows_last}
-use Rattle.latest_build.specs.Places.{value_at, value_place, value_places}
+use Rattle.latest_build.specs.Places.{value_at, value_place}
 use Rattle.latest_build.proofs.CoverLemmas.{one-place}
 use Rattle.latest_build.proofs.KeyLemmas.{inside, value-one}
 use Rattle.latest_build.proofs.ListLemmas.{in-given}

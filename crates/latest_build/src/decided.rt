@@ -10,8 +10,9 @@ ghost use Rattle.table_build.specs.Log.{writes_of, values_named};
 ghost use Rattle.latest_build.specs.Found.{decided_by, values_sought};
 ghost use Rattle.latest_build.specs.Touches as known;
 
+use crate::approvals::approvals_of;
 use crate::found::found;
-use crate::named::{approvals_of, values_of};
+use crate::named::values_of;
 use dh_base::items::Items;
 use dh_base::memory::Memory;
 use dh_changes::change::{Change, Write};

@@ -13,6 +13,7 @@ use dh_metadata::kind::Kind;
 use dh_metadata::metadata::Metadata;
 use dh_periods::{Period, PeriodType, containing};
 use std::alloc::Global;
+use table_build::lists::put_found;
 use table_rows::{Group, Row, RowStore};
 use table_sums::Tables;
 
@@ -147,9 +148,7 @@ fn put_rows(keys: &mut Vec<ValueKey>, meta: &Metadata, rows: &[Row]) -> Result<(
     ensures { OnOk result (keys.new.items ≡ keys.old.items ++ filter_map (known.key_at meta.now) rows.now) }
 {
     for row in rows {
-        if let Some(key) = key_at(meta, row) {
-            keys.push(key)?;
-        }
+        put_found(keys, key_at(meta, row))?;
     }
     Ok(())
 }

@@ -8,7 +8,6 @@ ghost use Rattle.dh_changes.specs.declared.change.Write.{Write as LogWrite};
 ghost use Rattle.org_tree.specs.Units.{IsTree};
 ghost use Rattle.dh_metadata.specs.Objects.{find_of};
 ghost use Rattle.dh_records.specs.Access.{tree};
-ghost use Rattle.dh_records.specs.Approved.{approved_at};
 ghost use Rattle.dh_metadata.specs.declared.kind.Kind.TheVariants.{CategoryOptionCombo};
 ghost use Rattle.dh_changes.specs.Facts.{facts_in};
 ghost use Rattle.dh_changes.specs.World.{facts};
@@ -31,14 +30,11 @@ use dh_changes::keys::ValueKey;
 use dh_changes::world::World;
 use dh_metadata::kind::Kind;
 use dh_metadata::metadata::Metadata;
-use dh_records::access::tree_of;
-use dh_records::approved::approved_position_of;
-use dh_records::number::number_of;
 use std::alloc::Global;
 use std::collections::BTreeMap;
 use std::marker::Model;
 use std::sync::Arc;
-use table_build::values::ValueObjects;
+use table_build::values::{ValueObjects, attribute_of, row_with};
 use table_latest::{RowPlace, place_of};
 use table_rows::{Row, RowKey};
 
@@ -90,18 +86,6 @@ fn combo_like(meta: &Metadata, id: Uid, last: &Option<KnownCombo>) -> Option<u32
     }
 }
 
-// The number of a key's attribute option combination, which often is its category option combination too.
-fn attribute_of(meta: &Metadata, key: &ValueKey, combo: u32) -> Option<u32>
-    requires { find_of meta.now CategoryOptionCombo key.now.combo ≡ Some combo }
-    ensures { result ≡ find_of meta.now CategoryOptionCombo key.now.attribute }
-{
-    if key.attribute == key.combo {
-        Some(combo)
-    } else {
-        meta.find(Kind::CategoryOptionCombo, key.attribute)
-    }
-}
-
 #[tactic(auto, unfolding(table_build::specs::Values::objects_of))]
 fn objects_of(meta: &Metadata, key: &ValueKey, last: &Option<KnownCombo>) -> Option<ValueObjects>
     requires { IfSome last.now (λ combo. find_of meta.now CategoryOptionCombo combo.id ≡ Some combo.number) }
@@ -120,64 +104,6 @@ fn objects_of(meta: &Metadata, key: &ValueKey, last: &Option<KnownCombo>) -> Opt
         combo,
         attribute,
     })
-}
-
-#[tactic(auto, unfolding(table_build::specs::Values::number_at))]
-fn number_at(meta: &Metadata, element: u32, text: &[u8]) -> Option<i64>
-    requires { element < length meta.now.data_elements }
-    ensures { result ≡ values.number_at meta.now element text.now }
-{
-    match number_of(meta.element(element).value_type, text) {
-        Some(number) => Some(number.value()),
-        None => None,
-    }
-}
-
-// The position up to which the value of a key is approved, by the numbers of its objects.
-fn approved_with(
-    meta: &Metadata,
-    world: &World,
-    key: &ValueKey,
-    objects: ValueObjects,
-) -> Option<u8>
-    requires of { values.objects_of meta.now key.now ≡ Some objects }
-    requires element { objects.element < length meta.now.data_elements }
-    requires unit { objects.unit < length meta.now.organisation_units }
-    ensures { result ≡ approved_at (facts world.now) meta.now key.now }
-{
-    approved_position_of(
-        world,
-        meta,
-        objects.element,
-        objects.unit,
-        key.period,
-        key.attribute,
-    )
-}
-
-// The row of a key that holds this text.
-#[tactic(auto, unfolding(table_build::specs::Values::row_with))]
-fn row_with(
-    meta: &Metadata,
-    world: &World,
-    key: &ValueKey,
-    text: &[u8],
-    objects: ValueObjects,
-) -> Row
-    requires of { values.objects_of meta.now key.now ≡ Some objects }
-    requires element { objects.element < length meta.now.data_elements }
-    requires unit { objects.unit < length meta.now.organisation_units }
-    ensures { result ≡ values.row_with meta.now (facts world.now) key.now text.now objects }
-{
-    Row {
-        element: objects.element,
-        combo: objects.combo,
-        attribute: objects.attribute,
-        period: key.period,
-        approved: approved_with(meta, world, key, objects),
-        order: tree_of(world, meta).order(objects.unit),
-        micros: number_at(meta, objects.element, text),
-    }
 }
 
 // What a write leaves that sets a value to this text.

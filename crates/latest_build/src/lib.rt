@@ -3,6 +3,7 @@
 #![tactic(auto)]
 
 mod after;
+mod approvals;
 mod build;
 mod decided;
 mod found;

@@ -1,7 +1,6 @@
 //! The keys that changes touch.
-ghost use Rattle.std.specs.Prelude.{◌≡◌, ◌++◌, List, Option, length, map, OnOk, IfOk};
+ghost use Rattle.std.specs.Prelude.{◌≡◌, ◌++◌, List, length, map, IfOk};
 ghost use Rattle.std.specs.Arc.{arc_value};
-ghost use Rattle.std.specs.List.{filter_map};
 ghost use Rattle.dh_changes.specs.declared.change.Write.{Write as LogWrite};
 ghost use Rattle.dh_changes.specs.Facts.{facts_in};
 ghost use Rattle.dh_changes.specs.World.{facts};
@@ -11,7 +10,7 @@ ghost use Rattle.table_build.specs.Listed.{listed_in};
 ghost use Rattle.table_sums.specs.YearParts.{rows_together};
 ghost use Rattle.latest_build.specs.Found.{values_sought};
 ghost use Rattle.latest_build.specs.Places.{value_places};
-ghost use Rattle.latest_build.specs.Touches.{approvals_named, events_touched, values_touched};
+ghost use Rattle.latest_build.specs.Touches.{events_touched, values_touched};
 
 use crate::build::units_stand;
 use crate::decided::{TouchedValues, values_touched};
@@ -19,92 +18,14 @@ use crate::touched::LogKeys;
 use crate::tracker::events_touched;
 use dh_base::memory::Memory;
 use dh_base::uid::Uid;
-use dh_changes::change::{Change, Write};
-use dh_changes::keys::{ApprovalKey, RegKey, ValueKey};
+use dh_changes::change::Change;
+use dh_changes::keys::{RegKey, ValueKey};
 use dh_changes::world::World;
 use dh_metadata::metadata::Metadata;
 use std::alloc::Global;
 use std::sync::Arc;
+use table_build::named::named_in;
 use table_sums::Tables;
-
-// A key that a write may name.
-trait Named {
-    ghost named: { LogWrite → Option Self };
-
-    fn named_by(write: &Write) -> Option<Self>
-        ensures { result ≡ named write.now };
-}
-
-impl Named for ValueKey {
-    ghost use Rattle.table_build.specs.Log.{value_named};
-
-    ghost named = { value_named };
-
-    fn named_by(write: &Write) -> Option<ValueKey> {
-        match write {
-            Write::ValueSet { key, .. } => Some(*key),
-            Write::ValueCleared { key } => Some(*key),
-            _ => None,
-        }
-    }
-}
-
-impl Named for ApprovalKey {
-    ghost use Rattle.latest_build.specs.Touches.{approval_named};
-
-    ghost named = { approval_named };
-
-    fn named_by(write: &Write) -> Option<ApprovalKey> {
-        match write {
-            Write::Approve(key) => Some(*key),
-            Write::Unapprove(key) => Some(*key),
-            Write::Accept(key) => Some(*key),
-            Write::Unaccept(key) => Some(*key),
-            _ => None,
-        }
-    }
-}
-
-impl Named for RegKey {
-    ghost use Rattle.table_build.specs.Log.{reg_named};
-
-    ghost named = { reg_named };
-
-    fn named_by(write: &Write) -> Option<RegKey> {
-        match write {
-            Write::Complete { key, .. } => Some(*key),
-            Write::Uncomplete { key } => Some(*key),
-            _ => None,
-        }
-    }
-}
-
-fn put<T: Drop + Named>(keys: &mut Vec<T>, writes: &[Write]) -> Result<(), Memory>
-    ensures { OnOk result (keys.new.items ≡ keys.old.items ++ filter_map T.named writes.now) }
-{
-    for write in writes {
-        if let Some(key) = T::named_by(write) {
-            keys.push(key)?;
-        }
-    }
-    Ok(())
-}
-
-fn put_change<T: Drop + Named>(keys: &mut Vec<T>, change: &Change) -> Result<(), Memory>
-    ensures { OnOk result (keys.new.items ≡ keys.old.items ++ filter_map T.named change.now.writes) }
-{
-    put(keys, change.writes.as_slice())
-}
-
-fn named_in<T: Drop + Named>(alloc: Global, changes: &[Arc<Change>]) -> Result<Vec<T>, Memory>
-    ensures { IfOk result (λ keys. keys.items ≡ filter_map T.named (writes_of (map arc_value changes.now))) }
-{
-    let mut keys: Vec<T> = Vec::new(alloc);
-    for change in changes {
-        put_change(&mut keys, &**change)?;
-    }
-    Ok(keys)
-}
 
 /// Keys that writes touch, in the order of the writes.
 #[derive(Drop)]
@@ -134,16 +55,6 @@ impl NamedKeys {
 /// The keys of values that the writes of the changes name.
 pub(crate) fn values_of(alloc: Global, changes: &[Arc<Change>]) -> Result<Vec<ValueKey>, Memory>
     ensures { IfOk result (λ keys. keys.items ≡ values_named (writes_of (map arc_value changes.now))) }
-{
-    named_in(alloc, changes)
-}
-
-/// The keys of approvals that they name.
-pub(crate) fn approvals_of(
-    alloc: Global,
-    changes: &[Arc<Change>],
-) -> Result<Vec<ApprovalKey>, Memory>
-    ensures { IfOk result (λ keys. keys.items ≡ approvals_named (writes_of (map arc_value changes.now))) }
 {
     named_in(alloc, changes)
 }

@@ -1,11 +1,10 @@
 //! The touched keys of a log as keys of tables.
-ghost use Rattle.std.specs.Prelude.{◌≡◌, ◌<◌, [], length, IfOk, IfSome};
+ghost use Rattle.std.specs.Prelude.{◌≡◌, ◌<◌, [], length, IfOk};
 ghost use Rattle.std.specs.Cmp.Lexicographic.{slice_cmp};
 ghost use Rattle.std.specs.List.{filter_map};
 ghost use Rattle.std.specs.Ordering.{nat_cmp};
 ghost use Rattle.dh_changes.specs.World.{facts};
 ghost use Rattle.table_build.specs.Ordered.{put_all};
-ghost use Rattle.table_build.specs.Regs as registrations;
 ghost use Rattle.table_latest.specs.Keys.{reg_place_cmp};
 ghost use Rattle.table_latest.specs.Latest.{touched_in};
 ghost use Rattle.latest_build.specs.Places as known;
@@ -14,12 +13,11 @@ use dh_base::memory::Memory;
 use dh_base::uid::Uid;
 use dh_changes::keys::{RegKey, ValueKey};
 use dh_changes::world::World;
-use dh_metadata::kind::Kind;
 use dh_metadata::metadata::Metadata;
 use dh_records::access::tree_of;
 use std::alloc::Global;
 use std::collections::BTreeMap;
-use table_build::regs::RegObjects;
+use table_build::regs::{RegObjects, objects_of};
 use table_latest::{RegPlace, RowPlace, TouchedKeys};
 
 /// Keys of a log, in any order.
@@ -29,21 +27,6 @@ pub struct LogKeys<'a> {
     /// Events by their identifiers.
     pub events: &'a [Uid],
     pub regs: &'a [RegKey],
-}
-
-#[tactic(auto, unfolding(table_build::specs::Regs::objects_of))]
-fn reg_objects(meta: &Metadata, key: &RegKey) -> Option<RegObjects>
-    ensures value { result ≡ registrations.objects_of meta.now key.now }
-    ensures in_range { IfSome result (λ objects. objects.unit < length meta.now.organisation_units) }
-{
-    let set = meta.find(Kind::DataSet, key.set)?;
-    let unit = meta.find(Kind::OrganisationUnit, key.unit)?;
-    let attribute = meta.find(Kind::CategoryOptionCombo, key.attribute)?;
-    Some(RegObjects {
-        set,
-        unit,
-        attribute,
-    })
 }
 
 fn reg_at(meta: &Metadata, world: &World, key: &RegKey, objects: RegObjects) -> RegPlace
@@ -62,7 +45,7 @@ fn reg_at(meta: &Metadata, world: &World, key: &RegKey, objects: RegObjects) -> 
 fn reg_place(meta: &Metadata, world: &World, key: &RegKey) -> Option<RegPlace>
     ensures { result ≡ known.reg_place meta.now (facts world.now) key.now }
 {
-    let objects = reg_objects(meta, key)?;
+    let objects = objects_of(meta, key)?;
     Some(reg_at(meta, world, key, objects))
 }
 

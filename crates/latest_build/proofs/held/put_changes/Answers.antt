@@ -1,4 +1,3 @@
-use Rattle.std.proofs.Common.{rules}
 use Rattle.std.specs.Arc.{arc_value}
 use Rattle.dh_changes.specs.World.{facts}
 use Rattle.table_build.proofs.NamedLemmas.{named-step}
