@@ -102,8 +102,8 @@ fn decided_by(
 ) -> Result<Vec<ValueKey>, Memory>
     ensures { IfOk result (λ decided. decided.items ≡ decided_by meta.now (rows_together base.now.parts) approvals.now) }
 {
-    let world = approved_alone(alloc, approvals)?;
     let keys = found(alloc, meta, base, approvals)?;
+    let world = approved_alone(alloc, approvals)?;
     decided_among(alloc, meta, &world, &keys)
 }
 
