@@ -2,7 +2,7 @@
 use Rattle.std.proofs.Common.{◌≡◌, ◌∙◌, ◌<◌, ◌+◌, ℕ, suc, Bool, List, [], ◌∷◌, ◌++◌, map, take, drop, get_or, length, refl, sym, ap, add-one}
 use Rattle.std.proofs.Common.{drop-cons, append_assoc, arith}
 use Rattle.std.proofs.Common.{Option, Some, None}
-use Rattle.std.proofs.lemmas.List.{take_more}
+use Rattle.std.proofs.lemmas.List.{map-append, take_more}
 use Rattle.std.specs.Prelude.{option_and_then, option_map, if◌then◌else◌}
 use Rattle.std.specs.Option.{unwrap_or}
 use Rattle.dh_base.specs.Fractions.{Fraction, add_of}
@@ -16,6 +16,18 @@ rest_at xs i x within is = rw add-one (drop-cons xs i x within ∙ ap (λ y. y �
 -- the first members of a list up to a place
 pub first_at : {A : Type 0} (xs : List A) (i : ℕ) (x : A) → i < length xs → x ≡ get_or xs i x → take (i + 1) xs ≡ take i xs ++ x ∷ []
 first_at xs i x within is = take_more xs i x within ∙ ap (λ y. take i xs ++ y ∷ []) (sym is)
+
+-- a loop over lent members that lists something of each: what is made of it is f of what the member is
+pub viewed_more : {X Y Z W : Type 0} (made : W → Z) (f : Y → Z) (view : X → Y) (xs : List X) (found more : List W) (i : ℕ) (x : X) (y : W) → i < length xs
+    → x ≡ get_or xs i x → map made found ≡ map f (map view (take i xs)) → more ≡ found ++ y ∷ [] → made y ≡ f (view x)
+    → map made more ≡ map f (map view (take (i + 1) xs))
+viewed_more made f view xs found more i x y within at before is of =
+    ap (map made) is
+    ∙ map-append made found (y ∷ [])
+    ∙ ap (λ z. map made found ++ z ∷ []) of
+    ∙ ap (λ all. all ++ f (view x) ∷ []) before
+    ∙ sym (ap (map f) (ap (map view) (first_at xs i x within at) ∙ map-append view (take i xs) (x ∷ []))
+    ∙ map-append f (map view (take i xs)) (view x ∷ []))
 
 -- ---- subjects
 
