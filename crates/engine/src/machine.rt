@@ -5,7 +5,6 @@ use dh_base::items::Items;
 use dh_base::plain::CutKind;
 use dh_changes::change::Change;
 use std::sync::Arc;
-use thiserror::Error;
 
 /// What a change that isn't refused came to.
 #[derive(Drop)]
@@ -31,7 +30,7 @@ pub enum ChangeFault {
 }
 
 /// An update of the tables that is begun.
-#[derive(Clone, Copy, PartialEq, Eq)]
+#[derive(Clone, Copy)]
 pub struct Staged {
     pub ticket: u64,
     /// How many changes its tables will stand for.
@@ -52,27 +51,22 @@ pub struct Cut {
 }
 
 /// Why no update is begun.
-#[derive(Clone, Copy, Debug, Drop, PartialEq, Eq, Error)]
+#[derive(Clone, Copy, Drop)]
 pub enum CutFault {
     /// An update of the same kind is begun already, with this ticket.
-    #[error("update {ticket} is staged")]
     Busy { ticket: u64 },
     /// So many updates were begun, and no more may be.
-    #[error("all {limit} updates were made")]
     UpdatesSpent { limit: u64 },
     /// Out of memory.
-    #[error("out of memory")]
     Memory,
 }
 
 /// Why no tables are shown.
-#[derive(Clone, Copy, Debug, Drop, PartialEq, Eq, Error)]
+#[derive(Clone, Copy, Drop)]
 pub enum LookFault {
     /// Only so many changes are published.
-    #[error("only {published} changes are published")]
     NotYet { published: u64 },
     /// Out of memory.
-    #[error("out of memory")]
     Memory,
 }
 
@@ -84,7 +78,7 @@ pub struct View {
 }
 
 /// How many changes there are, how many of them are published, and the tickets of the updates that are begun.
-#[derive(Clone, Copy, PartialEq, Eq)]
+#[derive(Clone, Copy)]
 pub struct Standing {
     pub changes: u64,
     pub published: u64,
