@@ -33,7 +33,10 @@ use table_sums::Partition;
 fn ticket_of(staged: Option<Staged>) -> Option<u64>
     ensures { result ≡ option_map (λ update. update.ticket) staged }
 {
-    staged.map(|update| update.ticket)
+    match staged {
+        Some(update) => Some(update.ticket),
+        None => None,
+    }
 }
 
 fn meta_after(meta: &Metadata) -> &Metadata
