@@ -35,12 +35,6 @@ fn is_period(text: &[u8]) -> bool
     Period::parse(text).is_some()
 }
 
-fn copied(alloc: Global, text: &[u8]) -> Result<Text, Memory>
-    ensures { IfOk result (λ copy. copy ≡ text.now) }
-{
-    Text::of(alloc, text)
-}
-
 /// The parameter that has to name an object of a kind.
 fn object_in(
     alloc: Global,
@@ -55,7 +49,7 @@ fn object_in(
         return Err(refused(alloc, Code::F21, name));
     };
     if is_name(meta, kind, text) {
-        Ok(copied(alloc, text)?)
+        Ok(Text::of(alloc, text)?)
     } else {
         Err(refused(alloc, Code::F21, name))
     }
@@ -68,7 +62,7 @@ fn period_in(alloc: Global, pairs: &[(Items<u8>, Items<u8>)]) -> Result<Text, Ro
         return Err(refused(alloc, Code::F21, b"pe"));
     };
     if is_period(text) {
-        Ok(copied(alloc, text)?)
+        Ok(Text::of(alloc, text)?)
     } else {
         Err(refused(alloc, Code::F21, b"pe"))
     }

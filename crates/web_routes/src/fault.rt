@@ -8,7 +8,7 @@ ghost use Rattle.dh_base.specs.Memory.{IsFirst};
 use dh_base::codes::{Code, Refusal};
 use dh_base::items::Items;
 use dh_base::memory::Memory;
-use std::alloc::{AllocError, AllocFailed, Global};
+use std::alloc::Global;
 
 /// Why a request isn't a call.
 #[derive(Drop)]
@@ -17,22 +17,6 @@ pub enum RouteFault {
     Refused(Refusal),
     /// Memory ran out.
     Memory,
-}
-
-impl From<AllocError> for RouteFault {
-    ghost from_gives = { λ _ fault. fault ≡ OutOfMemory };
-
-    fn from(_error: AllocError) -> RouteFault {
-        RouteFault::Memory
-    }
-}
-
-impl<T: Drop> From<AllocFailed<T>> for RouteFault {
-    ghost from_gives = { λ _ fault. fault ≡ OutOfMemory };
-
-    fn from(_error: AllocFailed<T>) -> RouteFault {
-        RouteFault::Memory
-    }
 }
 
 impl From<Memory> for RouteFault {

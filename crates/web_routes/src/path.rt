@@ -8,7 +8,12 @@ ghost use Rattle.web_routes.specs.Paths.{has_version, without_version, rest_of, 
 pub(crate) fn all_digits(text: &[u8]) -> bool
     ensures { result ≡ list_all is_ascii_digit text.now }
 {
-    text.iter().all(|byte| byte.is_ascii_digit())
+    for byte in text {
+        if !byte.is_ascii_digit() {
+            return false;
+        }
+    }
+    true
 }
 
 /// Whether so many digits stand at the front, and a slash after them.
@@ -52,7 +57,12 @@ pub fn rest_of(path: &[u8]) -> Option<&[u8]>
 fn has_slash(text: &[u8]) -> bool
     ensures { result ≡ list_any is_slash text.now }
 {
-    text.iter().any(|byte| *byte == b'/')
+    for byte in text {
+        if *byte == b'/' {
+            return true;
+        }
+    }
+    false
 }
 
 #[tactic(auto, unfolding(crate::specs::Paths::is_id))]

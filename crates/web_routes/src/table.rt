@@ -4,7 +4,7 @@ ghost use Rattle.std.specs.List.{list_any};
 ghost use Rattle.std.specs.Option.{option_copied};
 ghost use Rattle.dh_base.specs.Memory.{Answers};
 ghost use Rattle.web_routes.specs.Given.{cause_of};
-ghost use Rattle.web_routes.specs.Routes.{all_routes, name_of, other_name_of, method_of, authority_of, takes_id, is_named, has_rest, takes, route_at, route_of};
+ghost use Rattle.web_routes.specs.Routes.{name_of, other_name_of, method_of, authority_of, takes_id, is_named, has_rest, takes, route_at, route_of};
 
 use crate::fault::{RouteFault, refused};
 use crate::path::{is_front_and_id, rest_of};
@@ -12,7 +12,7 @@ use dh_base::codes::Code;
 use std::alloc::Global;
 
 /// What a request may ask for: a method at a path.
-#[derive(Clone, Copy, PartialEq, Eq)]
+#[derive(Clone, Copy)]
 pub enum Route {
     /// A query.
     Query,
@@ -174,29 +174,36 @@ fn takes(route: Route, method: &[u8], rest: &[u8]) -> bool
     has_rest(route, rest) && method == method_of(route)
 }
 
-#[tactic(auto, unfolding(crate::specs::Routes::all_routes))]
-fn is_known(rest: &[u8]) -> bool
-    ensures { result ≡ list_any (has_rest rest.now) all_routes }
+/// Whether one of the routes has this rest.
+fn is_known(routes: &[Route], rest: &[u8]) -> bool
+    ensures { result ≡ list_any (has_rest rest.now) routes.now }
 {
-    ALL_ROUTES.iter().any(|route| has_rest(*route, rest))
+    for route in routes {
+        if has_rest(*route, rest) {
+            return true;
+        }
+    }
+    false
 }
 
-#[tactic(auto, unfolding(crate::specs::Routes::all_routes))]
-fn taken(method: &[u8], rest: &[u8]) -> Option<Route>
-    ensures { result ≡ find (takes method.now rest.now) all_routes }
+/// The first of the routes that takes the method at this rest.
+fn taken(routes: &[Route], method: &[u8], rest: &[u8]) -> Option<Route>
+    ensures { result ≡ find (takes method.now rest.now) routes.now }
 {
-    ALL_ROUTES
-        .iter()
-        .copied()
-        .find(|route| takes(*route, method, rest))
+    for route in routes {
+        if takes(*route, method, rest) {
+            return Some(*route);
+        }
+    }
+    None
 }
 
-#[tactic(auto, unfolding(crate::specs::Routes::route_at))]
+#[tactic(auto, unfolding(crate::specs::Routes::route_at, crate::specs::Routes::all_routes))]
 fn route_at(alloc: Global, method: &[u8], rest: &[u8]) -> Result<Route, RouteFault>
     ensures { Answers cause_of (route_at method.now rest.now) result }
 {
-    if is_known(rest) {
-        match taken(method, rest) {
+    if is_known(&ALL_ROUTES, rest) {
+        match taken(&ALL_ROUTES, method, rest) {
             Some(route) => Ok(route),
             None => Err(refused(alloc, Code::F7, b"")),
         }
