@@ -1,87 +1,85 @@
 //! `BODY`, for value sets and completions: the texts that are read of the body of a request, those of the
 //! set and then those of each object, or `at` and the path of the first fault. `-` stands for no text.
+use crate::out::Out;
 use dh_changes::outcome::{BodyFault, ImportStrategy};
 use dh_changes::text::Text;
 use import_forms::completion::{Completion, read_completions};
 use import_forms::set::{SetParams, SetValue, ValueSet, read_set};
-use std::alloc::Global;
 
 const PARAMS: SetParams = SetParams {
     strategy: ImportStrategy::CreateAndUpdate,
     dry: false,
 };
 
-fn put_text(out: &mut Vec<u8>, text: &Option<Text>) -> Option<()> {
+fn put_text(out: &mut Out, text: &Option<Text>) {
     match text {
-        Some(text) => out.extend_from_slice(text.as_slice()).ok()?,
-        None => out.push(b'-').ok()?,
+        Some(text) => out.put(text.as_slice()),
+        None => out.put(b"-"),
     }
-    out.push(b',').ok()
+    out.put(b",");
 }
 
-fn put_truth(out: &mut Vec<u8>, truth: bool) -> Option<()> {
+fn put_truth(out: &mut Out, truth: bool) {
     if truth {
-        out.extend_from_slice(b"yes;").ok()
+        out.put(b"yes;");
     } else {
-        out.extend_from_slice(b"no;").ok()
+        out.put(b"no;");
     }
 }
 
-fn put_value(out: &mut Vec<u8>, value: &SetValue) -> Option<()> {
-    put_text(out, &value.element)?;
-    put_text(out, &value.combo)?;
-    put_text(out, &value.attribute)?;
-    put_text(out, &value.value)?;
-    put_text(out, &value.period)?;
-    put_text(out, &value.unit)?;
-    put_truth(out, value.deleted)
+fn put_value(out: &mut Out, value: &SetValue) {
+    put_text(out, &value.element);
+    put_text(out, &value.combo);
+    put_text(out, &value.attribute);
+    put_text(out, &value.value);
+    put_text(out, &value.period);
+    put_text(out, &value.unit);
+    put_truth(out, value.deleted);
 }
 
-fn put_set(out: &mut Vec<u8>, set: &ValueSet) -> Option<()> {
-    put_text(out, &set.data_set)?;
-    put_text(out, &set.complete_date)?;
-    put_text(out, &set.period)?;
-    put_text(out, &set.unit)?;
-    put_text(out, &set.attribute)?;
+fn put_set(out: &mut Out, set: &ValueSet) {
+    put_text(out, &set.data_set);
+    put_text(out, &set.complete_date);
+    put_text(out, &set.period);
+    put_text(out, &set.unit);
+    put_text(out, &set.attribute);
     for value in set.values.as_slice() {
-        put_value(out, value)?;
+        put_value(out, value);
     }
-    Some(())
 }
 
-fn put_completion(out: &mut Vec<u8>, completion: &Completion) -> Option<()> {
-    put_text(out, &completion.data_set)?;
-    put_text(out, &completion.period)?;
-    put_text(out, &completion.unit)?;
-    put_text(out, &completion.attribute)?;
-    put_text(out, &completion.date)?;
-    put_truth(out, completion.done)
+fn put_completion(out: &mut Out, completion: &Completion) {
+    put_text(out, &completion.data_set);
+    put_text(out, &completion.period);
+    put_text(out, &completion.unit);
+    put_text(out, &completion.attribute);
+    put_text(out, &completion.date);
+    put_truth(out, completion.done);
 }
 
-fn put_completions(out: &mut Vec<u8>, list: &[Completion]) -> Option<()> {
+fn put_completions(out: &mut Out, list: &[Completion]) {
     for completion in list {
-        put_completion(out, completion)?;
+        put_completion(out, completion);
     }
-    Some(())
 }
 
-fn put_fault(out: &mut Vec<u8>, fault: &BodyFault) -> Option<()> {
-    out.extend_from_slice(b"at ").ok()?;
+fn put_fault(out: &mut Out, fault: &BodyFault) {
+    out.put(b"at ");
     match fault {
-        BodyFault::Bad { path } => out.extend_from_slice(path.as_slice()).ok(),
-        BodyFault::Memory => None,
+        BodyFault::Bad { path } => out.put(path.as_slice()),
+        BodyFault::Memory => out.fail(),
     }
 }
 
-pub(crate) fn set_row(alloc: Global, out: &mut Vec<u8>, body: &str) -> Option<()> {
-    match &read_set(alloc, body.as_bytes(), PARAMS) {
+pub(crate) fn set_row(out: &mut Out, body: &str) {
+    match &read_set(out.alloc, body.as_bytes(), PARAMS) {
         Ok(set) => put_set(out, set),
         Err(fault) => put_fault(out, fault),
     }
 }
 
-pub(crate) fn completions_row(alloc: Global, out: &mut Vec<u8>, body: &str) -> Option<()> {
-    match &read_completions(alloc, body.as_bytes()) {
+pub(crate) fn completions_row(out: &mut Out, body: &str) {
+    match &read_completions(out.alloc, body.as_bytes()) {
         Ok(list) => put_completions(out, list.as_slice()),
         Err(fault) => put_fault(out, fault),
     }

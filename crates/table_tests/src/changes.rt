@@ -1,24 +1,35 @@
 //! `WORDS`: the bytes that the words stand for are read as change 5 and written again. A word
 //! is a number of one byte after a `#`, or a text.
+ghost use Rattle.change_log.specs.Forms.{ChangeFits};
+
+use crate::out::Out;
 use change_log::{Decoded, decode, encode, encoded_len};
+use dh_base::memory::Memory;
 use dh_changes::change::{Change, Write};
 use std::alloc::Global;
 
 const NUMBER: u64 = 5;
 
-fn put_word(out: &mut Vec<u8>, word: &str) -> Option<()> {
+fn put_word(bytes: &mut Out, word: &str) {
     match word.strip_prefix('#') {
-        Some(number) => out.push(number.parse::<u8>().ok()?).ok(),
-        None => out.extend_from_slice(word.as_bytes()).ok(),
+        Some(number) => put_byte(bytes, number),
+        None => bytes.put(word.as_bytes()),
+    }
+}
+
+fn put_byte(bytes: &mut Out, number: &str) {
+    match number.parse::<u8>() {
+        Ok(byte) => bytes.put(&[byte]),
+        Err(_) => bytes.fail(),
     }
 }
 
 fn bytes_of(alloc: Global, words: &str) -> Option<Vec<u8>> {
-    let mut out = Vec::new(alloc);
+    let mut bytes = Out::new(alloc);
     for word in words.split(' ') {
-        put_word(&mut out, word)?;
+        put_word(&mut bytes, word);
     }
-    Some(out)
+    bytes.finish()
 }
 
 fn name_of(write: &Write) -> &'static str {
@@ -40,12 +51,11 @@ fn name_of(write: &Write) -> &'static str {
     }
 }
 
-fn put_names(out: &mut Vec<u8>, change: &Change) -> Option<()> {
+fn put_names(out: &mut Out, change: &Change) {
     for write in change.writes.as_slice() {
-        out.extend_from_slice(b"; ").ok()?;
-        out.extend_from_slice(name_of(write).as_bytes()).ok()?;
+        out.put(b"; ");
+        out.put(name_of(write).as_bytes());
     }
-    Some(())
 }
 
 // Whether so many bytes are written again as they were read.
@@ -53,25 +63,44 @@ fn is_again(bytes: &[u8], written: &[u8], used: usize) -> bool {
     written.len() == used && bytes.starts_with(written)
 }
 
-#[tactic(auto, using(change_log::proofs::Fits::change_fits))]
-fn put_again(alloc: Global, out: &mut Vec<u8>, bytes: &[u8]) -> Option<()> {
-    match decode(alloc, bytes, NUMBER).ok()? {
-        Decoded::Whole { change, used } => {
-            let len = encoded_len(&change);
-            let written = encode(alloc, &change, NUMBER).ok()?;
-            if len != used as u64 || !is_again(bytes, &written, used) {
-                return out.extend_from_slice(b"other bytes").ok();
-            }
-            let text = format!(in alloc; "{used} bytes").ok()?;
-            out.extend_from_slice(text.as_bytes()).ok()?;
-            put_names(out, &change)
-        }
-        Decoded::Short => out.extend_from_slice(b"short").ok(),
-        Decoded::Bad => out.extend_from_slice(b"bad").ok(),
+// Writes what a change is that was read from so many bytes.
+fn put_change(out: &mut Out, change: &Change, used: usize, is_again: bool) {
+    if !is_again {
+        return out.put(b"other bytes");
+    }
+    out.put_number(used as i128);
+    out.put(b" bytes");
+    put_names(out, change);
+}
+
+fn put_again(out: &mut Out, bytes: &[u8], change: &Change, number: u64, used: usize)
+    requires { ChangeFits number change.now }
+{
+    let has_len = encoded_len(change) == used as u64;
+    match encode(out.alloc, change, number) {
+        Ok(written) => put_change(
+            out,
+            change,
+            used,
+            has_len && is_again(bytes, &written, used),
+        ),
+        Err(Memory) => out.fail(),
     }
 }
 
-pub(crate) fn change_row(alloc: Global, out: &mut Vec<u8>, words: &str) -> Option<()> {
-    let bytes = bytes_of(alloc, words)?;
-    put_again(alloc, out, &bytes)
+#[tactic(auto, using(change_log::proofs::Fits::change_fits))]
+fn put_read(out: &mut Out, bytes: &[u8], number: u64) {
+    match decode(out.alloc, bytes, number) {
+        Ok(Decoded::Whole { change, used }) => put_again(out, bytes, &change, number, used),
+        Ok(Decoded::Short) => out.put(b"short"),
+        Ok(Decoded::Bad) => out.put(b"bad"),
+        Err(Memory) => out.fail(),
+    }
+}
+
+pub(crate) fn change_row(out: &mut Out, words: &str) {
+    match bytes_of(out.alloc, words) {
+        Some(bytes) => put_read(out, &bytes, NUMBER),
+        None => out.fail(),
+    }
 }

@@ -1,14 +1,25 @@
 //! Rows of expressions: what is read of them, and their values.
 
+use crate::cells::{Word, three, words};
 use crate::numbers::{fraction, put_fraction};
-use crate::put;
+use crate::out::Out;
 use dh_base::frac::Frac;
 use dh_base::plain::Strategy;
 use dh_base::uid::Uid;
+use dh_metadata::names::strategy_named;
 use expr_eval::{Postfix, Value, compile, eval};
 use expr_grammar::{parse, parse_sorted, print};
 use expr_lang::{DayItems, Expr, ExprFault, Place, Sort};
 use std::alloc::Global;
+
+pub fn is_written(out: &mut Out, kind: &str, case: &str) -> bool {
+    match kind {
+        "expression" => expression_row(out, case),
+        "value" => value_row(out, case),
+        _ => return false,
+    }
+    true
+}
 
 fn place_named(name: &str) -> Option<Place> {
     match name {
@@ -28,108 +39,109 @@ fn sort_named(name: &str) -> Option<Sort> {
 }
 
 // The element and attribute whose values are days.
-fn day_id() -> Option<Uid> {
-    Uid::parse(b"DeDate00001")
+fn days(alloc: Global) -> Option<DayItems> {
+    let day_id = Uid::parse(b"DeDate00001")?;
+    DayItems::of(alloc, &[day_id]).ok()
 }
 
 /// `PLACE|SORT|TEXT`: `Ok` and the printed text, or the fault and its byte. The sort is `any` where none
 /// is asked for.
-pub fn expression_row(alloc: Global, out: &mut Vec<u8>, case: &str) -> Option<()> {
-    let (place, case) = case.split_once('|')?;
-    let (sort, text) = case.split_once('|')?;
-    let place = place_named(place)?;
-    let days = DayItems::of(alloc, &[day_id()?]).ok()?;
-    match sort_named(sort) {
-        Some(sort) => put_read(
-            alloc,
-            out,
-            parse_sorted(alloc, text.as_bytes(), place, &days, sort),
-        ),
-        None => put_read(alloc, out, parse(alloc, text.as_bytes(), place, &days)),
-    }
-}
-
-fn put_read(alloc: Global, out: &mut Vec<u8>, read: Result<Expr, ExprFault>) -> Option<()> {
-    match read {
-        Ok(expr) => put_expr(alloc, out, &expr),
-        Err(fault) => put_fault(alloc, out, fault),
-    }
-}
-
-fn put_expr(alloc: Global, out: &mut Vec<u8>, expr: &Expr) -> Option<()> {
-    let text = print(alloc, expr).ok()?;
-    put(out, b"Ok ")?;
-    put(out, &text)
-}
-
-fn put_fault(alloc: Global, out: &mut Vec<u8>, fault: ExprFault) -> Option<()> {
-    let text = match fault {
-        ExprFault::Syntax { at } => format!(in alloc; "Syntax {at}").ok()?,
-        ExprFault::TooDeep { at } => format!(in alloc; "TooDeep {at}").ok()?,
-        ExprFault::Sort { at } => format!(in alloc; "Sort {at}").ok()?,
-        ExprFault::Memory => return None,
+fn expression_row(out: &mut Out, case: &str) {
+    let Some((place, sort, text)) = expression_case(case) else {
+        return out.fail();
     };
-    put(out, text.as_bytes())
+    match days(out.alloc) {
+        Some(days) => put_read(out, read(out.alloc, place, sort, text, &days)),
+        None => out.fail(),
+    }
 }
 
-fn strategy_named(name: &str) -> Option<Strategy> {
-    match name {
-        "SKIP_IF_ANY_VALUE_MISSING" => Some(Strategy::SkipIfAny),
-        "SKIP_IF_ALL_VALUES_MISSING" => Some(Strategy::SkipIfAll),
-        "NEVER_SKIP" => Some(Strategy::Never),
-        _ => None,
+fn expression_case(case: &str) -> Option<(Place, Option<Sort>, &[u8])> {
+    let (place, sort, text) = three(case)?;
+    let place = place_named(place)?;
+    Some((place, sort_named(sort), text.as_bytes()))
+}
+
+fn read(
+    alloc: Global,
+    place: Place,
+    sort: Option<Sort>,
+    text: &[u8],
+    days: &DayItems,
+) -> Result<Expr, ExprFault> {
+    match sort {
+        Some(sort) => parse_sorted(alloc, text, place, days, sort),
+        None => parse(alloc, text, place, days),
     }
+}
+
+fn put_read(out: &mut Out, read: Result<Expr, ExprFault>) {
+    match read {
+        Ok(expr) => put_expr(out, &expr),
+        Err(ExprFault::Syntax { at }) => put_fault(out, b"Syntax ", at),
+        Err(ExprFault::TooDeep { at }) => put_fault(out, b"TooDeep ", at),
+        Err(ExprFault::Sort { at }) => put_fault(out, b"Sort ", at),
+        Err(ExprFault::Memory) => out.fail(),
+    }
+}
+
+fn put_expr(out: &mut Out, expr: &Expr) {
+    out.put(b"Ok ");
+    let text = print(out.alloc, expr);
+    out.put_made(text);
+}
+
+fn put_fault(out: &mut Out, name: &[u8], at: usize) {
+    out.put(name);
+    out.put_number(at as i128);
 }
 
 /// `PLACE|STRATEGY|ENTRIES|TEXT`: the value of the expression, or why it has none. An entry is a fraction
 /// or `-`, and entries stand in the order of the items' first occurrences.
-pub fn value_row(alloc: Global, out: &mut Vec<u8>, case: &str) -> Option<()> {
-    let (place, case) = case.split_once('|')?;
-    let (strategy, case) = case.split_once('|')?;
-    let (entries, text) = case.split_once('|')?;
-    let place = place_named(place)?;
-    let strategy = strategy_named(strategy)?;
-    put_value(alloc, out, value_of(alloc, text, place, entries, strategy)?)
+fn value_row(out: &mut Out, case: &str) {
+    match value_of(out.alloc, case) {
+        Some(value) => put_value(out, value),
+        None => out.fail(),
+    }
 }
 
-fn entries_in(alloc: Global, text: &str) -> Option<Vec<Option<Frac>>> {
-    let mut entries = Vec::new(alloc);
-    for word in text.split(',') {
-        let entry = if word == "-" {
-            None
-        } else {
-            Some(fraction(word)?)
-        };
-        entries.push(entry).ok()?;
-    }
-    Some(entries)
+fn value_of(alloc: Global, case: &str) -> Option<Value> {
+    let (place, case) = case.split_once('|')?;
+    let (strategy, entries, text) = three(case)?;
+    let strategy = strategy_named(strategy.as_bytes())?;
+    let form = form_of(alloc, text, place_named(place)?)?;
+    evaluated(alloc, &form, entries, strategy)
 }
 
 fn form_of(alloc: Global, text: &str, place: Place) -> Option<Postfix> {
     let days = DayItems::none(alloc);
-    let expr = parse(alloc, text.as_bytes(), place, &days).ok()?;
-    compile(alloc, &expr).ok()
+    match parse(alloc, text.as_bytes(), place, &days) {
+        Ok(expr) => compile(alloc, &expr).ok(),
+        Err(_) => None,
+    }
 }
 
-fn value_of(
-    alloc: Global,
-    text: &str,
-    place: Place,
-    entries: &str,
-    strategy: Strategy,
-) -> Option<Value> {
-    let form = form_of(alloc, text, place)?;
-    let entries = entries_in(alloc, entries)?;
-    eval(alloc, &form, &entries, strategy).ok()
+fn evaluated(alloc: Global, form: &Postfix, entries: &str, strategy: Strategy) -> Option<Value> {
+    let entries = words(alloc, entries)?;
+    eval(alloc, form, &entries, strategy).ok()
 }
 
-fn put_value(alloc: Global, out: &mut Vec<u8>, value: Value) -> Option<()> {
+impl Word for Option<Frac> {
+    fn of(word: &str) -> Option<Option<Frac>> {
+        if word == "-" {
+            return Some(None);
+        }
+        Some(Some(fraction(word)?))
+    }
+}
+
+fn put_value(out: &mut Out, value: Value) {
     match value {
-        Value::Number(number) => put_fraction(alloc, out, number),
-        Value::Truth(true) => put(out, b"true"),
-        Value::Truth(false) => put(out, b"false"),
-        Value::Missing => put(out, b"Missing"),
-        Value::Wide => put(out, b"Wide"),
-        Value::ByZero => put(out, b"ByZero"),
+        Value::Number(number) => put_fraction(out, number),
+        Value::Truth(true) => out.put(b"true"),
+        Value::Truth(false) => out.put(b"false"),
+        Value::Missing => out.put(b"Missing"),
+        Value::Wide => out.put(b"Wide"),
+        Value::ByZero => out.put(b"ByZero"),
     }
 }

@@ -4,13 +4,16 @@
 #![tactic(auto)]
 
 mod bodies;
+mod cells;
 mod changes;
 mod expressions;
 mod numbers;
+mod out;
 mod periods;
 mod samples;
 mod values;
 
+use crate::out::Out;
 use dh_outside::{StdIn, StdOut, read_all, write_all};
 use std::alloc::Global;
 use std::io;
@@ -18,44 +21,44 @@ use std::process::ExitCode;
 
 const LONGEST_TABLE: u64 = 16_777_216;
 
-fn put(out: &mut Vec<u8>, text: &[u8]) -> Option<()> {
-    out.extend_from_slice(text).ok()
-}
-
-fn row(alloc: Global, out: &mut Vec<u8>, line: &str) -> Option<()> {
-    match line.split_once('|') {
-        Some(("decimal", case)) => numbers::decimal_row(alloc, out, case),
-        Some(("rounded", case)) => numbers::rounded_row(alloc, out, case),
-        Some(("fraction", case)) => numbers::fraction_row(alloc, out, case),
-        Some(("period", case)) => periods::period_row(alloc, out, case),
-        Some(("pair", case)) => periods::pair_row(out, case),
-        Some(("relative", case)) => periods::relative_row(alloc, out, case),
-        Some(("expression", case)) => expressions::expression_row(alloc, out, case),
-        Some(("value", case)) => expressions::value_row(alloc, out, case),
-        Some(("total", case)) => samples::total_row(alloc, out, case),
-        Some((kind, case)) => record_row(alloc, out, kind, case),
-        None => put(out, b"no such row"),
+fn row(out: &mut Out, line: &str) {
+    let is_known = match line.split_once('|') {
+        Some((kind, case)) => is_written(out, kind, case),
+        None => false,
+    };
+    if !is_known {
+        out.put(b"no such row");
     }
 }
 
-// Rows of records: the bytes of a change, bodies of requests, and values by their types.
-fn record_row(alloc: Global, out: &mut Vec<u8>, kind: &str, case: &str) -> Option<()> {
+// Writes the answer to a case, if there are rows of the kind.
+fn is_written(out: &mut Out, kind: &str, case: &str) -> bool {
+    numbers::is_written(out, kind, case)
+        || periods::is_written(out, kind, case)
+        || expressions::is_written(out, kind, case)
+        || is_record_written(out, kind, case)
+}
+
+// Rows of records: samples, the bytes of a change, bodies of requests, and values by their types.
+fn is_record_written(out: &mut Out, kind: &str, case: &str) -> bool {
     match kind {
-        "change" => changes::change_row(alloc, out, case),
-        "typed" => values::typed_row(alloc, out, case),
-        "set" => bodies::set_row(alloc, out, case),
-        "completions" => bodies::completions_row(alloc, out, case),
-        _ => put(out, b"no such row"),
+        "total" => samples::total_row(out, case),
+        "change" => changes::change_row(out, case),
+        "typed" => values::typed_row(out, case),
+        "set" => bodies::set_row(out, case),
+        "completions" => bodies::completions_row(out, case),
+        _ => return false,
     }
+    true
 }
 
 fn rows(alloc: Global, table: &str) -> Option<Vec<u8>> {
-    let mut out = Vec::new(alloc);
+    let mut out = Out::new(alloc);
     for line in table.lines() {
-        row(alloc, &mut out, line)?;
-        put(&mut out, b"\n")?;
+        row(&mut out, line);
+        out.put(b"\n");
     }
-    Some(out)
+    out.finish()
 }
 
 fn answer(rt: &HostRuntime) -> Option<()> {

@@ -1,79 +1,100 @@
 //! Rows of periods: their texts and days, two of them beside each other, and those that a day names.
 
-use crate::put;
+use crate::out::Out;
 use dh_periods::{Period, civil, relative};
-use std::alloc::Global;
+
+pub fn is_written(out: &mut Out, kind: &str, case: &str) -> bool {
+    match kind {
+        "period" => period_row(out, case),
+        "pair" => pair_row(out, case),
+        "relative" => relative_row(out, case),
+        _ => return false,
+    }
+    true
+}
 
 /// `TEXT`: type, first and last day, printed text, place among those of its type, number of days and
 /// year of the first day, or `NONE`.
-pub fn period_row(alloc: Global, out: &mut Vec<u8>, case: &str) -> Option<()> {
+fn period_row(out: &mut Out, case: &str) {
     let Some(period) = Period::parse(case.as_bytes()) else {
-        return put(out, b"NONE");
+        return out.put(b"NONE");
     };
-    put(out, period.kind().name())?;
-    let days = format!(in alloc; "|{}|{}|", period.first(), period.last()).ok()?;
-    put(out, days.as_bytes())?;
-    put_period(alloc, out, period)?;
-    put_counts(alloc, out, period)
+    out.put(period.kind().name());
+    put_cell(out, period.first());
+    put_cell(out, period.last());
+    out.put(b"|");
+    put_period(out, period);
+    put_cell(out, period.ordinal());
+    out.put(b"|");
+    out.put_number(i128::from(period.days()));
+    put_cell(out, period.year());
 }
 
-fn put_period(alloc: Global, out: &mut Vec<u8>, period: Period) -> Option<()> {
-    let text = period.print(alloc).ok()?;
-    put(out, &text)
+fn put_cell(out: &mut Out, number: i32) {
+    out.put(b"|");
+    out.put_number(i128::from(number));
 }
 
-fn put_counts(alloc: Global, out: &mut Vec<u8>, period: Period) -> Option<()> {
-    let (place, days, year) = (period.ordinal(), period.days(), period.year());
-    let text = format!(in alloc; "|{place}|{days}|{year}").ok()?;
-    put(out, text.as_bytes())
+fn put_period(out: &mut Out, period: Period) {
+    let text = period.print(out.alloc);
+    out.put_made(text);
 }
 
 /// `TEXT|TEXT`: whether the first period comes before the other, and whether it lies in it.
-pub fn pair_row(out: &mut Vec<u8>, case: &str) -> Option<()> {
+fn pair_row(out: &mut Out, case: &str) {
+    match pair(case) {
+        Some((one, other)) => put_pair(out, one, other),
+        None => out.fail(),
+    }
+}
+
+fn pair(case: &str) -> Option<(Period, Period)> {
     let (one, other) = case.split_once('|')?;
     let one = Period::parse(one.as_bytes())?;
     let other = Period::parse(other.as_bytes())?;
-    put(
-        out,
-        if one < other {
-            b"before"
-        } else {
-            b"not before"
-        },
-    )?;
-    put(
-        out,
-        if one.inside(other) {
-            b", inside"
-        } else {
-            b", not inside"
-        },
-    )
+    Some((one, other))
+}
+
+fn put_pair(out: &mut Out, one: Period, other: Period) {
+    if !(one < other) {
+        out.put(b"not ");
+    }
+    out.put(b"before, ");
+    if !one.inside(other) {
+        out.put(b"not ");
+    }
+    out.put(b"inside");
 }
 
 /// `DATE|NAME`: the day of the date, and the periods that the name stands for on it.
-pub fn relative_row(alloc: Global, out: &mut Vec<u8>, case: &str) -> Option<()> {
-    let (date, name) = case.split_once('|')?;
-    let Some(day) = civil(date.as_bytes()) else {
-        return put(out, b"NONE");
-    };
-    let text = format!(in alloc; "{day}|").ok()?;
-    put(out, text.as_bytes())?;
-    if day < -21_915 || day > 47_481 {
-        return None;
-    }
-    match relative(alloc, name.as_bytes(), day).ok()? {
-        Some(periods) => put_periods(alloc, out, &periods),
-        None => put(out, b"NONE"),
+fn relative_row(out: &mut Out, case: &str) {
+    match case.split_once('|') {
+        Some((date, name)) => put_relative(out, civil(date.as_bytes()), name),
+        None => out.fail(),
     }
 }
 
-fn put_periods(alloc: Global, out: &mut Vec<u8>, periods: &[Period]) -> Option<()> {
+fn put_relative(out: &mut Out, day: Option<i32>, name: &str) {
+    let Some(day) = day else {
+        return out.put(b"NONE");
+    };
+    if day < -21_915 || day > 47_481 {
+        return out.fail();
+    }
+    out.put_number(i128::from(day));
+    out.put(b"|");
+    match relative(out.alloc, name.as_bytes(), day) {
+        Ok(Some(periods)) => put_periods(out, &periods),
+        Ok(None) => out.put(b"NONE"),
+        Err(_) => out.fail(),
+    }
+}
+
+fn put_periods(out: &mut Out, periods: &[Period]) {
     for i in 0..periods.len() {
         if i > 0 {
-            put(out, b";")?;
+            out.put(b";");
         }
-        put_period(alloc, out, periods[i])?;
+        put_period(out, periods[i]);
     }
-    Some(())
 }
