@@ -13,6 +13,7 @@ use dh_outside::{Clock, Sink, Source};
 use engine::{Unkept, engine_in_memory};
 use request_session::{Ended, serve_requests};
 use std::alloc::Global;
+use std::mem::forget;
 
 // The most requests that a session answers.
 const MOST_REQUESTS: u64 = 1_000_000;
@@ -52,11 +53,14 @@ fn serve<S: Source, O: Sink, C: Clock>(
 {
     let engine = engine_in_memory(alloc, meta)?;
     let mut machine = Replier::of(engine, clock);
-    Ok(answer_all(alloc, &mut machine, input, output))
+    let ended = answer_all(alloc, &mut machine, input, output);
+    // To give a large file's metadata back piece by piece takes longer than a query: the program ends, and the system takes all.
+    forget(machine);
+    Ok(ended)
 }
 
 /// Answers the requests of `input` over metadata, from an empty log, and writes the replies to `output`. Each request
-/// takes one moment of the clock.
+/// takes one moment of the clock. A session is the last work of its program: the memory that it holds isn't given back.
 #[tactic(auto, using(crate::proofs::ServeLemmas::result_over))]
 pub fn serve_session<S: Source, O: Sink, C: Clock>(
     alloc: Global,

@@ -41,6 +41,7 @@ use query_answer::{AnswerFault, answer};
 use query_lang::{MOST_CELLS, Query, QueryFault, read_query};
 use request_session::error_body;
 use std::alloc::Global;
+use std::mem::forget;
 
 // The answer to a query over tables.
 #[tactic(auto, unfolding(crate::specs::Reply::answer_reply))]
@@ -230,7 +231,7 @@ fn reply_to_values(
     }
 }
 
-// The same over an engine that is let go of afterwards.
+// The same over an engine that nothing uses afterwards. Its memory isn't given back piece by piece: the program ends with the reply.
 fn over_engine(
     alloc: Global,
     engine: Engine<Unkept>,
@@ -245,7 +246,7 @@ fn over_engine(
 {
     let mut engine = engine;
     let reply = reply_to_values(alloc, &mut engine, user, query, moment, values);
-    drop(engine);
+    forget(engine);
     reply
 }
 
