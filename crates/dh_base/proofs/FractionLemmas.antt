@@ -1,7 +1,10 @@
 -- Reduced fractions: each has one form for its value, and arithmetic on forms that are not reduced comes to the same.
-use Rattle.std.proofs.Common.{◌≡◌, ◌∙◌, Bool, true, false, cond, ◌==◌, ℕ, zero, suc, ◌+◌, ◌*◌, ◌/◌, ◌%◌, ◌<◌, ◌≤◌, ◌^◌, refl, sym, ap, subst, arith}
-use Rattle.std.specs.Prelude.{ℤ, pos, negsuc, ◌+ℤ◌, ◌*ℤ◌, neg_ℤ, unsigned_abs, int_div, ◌<ℤ◌, Option, Some, None, Ok, Err}
-use Rattle.std.specs.Int.{◌∣◌, int_pow}
+use Rattle.std.proofs.Common.{◌≡◌, ◌∙◌, Bool, true, false, cond, ◌==◌, ◌&&◌, ℕ, zero, suc, ◌+◌, ◌*◌, ◌/◌, ◌%◌, ◌<◌, ◌≤◌, ◌^◌, refl, sym, ap, subst, arith}
+use Rattle.std.specs.Prelude.{ℤ, pos, negsuc, ◌+ℤ◌, ◌*ℤ◌, neg_ℤ, unsigned_abs, int_div, ◌<ℤ◌, Option, Some, None, Ok, Err, IfSome}
+use Rattle.std.specs.Int.{◌∣◌, int_pow, w128, cast_signed as to_z, cast_unsigned as of_z}
+use Rattle.std.specs.Int.RustNames.{FitsSigned}
+use Rattle.std.specs.Option.{option_zip}
+use Rattle.std.proofs.lemmas.Int.{to_z-of_z}
 use Rattle.std.specs.Ordering.{int_cmp, MatchOrdering}
 use Rattle.std.specs.declared.cmp.Ordering.{Ordering}
 use Rattle.std.specs.declared.cmp.Ordering.TheVariants.{Less, Equal, Greater}
@@ -14,7 +17,7 @@ use Rattle.std.proofs.Math.Nat.{mul_assoc, mul_comm, eq_of_mul-eq-mul_right}
 use Rattle.dh_base.specs.Fractions.{gcd, Fraction, ratio, fraction_of, IsReduced, HasValue, IsFitting, whole_part, flipped, over_common, sum_of, order_of}
 use Rattle.dh_base.specs.Fractions.{product_of, power_of, can_compare, can_add, some_if, cmp_of, add_of, fitting, fits, fits_size}
 use Rattle.dh_base.specs.declared.plain.NumFault.TheVariants.{Wide}
-use Rattle.std.proofs.lemmas.Bool.{ltb-true}
+use Rattle.std.proofs.lemmas.Bool.{ltb-true, lt-ltb, le-ltb}
 use Rattle.dh_base.proofs.GcdLemmas.{gcd-IsGcd, gcd_comm, gcd-positive, divides_other, coprime-quotients, coprime-mul, coprime-divisors, coprime-pow}
 
 -- ---- whole numbers times a positive one
@@ -330,6 +333,48 @@ power-ratio x n reduced =
       coprime = ap (λ m. gcd m (x.den ^ n)) (abs_pow x.num n) ∙ coprime-pow (unsigned_abs x.num) x.den n reduced.coprime;
     }))
 
+-- ---- a number that was computed, tested by its size
+
+pub small_told : (z p : ℤ) (n : ℕ) → FitsSigned w128 p → p ≡ z → n ≡ unsigned_abs (to_z w128 (of_z w128 p)) → n < 2 ^ 127
+    → Some (to_z w128 (of_z w128 p)) ≡ some_if (fits z) z
+small_told z p n own is size small =
+    let plain : to_z w128 (of_z w128 p) ≡ z = to_z-of_z w128 p own ∙ is in
+    let test : fits z ≡ true = lt-ltb (unsigned_abs z) (2 ^ 127) (subst (λ m. m < 2 ^ 127) (size ∙ ap unsigned_abs plain) small) in
+    ap (λ m. Some m) plain ∙ ap (λ t. some_if t z) (sym test)
+
+pub large_told : (z p : ℤ) (n : ℕ) → FitsSigned w128 p → p ≡ z → n ≡ unsigned_abs (to_z w128 (of_z w128 p)) → 2 ^ 127 ≤ n
+    → None ≡ some_if (fits z) z
+large_told z p n own is size large =
+    let plain : to_z w128 (of_z w128 p) ≡ z = to_z-of_z w128 p own ∙ is in
+    let test : fits z ≡ false = le-ltb (unsigned_abs z) (2 ^ 127) (subst (λ m. 2 ^ 127 ≤ m) (size ∙ ap unsigned_abs plain) large) in
+    ap (λ t. some_if t z) (sym test)
+
+-- ---- both numerators over the least common denominator, as the calls compute them
+
+both_some : {A B : Type 0} (s t : Bool) (a : A) (b : B) → option_zip (some_if s a) (some_if t b) ≡ some_if (s && t) (a, b)
+both_some true true a b = refl
+both_some true false a b = refl
+both_some false t a b = refl
+
+-- a numerator over the common denominator is a product of two numbers that are handed on by their bits
+pub numerator_told : (n s : ℤ) (d g : ℕ) → FitsSigned w128 n → FitsSigned w128 s → s ≡ pos (d / g) → (found : Option ℤ)
+    → found ≡ some_if (fits (to_z w128 (of_z w128 n) *ℤ to_z w128 (of_z w128 s))) (to_z w128 (of_z w128 n) *ℤ to_z w128 (of_z w128 s))
+    → found ≡ some_if (fits (over_common n d g)) (over_common n d g)
+numerator_told n s d g own size is found told =
+    told ∙ ap (λ m. some_if (fits (m *ℤ to_z w128 (of_z w128 s))) (m *ℤ to_z w128 (of_z w128 s))) (to_z-of_z w128 n own)
+    ∙ ap (λ m. some_if (fits (n *ℤ m)) (n *ℤ m)) (to_z-of_z w128 s size ∙ is)
+
+pub numerators_told : (x y : Fraction) (g : ℕ) → g ≡ gcd x.den y.den → (left right : Option ℤ)
+    → left ≡ some_if (fits (over_common x.num y.den g)) (over_common x.num y.den g)
+    → right ≡ some_if (fits (over_common y.num x.den g)) (over_common y.num x.den g)
+    → option_zip left right ≡ some_if (can_compare x y) (over_common x.num y.den g, over_common y.num x.den g)
+unfolding can_compare
+numerators_told x y g same left right own others =
+    let a = over_common x.num y.den g in
+    let b = over_common y.num x.den g in
+    ap (λ o. option_zip o right) own ∙ ap (λ o. option_zip (some_if (fits a) a) o) others ∙ both_some (fits a) (fits b) a b
+    ∙ ap (λ k. some_if {A = ℤ × ℤ} (fits (over_common x.num y.den k) && fits (over_common y.num x.den k)) (a, b)) same
+
 -- ---- the answers of the calls, from what their steps gave
 
 some_from : {A : Type 0} (t : Bool) (a v : A) → Some a ≡ some_if t v → (t ≡ true) × (a ≡ v)
@@ -407,8 +452,49 @@ wide_num_answer f a b e h = wide_from_num f a b e (none_from (fits a) a h)
 pub wide_den_answer : (f : Fraction) (a : ℤ) (b : ℕ) → ratio a b ≡ f → None ≡ some_if (fits_size b) b → Err Wide ≡ fitting f
 wide_den_answer f a b e h = wide_from_den f a b e (none_from (fits_size b) b h)
 
-pub common_den-positive : (b d g e : ℕ) → 0 < b → 0 < d → g ≡ gcd b d → Some e ≡ some_if (fits_size (b / g * d)) (b / g * d) → 0 < e
-common_den-positive b d g e pb pd same told =
-    let parts = some_from (fits_size (b / g * d)) e (b / g * d) told in
+-- ---- a sum over the least common denominator, as the call computes it
+
+pub common_den-positive : (b d g : ℕ) → 0 < b → 0 < d → g ≡ gcd b d → 0 < b / g * d
+common_den-positive b d g pb pd same =
     let h : Shares b d g = subst (Shares b d) (sym same) (shares b d pd) in
-    subst (λ n. 0 < n) (sym parts.1) (positive_product (b / g) d (positive_quotient g b h.left pb) pd)
+    positive_product (b / g) d (positive_quotient g b h.left pb) pd
+
+pub sum_told : (x y : Fraction) (g : ℕ) → g ≡ gcd x.den y.den → (l r : ℤ) → FitsSigned w128 l → FitsSigned w128 r
+    → ◌≡◌ {A = Option (ℤ × ℤ)} (Some (l, r)) (some_if (can_compare x y) (over_common x.num y.den g, over_common y.num x.den g))
+    → (b d : ℕ) → b ≡ x.den → d ≡ y.den
+    → (num : Option ℤ) → num ≡ some_if (fits (to_z w128 (of_z w128 l) +ℤ to_z w128 (of_z w128 r))) (to_z w128 (of_z w128 l) +ℤ to_z w128 (of_z w128 r))
+    → (den : Option ℕ) → den ≡ some_if (fits_size (b / g * d)) (b / g * d)
+    → option_zip num den ≡ some_if (can_add x y) (over_common x.num y.den g +ℤ over_common y.num x.den g, x.den / g * y.den)
+unfolding can_add
+sum_told x y g same l r lf rf e b d left right num n den m =
+    let s = over_common x.num y.den g +ℤ over_common y.num x.den g in
+    let k = x.den / g * y.den in
+    let parts = some_from {A = ℤ × ℤ} (can_compare x y) (l, r) (over_common x.num y.den g, over_common y.num x.den g) e in
+    let nums : num ≡ some_if (fits s) s =
+    n ∙ ap (λ z. some_if (fits (z +ℤ to_z w128 (of_z w128 r))) (z +ℤ to_z w128 (of_z w128 r))) (to_z-of_z w128 l lf)
+    ∙ ap (λ z. some_if (fits (l +ℤ z)) (l +ℤ z)) (to_z-of_z w128 r rf)
+    ∙ ap (λ (q : ℤ × ℤ). some_if (fits (q.0 +ℤ q.1)) (q.0 +ℤ q.1)) parts.1 in
+    let dens : den ≡ some_if (fits_size k) k =
+    m ∙ ap (λ z. some_if (fits_size (z / g * d)) (z / g * d)) left ∙ ap (λ z. some_if (fits_size (x.den / g * z)) (x.den / g * z)) right in
+    ap (λ o. option_zip o den) nums ∙ ap (λ o. option_zip (some_if (fits s) s) o) dens ∙ both_some (fits s) (fits_size k) s k
+    ∙ ap (λ t. some_if {A = ℤ × ℕ} (t && fits s && fits_size k) (s, k)) (sym parts.0)
+    ∙ ap (λ h. some_if {A = ℤ × ℕ} (can_compare x y && fits (over_common x.num y.den h +ℤ over_common y.num x.den h) && fits_size (x.den / h * y.den)) (s, k)) same
+
+-- two fractions that can't be compared can't be added
+pub no_sum : (x y : Fraction) (v : ℤ × ℤ) (w : ℤ × ℕ) → None ≡ some_if (can_compare x y) v → None ≡ some_if (can_add x y) w
+unfolding can_add
+no_sum x y v w e =
+    let g = gcd x.den y.den in
+    ap (λ t. some_if (t && fits (over_common x.num y.den g +ℤ over_common y.num x.den g) && fits_size (x.den / g * y.den)) w)
+    (sym (none_from (can_compare x y) v e))
+
+-- what holds of two numbers that passed their tests holds of the pair of them
+pub both_known : (P : ℤ × ℕ → Type 0) (s t : Bool) (a : ℤ) (b : ℕ) → (s ≡ true → t ≡ true → P (a, b)) → (num : Option ℤ) (den : Option ℕ)
+    → num ≡ some_if s a → den ≡ some_if t b → IfSome (option_zip num den) P
+both_known P s t a b known num den left right =
+    subst (λ o. IfSome o P) (sym (ap (λ o. option_zip o den) left ∙ ap (λ o. option_zip (some_if s a) o) right ∙ both_some s t a b)) (of s t known)
+  where
+    of : (s t : Bool) → (s ≡ true → t ≡ true → P (a, b)) → IfSome (some_if (s && t) (a, b)) P
+    of true true h = h refl refl
+    of true false h = tt
+    of false t h = tt

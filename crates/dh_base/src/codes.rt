@@ -1,11 +1,12 @@
 ghost use Rattle.std.specs.Prelude.{◌≡◌};
 
 use crate::items::Items;
+use std::fmt;
 
 /// The product's own error codes, as DHIS2 has its codes E1000 and up.
 ///
 /// An F code refuses a whole request, a C code one data value and a T code one tracker object.
-#[derive(Clone, Copy, Debug, PartialEq, Eq)]
+#[derive(Clone, Copy, PartialEq, Eq)]
 pub enum Code {
     /// BadHead: the head of the request is malformed.
     F1,
@@ -129,40 +130,94 @@ pub enum Code {
     T14,
 }
 
-#[derive(Clone, Copy)]
-struct CodeRow {
-    number: &'static str,
-    name: &'static str,
-    status: u16,
-}
+// The numbers and the names of the codes, each in the order of `Code`, which the proof of `number`
+// and `name` holds them to.
+const NUMBERS: [&str; 60] = [
+    "F1", "F2", "F3", "F4", "F5", "F6", "F7", "F8", "F10", "F11", "F12", "F13", "F14", "F15",
+    "F16", "F17", "F18", "F19", "F20", "F21", "F22", "F23", "F30", "F31", "F32", "F40", "F41",
+    "F42", "F43", "F44", "F45", "C1", "C2", "C3", "C4", "C5", "C6", "C7", "C8", "C9", "C10", "C11",
+    "C12", "C13", "C14", "C15", "T1", "T2", "T3", "T4", "T5", "T6", "T7", "T8", "T9", "T10", "T11",
+    "T12", "T13", "T14",
+];
 
-fn row(number: &'static str, name: &'static str, status: u16) -> CodeRow
-    ensures number { result.number.now ≡ number.now }
-    ensures name { result.name.now ≡ name.now }
-    ensures status { result.status ≡ status }
-{
-    CodeRow {
-        number,
-        name,
-        status,
-    }
-}
+const NAMES: [&str; 60] = [
+    "BadHead",
+    "HeadTooLong",
+    "BodyTooLong",
+    "BadFraming",
+    "NotPlain",
+    "NoRoute",
+    "NoMethod",
+    "NoUser",
+    "BadDimension",
+    "NoData",
+    "NoPeriod",
+    "NoUnit",
+    "NotSeen",
+    "OutsideView",
+    "TooManyCells",
+    "Unsupported",
+    "Wide",
+    "NotYet",
+    "BadBody",
+    "BadParameter",
+    "LogFull",
+    "StoreFault",
+    "Busy",
+    "NotAllowed",
+    "UpdatesSpent",
+    "NoRight",
+    "NotReady",
+    "AlreadyApproved",
+    "NotApproved",
+    "ApprovedAbove",
+    "NotAccepted",
+    "Element",
+    "Unit",
+    "Period",
+    "DataSet",
+    "PeriodType",
+    "OptionCombo",
+    "AttributeCombo",
+    "Assigned",
+    "NoWrite",
+    "Scope",
+    "Value",
+    "Future",
+    "Expired",
+    "Approved",
+    "Strategy",
+    "Uid",
+    "Reference",
+    "Unit",
+    "Parent",
+    "Program",
+    "Scope",
+    "NoWrite",
+    "Status",
+    "Date",
+    "DateMissing",
+    "Value",
+    "Item",
+    "Strategy",
+    "Twice",
+];
 
 impl Code {
-    ghost use Rattle.dh_base.specs.Codes.{number_of, name_of, status_of, row_of};
+    ghost use Rattle.dh_base.specs.Codes.{number_of, name_of, status_of};
 
     /// The code as the wire writes it, as `F6`.
     pub fn number(self) -> &'static str
         ensures { result.now ≡ number_of self }
     {
-        self.row().number
+        NUMBERS[self as usize]
     }
 
     /// The name of the code, with which a refusal's message begins.
     pub fn name(self) -> &'static str
         ensures { result.now ≡ name_of self }
     {
-        self.row().name
+        NAMES[self as usize]
     }
 
     /// The HTTP status of a reply that carries the code. A reply that accepts a part of a bundle
@@ -170,76 +225,24 @@ impl Code {
     pub fn status(self) -> u16
         ensures { result ≡ status_of self }
     {
-        self.row().status
-    }
-
-    fn row(self) -> CodeRow
-        ensures number { result.number.now ≡ number_of self }
-        ensures name { result.name.now ≡ name_of self }
-        ensures status { result.status ≡ status_of self }
-    {
         match self {
-            Code::F1 => row("F1", "BadHead", 400),
-            Code::F2 => row("F2", "HeadTooLong", 431),
-            Code::F3 => row("F3", "BodyTooLong", 413),
-            Code::F4 => row("F4", "BadFraming", 400),
-            Code::F5 => row("F5", "NotPlain", 415),
-            Code::F6 => row("F6", "NoRoute", 404),
-            Code::F7 => row("F7", "NoMethod", 405),
-            Code::F8 => row("F8", "NoUser", 401),
-            Code::F10 => row("F10", "BadDimension", 409),
-            Code::F11 => row("F11", "NoData", 409),
-            Code::F12 => row("F12", "NoPeriod", 409),
-            Code::F13 => row("F13", "NoUnit", 409),
-            Code::F14 => row("F14", "NotSeen", 409),
-            Code::F15 => row("F15", "OutsideView", 409),
-            Code::F16 => row("F16", "TooManyCells", 409),
-            Code::F17 => row("F17", "Unsupported", 409),
-            Code::F18 => row("F18", "Wide", 409),
-            Code::F19 => row("F19", "NotYet", 409),
-            Code::F20 => row("F20", "BadBody", 400),
-            Code::F21 => row("F21", "BadParameter", 400),
-            Code::F22 => row("F22", "LogFull", 409),
-            Code::F23 => row("F23", "StoreFault", 503),
-            Code::F30 => row("F30", "Busy", 409),
-            Code::F31 => row("F31", "NotAllowed", 403),
-            Code::F32 => row("F32", "UpdatesSpent", 409),
-            Code::F40 => row("F40", "NoRight", 403),
-            Code::F41 => row("F41", "NotReady", 409),
-            Code::F42 => row("F42", "AlreadyApproved", 409),
-            Code::F43 => row("F43", "NotApproved", 409),
-            Code::F44 => row("F44", "ApprovedAbove", 409),
-            Code::F45 => row("F45", "NotAccepted", 409),
-            Code::C1 => row("C1", "Element", 409),
-            Code::C2 => row("C2", "Unit", 409),
-            Code::C3 => row("C3", "Period", 409),
-            Code::C4 => row("C4", "DataSet", 409),
-            Code::C5 => row("C5", "PeriodType", 409),
-            Code::C6 => row("C6", "OptionCombo", 409),
-            Code::C7 => row("C7", "AttributeCombo", 409),
-            Code::C8 => row("C8", "Assigned", 409),
-            Code::C9 => row("C9", "NoWrite", 409),
-            Code::C10 => row("C10", "Scope", 409),
-            Code::C11 => row("C11", "Value", 409),
-            Code::C12 => row("C12", "Future", 409),
-            Code::C13 => row("C13", "Expired", 409),
-            Code::C14 => row("C14", "Approved", 409),
-            Code::C15 => row("C15", "Strategy", 409),
-            Code::T1 => row("T1", "Uid", 409),
-            Code::T2 => row("T2", "Reference", 409),
-            Code::T3 => row("T3", "Unit", 409),
-            Code::T4 => row("T4", "Parent", 409),
-            Code::T5 => row("T5", "Program", 409),
-            Code::T6 => row("T6", "Scope", 409),
-            Code::T7 => row("T7", "NoWrite", 409),
-            Code::T8 => row("T8", "Status", 409),
-            Code::T9 => row("T9", "Date", 409),
-            Code::T10 => row("T10", "DateMissing", 409),
-            Code::T11 => row("T11", "Value", 409),
-            Code::T12 => row("T12", "Item", 409),
-            Code::T13 => row("T13", "Strategy", 409),
-            Code::T14 => row("T14", "Twice", 409),
+            Code::F1 | Code::F4 | Code::F20 | Code::F21 => 400,
+            Code::F8 => 401,
+            Code::F31 | Code::F40 => 403,
+            Code::F6 => 404,
+            Code::F7 => 405,
+            Code::F3 => 413,
+            Code::F5 => 415,
+            Code::F2 => 431,
+            Code::F23 => 503,
+            _ => 409,
         }
+    }
+}
+
+impl fmt::Debug for Code {
+    fn fmt<W: fmt::Write>(&self, f: &mut fmt::Formatter<W>) -> fmt::Result {
+        f.write_str(self.number())
     }
 }
 

@@ -207,9 +207,9 @@ fn over_common(x: Frac, y: Frac, shared: u128) -> Option<(i128, i128)>
     requires some { 0 < shared }
     ensures { result ≡ some_if (can_compare x y) (over_common x.num y.den shared, over_common y.num x.den shared) }
 {
-    let left = product(x.num, signed(y.den / shared))?;
-    let right = product(y.num, signed(x.den / shared))?;
-    Some((left, right))
+    let left = product(x.num, signed(y.den / shared));
+    let right = product(y.num, signed(x.den / shared));
+    left.zip(right)
 }
 
 // The sum as a numerator and the least common denominator, where all numbers on the way fit.
@@ -223,9 +223,9 @@ fn sum_over_common(x: Frac, y: Frac, shared: u128) -> Option<(i128, u128)>
     ensures positive { IfSome result (λ r. 0 < r.1) }
 {
     let (left, right) = over_common(x, y, shared)?;
-    let num = sum(left, right)?;
-    let den = size_product(x.den / shared, y.den)?;
-    Some((num, den))
+    let num = sum(left, right);
+    let den = size_product(x.den / shared, y.den);
+    num.zip(den)
 }
 
 fn common_divisor(a: u128, b: u128) -> u128
