@@ -1,9 +1,12 @@
 -- What the code reads of a row.
-use Rattle.std.proofs.Common.{◌≡◌, ◌==◌, ℕ, ◌<◌, true, false, List, [], length, get_or, Option, Some, None, refl, ap, ◌∙◌}
+use Rattle.std.proofs.Common.{◌≡◌, ◌==◌, ℕ, ◌+◌, ◌<◌, true, false, List, [], ◌∷◌, ◌++◌, length, get_or, take, drop, map, Option, Some, None, refl, sym, ap, ◌∙◌}
+use Rattle.std.proofs.Common.{arith, add-one}
+use Rattle.std.proofs.lemmas.List.{append-nil, drop_all, map-append, take_all}
 use Rattle.std.proofs.lemmas.Bool.{false≢true, eq-eqb, eqb-true}
 use Rattle.std.specs.Prelude.{option_and_then}
 use Rattle.std.specs.Option.{option_map_or}
 use Rattle.std.proofs.lemmas.Option.{slice_get-get_or}
+use Rattle.org_tree.specs.KinRows.{numbers}
 use Rattle.org_tree.specs.Levels.{jump}
 use Rattle.org_tree.specs.Units.{UnitRow, parent_of, id_at, is_child}
 
@@ -29,3 +32,15 @@ is_child-true us x p is = by_parent (parent_of us x) is
 
 pub is_child-from : (us : List UnitRow) (x p : ℕ) → parent_of us x ≡ Some p → is_child us x p ≡ true
 is_child-from us x p up = ap (λ o. option_map_or (λ q. q == p) o false) up ∙ eq-eqb p p refl
+
+-- a list that was lent as a slice, when it comes back as long as it was
+pub written : {A : Type 0} (new old : List A) (len : ℕ) → length new ≡ length old → len ≡ length old → take len (new ++ drop (length new) old) ≡ new
+written new old len same whole =
+    ap (λ rest. take len (new ++ rest)) (drop_all (length new) old (omega arith)) ∙ ap (take len) (append-nil new) ∙ take_all len new (omega arith)
+
+-- a list of what stands at each place, by one place more
+pub each-more : {A : Type 0} (f : ℕ → A) (n : ℕ) (before after : List A) (here : A) → after ≡ before ++ here ∷ [] → before ≡ map f (numbers n) → here ≡ f n
+    → after ≡ map f (numbers (n + 1))
+each-more f n before after here pushed so_far is =
+    pushed ∙ ap (λ list. list ++ here ∷ []) so_far ∙ ap (λ x. map f (numbers n) ++ x ∷ []) is
+    ∙ sym (ap (λ (v : ℕ). map f (numbers v)) (add-one n) ∙ map-append f (numbers n) (n ∷ []))

@@ -1,7 +1,16 @@
-use Rattle.std.proofs.Common.{◌≡◌, length, ap, ◌∙◌, arith}
+use Rattle.std.proofs.Common.{◌≡◌, ◌+◌, length, sym, ap, ◌∙◌, subst, arith}
 use Rattle.org_tree.specs.Count.{count_below}
 use Rattle.org_tree.specs.Units.{is_under, size_of}
+use Rattle.org_tree.specs.Walk.{CountsUnder}
+use Rattle.org_tree.proofs.RowLemmas.{written}
 use Rattle.org_tree.proofs.walk.sizes.Goals as goal
+
+pub loop-unit-preserved : goal.loop-unit-preserved
+loop-unit-preserved c =
+    let sizes = c.loop-unit.sizes in
+    let same = c.add_line.ensures.same_length ∙ sym c.loop-unit.invariant.same_length in
+    subst (CountsUnder c.args.units.now (c.loop-unit.unit + 1))
+    (sym (written c.add_line.new.sizes sizes.items sizes.len same (let e = sizes.ok.0 in omega (arith, e)))) c.add_line.ensures
 
 pub returns : goal.returns
 unfolding size_of
