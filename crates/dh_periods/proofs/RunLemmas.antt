@@ -1,7 +1,7 @@
 -- Which places have a period, and the runs of periods that relative periods stand for.
 use Rattle.std.proofs.Common.{◌≡◌, ℕ, suc, ◌+◌, ◌-◌, ◌*◌, ◌/◌, ◌%◌, ◌<◌, ◌≤◌, true, List, [], ◌∷◌, ◌++◌, refl, sym, ap, subst, ◌∙◌, arith, Some, None, ℤ}
 use Rattle.std.proofs.Common.{pos, ◌+ℤ◌}
-use Rattle.std.specs.Prelude.{unsigned_abs}
+use Rattle.std.specs.Prelude.{unsigned_abs, Bool, false, Option, IfSome, if◌then◌else◌}
 use Rattle.std.proofs.lemmas.Bool.{and_from, le-leb, eq-eqb}
 use Rattle.dh_periods.specs.declared.kind.PeriodType.{PeriodType}
 use Rattle.dh_periods.specs.declared.kind.PeriodType.TheVariants.{Daily, Weekly, Monthly, BiMonthly, Quarterly, SixMonthly, SixMonthlyApril, Yearly}
@@ -10,11 +10,12 @@ use Rattle.dh_periods.specs.declared.kind.Shape.{Shape}
 use Rattle.dh_periods.specs.declared.kind.Shape.TheVariants.{Day, Week, Months}
 use Rattle.dh_periods.specs.declared.name.PeriodName.{PeriodName}
 use Rattle.dh_periods.specs.declared.windows.Stretch.{Stretch}
+use Rattle.dh_periods.specs.declared.windows.Stretch.TheVariants.{Before, OfYear}
 use Rattle.dh_periods.specs.Calendar.{month_length, days_before_month, month_place, first_week, weeks_in_year, month_with, year_with}
 use Rattle.dh_periods.specs.Types.{shape_of}
 use Rattle.dh_periods.specs.Days.{is_in_year_as, is_listed}
 use Rattle.dh_periods.specs.Places.{nth_as, nth_period, place_with}
-use Rattle.dh_periods.specs.Relative.{IsReach, IsYearRun, run_of, periods_on, relative_named, relative_of}
+use Rattle.dh_periods.specs.Relative.{IsReach, IsYearRun, HasReach, run_of, periods_on, single_named, several_named, some_or, relative_named, relative_of}
 use Rattle.dh_periods.proofs.CalendarLemmas.{days_before_month-next, days_before_month-zero, days_before_month-later, month_with-bounds, month_with-before}
 use Rattle.dh_periods.proofs.JiffLemmas.{days_before_month-end}
 use Rattle.dh_periods.proofs.ListedLemmas.{listed-from}
@@ -200,3 +201,48 @@ relative_of-some name day n r xs place named is =
 pub relative_of-none : (name : List ℕ) (day : ℤ) → None ≡ relative_named name → None ≡ relative_of name day
 unfolding relative_of
 relative_of-none name day none = rw (← none) refl
+
+-- ---- how far the named ones reach back
+
+record IsNear (found : Option Stretch) : Type 0 where
+  is : IfSome found HasReach
+
+nothing : IsNear None
+nothing = record { is = tt }
+
+named-if : (test : Bool) (found : Stretch) (rest : Option Stretch) → HasReach found → IsNear rest → IsNear (if test then Some found else rest)
+named-if true found rest here others = record { is = here }
+named-if false found rest here others = others
+
+one_of : (o p : Option Stretch) → IsNear o → IsNear p → IsNear (some_or o p)
+one_of (Some r) p h k = h
+one_of None p h k = k
+
+single-reach : (name : List ℕ) → IsNear (single_named name)
+single-reach name =
+    named-if _ (Before Daily 0 1) _ (omega arith, omega arith)
+    (named-if _ (Before Daily 1 1) _ (omega arith, omega arith)
+    (named-if _ (Before Weekly 0 1) _ (omega arith, omega arith)
+    (named-if _ (Before Weekly 1 1) _ (omega arith, omega arith)
+    (named-if _ (Before Monthly 0 1) _ (omega arith, omega arith)
+    (named-if _ (Before Monthly 1 1) _ (omega arith, omega arith)
+    (named-if _ (Before Quarterly 0 1) _ (omega arith, omega arith)
+    (named-if _ (Before Quarterly 1 1) _ (omega arith, omega arith)
+    (named-if _ (Before Yearly 0 1) _ (omega arith, omega arith)
+    (named-if _ (Before Yearly 1 1) _ (omega arith, omega arith) nothing)))))))))
+
+several-reach : (name : List ℕ) → IsNear (several_named name)
+several-reach name =
+    named-if _ (Before Monthly 3 3) _ (omega arith, omega arith)
+    (named-if _ (Before Monthly 6 6) _ (omega arith, omega arith)
+    (named-if _ (Before Monthly 12 12) _ (omega arith, omega arith)
+    (named-if _ (Before Quarterly 4 4) _ (omega arith, omega arith)
+    (named-if _ (Before Yearly 5 5) _ (omega arith, omega arith)
+    (named-if _ (OfYear Monthly 12) _ refl
+    (named-if _ (OfYear Quarterly 4) _ refl nothing))))))
+
+pub relative-reach : (name : List ℕ) (found : Stretch) → Some found ≡ relative_named name → HasReach found
+unfolding relative_named
+relative-reach name found is =
+    let near : IsNear (Some found) = subst IsNear (sym is) (one_of (single_named name) (several_named name) (single-reach name) (several-reach name)) in
+    near.is

@@ -1,5 +1,5 @@
 //! The days of periods, as the library of dates and weeks has them.
-ghost use Rattle.std.specs.Prelude.{◌≡◌, ◌≤◌, ◌+◌, Some, None, if◌then◌else◌};
+ghost use Rattle.std.specs.Prelude.{◌≡◌, ◌≤◌, ◌+◌, ◌-◌, ◌*◌, ◌/◌, Some, None, if◌then◌else◌, IsTrue};
 ghost use Rattle.dh_periods.specs.declared.kind.Shape.TheVariants.{Day, Week, Months};
 ghost use Rattle.dh_periods.specs.Calendar.{unix_day, days_before_month};
 ghost use Rattle.dh_periods.specs.Days.{is_in_year_as, is_listed};
@@ -72,6 +72,26 @@ fn span_of_week(name: PeriodName) -> Option<Span>
     }
 }
 
+/// Whether a year of periods of so many months has one of that name.
+fn is_in_year(count: u8, name: PeriodName) -> bool
+    requires { 1 ≤ count }
+    ensures value { result ≡ is_in_year_as (Months count 0) name }
+    ensures number { IsTrue result → (1 ≤ name.number) × (name.number ≤ 12 / count) }
+{
+    1 <= name.number && name.number <= 12 / count && name.day == 1
+}
+
+/// The months of a year before its period of that number, each of so many months.
+fn months_before(count: u8, number: u8) -> u8
+    requires count { 1 ≤ count }
+    requires number_from { 1 ≤ number }
+    requires number_to { number ≤ 12 / count }
+    ensures value { result ≡ count * (number - 1) }
+    ensures room { result + count ≤ 12 }
+{
+    count * (number - 1)
+}
+
 fn span_of_months(count: u8, opening: u8, name: PeriodName) -> Option<Span>
     requires year_from { 1900 ≤ name.year }
     requires year_to { name.year ≤ 2100 }
@@ -82,10 +102,11 @@ fn span_of_months(count: u8, opening: u8, name: PeriodName) -> Option<Span>
         ≡ (if is_in_year_as (Months count opening) name
         then Some (span_as (Months count opening) name) else None) }
 {
-    if name.number < 1 || name.number > 12 / count || name.day != 1 {
+    if !is_in_year(count, name) {
         return None;
     }
-    let place = 12 * (name.year - FIRST_YEAR) + u16::from(opening + count * (name.number - 1));
+    let place = 12 * (name.year - FIRST_YEAR)
+        + u16::from(opening + months_before(count, name.number));
     Some(Span {
         first: month_start(place),
         last: month_start(place + u16::from(count)) - 1,

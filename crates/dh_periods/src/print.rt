@@ -62,14 +62,16 @@ fn add_ending(text: &mut Vec<u8>, name: PeriodName) -> Result<(), Memory>
     ensures { OnOk result
         (text.new.items ≡ text.old.items ++ ending_as name.kind name.number name.day) }
 {
+    let one = one_digit(name.number);
+    let two = two_digits(name.number);
     match name.kind {
-        PeriodType::Daily => add_two(text, &two_digits(name.number), &two_digits(name.day)),
+        PeriodType::Daily => add_two(text, &two, &two_digits(name.day)),
         PeriodType::Weekly => add_week(text, name.number),
-        PeriodType::Monthly => add(text, &two_digits(name.number)),
-        PeriodType::BiMonthly => add_two(text, &two_digits(name.number), b"B"),
-        PeriodType::Quarterly => add_two(text, b"Q", &one_digit(name.number)),
-        PeriodType::SixMonthly => add_two(text, b"S", &one_digit(name.number)),
-        PeriodType::SixMonthlyApril => add_two(text, b"AprilS", &one_digit(name.number)),
+        PeriodType::Monthly => add(text, &two),
+        PeriodType::BiMonthly => add_two(text, &two, b"B"),
+        PeriodType::Quarterly => add_two(text, b"Q", &one),
+        PeriodType::SixMonthly => add_two(text, b"S", &one),
+        PeriodType::SixMonthlyApril => add_two(text, b"AprilS", &one),
         PeriodType::Yearly => Ok(()),
         PeriodType::FinancialApril => add(text, b"April"),
         PeriodType::FinancialJuly => add(text, b"July"),

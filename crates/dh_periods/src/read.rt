@@ -1,9 +1,16 @@
 //! Reading the text of a period.
-ghost use Rattle.std.specs.Prelude.{◌≡◌, ◌≤◌, ◌+◌, ◌-◌, Some, None, if◌then◌else◌};
+ghost use Rattle.std.specs.Prelude.{◌≡◌, ◌≤◌, ◌+◌, ◌-◌, Some, None, if◌then◌else◌, bytes_eq};
 ghost use Rattle.dh_periods.specs.Texts.{number_of_one, number_of_two, number_of_four, whole, numbered, dated, read_two, read_three, read_ending, read_name};
 
 use crate::kind::PeriodType;
 use crate::name::PeriodName;
+
+/// Whether the bytes are those of the text.
+pub(crate) fn is_text(bytes: &[u8], text: &str) -> bool
+    ensures { result ≡ bytes_eq bytes.now text.now }
+{
+    bytes == text.as_bytes()
+}
 
 fn number_of_one(byte: u8) -> Option<u8>
     ensures { result ≡ number_of_one byte }
@@ -105,23 +112,23 @@ fn read_ending(year: u16, rest: &[u8]) -> Option<PeriodName>
     if rest.len() == 2 {
         return read_two(year, rest[0], rest[1]);
     }
-    if rest == b"Oct".as_slice() {
+    if is_text(rest, "Oct") {
         return whole(PeriodType::FinancialOct, year);
     }
     if rest.len() == 3 {
         return read_three(year, rest[0], rest[1], rest[2]);
     }
-    if rest == b"July".as_slice() {
+    if is_text(rest, "July") {
         return whole(PeriodType::FinancialJuly, year);
     }
     if rest.len() == 4 {
         let month = number_of_two(rest[0], rest[1]);
         return dated(year, month, number_of_two(rest[2], rest[3]));
     }
-    if rest == b"April".as_slice() {
+    if is_text(rest, "April") {
         return whole(PeriodType::FinancialApril, year);
     }
-    if rest.len() == 7 && &rest[..6] == b"AprilS".as_slice() {
+    if rest.len() == 7 && is_text(&rest[..6], "AprilS") {
         return numbered(PeriodType::SixMonthlyApril, year, number_of_one(rest[6]));
     }
     None

@@ -1,5 +1,5 @@
 //! Relative periods.
-ghost use Rattle.std.specs.Prelude.{◌≡◌, ◌≤◌, ◌<◌, ◌+◌, ◌-◌, ◌*◌, ℕ, ◌≤ℤ◌, IsTrue, IfSome, IfOk, option_map};
+ghost use Rattle.std.specs.Prelude.{◌≡◌, ◌≤◌, ◌<◌, ◌+◌, ◌-◌, ◌*◌, ℕ, ◌≤ℤ◌, IsTrue, IfOk, option_map};
 ghost use Rattle.dh_base.specs.declared.limits.TheConstants.{FIRST_QUERY_DAY, LAST_QUERY_DAY};
 ghost use Rattle.dh_periods.specs.Days.{is_listed};
 ghost use Rattle.dh_periods.specs.Places.{nth_period, place_with};
@@ -11,6 +11,7 @@ use crate::days::FIRST_YEAR;
 use crate::kind::PeriodType;
 use crate::period::Period;
 use crate::places::{date_at, nth, place_of, place_with};
+use crate::read::is_text;
 use dh_base::memory::Memory;
 use std::alloc::Global;
 
@@ -37,68 +38,66 @@ fn before(kind: PeriodType, back: u32, count: u32) -> Option<Stretch>
 }
 
 fn single_named(name: &[u8]) -> Option<Stretch>
-    ensures value { result ≡ single_named name.now }
-    ensures reach { IfSome result HasReach }
+    ensures { result ≡ single_named name.now }
 {
-    if name == b"TODAY".as_slice() {
+    if is_text(name, "TODAY") {
         return before(PeriodType::Daily, 0, 1);
     }
-    if name == b"YESTERDAY".as_slice() {
+    if is_text(name, "YESTERDAY") {
         return before(PeriodType::Daily, 1, 1);
     }
-    if name == b"THIS_WEEK".as_slice() {
+    if is_text(name, "THIS_WEEK") {
         return before(PeriodType::Weekly, 0, 1);
     }
-    if name == b"LAST_WEEK".as_slice() {
+    if is_text(name, "LAST_WEEK") {
         return before(PeriodType::Weekly, 1, 1);
     }
-    if name == b"THIS_MONTH".as_slice() {
+    if is_text(name, "THIS_MONTH") {
         return before(PeriodType::Monthly, 0, 1);
     }
-    if name == b"LAST_MONTH".as_slice() {
+    if is_text(name, "LAST_MONTH") {
         return before(PeriodType::Monthly, 1, 1);
     }
-    if name == b"THIS_QUARTER".as_slice() {
+    if is_text(name, "THIS_QUARTER") {
         return before(PeriodType::Quarterly, 0, 1);
     }
-    if name == b"LAST_QUARTER".as_slice() {
+    if is_text(name, "LAST_QUARTER") {
         return before(PeriodType::Quarterly, 1, 1);
     }
-    if name == b"THIS_YEAR".as_slice() {
+    if is_text(name, "THIS_YEAR") {
         return before(PeriodType::Yearly, 0, 1);
     }
-    if name == b"LAST_YEAR".as_slice() {
+    if is_text(name, "LAST_YEAR") {
         return before(PeriodType::Yearly, 1, 1);
     }
     None
 }
 
 fn several_named(name: &[u8]) -> Option<Stretch>
-    ensures value { result ≡ several_named name.now }
-    ensures reach { IfSome result HasReach }
+    ensures { result ≡ several_named name.now }
 {
-    if name == b"LAST_3_MONTHS".as_slice() {
+    if is_text(name, "LAST_3_MONTHS") {
         return before(PeriodType::Monthly, 3, 3);
     }
-    if name == b"LAST_6_MONTHS".as_slice() {
+    if is_text(name, "LAST_6_MONTHS") {
         return before(PeriodType::Monthly, 6, 6);
     }
-    if name == b"LAST_12_MONTHS".as_slice() {
+    if is_text(name, "LAST_12_MONTHS") {
         return before(PeriodType::Monthly, 12, 12);
     }
-    if name == b"LAST_4_QUARTERS".as_slice() {
+    if is_text(name, "LAST_4_QUARTERS") {
         return before(PeriodType::Quarterly, 4, 4);
     }
-    if name == b"LAST_5_YEARS".as_slice() {
+    if is_text(name, "LAST_5_YEARS") {
         return before(PeriodType::Yearly, 5, 5);
     }
-    if name == b"MONTHS_THIS_YEAR".as_slice() {
+    if is_text(name, "MONTHS_THIS_YEAR") {
         return Some(Stretch::OfYear {
             kind: PeriodType::Monthly,
             count: 12,
         });
     }
-    if name == b"QUARTERS_THIS_YEAR".as_slice() {
+    if is_text(name, "QUARTERS_THIS_YEAR") {
         return Some(Stretch::OfYear {
             kind: PeriodType::Quarterly,
             count: 4,
@@ -110,8 +109,7 @@ fn several_named(name: &[u8]) -> Option<Stretch>
 /// What a name stands for.
 #[tactic(auto, unfolding(crate::specs::Relative::relative_named))]
 fn relative_named(name: &[u8]) -> Option<Stretch>
-    ensures value { result ≡ relative_named name.now }
-    ensures reach { IfSome result HasReach }
+    ensures { result ≡ relative_named name.now }
 {
     match single_named(name) {
         Some(relative) => Some(relative),

@@ -1,5 +1,4 @@
-use Rattle.std.proofs.Common.{◌≡◌, ◌∙◌, sym, true, rules, IsTrue}
-use Rattle.dh_periods.specs.declared.name.PeriodName.{PeriodName}
+use Rattle.std.proofs.Common.{◌∙◌, sym, rules}
 use Rattle.dh_periods.proofs.OrderLemmas.{derived_order-is, period_order-same}
 use Rattle.dh_periods.proofs.period.Period.order.Goals as goal
 
