@@ -1,3 +1,4 @@
 pub mod MeantLemmas
 pub mod BytesLemmas
 pub mod LookLemmas
+pub mod FormLemmas
