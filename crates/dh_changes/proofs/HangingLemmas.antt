@@ -1,7 +1,7 @@
 -- Identifiers that hang on another, found among those noted under it.
 use Rattle.std.proofs.Common.{◌≡◌, ◌∙◌, ◌+◌, ◌<◌, ℕ, Bool, true, false, cond, List, [], ◌∷◌, ◌++◌, ◌||◌, Option, Some, None, length, take, get_or, refl, sym}
-use Rattle.std.proofs.Common.{ap}
-use Rattle.std.proofs.lemmas.List.{take_more}
+use Rattle.std.proofs.Common.{◌≤◌, ap}
+use Rattle.std.proofs.lemmas.List.{take_more, take_all}
 use Rattle.std.specs.List.{filter, list_any, dedup, dedup_from}
 use Rattle.std.specs.HashMap.{HashMap}
 use Rattle.std.specs.Cmp.Lexicographic.{same_text}
@@ -22,6 +22,10 @@ pub filter-more : {X : Type 0} (p : X → Bool) (xs found more : List X) (i : �
 filter-more p xs found more i x b within is so_far keep next =
     next ∙ ap (λ l. l ++ cond b (x ∷ []) []) so_far ∙ ap (λ t. filter p (take i xs) ++ cond t (x ∷ []) []) keep ∙ sym (filter-end p (take i xs) x)
     ∙ ap (filter p) (sym (take_more xs i x within ∙ ap (λ y. take i xs ++ y ∷ []) (sym is)))
+
+-- all items were looked at
+pub filter-all : {X : Type 0} (p : X → Bool) (xs found : List X) (i : ℕ) → length xs ≤ i → found ≡ filter p (take i xs) → found ≡ filter p xs
+filter-all p xs found i all so_far = so_far ∙ ap (filter p) (take_all i xs all)
 
 either-again : (a r : Bool) → (a || r) ≡ (a || (a || r))
 either-again true r = refl

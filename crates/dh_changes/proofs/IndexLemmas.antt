@@ -1,6 +1,7 @@
 -- An index that takes in what was said of its keys.
-use Rattle.std.proofs.Common.{◌≡◌, ◌∙◌, ℕ, Bool, true, false, cond, List, [], ◌∷◌, ◌++◌, Option, Some, None, refl, sym, ap, subst, reverse}
-use Rattle.std.proofs.lemmas.List.{reverse-append}
+use Rattle.std.proofs.Common.{◌≡◌, ◌∙◌, ◌+◌, ◌<◌, ℕ, Bool, true, false, cond, List, [], ◌∷◌, ◌++◌, Option, Some, None, refl, sym, ap, subst, reverse}
+use Rattle.std.proofs.Common.{length, take, get_or}
+use Rattle.std.proofs.lemmas.List.{reverse-append, take_more}
 use Rattle.std.specs.Option.{unwrap_or, is_some, option_or}
 use Rattle.std.specs.HashMap.{HashMap, get}
 use Rattle.std.specs.Cmp.Lexicographic.{same_text}
@@ -11,7 +12,8 @@ use Rattle.dh_changes.specs.declared.index.Index.{Index}
 use Rattle.dh_changes.specs.Said.{same_id, last_said, of_value, of_event, of_enrollment, of_entity, of_approval, of_registration}
 use Rattle.dh_changes.specs.Keys.{same_value_key, same_approval_key, same_reg_key}
 use Rattle.dh_changes.specs.Maps.{is_noted}
-use Rattle.dh_changes.specs.Holds.{Held, contents, HoldSame, IsAfter, value_held, entity_held, approval_held, registration_held, event_held, enrollment_held}
+use Rattle.std.specs.Map.{lookup}
+use Rattle.dh_changes.specs.Holds.{Held, contents, empty, HoldSame, IsAfter, value_held, entity_held, approval_held, registration_held, event_held, enrollment_held}
 use Rattle.dh_changes.specs.Hanging.{event_parent, enrollment_parent}
 use Rattle.dh_changes.specs.Index.{is_linked, IsLinked, IsReady, AllReady, Keeps, Puts}
 
@@ -79,6 +81,25 @@ linked-same old new keeps same linked = record {
   enrollments = λ id. ap (λ e. is_linked new.enrollments_of (enrollment_parent e) id) (same.enrollment id)
       ∙ linked-stays old.enrollments_of new.enrollments_of keeps.enrollments_of (enrollment_parent (enrollment_held (contents old) id)) id
       (linked.enrollments id);
+}
+
+-- ---- an index that holds nothing
+
+pub empty-holds : (h : Held) → h.values ≡ [] → h.events ≡ [] → h.enrollments ≡ [] → h.entities ≡ [] → h.approvals ≡ [] → h.registrations ≡ []
+    → HoldSame h [] empty []
+empty-holds h values events enrollments entities approvals registrations = record {
+  value = λ q. ap (λ es. unwrap_or (lookup (same_value_key q) es) None) values;
+  event = λ q. ap (λ es. unwrap_or (lookup (same_id q) es) None) events;
+  enrollment = λ q. ap (λ es. unwrap_or (lookup (same_id q) es) None) enrollments;
+  entity = λ q. ap (λ es. unwrap_or (lookup (same_id q) es) None) entities;
+  approval = λ q. ap (λ es. unwrap_or (lookup (same_approval_key q) es) state.None) approvals;
+  registration = λ q. ap (λ es. unwrap_or (lookup (same_reg_key q) es) None) registrations;
+}
+
+pub empty-linked : (i : Index) → HoldSame (contents i) [] empty [] → IsLinked i
+empty-linked i nothing = record {
+  events = λ id. ap (λ e. is_linked i.events_of (event_parent e) id) (nothing.event id);
+  enrollments = λ id. ap (λ e. is_linked i.enrollments_of (enrollment_parent e) id) (nothing.enrollment id);
 }
 
 -- ---- one thing is put
@@ -279,6 +300,19 @@ same-through a xs b ys c zs one two = record {
   approval = λ q. one.approval q ∙ two.approval q;
   registration = λ q. one.registration q ∙ two.registration q;
 }
+
+-- ---- one more of what waits is made ready
+
+pub ready-more : (start old new : Index) (xs : List Said) (i : ℕ) (s : Said) → i < length xs → s ≡ get_or xs i s
+    → HoldSame (contents new) [] (contents old) [] → Keeps old new → IsReady new s
+    → HoldSame (contents old) [] (contents start) [] → IsLinked old → AllReady old (take i xs)
+    → HoldSame (contents new) [] (contents start) [] × IsLinked new × AllReady new (take (i + 1) xs)
+ready-more start old new xs i s within at same keeps ready held linked all = (
+  same-through (contents new) [] (contents old) [] (contents start) [] same held,
+  linked-same old new keeps same linked,
+  subst (AllReady new) (ap (λ x. take i xs ++ x ∷ []) at ∙ sym (take_more xs i s within))
+      (all_ready-more new (take i xs) s (all_ready-stays old new keeps (take i xs) all) ready),
+)
 
 -- ---- the last of what waits, which stands first once the list is turned
 

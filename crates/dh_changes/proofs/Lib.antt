@@ -1,4 +1,5 @@
 pub mod KeyLemmas
+pub mod LoopLemmas
 pub mod MapLemmas
 pub mod IndexLemmas
 pub mod HangingLemmas

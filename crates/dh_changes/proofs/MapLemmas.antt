@@ -1,13 +1,40 @@
 -- Children noted under a parent, in a map that grows.
 use Rattle.std.proofs.Common.{◌≡◌, ◌∙◌, ℕ, Bool, true, false, cond, List, [], ◌∷◌, ◌++◌, ◌||◌, Option, Some, Result, Ok, Err, OnOk, OnErr, refl, sym, ap}
 use Rattle.std.proofs.lemmas.List.Folds.{list_any-append}
-use Rattle.std.specs.Option.{unwrap_or}
+use Rattle.std.specs.Option.{unwrap_or, is_some}
 use Rattle.std.specs.List.{list_any}
 use Rattle.std.specs.Cmp.Lexicographic.{same_text, nat_list_eq_equiv}
+use Rattle.std.specs.Map.{lookup}
 use Rattle.dh_changes.specs.Said.{same_id}
 
 abbrev pub noted_by : (List ℕ → Option (List (List ℕ))) → List ℕ → List ℕ → Bool
 noted_by children parent child = list_any (λ other. same_id child other) (unwrap_or (children parent) [])
+
+-- a key that is entered holds what it held, or nothing; what else there was stays
+pub entered : {K V : Type 0} (same : K → K → Bool) (nothing : V) (old new : K → Option V) (key : K)
+    → ((q : K) → same key q ≡ true → old key ≡ old q)
+    → ((q : K) → new q ≡ cond (same key q) (Some (unwrap_or (old key) nothing)) (old q))
+    → (q : K) → (unwrap_or (new q) nothing ≡ unwrap_or (old q) nothing) × (is_some (old q) ≡ true → is_some (new q) ≡ true)
+entered {V} same nothing old new key alike update q =
+    elim (same key q) as (λ b. same key q ≡ b
+    → (unwrap_or (new q) nothing ≡ unwrap_or (old q) nothing) × (is_some (old q) ≡ true → is_some (new q) ≡ true)) [
+      | true ↦ λ hit.
+          let is : new q ≡ Some (unwrap_or (old key) nothing) = update q ∙ ap (λ b. cond b (Some (unwrap_or (old key) nothing)) (old q)) hit in
+          (ap (λ o. unwrap_or o nothing) is ∙ ap (λ o. unwrap_or o nothing) (alike q hit), λ had. ap is_some is)
+      | false ↦ λ miss.
+          let is : new q ≡ old q = update q ∙ ap (λ b. cond b (Some (unwrap_or (old key) nothing)) (old q)) miss in
+          (ap (λ o. unwrap_or o nothing) is, λ had. ap is_some is ∙ had)
+    ] refl
+
+-- the same of the entries of a map
+pub grows-entered : {K V : Type 0} (same : K → K → Bool) (nothing : V) (old new : List (K × V)) (key : K)
+    → ((q : K) → same key q ≡ true → lookup (same key) old ≡ lookup (same q) old)
+    → ((q : K) → lookup (same q) new ≡ cond (same key q) (Some (unwrap_or (lookup (same key) old) nothing)) (lookup (same q) old))
+    → ((q : K) → unwrap_or (lookup (same q) new) nothing ≡ unwrap_or (lookup (same q) old) nothing)
+    × ((q : K) → is_some (lookup (same q) old) ≡ true → is_some (lookup (same q) new) ≡ true)
+grows-entered same nothing old new key alike update =
+    let each = entered same nothing (λ q. lookup (same q) old) (λ q. lookup (same q) new) key alike update in
+    (λ q. (each q).0, λ q. (each q).1)
 
 or_left : (a b : Bool) → a ≡ true → (a || b) ≡ true
 or_left a b is = ap (λ t. t || b) is

@@ -26,10 +26,8 @@ pub fn put<K: Eq + Hash + Copy, V: Drop>(map: &mut HashMap<K, V>, key: K, value:
     requires { is_some (get K.eq map.old key) ≡ true }
     ensures { Updates K.eq map.old map.new key (Some value) }
 {
-    match map.insert(key, value) {
-        Ok(_) => {}
-        Err(_) => {}
-    }
+    // At a key that is there it can't fail.
+    let _ = map.insert(key, value);
 }
 
 /// What a key holds, lent.

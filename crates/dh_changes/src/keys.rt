@@ -23,7 +23,7 @@ pub struct ValueKey {
     pub attribute: Uid,
 }
 
-// Each identifier is fed as one text, where a derived hash would feed its bytes one by one. Of a period its last day tells enough.
+// Of a period its last day tells enough, where a derived hash would feed all of its fields.
 impl Hash for ValueKey {
     ghost use Rattle.dh_changes.specs.Keys.{value_key_fed, same_value_keys};
 
@@ -32,11 +32,11 @@ impl Hash for ValueKey {
     ghost respects_eq = { same_value_keys.fed };
 
     fn hash<H: Hasher>(&self, state: &mut H) {
-        state.write(&self.element.bytes());
+        self.element.hash(state);
         state.write_i32(self.period.last());
-        state.write(&self.unit.bytes());
-        state.write(&self.combo.bytes());
-        state.write(&self.attribute.bytes());
+        self.unit.hash(state);
+        self.combo.hash(state);
+        self.attribute.hash(state);
     }
 }
 
@@ -52,7 +52,7 @@ pub struct ApprovalKey {
 }
 
 /// What a complete data set registration is of.
-#[derive(Clone, Copy, PartialEq, Eq, PartialOrd, Ord, Hash)]
+#[derive(Clone, Copy, PartialEq, Eq, Hash)]
 pub struct RegKey {
     /// The data set.
     pub set: Uid,

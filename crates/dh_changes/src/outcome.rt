@@ -4,7 +4,7 @@ use dh_base::items::Items;
 use dh_base::uid::Uid;
 
 /// Which objects an import may make, change or take away.
-#[derive(Clone, Copy, PartialEq, Eq)]
+#[derive(Clone, Copy)]
 pub enum ImportStrategy {
     Create,
     Update,
@@ -13,14 +13,14 @@ pub enum ImportStrategy {
 }
 
 /// Who asks for a change: a user of the metadata, by number, or the loader, who may do all.
-#[derive(Clone, Copy, PartialEq, Eq)]
+#[derive(Clone, Copy)]
 pub enum Who {
     User(u32),
     Loader,
 }
 
 /// Why an object of an import isn't taken.
-#[derive(Clone, Copy, PartialEq, Eq)]
+#[derive(Clone, Copy)]
 pub struct Conflict {
     pub code: Code,
     /// The place of the object in its list, counted from 0.

@@ -12,7 +12,7 @@ use dh_base::uid::Uid;
 use std::alloc::Global;
 
 /// How far an approval has come.
-#[derive(Clone, Copy, PartialEq, Eq)]
+#[derive(Clone, Copy)]
 pub enum ApprovalState {
     None,
     Approved,
@@ -73,10 +73,18 @@ pub fn said_by(alloc: Global, write: &Write) -> Result<Said, Memory>
             id: *id,
             entity: None,
         }),
-        Write::Approve(key) => Ok(approval(key, ApprovalState::Approved)),
-        Write::Unapprove(key) => Ok(approval(key, ApprovalState::None)),
-        Write::Accept(key) => Ok(approval(key, ApprovalState::Accepted)),
-        Write::Unaccept(key) => Ok(approval(key, ApprovalState::Approved)),
+        Write::Approve(key) | Write::Unaccept(key) => Ok(Said::Approval {
+            key: *key,
+            state: ApprovalState::Approved,
+        }),
+        Write::Unapprove(key) => Ok(Said::Approval {
+            key: *key,
+            state: ApprovalState::None,
+        }),
+        Write::Accept(key) => Ok(Said::Approval {
+            key: *key,
+            state: ApprovalState::Accepted,
+        }),
         Write::Complete { key, day } => Ok(Said::Registration {
             key: *key,
             day: Some(*day),
@@ -86,12 +94,6 @@ pub fn said_by(alloc: Global, write: &Write) -> Result<Said, Memory>
             day: None,
         }),
     }
-}
-
-fn approval(key: &ApprovalKey, state: ApprovalState) -> Said
-    ensures { result ≡ said.Approval key.now state }
-{
-    Said::Approval { key: *key, state }
 }
 
 fn said_of_value(alloc: Global, key: &ValueKey, value: &[u8]) -> Result<Said, Memory>

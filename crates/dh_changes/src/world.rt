@@ -58,28 +58,28 @@ fn empty_index(alloc: Global) -> Index
     }
 }
 
-// Makes room for one more write.
-fn prepare(
-    alloc: Global,
-    index: &mut Index,
-    waiting: &mut Vec<Said>,
-    write: &Write,
-) -> Result<(), Memory>
-    requires linked { IsLinked index.old }
-    requires ready { AllReady index.old waiting.old.items }
+// Puts what each of the writes says into an empty list.
+fn say_all(alloc: Global, waiting: &mut Vec<Said>, writes: &[Write]) -> Result<(), Memory>
+    requires { waiting.old.items ≡ [] }
+    ensures { OnOk result (waiting.new.items ≡ map says.said_by writes.now) }
+{
+    for write in writes {
+        waiting.push(said_by(alloc, write)?)?;
+    }
+    Ok(())
+}
+
+// Makes room for all that waits.
+fn make_all_ready(alloc: Global, index: &mut Index, waiting: &[Said]) -> Result<(), Memory>
+    requires { IsLinked index.old }
     ensures same { HoldSame (contents index.new) [] (contents index.old) [] }
     ensures linked { IsLinked index.new }
-    ensures ready { AllReady index.new waiting.new.items }
-    ensures ok { OnOk result (waiting.new.items ≡ waiting.old.items ++ says.said_by write.now ∷ []) }
+    ensures ready { OnOk result (AllReady index.new waiting.now) }
 {
-    let said = said_by(alloc, write)?;
-    match make_ready(alloc, index, &said) {
-        Ok(()) => Ok(waiting.push(said)?),
-        Err(fault) => {
-            drop(said);
-            Err(fault)
-        }
+    for said in waiting {
+        make_ready(alloc, index, said)?;
     }
+    Ok(())
 }
 
 fn prepare_all(
@@ -92,13 +92,11 @@ fn prepare_all(
     requires empty { waiting.old.items ≡ [] }
     ensures same { HoldSame (contents index.new) [] (contents index.old) [] }
     ensures linked { IsLinked index.new }
-    ensures ready { AllReady index.new waiting.new.items }
+    ensures ready { OnOk result (AllReady index.new waiting.new.items) }
     ensures ok { OnOk result (waiting.new.items ≡ map says.said_by writes.now) }
 {
-    for write in writes {
-        prepare(alloc, index, waiting, write)?;
-    }
-    Ok(())
+    say_all(alloc, waiting, writes)?;
+    make_all_ready(alloc, index, waiting)
 }
 
 fn reserve_in(
