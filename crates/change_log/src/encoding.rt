@@ -74,15 +74,14 @@ fn put_fields(alloc: Global, out: &mut Vec<u8>, write: &Write) -> Result<(), Mem
         Write::ValueSet { key, value } => put_value_set(alloc, out, key, value.as_slice()),
         Write::ValueCleared { key } => put_value_key(alloc, out, key),
         Write::EventWritten(event) => put_event(out, event.get()),
-        Write::EventDeleted(id) => put_id(out, *id),
         Write::EnrollmentWritten(enrollment) => put_enrollment(out, enrollment.get()),
-        Write::EnrollmentDeleted(id) => put_id(out, *id),
         Write::EntityWritten(entity) => put_entity(out, entity.get()),
-        Write::EntityDeleted(id) => put_id(out, *id),
-        Write::Approve(key) => put_approval_key(alloc, out, key),
-        Write::Unapprove(key) => put_approval_key(alloc, out, key),
-        Write::Accept(key) => put_approval_key(alloc, out, key),
-        Write::Unaccept(key) => put_approval_key(alloc, out, key),
+        Write::EventDeleted(id) | Write::EnrollmentDeleted(id) | Write::EntityDeleted(id) => {
+            put_id(out, *id)
+        }
+        Write::Approve(key) | Write::Unapprove(key) | Write::Accept(key) | Write::Unaccept(key) => {
+            put_approval_key(alloc, out, key)
+        }
         Write::Complete { key, day } => put_complete(alloc, out, key, *day),
         Write::Uncomplete { key } => put_reg_key(alloc, out, key),
     }

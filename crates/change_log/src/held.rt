@@ -3,7 +3,7 @@ ghost use Rattle.std.specs.Prelude.{◌≡◌, ◌≤◌, ◌<◌, ◌+◌, ◌+
 ghost use Rattle.std.specs.Arc.{arc_value};
 ghost use Rattle.std.specs.List.{All};
 ghost use Rattle.change_log.specs.Bytes.{change_bytes};
-ghost use Rattle.change_log.specs.Forms.{WriteFits};
+ghost use Rattle.change_log.specs.Forms.{WriteFits, ChangeFits};
 ghost use Rattle.change_log.specs.Log.{over, passed, Appends, AreLimits};
 ghost use Rattle.change_log.specs.Held.{changes_of, seen, IsHeld, IsKept, HasRoom, Keeps};
 ghost use Rattle.dh_base.specs.declared.limits.TheConstants.{MOST_LOG_BYTES};
@@ -122,6 +122,19 @@ fn keep<K: Keeper>(alloc: Global, keeper: &mut K, at: u64, bytes: &[u8]) -> Resu
     }
 }
 
+// Makes room for a change, and its bytes.
+fn prepare(alloc: Global, held: &mut Held, change: &Change, number: u64) -> Result<Vec<u8>, Memory>
+    requires held { IsHeld held.old }
+    requires fits { ChangeFits number change.now }
+    ensures held { IsHeld held.new }
+    ensures same { held.new.changes.items ≡ held.old.changes.items }
+    ensures room { OnOk result (HasRoom held.new change.now) }
+    ensures bytes { IfOk result (λ bytes. bytes.items ≡ change_bytes number change.now) }
+{
+    make_room(alloc, held, change)?;
+    encode(alloc, change, number)
+}
+
 // Brings a change with which the log passes no limit. All memory is taken before the keeper is
 // called.
 fn store<K: Keeper>(
@@ -141,8 +154,7 @@ fn store<K: Keeper>(
 {
     log_grows();
     let number = count_of(held) + 1;
-    make_room(alloc, held, &change)?;
-    let bytes = encode(alloc, &change, number)?;
+    let bytes = prepare(alloc, held, &change, number)?;
     let entry = share(alloc, change)?;
     keep(alloc, keeper, held.bytes, &bytes)?;
     put_last(held, entry, bytes.len() as u64);

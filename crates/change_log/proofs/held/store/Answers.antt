@@ -8,8 +8,8 @@ use Rattle.change_log.specs.Held.{changes_of}
 use Rattle.change_log.proofs.LogLemmas.{within-limits, change-length, grown-is}
 use Rattle.change_log.proofs.held.store.Goals as goal
 
-pub encode-requires : goal.encode-requires
-encode-requires g c =
+pub prepare-requires-clause-fits : goal.prepare-requires-clause-fits
+prepare-requires-clause-fits g c =
     let within = within-limits c.args.limits.now (changes_of c.args.held.now) c.args.change c.requires.kept.whole.limits c.requires.within in
     let size = change-length (length (changes_of c.args.held.now) + 1) c.args.change in
     record {
@@ -28,28 +28,28 @@ pub keep-requires-clause-room : goal.keep-requires-clause-room
 keep-requires-clause-room g c =
     let room = within-limits c.args.limits.now (changes_of c.args.held.now) c.args.change c.requires.kept.whole.limits c.requires.within in
     let are = ap length (c.deref.ensures.value ∙ c.in_ok-bytes.ensures.bytes) in
-    let same = ap (λ x. length (log_bytes (map arc_value x))) c.make_room.ensures.same in
+    let same = ap (λ x. length (log_bytes (map arc_value x))) c.prepare.ensures.same in
     let number = ap (λ n. length (change_bytes (n + 1) c.args.change)) c.count_of-number.ensures in
-    omega (arith, room.1, are, same, number, c.make_room.ensures.held.bytes)
+    omega (arith, room.1, are, same, number, c.prepare.ensures.held.bytes)
 
 pub put_last-requires-clause-writes : goal.put_last-requires-clause-writes
 put_last-requires-clause-writes g c =
     let room = within-limits c.args.limits.now (changes_of c.args.held.now) c.args.change c.requires.kept.whole.limits c.requires.within in
-    let same = ap (λ x. length (writes_of (map arc_value x))) c.make_room.ensures.same in
+    let same = ap (λ x. length (writes_of (map arc_value x))) c.prepare.ensures.same in
     let is = ap (λ (x : Change). length x.writes) c.in_ok-entry.ensures in
-    omega (arith, room.0, same, is, c.make_room.ensures.held.writes)
+    omega (arith, room.0, same, is, c.prepare.ensures.held.writes)
 
 pub put_last-requires-clause-bytes : goal.put_last-requires-clause-bytes
 put_last-requires-clause-bytes g c =
     let room = within-limits c.args.limits.now (changes_of c.args.held.now) c.args.change c.requires.kept.whole.limits c.requires.within in
     let are = ap length (c.deref.ensures.value ∙ c.in_ok-bytes.ensures.bytes) in
-    let same = ap (λ x. length (log_bytes (map arc_value x))) c.make_room.ensures.same in
+    let same = ap (λ x. length (log_bytes (map arc_value x))) c.prepare.ensures.same in
     let number = ap (λ n. length (change_bytes (n + 1) c.args.change)) c.count_of-number.ensures in
-    omega (arith, room.1, are, same, number, c.make_room.ensures.held.bytes, c.len.ensures, c.deref.ensures.len)
+    omega (arith, room.1, are, same, number, c.prepare.ensures.held.bytes, c.len.ensures, c.deref.ensures.len)
 
 pub returns-clause-appends : goal.returns-clause-appends
 returns-clause-appends g c =
-    let last = c.put_last.ensures.last ∙ ap (λ x. map arc_value x ++ arc_value c.in_ok-entry.entry ∷ []) c.make_room.ensures.same
+    let last = c.put_last.ensures.last ∙ ap (λ x. map arc_value x ++ arc_value c.in_ok-entry.entry ∷ []) c.prepare.ensures.same
     ∙ ap (λ y. changes_of c.args.held.now ++ y ∷ []) c.in_ok-entry.ensures in
     let are = c.deref.ensures.value ∙ c.in_ok-bytes.ensures.bytes ∙ ap (λ n. change_bytes (n + 1) c.args.change) c.count_of-number.ensures in (
       c.requires.within,

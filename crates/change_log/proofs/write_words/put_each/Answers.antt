@@ -1,4 +1,6 @@
-use Rattle.std.proofs.Common.{subst}
+use Rattle.std.proofs.Common.{◌++◌, ◌∙◌, ap, subst}
+use Rattle.std.specs.List.{flat_map, All}
+use Rattle.std.proofs.lemmas.List.{take_all}
 use Rattle.std.proofs.lemmas.List.Elements.{All-more}
 use Rattle.change_log.specs.Words.{id_text, IsIdText}
 use Rattle.change_log.proofs.Growing.{grown}
@@ -17,3 +19,11 @@ loop-pair-preserved c = record {
       All-more IsIdText c.args.values.now c.loop-pair.pair-index c.pair-item.result c.loop-pair-test.true c.loop-pair.invariant.valid
       (subst IsIdText c.pair-item.is c.in_ok-put_id_text.ensures.valid);
 }
+
+pub returns-clause-bytes : goal.returns-clause-bytes
+returns-clause-bytes c =
+    c.loop-pair.invariant.bytes
+    ∙ ap (λ xs. c.args.out.now.items ++ flat_map id_text xs) (take_all c.loop-pair.pair-index c.args.values.now c.loop-pair-test.false)
+
+pub returns-clause-valid : goal.returns-clause-valid
+returns-clause-valid c = subst (All IsIdText) (take_all c.loop-pair.pair-index c.args.values.now c.loop-pair-test.false) c.loop-pair.invariant.valid
