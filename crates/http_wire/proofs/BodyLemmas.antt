@@ -1,7 +1,7 @@
 -- Bodies, as their bytes come.
 use Rattle.std.proofs.Common.{◌≡◌, ◌∙◌, ℕ, ◌+◌, ◌-◌, ◌<◌, ◌≤◌, true, false, cond, List, [], ◌∷◌, ◌++◌, length, drop, take, Option, Ok, Err, refl, sym, ap}
-use Rattle.std.proofs.Common.{subst, arith, nat_le, length-append}
-use Rattle.std.specs.Prelude.{⊤}
+use Rattle.std.proofs.Common.{subst, arith, nat_le, length-append, Bool, Result, ◌⊎◌, inl, inr}
+use Rattle.std.specs.Prelude.{⊤, IfOk, IfErr, OnOk, OnErr}
 use Rattle.std.proofs.lemmas.List.{drop-append-le, length-drop}
 use Rattle.std.proofs.Math.Seq.{drop-append_seam}
 use Rattle.std.proofs.lemmas.Bool.Decides.{nat_tests}
@@ -13,9 +13,7 @@ use Rattle.http_wire.specs.Chunks as body
 use Rattle.http_wire.specs.declared.chunks.Chunks.{Chunks}
 use Rattle.http_wire.specs.declared.chunks.Step.{Step}
 use Rattle.http_wire.specs.declared.chunks.Step.TheVariants as stepping
-use Rattle.http_wire.specs.Fed.{FedTo}
-use Rattle.http_wire.specs.declared.chunks.Fed.{Fed}
-use Rattle.http_wire.specs.declared.chunks.Fed.TheVariants as feeding
+use Rattle.http_wire.specs.Fed.{ComesTo}
 use Rattle.http_wire.proofs.ChunkLemmas.{run_append}
 use Rattle.http_wire.specs.declared.plan.Plan.TheVariants.{Sized, Chunked}
 use Rattle.dh_base.specs.declared.codes.Code.TheVariants.{F3}
@@ -148,6 +146,16 @@ reads_no_memory {held = held} end count gains same = record {
   paced = paced_sized held gains.taken end count gains.paced;
 }
 
+-- the body was taken from the bytes held, unless memory ran out
+pub reads_taken : {left left' : Option (List ℕ)} {talk talk' : Option Talk} {held held1 held' : List ℕ} {read read' : ℕ} (end count : ℕ)
+    (result : Result (List ℕ) WireFault)
+    → Gathers (IsShort end count) left left' talk talk' held held1 read read' → end ≤ length held1 → count ≤ length held1 - end
+    → IfOk result (λ content. content ≡ take count (drop end held1)) → OnOk result (held' ≡ drop (end + count) held1) → OnErr result (held' ≡ held1)
+    → IfErr result (λ e. e ≡ fault.Memory) → ReadsBody left left' talk talk' held held' read read' end (Sized count) result
+reads_taken end count (Ok content) gains within enough same rest kept memory = reads_sized end count content gains within enough same rest
+reads_taken {left} {left'} {talk} {talk'} {held} {held1} {held'} {read} {read'} end count (Err e) gains within enough same rest kept memory =
+    subst (λ x. ReadsBody left left' talk talk' held held' read read' end (Sized count) (Err x)) (sym memory) (reads_no_memory end count gains kept)
+
 pub reads_chunked : {left left' : Option (List ℕ)} {talk talk' : Option Talk} {held held1 held' : List ℕ} {read read' : ℕ} (end used : ℕ) (content : List ℕ)
     → Gathers (IsWaiting end Chunked) left left' talk talk' held held1 read read' → chunked (drop end held1) ≡ body.whole content used
     → held' ≡ drop (end + used) held1
@@ -160,10 +168,12 @@ reads_chunked {left} {left'} {talk} {talk'} {held} {held1} {held'} {read} {read'
   paced = gains.paced;
 }
 
-pub reads_chunked_stop : {left left' : Option (List ℕ)} {talk talk' : Option Talk} {held held1 : List ℕ} {read read' : ℕ} (end : ℕ) (e : WireFault)
-    → Gathers (IsWaiting end Chunked) left left' talk talk' held held1 read read' → GivesChunks (drop end held1) (IsSpent left' read') (Err e)
+pub reads_chunked_stop : {left left' : Option (List ℕ)} {talk talk' : Option Talk} {held held1 : List ℕ} {read read' : ℕ} (end : ℕ)
+    (e : WireFault) (chunks : Chunks)
+    → Gathers (IsWaiting end Chunked) left left' talk talk' held held1 read read'
+    → GivesChunks (drop end held1) (IsSpent left' read') chunks (Err e)
     → ReadsBody left left' talk talk' held held1 read read' end Chunked (Err e)
-reads_chunked_stop {left} {left'} {talk} {talk'} {held} {held1} {read} {read'} end e gains gives = record {
+reads_chunked_stop {left} {left'} {talk} {talk'} {held} {held1} {read} {read'} end e chunks gains gives = record {
   taken = gains.taken;
   consumed = gains.consumed;
   counted = gains.counted;
@@ -171,7 +181,8 @@ reads_chunked_stop {left} {left'} {talk} {talk'} {held} {held1} {read} {read'} e
   paced = gains.paced;
 }
   where
-    at_stop : (e : WireFault) → GivesChunks (drop end held1) (IsSpent left' read') (Err e) → GivesBody held1 held1 end Chunked (IsSpent left' read') (Err e)
+    at_stop : (e : WireFault) → GivesChunks (drop end held1) (IsSpent left' read') chunks (Err e)
+        → GivesBody held1 held1 end Chunked (IsSpent left' read') (Err e)
     at_stop (fault.Refused code) refused = ap by_chunks refused
     at_stop fault.Truncated still = still
     at_stop fault.ReadFault still = (still, refl)
@@ -179,8 +190,32 @@ reads_chunked_stop {left} {left'} {talk} {talk'} {held} {held1} {read} {read'} e
 
 -- ---- the loop over the pieces of a body in chunks
 
-pub fed_more : (outcome : Outcome) (chunks : Chunks) (fed : Fed) → fed ≡ feeding.More → FedTo outcome chunks fed → outcome ≡ open_at chunks
-fed_more outcome chunks fed more is = subst (λ f. FedTo outcome chunks f) more is
+-- the body goes on
+pub fed_open : (outcome : Outcome) (chunks : Chunks) (is_whole : Bool) → is_whole ≡ false → ComesTo outcome chunks (Ok is_whole) → outcome ≡ open_at chunks
+fed_open outcome chunks is_whole still is = subst (λ w. ComesTo outcome chunks (Ok w)) still is
+
+-- the body is whole
+pub fed_whole : (outcome : Outcome) (chunks : Chunks) (is_whole : Bool) → is_whole ≡ true → ComesTo outcome chunks (Ok is_whole)
+    → outcome ≡ body.whole chunks.content chunks.seen
+fed_whole outcome chunks is_whole whole is = subst (λ w. ComesTo outcome chunks (Ok w)) whole is
+
+-- the body is refused, or memory ran out
+pub gives_refused : (bytes : List ℕ) (Spent : Type 0) (chunks : Chunks) (outcome : Outcome) (e : WireFault) → chunked bytes ≡ outcome
+    → ComesTo outcome chunks (Err e) → GivesChunks bytes Spent chunks (Err e)
+gives_refused bytes Spent chunks outcome (fault.Refused code) runs is = runs ∙ is
+gives_refused bytes Spent chunks outcome fault.Truncated runs is = absurd is
+gives_refused bytes Spent chunks outcome fault.ReadFault runs is = absurd is
+gives_refused bytes Spent chunks outcome fault.Memory runs is = tt
+
+pub refused_unread : (chunks : Chunks) (outcome : Outcome) (e : WireFault) → e ≡ fault.ReadFault → ComesTo outcome chunks (Err e) → ⊥
+refused_unread chunks outcome e same is = subst (λ x. ComesTo outcome chunks (Err x)) same is
+
+-- no more bytes came
+pub gives_open : (bytes : List ℕ) (Spent : Type 0) (chunks next : Chunks) (e : WireFault) → (e ≡ fault.ReadFault) ⊎ (e ≡ fault.Memory)
+    → chunked bytes ≡ open_at next
+    → GivesChunks bytes Spent chunks (Err e)
+gives_open bytes Spent chunks next e (inl failed) still = subst (λ x. GivesChunks bytes Spent chunks (Err x)) (sym failed) (ap by_chunks still)
+gives_open bytes Spent chunks next e (inr memory) still = subst (λ x. GivesChunks bytes Spent chunks (Err x)) (sym memory) tt
 
 pub within_on : (n : ℕ) (bytes bytes' taken : List ℕ) → n ≤ length bytes → bytes' ≡ bytes ++ taken → n ≤ length bytes'
 within_on n bytes bytes' taken within grown =

@@ -1,14 +1,18 @@
 -- Bytes that were moved to the front, and empty lines that were skipped as the bytes came.
 use Rattle.std.proofs.Common.{◌≡◌, ◌∙◌, ℕ, ◌+◌, ◌-◌, ◌<◌, ◌≤◌, List, length, get_or, drop, take, sym, arith}
-use Rattle.std.proofs.Common.{[], ◌++◌, ◌⊎◌, inl, inr, Option, subst, refl, ap, append-nil, append_assoc, length-append}
+use Rattle.std.proofs.Common.{[], ◌++◌, ◌⊎◌, inl, inr, Option, subst, refl, ap, append-nil, append_assoc, length-append, true, false, Result, Err}
 use Rattle.std.proofs.KnownBytes.{Consumes-nil, Consumes-trans}
+use Rattle.dh_outside.specs.Faults.{Rose}
 use Rattle.dh_outside.specs.Pieces.{Gains}
 use Rattle.dh_outside.specs.Talk.{Talk}
 use Rattle.dh_outside.proofs.TalkLemmas.{paced_none, paced_on, paced_one}
 use Rattle.http_wire.specs.Lines.{blank_length, opening_of, IsPassed}
-use Rattle.http_wire.specs.declared.lines.Opening.TheVariants.{Nothing, Unfinished}
+use Rattle.http_wire.specs.declared.lines.Opening.{Opening}
+use Rattle.http_wire.specs.declared.lines.Opening.TheVariants.{Nothing, Unfinished, TooLong, Whole}
+use Rattle.http_wire.specs.declared.fault.WireFault.{WireFault}
+use Rattle.http_wire.specs.declared.fault.WireFault.TheVariants as fault
 use Rattle.http_wire.specs.Next.{Found, ended, cut, beyond, IsFoundBy, IsFirst, skipped, IsNext, IsOpen}
-use Rattle.http_wire.specs.Reads.{Gathers, Skims}
+use Rattle.http_wire.specs.Reads.{Gathers, Skims, Opens, is_settled, judged}
 use Rattle.http_wire.proofs.OpeningLaws.{skip_on, skip_twice, blank_skipped, opening_nothing, passed_more, passed_none}
 use Rattle.std.proofs.lemmas.List.{get_or-take, get_or-drop, ext_get_or, length-take, length-drop}
 
@@ -89,6 +93,52 @@ skims_more {left} {left'} {left''} {talk} {talk'} {talk''} {held} {held'} {held'
       (paced_one talk' talk'' IsOpen (held ++ skims.taken) gains.taken
       (open_by (held ++ skims.taken) held' (sym (skip_zero held' front) ∙ skims.same) opening) gains.hears);
 }
+
+-- more bytes may change what stands at the front
+pub may_change : (held : List ℕ) (opening : Opening) → opening ≡ opening_of held → is_settled opening ≡ false
+    → (opening_of held ≡ Nothing) ⊎ (opening_of held ≡ Unfinished)
+may_change held Nothing at still = inl (sym at)
+may_change held Unfinished at still = inr (sym at)
+may_change held TooLong at still = absurd (cc)
+may_change held (Whole end) at still = absurd (cc)
+
+-- what stands at the front is answered
+pub opens_settled : (held : List ℕ) (Spent : Type 0) (opening : Opening) (answer : Result (Option ℕ) WireFault) → answer ≡ judged opening
+    → opening ≡ opening_of held → is_settled opening ≡ true → Opens held Spent answer
+opens_settled held Spent Nothing answer is at settled = absurd (cc)
+opens_settled held Spent Unfinished answer is at settled = absurd (cc)
+opens_settled held Spent TooLong answer is at settled = subst (λ a. Opens held Spent a) (sym is) (sym at, refl)
+opens_settled held Spent (Whole end) answer is at settled = subst (λ a. Opens held Spent a) (sym is) (sym at)
+
+pub opens_spent : (held : List ℕ) (Spent : Type 0) (opening : Opening) (answer : Result (Option ℕ) WireFault) → answer ≡ judged opening
+    → opening ≡ opening_of held → Spent → Opens held Spent answer
+opens_spent held Spent Nothing answer is at spent = subst (λ a. Opens held Spent a) (sym is) (sym at, spent)
+opens_spent held Spent Unfinished answer is at spent = subst (λ a. Opens held Spent a) (sym is) (sym at, spent)
+opens_spent held Spent TooLong answer is at spent = subst (λ a. Opens held Spent a) (sym is) (sym at, refl)
+opens_spent held Spent (Whole end) answer is at spent = subst (λ a. Opens held Spent a) (sym is) (sym at)
+
+-- no more bytes came, and the source isn't over
+pub opens_stopped : (held held' : List ℕ) (Spent : Type 0) (e : WireFault) → held' ≡ held → (opening_of held ≡ Nothing) ⊎ (opening_of held ≡ Unfinished)
+    → (e ≡ fault.ReadFault) ⊎ (e ≡ fault.Memory) → Opens held' Spent (Err e)
+opens_stopped held held' Spent e same still (inl failed) = subst (λ x. Opens held' Spent (Err x)) (sym failed)
+    (subst (λ xs. (opening_of xs ≡ Nothing) ⊎ (opening_of xs ≡ Unfinished)) (sym same) still)
+opens_stopped held held' Spent e same still (inr memory) = subst (λ x. Opens held' Spent (Err x)) (sym memory) tt
+
+-- no opening is a failed read
+pub judged_no_fault : (opening : Opening) (answer : Result (Option ℕ) WireFault) → answer ≡ judged opening → answer ≡ Err fault.ReadFault → ⊥
+judged_no_fault Nothing answer is failed = cc
+judged_no_fault Unfinished answer is failed = cc
+judged_no_fault TooLong answer is failed = cc
+judged_no_fault (Whole end) answer is failed = cc
+
+-- the same fault, of another value
+pub fault_of : {A : Type 0} {r : Result A WireFault} (e : WireFault) → r ≡ Err e → r ≡ Err fault.ReadFault → e ≡ fault.ReadFault
+fault_of e is failed = cc
+
+-- a count that rose later
+pub rose_after : (a b c : ℕ) → a ≤ b → Rose b c → Rose a c
+rose_after a b c kept (inl rose) = inl (omega arith)
+rose_after a b c kept (inr most) = inr most
 
 pub front_skipped : (held held' : List ℕ) → held' ≡ skipped held → blank_length held' ≡ 0
 front_skipped held held' at = ap blank_length at ∙ blank_skipped held

@@ -1,6 +1,7 @@
 -- A head of few lines has few fields, and what is read of it is one thing.
 use Rattle.std.proofs.Common.{◌≡◌, ◌≢◌, ◌∙◌, ℕ, ◌+◌, ◌≤◌, List, [], ◌∷◌, ◌++◌, length, drop, map, Option, Some, None, Result, Ok, Err, refl, sym}
-use Rattle.std.proofs.Common.{ap, subst, arith, append-nil, append_assoc, nat_eq, cond}
+use Rattle.std.proofs.Common.{ap, subst, arith, append-nil, append_assoc, nat_eq, cond, Bool, IfOk}
+use Rattle.std.specs.Prelude.{codes}
 use Rattle.std.proofs.lemmas.List.Sums.{sum_by-append}
 use Rattle.std.proofs.Math.Seq.{drop-length}
 use Rattle.std.specs.List.{count_by, flat_map}
@@ -16,7 +17,9 @@ use Rattle.dh_base.specs.Memory.{Answers}
 use Rattle.dh_base.specs.declared.codes.Code.{Code}
 use Rattle.http_wire.specs.Fields as fields
 use Rattle.http_wire.specs.Lines.{field_lines}
-use Rattle.http_wire.specs.Head.{Parts, parts_of, IsRead, said_by, meant_by, cause_of, Tells}
+use Rattle.http_wire.specs.Head.{Parts, parts_of, IsRead, said_by, meant_by, cause_of, Tells, head_with}
+use Rattle.http_wire.specs.Fields.{path_of, query_of, token_of, last_named, is_kept}
+use Rattle.http_wire.specs.declared.plan.Plan.{Plan}
 use Rattle.http_wire.specs.declared.head.Head.{Head}
 use Rattle.http_wire.specs.declared.head.HeadFault.{HeadFault}
 use Rattle.http_wire.specs.declared.head.HeadFault.TheVariants as fault
@@ -114,3 +117,19 @@ parts_held k method target minor parts a b m f =
     ∙ ap (λ x. record { method = k.method; target = x; minor = minor; fields = parts }) bb
     ∙ ap (λ x. record { method = k.method; target = k.target; minor = x; fields = parts }) mm
     ∙ ap (λ x. record { method = k.method; target = k.target; minor = k.minor; fields = x }) f
+
+-- ---- what a head says, copied
+
+pub ok_of : {A E : Type 0} (r : Result A E) (Holds : A → Type 0) (a : A) → IfOk r Holds → r ≡ Ok a → Holds a
+ok_of r Holds a holds is = subst (λ x. IfOk x Holds) is holds
+
+pub both_ok : {A B E : Type 0} (first : Result A E) (second : Result B E) (both : Result (A × B) E) (pair : A × B)
+    → IfOk both (λ p. (first ≡ Ok p.0) × (second ≡ Ok p.1)) → both ≡ Ok pair → (first ≡ Ok pair.0) × (second ≡ Ok pair.1)
+both_ok first second both pair holds is = subst (λ x. IfOk x (λ p. (first ≡ Ok p.0) × (second ≡ Ok p.1))) is holds
+
+pub head_from : (parts : Parts) (plan : Plan) (method path query : List ℕ) (token asked : Option (List ℕ)) (keep : Bool) → method ≡ parts.method
+    → path ≡ path_of parts.target → query ≡ query_of parts.target → token ≡ token_of parts.fields
+    → asked ≡ last_named (codes "x-min-change") parts.fields → keep ≡ is_kept parts.minor parts.fields
+    → head_with parts plan
+    ≡ record { method = method; path = path; query = query; token = token; asked = asked; keep = keep; plan = plan }
+head_from parts plan method path query token asked keep m p q t a k = rw (m, p, q, t, a, k) refl

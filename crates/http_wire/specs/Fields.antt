@@ -5,6 +5,8 @@ use Rattle.std.specs.List.{list_all, list_any, count_by}
 use Rattle.std.specs.Char.{is_ascii_digit}
 use Rattle.std.specs.Cmp.Lexicographic.{pointwise}
 use Rattle.std.specs.Str.{str_eq_ignore_ascii_case}
+use Rattle.http_wire.specs.declared.fields.Mark.{Mark}
+use Rattle.http_wire.specs.declared.fields.Mark.TheVariants as mark
 
 -- a name and a value
 abbrev pub Field : Type 0
@@ -80,6 +82,16 @@ names_other_media field = is_named (codes "content-type") field && not (is_json 
 -- a field that asks for the connection to end
 unfoldable pub asks_to_close : Field → Bool
 asks_to_close field = is_named (codes "connection") field && str_eq_ignore_ascii_case field.1 (codes "close")
+
+-- a field that says this
+abbrev pub is_marked : Mark → Field → Bool
+is_marked mark.Length = gives_length
+is_marked mark.BadLength = gives_bad_length
+is_marked mark.Transfer = names_transfer
+is_marked mark.OtherTransfer = names_other_transfer
+is_marked mark.Coding = names_coding
+is_marked mark.OtherMedia = names_other_media
+is_marked mark.Close = asks_to_close
 
 -- the text after `ApiToken ` in any case
 unfoldable pub token_in : List ℕ → Option (List ℕ)

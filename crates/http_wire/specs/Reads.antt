@@ -8,6 +8,7 @@ use Rattle.dh_outside.specs.Talk.{Talk, Paced}
 use Rattle.http_wire.specs.Lines.{opening_of}
 use Rattle.http_wire.specs.Head.{Says}
 use Rattle.http_wire.specs.declared.head.Head.{Head}
+use Rattle.http_wire.specs.declared.lines.Opening.{Opening}
 use Rattle.http_wire.specs.declared.lines.Opening.TheVariants.{Nothing, Unfinished, TooLong, Whole}
 use Rattle.http_wire.specs.declared.plan.Plan.{Plan}
 use Rattle.http_wire.specs.Chunks.{chunked}
@@ -61,6 +62,20 @@ Opens held Spent (Err (fault.Refused code)) = (opening_of held ≡ TooLong) × (
 Opens held Spent (Err fault.Truncated) = (opening_of held ≡ Unfinished) × Spent
 Opens held Spent (Err fault.ReadFault) = (opening_of held ≡ Nothing) ⊎ (opening_of held ≡ Unfinished)
 Opens held Spent (Err fault.Memory) = ⊤
+
+-- what stands at the front stays as more bytes come
+abbrev pub is_settled : Opening → Bool
+is_settled Nothing = false
+is_settled Unfinished = false
+is_settled TooLong = true
+is_settled (Whole count) = true
+
+-- the answer where this stands at the front, and no more bytes come
+abbrev pub judged : Opening → Result (Option ℕ) WireFault
+judged Nothing = Ok None
+judged Unfinished = Err fault.Truncated
+judged TooLong = Err (fault.Refused F2)
+judged (Whole count) = Ok (Some count)
 
 -- the bytes taken stand after those held before, and the empty lines at the front are skipped or not yet
 pub record Skims (left left' : Option (List ℕ)) (talk talk' : Option Talk) (held held' : List ℕ) (read read' : ℕ) : Type 0 where
@@ -119,12 +134,12 @@ pub record ReadsBody (left left' : Option (List ℕ)) (talk talk' : Option Talk)
   pub paced : Paced talk talk' (IsWaiting count plan) held taken
 
 -- what is answered of a body in chunks, whose bytes are still held
-abbrev pub GivesChunks : List ℕ → Type 0 → Result Chunks WireFault → Type 0
-GivesChunks bytes Spent (Ok chunks) = chunked bytes ≡ body.whole chunks.content chunks.seen
-GivesChunks bytes Spent (Err (fault.Refused code)) = chunked bytes ≡ body.refused code
-GivesChunks bytes Spent (Err fault.Truncated) = (by_chunks (chunked bytes) ≡ waiting) × Spent
-GivesChunks bytes Spent (Err fault.ReadFault) = by_chunks (chunked bytes) ≡ waiting
-GivesChunks bytes Spent (Err fault.Memory) = ⊤
+abbrev pub GivesChunks : List ℕ → Type 0 → Chunks → Result ⊤ WireFault → Type 0
+GivesChunks bytes Spent chunks (Ok done) = chunked bytes ≡ body.whole chunks.content chunks.seen
+GivesChunks bytes Spent chunks (Err (fault.Refused code)) = chunked bytes ≡ body.refused code
+GivesChunks bytes Spent chunks (Err fault.Truncated) = (by_chunks (chunked bytes) ≡ waiting) × Spent
+GivesChunks bytes Spent chunks (Err fault.ReadFault) = by_chunks (chunked bytes) ≡ waiting
+GivesChunks bytes Spent chunks (Err fault.Memory) = ⊤
 
 -- the fault is not one of the request
 abbrev pub is_stop : WireFault → Bool

@@ -3,8 +3,10 @@ ghost use Rattle.std.specs.Prelude.{◌≡◌, ◌≤◌, ◌<◌, ◌+◌, ◌-
 ghost use Rattle.dh_outside.specs.Faults.{Rose};
 ghost use Rattle.dh_outside.specs.Pieces.{IsSpent};
 ghost use Rattle.http_wire.specs.declared.plan.Plan.TheVariants.{Sized, Chunked};
+ghost use Rattle.http_wire.specs.Chunks.{run, at_first, IsSound};
+ghost use Rattle.http_wire.specs.Fed.{ComesTo};
 ghost use Rattle.http_wire.specs.Reads.{Gathers, GivesChunks, ReadsBody, IsShort, IsWaiting, is_stop};
-ghost use Rattle.http_wire.specs.declared.fault.WireFault.TheVariants.{ReadFault, Truncated};
+ghost use Rattle.http_wire.specs.declared.fault.WireFault.TheVariants.{ReadFault, Truncated, Memory};
 
 use crate::chunks::{Chunks, Fed, feed, start};
 use crate::fault::WireFault;
@@ -65,11 +67,12 @@ fn take_sized(
     bytes: &mut Vec<u8>,
     end: usize,
     count: usize,
-) -> Result<Items<u8>, AllocError>
+) -> Result<Items<u8>, WireFault>
     requires { end + count ≤ length bytes.old.items }
     ensures content { IfOk result (λ content. content ≡ take count (drop end bytes.old.items)) }
     ensures rest { OnOk result (bytes.new.items ≡ drop (end + count) bytes.old.items) }
     ensures same { OnErr result (bytes.new.items ≡ bytes.old.items) }
+    ensures memory { IfErr result (λ e. e ≡ Memory) }
 {
     let body = copied(alloc, bytes, end, count)?;
     drop_front(bytes, end + count);
@@ -93,34 +96,47 @@ fn read_sized<S: Source>(
     ensures keeps { S.source_faults source.old ≤ S.source_faults source.new }
 {
     wait_for(source, bytes, read, end, count)?;
-    Ok(take_sized(alloc, bytes, end, count as usize)?)
+    take_sized(alloc, bytes, end, count as usize)
 }
 
-// Reads a body of chunks, whose bytes stay held.
+// Feeds a body the bytes from a place on, and says whether it is whole.
+fn feed_from(chunks: &mut Chunks, bytes: &Vec<u8>, at: usize) -> Result<bool, WireFault>
+    requires sound { IsSound chunks.old.place }
+    requires within { at ≤ length bytes.now.items }
+    ensures comes { ComesTo (run chunks.old (drop at bytes.now.items)) chunks.new result }
+    ensures sound { IsSound chunks.new.place }
+{
+    match feed(chunks, beyond(bytes, at))? {
+        Fed::More => Ok(false),
+        Fed::Whole => Ok(true),
+        Fed::Refused(code) => Err(WireFault::Refused(code)),
+    }
+}
+
+// Reads a body of chunks, of which nothing was read yet. Its bytes stay held.
 fn read_chunks<S: Source>(
-    alloc: Global,
+    chunks: &mut Chunks,
     source: &mut S,
     bytes: &mut Vec<u8>,
     read: &mut u64,
     end: usize,
-) -> Result<Chunks, WireFault>
+) -> Result<(), WireFault>
+    requires first { chunks.old ≡ at_first }
+    requires sound { IsSound chunks.old.place }
     requires within { end ≤ length bytes.old.items }
     requires bound { read.old ≤ 2 ^ 63 }
     ensures gains { Gathers (IsWaiting end Chunked) (S.left source.old) (S.left source.new) (S.source_talk source.old) (S.source_talk source.new)
         bytes.old.items bytes.new.items read.old read.new }
     ensures within { end ≤ length bytes.new.items }
-    ensures gives { GivesChunks (drop end bytes.new.items) (IsSpent (S.left source.new) read.new) result }
+    ensures gives { GivesChunks (drop end bytes.new.items) (IsSpent (S.left source.new) read.new) chunks.new result }
     ensures bound { read.new ≤ 2 ^ 63 }
     ensures failed { result ≡ Err ReadFault → Rose (S.source_faults source.old) (S.source_faults source.new) }
     ensures keeps { S.source_faults source.old ≤ S.source_faults source.new }
 {
-    let mut chunks = start(alloc);
     let mut at = end;
     loop {
-        match feed(&mut chunks, beyond(bytes, at))? {
-            Fed::Whole => return Ok(chunks),
-            Fed::Refused(code) => return Err(WireFault::Refused(code)),
-            Fed::More => {}
+        if feed_from(chunks, bytes, at)? {
+            return Ok(());
         }
         at = bytes.len();
         if !take_more(source, bytes, read)? {
@@ -152,7 +168,8 @@ fn read_chunked<S: Source>(
     ensures failed { result ≡ Err ReadFault → Rose (S.source_faults source.old) (S.source_faults source.new) }
     ensures keeps { S.source_faults source.old ≤ S.source_faults source.new }
 {
-    let chunks = read_chunks(alloc, source, bytes, read, end)?;
+    let mut chunks = start(alloc);
+    read_chunks(&mut chunks, source, bytes, read, end)?;
     drop_body(bytes, end, chunks.seen);
     Ok(chunks.content)
 }

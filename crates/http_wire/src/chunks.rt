@@ -57,7 +57,7 @@ pub struct Chunks {
 }
 
 /// What bytes came to.
-#[derive(Clone, Copy, Drop, PartialEq, Eq)]
+#[derive(Clone, Copy, Drop)]
 pub enum Fed {
     /// The body goes on.
     More,
@@ -257,11 +257,11 @@ pub fn feed(chunks: &mut Chunks, bytes: &[u8]) -> Result<Fed, AllocError>
         if left > 0 && chunks.seen < FRAME_LIMIT {
             from += take_content(chunks, left, rest(bytes, from))?;
         } else {
-            let fed = take_byte(chunks, bytes[from]);
-            if fed != Fed::More {
-                return Ok(fed);
+            match take_byte(chunks, bytes[from]) {
+                Fed::More => from += 1,
+                Fed::Whole => return Ok(Fed::Whole),
+                Fed::Refused(code) => return Ok(Fed::Refused(code)),
             }
-            from += 1;
         }
     }
     Ok(Fed::More)

@@ -5,7 +5,7 @@ ghost use Rattle.std.specs.Str.{str_eq_ignore_ascii_case};
 ghost use Rattle.httparse.specs.Borrowed.{header_parts};
 ghost use Rattle.http_wire.specs.Fields.{is_named, count_named, last_named, is_length, gives_length, gives_bad_length, names_transfer, names_other_transfer};
 ghost use Rattle.http_wire.specs.Fields.{names_coding, is_json, names_other_media, asks_to_close, before, beyond, is_kept, is_no_space, path_of, query_of};
-ghost use Rattle.http_wire.specs.Fields.{token_in, token_of};
+ghost use Rattle.http_wire.specs.Fields.{token_in, token_of, is_marked};
 
 use httparse::Header;
 
@@ -107,35 +107,35 @@ pub(crate) fn is_length(value: &[u8]) -> bool
 }
 
 #[tactic(auto, unfolding(crate::specs::Fields::gives_length))]
-pub(crate) fn gives_length(header: &Header) -> bool
+fn gives_length(header: &Header) -> bool
     ensures { result ≡ gives_length (header_parts header.now) }
 {
     is_named(header, b"content-length")
 }
 
 #[tactic(auto, unfolding(crate::specs::Fields::gives_bad_length))]
-pub(crate) fn gives_bad_length(header: &Header) -> bool
+fn gives_bad_length(header: &Header) -> bool
     ensures { result ≡ gives_bad_length (header_parts header.now) }
 {
     is_named(header, b"content-length") && !is_length(header.value)
 }
 
 #[tactic(auto, unfolding(crate::specs::Fields::names_transfer))]
-pub(crate) fn names_transfer(header: &Header) -> bool
+fn names_transfer(header: &Header) -> bool
     ensures { result ≡ names_transfer (header_parts header.now) }
 {
     is_named(header, b"transfer-encoding")
 }
 
 #[tactic(auto, unfolding(crate::specs::Fields::names_other_transfer))]
-pub(crate) fn names_other_transfer(header: &Header) -> bool
+fn names_other_transfer(header: &Header) -> bool
     ensures { result ≡ names_other_transfer (header_parts header.now) }
 {
     is_named(header, b"transfer-encoding") && !same_text(header.value, b"chunked")
 }
 
 #[tactic(auto, unfolding(crate::specs::Fields::names_coding))]
-pub(crate) fn names_coding(header: &Header) -> bool
+fn names_coding(header: &Header) -> bool
     ensures { result ≡ names_coding (header_parts header.now) }
 {
     is_named(header, b"content-encoding") && header.value != b"identity".as_slice()
@@ -168,7 +168,7 @@ fn is_json(value: &[u8]) -> bool
 }
 
 #[tactic(auto, unfolding(crate::specs::Fields::names_other_media))]
-pub(crate) fn names_other_media(header: &Header) -> bool
+fn names_other_media(header: &Header) -> bool
     ensures { result ≡ names_other_media (header_parts header.now) }
 {
     is_named(header, b"content-type") && !is_json(header.value)
@@ -204,12 +204,46 @@ pub fn token<'a>(headers: &[Header<'a>]) -> Option<&'a [u8]>
     token_in(last_named(headers, b"authorization")?)
 }
 
-// Whether a field asks for the connection to end.
-fn has_close(headers: &[Header]) -> bool
-    ensures { result ≡ list_any asks_to_close (map header_parts headers.now) }
+/// What a field may say of the body or of the connection.
+#[derive(Clone, Copy, Drop)]
+pub(crate) enum Mark {
+    /// The length of the body.
+    Length,
+    /// The same, and badly.
+    BadLength,
+    /// A transfer coding.
+    Transfer,
+    /// Another transfer coding than `chunked`.
+    OtherTransfer,
+    /// That the body is encoded.
+    Coding,
+    /// Another media type than JSON.
+    OtherMedia,
+    /// That the connection is to end.
+    Close,
+}
+
+// Whether a field says so.
+fn is_marked(header: &Header, mark: Mark) -> bool
+    ensures { result ≡ is_marked mark (header_parts header.now) }
+{
+    match mark {
+        Mark::Length => gives_length(header),
+        Mark::BadLength => gives_bad_length(header),
+        Mark::Transfer => names_transfer(header),
+        Mark::OtherTransfer => names_other_transfer(header),
+        Mark::Coding => names_coding(header),
+        Mark::OtherMedia => names_other_media(header),
+        Mark::Close => asks_to_close(header),
+    }
+}
+
+/// Whether a field says so.
+pub(crate) fn has(headers: &[Header], mark: Mark) -> bool
+    ensures { result ≡ list_any (is_marked mark) (map header_parts headers.now) }
 {
     for header in headers {
-        if asks_to_close(header) {
+        if is_marked(header, mark) {
             return true;
         }
     }
@@ -221,5 +255,5 @@ fn has_close(headers: &[Header]) -> bool
 pub fn is_kept(minor: u8, headers: &[Header]) -> bool
     ensures { result ≡ is_kept minor (map header_parts headers.now) }
 {
-    minor == 1 && !has_close(headers)
+    minor == 1 && !has(headers, Mark::Close)
 }

@@ -4,7 +4,7 @@ ghost use Rattle.dh_outside.specs.Faults.{Rose};
 ghost use Rattle.dh_outside.specs.Pieces.{Gains, IsSpent};
 ghost use Rattle.http_wire.specs.Lines.{blank_length, opening_of, IsPassed};
 ghost use Rattle.http_wire.specs.Next.{skipped};
-ghost use Rattle.http_wire.specs.Reads.{Skims, Opens};
+ghost use Rattle.http_wire.specs.Reads.{Skims, Opens, is_settled, judged};
 ghost use Rattle.http_wire.specs.declared.fault.WireFault.TheVariants.{ReadFault, Memory};
 
 use crate::fault::WireFault;
@@ -96,6 +96,30 @@ pub(crate) fn take_more<S: Source>(
     }
 }
 
+// Whether what stands at the front stays as more bytes come.
+fn is_settled(opening: Opening) -> bool
+    ensures { result ≡ is_settled opening }
+{
+    match opening {
+        Opening::Nothing => false,
+        Opening::Unfinished => false,
+        Opening::TooLong => true,
+        Opening::Whole(_) => true,
+    }
+}
+
+// The answer where this stands at the front, and no more bytes come.
+fn judged(opening: Opening) -> Result<Option<usize>, WireFault>
+    ensures { result ≡ judged opening }
+{
+    match opening {
+        Opening::Nothing => Ok(None),
+        Opening::Unfinished => Err(WireFault::Truncated),
+        Opening::TooLong => Err(WireFault::Refused(Code::F2)),
+        Opening::Whole(end) => Ok(Some(end)),
+    }
+}
+
 /// Reads on until a head stands at the front of the bytes held, after no empty line, and says how many bytes it has.
 /// There is none where the source is over.
 pub(crate) fn find_head<S: Source>(
@@ -114,19 +138,12 @@ pub(crate) fn find_head<S: Source>(
 {
     let mut from = 0;
     loop {
-        match look(bytes, &mut from) {
-            Opening::Whole(end) => return Ok(Some(end)),
-            Opening::TooLong => return Err(WireFault::Refused(Code::F2)),
-            Opening::Nothing => {
-                if !take_more(source, bytes, read)? {
-                    return Ok(None);
-                }
-            }
-            Opening::Unfinished => {
-                if !take_more(source, bytes, read)? {
-                    return Err(WireFault::Truncated);
-                }
-            }
+        let opening = look(bytes, &mut from);
+        if is_settled(opening) {
+            return judged(opening);
+        }
+        if !take_more(source, bytes, read)? {
+            return judged(opening);
         }
     }
 }

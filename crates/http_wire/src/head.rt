@@ -35,7 +35,7 @@ pub struct Head {
 }
 
 /// Why a head says nothing.
-#[derive(Clone, Copy, Debug, Drop, PartialEq, Eq, thiserror::Error)]
+#[derive(Clone, Copy, Debug, Drop, thiserror::Error)]
 pub enum HeadFault {
     /// The head is refused.
     #[error("the head is refused")]
@@ -68,6 +68,22 @@ fn copied_if(alloc: Global, text: Option<&[u8]>) -> Result<Option<Items<u8>>, Al
     }
 }
 
+// Both values, unless one is missing. So nothing is held where memory may run out.
+fn both<A: Drop, B: Drop>(
+    first: Result<A, AllocError>,
+    second: Result<B, AllocError>,
+) -> Result<(A, B), AllocError>
+    ensures { IfOk result (λ pair. (first ≡ Ok pair.0) × (second ≡ Ok pair.1)) }
+{
+    match first {
+        Ok(first) => match second {
+            Ok(second) => Ok((first, second)),
+            Err(error) => Err(error),
+        },
+        Err(error) => Err(error),
+    }
+}
+
 fn head_with(
     alloc: Global,
     method: &[u8],
@@ -79,15 +95,23 @@ fn head_with(
     ensures { Answers cause_of (Ok (head_with
         (record { method = method.now; target = target.now; minor = minor; fields = map header_parts headers.now }) plan)) result }
 {
-    Ok(Head {
-        method: copied(alloc, method)?,
-        path: copied(alloc, fields::path(target))?,
-        query: copied(alloc, fields::query(target))?,
-        token: copied_if(alloc, fields::token(headers))?,
-        asked: copied_if(alloc, fields::last_named(headers, b"x-min-change"))?,
-        keep: fields::is_kept(minor, headers),
-        plan,
-    })
+    let path = copied(alloc, fields::path(target));
+    let query = copied(alloc, fields::query(target));
+    let texts = both(copied(alloc, method), both(path, query));
+    let token = copied_if(alloc, fields::token(headers));
+    let asked = copied_if(alloc, fields::last_named(headers, b"x-min-change"));
+    match both(texts, both(token, asked)) {
+        Ok(((method, (path, query)), (token, asked))) => Ok(Head {
+            method,
+            path,
+            query,
+            token,
+            asked,
+            keep: fields::is_kept(minor, headers),
+            plan,
+        }),
+        Err(_) => Err(HeadFault::Memory),
+    }
 }
 
 #[tactic(auto, unfolding(crate::specs::Head::said_by))]

@@ -1,8 +1,9 @@
 ghost use Rattle.std.specs.Prelude.{◌≡◌, ◌≤◌, ◌<◌, ◌+◌, length, drop, take, cond, nat_eq, slice_index};
+ghost use Rattle.std.specs.List.{count_by};
 ghost use Rattle.http_wire.specs.Lines.{empty_line, blank_length, head_length, head_limit, opening_of, field_lines, shifted, IsPassed};
 
 /// What stands at the front of bytes that begin with no empty line.
-#[derive(Clone, Copy, Drop, PartialEq, Eq)]
+#[derive(Clone, Copy, Drop)]
 pub enum Opening {
     /// There are no bytes.
     Nothing,
@@ -107,12 +108,22 @@ pub fn find_opening(bytes: &[u8], from: usize) -> Opening
     }
 }
 
+// How many line feeds a text has.
+fn line_feeds(text: &[u8]) -> usize
+    ensures { result ≡ count_by (λ byte. nat_eq byte 10) text.now }
+{
+    let mut count = 0;
+    for byte in text {
+        if *byte == b'\n' {
+            count += 1;
+        }
+    }
+    count
+}
+
 /// How many lines stand between the first line of a head and the empty one.
 pub fn field_lines(head: &[u8]) -> usize
     ensures { result ≡ field_lines head.now }
 {
-    head.iter()
-        .filter(|byte| **byte == b'\n')
-        .count()
-        .saturating_sub(2)
+    line_feeds(head).saturating_sub(2)
 }

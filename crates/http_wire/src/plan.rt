@@ -1,13 +1,12 @@
 ghost use Rattle.std.specs.Prelude.{◌≡◌, ◌<◌, ◌≤◌, ◌^◌, map, true, length, codes, nat_lt};
-ghost use Rattle.std.specs.List.{list_any, list_all};
+ghost use Rattle.std.specs.List.{list_all};
 ghost use Rattle.std.specs.Char.{is_ascii_digit};
 ghost use Rattle.std.specs.Str.Parse.{digits_value};
 ghost use Rattle.httparse.specs.Borrowed.{header_parts};
-ghost use Rattle.http_wire.specs.Fields.{count_named, last_named, is_length, gives_length, gives_bad_length, names_transfer, names_other_transfer};
-ghost use Rattle.http_wire.specs.Fields.{names_coding, names_other_media};
+ghost use Rattle.http_wire.specs.Fields.{count_named, last_named};
 ghost use Rattle.http_wire.specs.Plan.{length_in, length_by, announced, is_badly_framed, is_not_plain, has_body, is_too_long, plan_of};
 
-use crate::fields;
+use crate::fields::{self, Mark};
 use dh_base::codes::Code;
 use httparse::Header;
 
@@ -15,78 +14,12 @@ use httparse::Header;
 const BODY_LIMIT: u64 = 16_777_216;
 
 /// The body that a head announces.
-#[derive(Clone, Copy, Drop, PartialEq, Eq)]
+#[derive(Clone, Copy, Drop)]
 pub enum Plan {
     /// So many bytes.
     Sized(u64),
     /// Chunks, up to one of no bytes.
     Chunked,
-}
-
-fn gives_length(headers: &[Header]) -> bool
-    ensures { result ≡ list_any gives_length (map header_parts headers.now) }
-{
-    for header in headers {
-        if fields::gives_length(header) {
-            return true;
-        }
-    }
-    false
-}
-
-fn gives_bad_length(headers: &[Header]) -> bool
-    ensures { result ≡ list_any gives_bad_length (map header_parts headers.now) }
-{
-    for header in headers {
-        if fields::gives_bad_length(header) {
-            return true;
-        }
-    }
-    false
-}
-
-fn names_transfer(headers: &[Header]) -> bool
-    ensures { result ≡ list_any names_transfer (map header_parts headers.now) }
-{
-    for header in headers {
-        if fields::names_transfer(header) {
-            return true;
-        }
-    }
-    false
-}
-
-fn names_other_transfer(headers: &[Header]) -> bool
-    ensures { result ≡ list_any names_other_transfer (map header_parts headers.now) }
-{
-    for header in headers {
-        if fields::names_other_transfer(header) {
-            return true;
-        }
-    }
-    false
-}
-
-fn names_coding(headers: &[Header]) -> bool
-    ensures { result ≡ list_any names_coding (map header_parts headers.now) }
-{
-    for header in headers {
-        if fields::names_coding(header) {
-            return true;
-        }
-    }
-    false
-}
-
-fn names_other_media(headers: &[Header]) -> bool
-    ensures { result ≡ list_any names_other_media (map header_parts headers.now) }
-{
-    for header in headers {
-        if fields::names_other_media(header) {
-            return true;
-        }
-    }
-    false
 }
 
 fn digits_value(text: &[u8]) -> u64
@@ -126,7 +59,7 @@ fn length_by(headers: &[Header]) -> u64
 fn announced(headers: &[Header]) -> Plan
     ensures { result ≡ announced (map header_parts headers.now) }
 {
-    if names_transfer(headers) {
+    if fields::has(headers, Mark::Transfer) {
         Plan::Chunked
     } else {
         Plan::Sized(length_by(headers))
@@ -144,9 +77,9 @@ fn is_badly_framed(headers: &[Header]) -> bool
     ensures { result ≡ is_badly_framed (map header_parts headers.now) }
 {
     has_two_lengths(headers)
-        || (gives_bad_length(headers)
-            || ((gives_length(headers) && names_transfer(headers))
-                || names_other_transfer(headers)))
+        || (fields::has(headers, Mark::BadLength)
+            || ((fields::has(headers, Mark::Length) && fields::has(headers, Mark::Transfer))
+                || fields::has(headers, Mark::OtherTransfer)))
 }
 
 fn has_body(plan: Plan) -> bool
@@ -171,7 +104,7 @@ fn is_too_long(plan: Plan) -> bool
 fn is_not_plain(headers: &[Header], plan: Plan) -> bool
     ensures { result ≡ is_not_plain (map header_parts headers.now) plan }
 {
-    names_coding(headers) || (has_body(plan) && names_other_media(headers))
+    fields::has(headers, Mark::Coding) || (has_body(plan) && fields::has(headers, Mark::OtherMedia))
 }
 
 /// The plan of the body, or the code of the first fault.

@@ -92,7 +92,10 @@ fn read_at_head<S: Source>(
 {
     match read_body(alloc, source, bytes, read, end, head.plan) {
         Ok(body) => Ok(request_of(head, body)),
-        Err(error) => Err(error),
+        Err(error) => {
+            drop(head);
+            Err(error)
+        }
     }
 }
 

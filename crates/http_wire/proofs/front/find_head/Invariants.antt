@@ -3,8 +3,8 @@ use Rattle.http_wire.specs.Lines.{IsPassed}
 use Rattle.http_wire.specs.Reads.{Skims}
 use Rattle.http_wire.proofs.front.find_head.Given as goal
 
-abbrev pub invariant-loop-end : goal.invariant-loop-end
-invariant-loop-end g l = record {
+abbrev pub invariant-loop-opening : goal.invariant-loop-opening
+invariant-loop-opening g l = record {
   skims : Skims (g.S.Source.left l.initial.source) (g.S.Source.left l.source) (g.S.Source.source_talk l.initial.source) (g.S.Source.source_talk l.source)
       l.initial.bytes.items l.bytes.items l.initial.read l.read;
   passed : IsPassed l.bytes.items l.from;
@@ -12,5 +12,5 @@ invariant-loop-end g l = record {
   keeps : g.S.Source.source_faults l.initial.source ≤ g.S.Source.source_faults l.source;
 }
 
-abbrev pub decreases-loop-end : goal.decreases-loop-end
-decreases-loop-end g l = 2 ^ 63 - l.read
+abbrev pub decreases-loop-opening : goal.decreases-loop-opening
+decreases-loop-opening g l = 2 ^ 63 - l.read

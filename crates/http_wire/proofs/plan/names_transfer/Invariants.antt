@@ -1,9 +1,0 @@
-use Rattle.std.proofs.Common.{◌≡◌, drop, map}
-use Rattle.std.specs.List.{list_any}
-use Rattle.httparse.specs.Borrowed.{header_parts}
-use Rattle.http_wire.specs.Fields.{names_transfer}
-use Rattle.http_wire.proofs.plan.names_transfer.Given as goal
-
-abbrev pub invariant-loop-header : goal.invariant-loop-header
-invariant-loop-header l =
-    list_any names_transfer (map header_parts l.headers) ≡ list_any names_transfer (map header_parts (drop l.header-index l.headers))
