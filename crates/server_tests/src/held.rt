@@ -1,10 +1,9 @@
-//! A server over two links: while the update of the one is being built, the query of the other is answered.
+//! A server over two links: while the update of the one is being built, the other one's import, latest update and query are answered.
 ghost use Rattle.std.specs.Prelude.{◌≡◌, ℕ, None, refl, IfOk};
 ghost use Rattle.net_doors.specs.Sockets.{SocketSeen, shown_by};
 
-use crate::links::{FILE, clock};
 use dh_base::memory::Memory;
-use dh_outside::{Failed, Link, MemLink, MemSink, Sink, Source};
+use dh_outside::{Failed, Link, MemClock, MemLink, MemSink, Sink, Source};
 use net_doors::{End, Listener};
 use shared_engine::Gate;
 use shared_server::{Finished, ServeEnd, Setup, serve_over};
@@ -18,16 +17,28 @@ use std::thread::Threads;
 // How many turns a builder or a link waits for the other at most.
 const TURNS: u64 = 10_000_000;
 
-// An import of a value in 2024 and a full update, after which the connection is closed.
+const FILE: &[u8] =
+    b"{\"apiTokens\":[{\"token\":\"tok-country\",\"user\":{\"id\":\"UsCountry01\"}}],\
+\"dataElements\":[{\"aggregationType\":\"SUM\",\"id\":\"DeFormsRecv\",\"valueType\":\"NUMBER\"}],\
+\"dataSets\":[{\"dataSetElements\":[{\"dataElement\":{\"id\":\"DeFormsRecv\"}}],\"id\":\"DsMonthly01\",\
+\"organisationUnits\":[{\"id\":\"OuCountry01\"}],\"periodType\":\"Monthly\"}],\"organisationUnits\":[{\"id\":\"OuCountry01\"}],\
+\"userRoles\":[{\"authorities\":[\"ALL\"],\"id\":\"RoSuperUser\"}],\
+\"users\":[{\"id\":\"UsCountry01\",\"organisationUnits\":[{\"id\":\"OuCountry01\"}],\"userRoles\":[{\"id\":\"RoSuperUser\"}]}]}";
+
+// An import of values in two years and a full update, after which the connection is closed.
 const UPDATING: &[u8] =
     b"POST /api/dataValueSets HTTP/1.1\r\nAuthorization: ApiToken tok-country\r\n\
-Content-Type: application/json\r\nContent-Length: 100\r\n\r\n\
-{\"dataValues\":[{\"dataElement\":\"DeFormsRecv\",\"period\":\"202401\",\"orgUnit\":\"OuCountry01\",\"value\":\"5\"}]}\
+Content-Type: application/json\r\nContent-Length: 184\r\n\r\n\
+{\"dataValues\":[{\"dataElement\":\"DeFormsRecv\",\"period\":\"202303\",\"orgUnit\":\"OuCountry01\",\"value\":\"5\"},\
+{\"dataElement\":\"DeFormsRecv\",\"period\":\"202401\",\"orgUnit\":\"OuCountry01\",\"value\":\"7\"}]}\
 POST /api/resourceTables/analytics HTTP/1.1\r\nAuthorization: ApiToken tok-country\r\nConnection: close\r\n\r\n";
 
-// A query, after which the connection is closed.
-const ASKING: &[u8] =
-    b"GET /api/analytics?dimension=dx:DeFormsRecv&dimension=pe:2024Q1&dimension=ou:OuCountry01&skipMeta=true HTTP/1.1\r\n\
+// An import, a latest update and a query over both imports, after which the connection is closed.
+const ASKING: &[u8] = b"POST /api/dataValueSets HTTP/1.1\r\nAuthorization: ApiToken tok-country\r\n\
+Content-Type: application/json\r\nContent-Length: 100\r\n\r\n\
+{\"dataValues\":[{\"dataElement\":\"DeFormsRecv\",\"period\":\"202402\",\"orgUnit\":\"OuCountry01\",\"value\":\"3\"}]}\
+POST /api/resourceTables/analytics?latest=true HTTP/1.1\r\nAuthorization: ApiToken tok-country\r\n\r\n\
+GET /api/analytics?dimension=dx:DeFormsRecv&dimension=pe:2024Q1&dimension=ou:OuCountry01&skipMeta=true HTTP/1.1\r\n\
 Authorization: ApiToken tok-country\r\nConnection: close\r\n\r\n";
 
 // A gate that holds each builder until the link that asks was answered and closed, or until it has waited long enough. It counts the
@@ -39,33 +50,26 @@ struct Held {
     missed: AtomicU64,
 }
 
-// Waits until a count isn't 0. It answers false if that takes too long.
-fn is_reached(count: &AtomicU64) -> bool {
+// Waits until one of the gate's counts is so large.
+fn wait_for(gate: &Held, count: &AtomicU64, least: u64) {
     for _ in 0..TURNS {
-        if count.load(Ordering::SeqCst) > 0 {
-            return true;
+        if count.load(Ordering::SeqCst) >= least {
+            return;
         }
         thread::yield_now();
     }
-    false
-}
-
-// Waits for one of the gate's counts.
-fn wait_for(gate: &Held, count: &AtomicU64) {
-    if !is_reached(count) {
-        gate.missed.fetch_add(1, Ordering::SeqCst);
-    }
+    gate.missed.fetch_add(1, Ordering::SeqCst);
 }
 
 impl Gate for Held {
     fn arrive(&self, _year: i32) {
         self.arrivals.fetch_add(1, Ordering::SeqCst);
-        wait_for(self, &self.answered);
+        wait_for(self, &self.answered, 1);
     }
 }
 
-// A link in memory. One that asks is read only once a builder has arrived at the gate, which learns that it was closed. Contracts see
-// its count of failed calls.
+// A link in memory. One that asks is read only once the builders of both years have arrived at the gate, which learns that it was
+// closed. Contracts see its count of failed calls.
 #[derive(Drop)]
 struct HeldLink<'a> {
     link: MemLink,
@@ -88,7 +92,7 @@ impl<'a> Source for HeldLink<'a> {
 
     fn read(&mut self, into: &mut [u8]) -> Result<usize, Failed> {
         if self.asks {
-            wait_for(self.gate, &self.gate.arrivals);
+            wait_for(self.gate, &self.gate.arrivals, 2);
         }
         self.link.read(into)
     }
@@ -191,6 +195,13 @@ impl<'a> Listener<HeldLink<'a>> for HeldDoor<'a> {
     ghost returned = { λ _. tt };
 }
 
+// A clock of one moment.
+fn clock(alloc: Global) -> Result<MemClock, Memory> {
+    let mut moments = Vec::new(alloc);
+    moments.push(1_720_000_000i64)?;
+    MemClock::with(alloc, moments)
+}
+
 // Two workers serve both links.
 fn serve<'a, R: Threads + Wait + Sync>(
     rt: &R,
@@ -225,10 +236,15 @@ fn has(link: &HeldLink, part: &str) -> bool {
     }
 }
 
-// Whether the one link asked and was answered over no update, and the other one's reply tells of an update.
+// Whether the one link's query was answered over its latest update of both imports, and the other one's full update of the first import
+// left what was published then.
 fn are_answered(asking: &HeldLink, updating: &HeldLink) -> bool {
-    let asked = asking.asks && has(asking, "HTTP/1.1 200 OK") && has(asking, "X-Published: 0");
-    let updated = has(updating, "X-Change: 1") && has(updating, "X-Published: 1");
+    let cell = has(
+        asking,
+        "[\"DeFormsRecv\",\"2024Q1\",\"OuCountry01\",\"10\"]",
+    );
+    let asked = asking.asks && has(asking, "X-Change: 2") && has(asking, "X-Published: 2") && cell;
+    let updated = has(updating, "X-Change: 1") && has(updating, "X-Published: 2");
     asked && updated && !updating.asks
 }
 
@@ -241,7 +257,7 @@ fn are_both_answered(back: &[HeldLink]) -> bool {
 }
 
 #[test]
-fn a_query_waits_for_no_update_of_another_link(rt: HostRuntime) {
+fn nobody_waits_for_the_builders_of_another_link(rt: HostRuntime) {
     let alloc = rt.alloc();
     let mut output = MemSink::with(alloc, 64, Vec::new(alloc)).expect(&rt, "memory");
     let gate = Held {
@@ -252,7 +268,7 @@ fn a_query_waits_for_no_update_of_another_link(rt: HostRuntime) {
     let finished = serve(&rt, alloc, &gate, &mut output).expect(&rt, "memory");
     assert!(rt; finished.end == ServeEnd::Served(2));
     assert!(rt; output.written() == b"served 2\n".as_slice());
-    assert!(rt; gate.arrivals.load(Ordering::SeqCst) == 1);
+    assert!(rt; gate.arrivals.load(Ordering::SeqCst) == 2);
     assert!(rt; gate.missed.load(Ordering::SeqCst) == 0);
     assert!(rt; are_both_answered(&finished.listener.back));
 }
