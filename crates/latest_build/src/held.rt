@@ -1,8 +1,9 @@
 //! The places of values' keys in tables, and the rows there. Each key's objects are looked up once, for both; a stable sort by places
 //! brings both into order. What a key holds that the last writes name is what the last of them says, so it isn't looked up.
-ghost use Rattle.std.specs.Prelude.{◌≡◌, ◌<◌, ◌≤◌, ◌++◌, ◌∷◌, [], List, true, length, map, take, drop, Some, None, OnOk, IfOk, IfSome};
+ghost use Rattle.std.specs.Prelude.{◌≡◌, ◌<◌, ◌≤◌, ◌++◌, [], List, true, length, map, take, drop, Some, None, OnOk, IfOk, IfSome};
 ghost use Rattle.std.specs.Arc.{arc_value};
-ghost use Rattle.std.specs.List.{filter_map, cons_option};
+ghost use Rattle.std.specs.List.{filter_map};
+ghost use Rattle.std.specs.Option.{option_to_list};
 ghost use Rattle.std.specs.Ordering.{is_eq};
 ghost use Rattle.dh_changes.specs.declared.change.Write.{Write as LogWrite};
 ghost use Rattle.org_tree.specs.Units.{IsTree};
@@ -34,6 +35,7 @@ use std::alloc::Global;
 use std::collections::BTreeMap;
 use std::marker::Model;
 use std::sync::Arc;
+use table_build::lists::put_found;
 use table_build::values::{ValueObjects, attribute_of, row_with};
 use table_latest::{RowPlace, place_of};
 use table_rows::{Row, RowKey};
@@ -184,7 +186,7 @@ fn put_key(
     key: &ValueKey,
 ) -> Result<(), Memory>
     requires { IfSome last.old (λ combo. find_of meta.now CategoryOptionCombo combo.id ≡ Some combo.number) }
-    ensures put { OnOk result (held.new.items ≡ held.old.items ++ filter_map (known.held_at meta.now (facts world.now)) (key.now ∷ [])) }
+    ensures put { OnOk result (held.new.items ≡ held.old.items ++ option_to_list (known.held_at meta.now (facts world.now) key.now)) }
     ensures last { OnOk result (IfSome last.new (λ combo. find_of meta.now CategoryOptionCombo combo.id ≡ Some combo.number)) }
 {
     if let Some(objects) = objects_next(last, meta, key) {
@@ -203,7 +205,7 @@ fn put_set(
     text: &[u8],
 ) -> Result<(), Memory>
     requires { IfSome last.old (λ combo. find_of meta.now CategoryOptionCombo combo.id ≡ Some combo.number) }
-    ensures put { OnOk result (held.new.items ≡ held.old.items ++ cons_option (held_told meta.now (facts world.now) key.now (Some text.now)) []) }
+    ensures put { OnOk result (held.new.items ≡ held.old.items ++ option_to_list (held_told meta.now (facts world.now) key.now (Some text.now))) }
     ensures last { OnOk result (IfSome last.new (λ combo. find_of meta.now CategoryOptionCombo combo.id ≡ Some combo.number)) }
 {
     if let Some(objects) = objects_next(last, meta, key) {
@@ -221,7 +223,7 @@ fn put_cleared(
     key: &ValueKey,
 ) -> Result<(), Memory>
     requires { IfSome last.old (λ combo. find_of meta.now CategoryOptionCombo combo.id ≡ Some combo.number) }
-    ensures put { OnOk result (held.new.items ≡ held.old.items ++ cons_option (held_told meta.now (facts world.now) key.now None) []) }
+    ensures put { OnOk result (held.new.items ≡ held.old.items ++ option_to_list (held_told meta.now (facts world.now) key.now None)) }
     ensures last { OnOk result (IfSome last.new (λ combo. find_of meta.now CategoryOptionCombo combo.id ≡ Some combo.number)) }
 {
     if let Some(objects) = objects_next(last, meta, key) {
@@ -239,7 +241,7 @@ fn put_write(
     write: &Write,
 ) -> Result<(), Memory>
     requires { IfSome last.old (λ combo. find_of meta.now CategoryOptionCombo combo.id ≡ Some combo.number) }
-    ensures put { OnOk result (held.new.items ≡ held.old.items ++ filter_map (held_by_write meta.now (facts world.now)) (write.now ∷ [])) }
+    ensures put { OnOk result (held.new.items ≡ held.old.items ++ option_to_list (held_by_write meta.now (facts world.now) write.now)) }
     ensures last { OnOk result (IfSome last.new (λ combo. find_of meta.now CategoryOptionCombo combo.id ≡ Some combo.number)) }
 {
     match write {
@@ -411,9 +413,7 @@ fn places_last(alloc: Global, held: &[HeldRow]) -> Result<Vec<RowPlace>, Memory>
     let mut places = Vec::new(alloc);
     places.reserve(held.len())?;
     for i in 0..held.len() {
-        if let Some(place) = place_left(&held[i], &held[i + 1..]) {
-            places.push(place)?;
-        }
+        put_found(&mut places, place_left(&held[i], &held[i + 1..]))?;
     }
     Ok(places)
 }
@@ -424,9 +424,7 @@ fn rows_last(alloc: Global, held: &[HeldRow]) -> Result<Vec<Row>, Memory>
     let mut rows = Vec::new(alloc);
     rows.reserve(held.len())?;
     for i in 0..held.len() {
-        if let Some(row) = row_left(&held[i], &held[i + 1..]) {
-            rows.push(row)?;
-        }
+        put_found(&mut rows, row_left(&held[i], &held[i + 1..]))?;
     }
     Ok(rows)
 }

@@ -1,8 +1,8 @@
 -- What the writes of changes name, change by change.
-use Rattle.std.proofs.Common.{◌≡◌, ◌∙◌, ℕ, ◌+◌, ◌<◌, List, [], ◌∷◌, ◌++◌, Option, Some, None, length, take, drop, get_or, map, refl, sym, ap, add-one, drop-cons}
+use Rattle.std.proofs.Common.{◌≡◌, ◌∙◌, ℕ, ◌+◌, ◌-◌, ◌<◌, List, [], ◌∷◌, ◌++◌, Option, Some, None, length, take, drop, get_or, map, refl, sym, ap, add-one, drop-cons, le_refl}
 use Rattle.std.specs.List.{filter_map, cons_option}
 use Rattle.std.specs.Option.{option_to_list}
-use Rattle.std.proofs.lemmas.List.{append_assoc, append-nil, map-append, take_more}
+use Rattle.std.proofs.lemmas.List.{append_assoc, append-nil, map-append, take_more, take_all, length-drop}
 use Rattle.std.proofs.lemmas.List.Elements.{filter_map-append}
 use Rattle.dh_changes.specs.declared.change.Change.{Change}
 use Rattle.dh_changes.specs.declared.change.Write.{Write}
@@ -26,6 +26,21 @@ found-step find xs i x o all old new within is found put so_far =
     ∙ ap (λ l. old ++ l) (sym (found-first o rest))
     ∙ sym (append_assoc old (option_to_list o) rest)
     ∙ ap (λ l. l ++ rest) (sym put)
+
+-- a member more of a list of which those are gathered that something is found of, beside what comes after each
+pub left-step : {X K : Type 0} (find : X → List X → Option K) (left : List X → List K) (first : (x : X) (xs : List X) → left (x ∷ xs) ≡ cons_option (find x xs) (left xs))
+    (xs : List X) (i : ℕ) (x : X) (o : Option K) (all old new : List K) → i < length xs → x ≡ get_or xs i x
+    → o ≡ find x (take (length xs - (i + 1)) (drop (i + 1) xs)) → new ≡ old ++ option_to_list o → all ≡ old ++ left (drop i xs)
+    → all ≡ new ++ left (drop (i + 1) xs)
+left-step find left first xs i x o all old new within is found put so_far =
+    let later = drop (i + 1) xs in
+    let here : drop i xs ≡ get_or xs i x ∷ later = rw add-one (drop-cons xs i x within) in
+    let rest : take (length xs - (i + 1)) later ≡ later = ap (λ n. take n later) (sym (length-drop (i + 1) xs)) ∙ take_all (length later) later (le_refl (length later)) in
+    so_far
+    ∙ ap (λ l. old ++ left l) (here ∙ ap (λ y. y ∷ later) (sym is))
+    ∙ ap (λ l. old ++ l) (first x later ∙ ap (λ p. cons_option p (left later)) (sym (found ∙ ap (find x) rest)) ∙ sym (found-first o (left later)))
+    ∙ sym (append_assoc old (option_to_list o) (left later))
+    ∙ ap (λ l. l ++ left later) (sym put)
 
 module _ {A K : Type 0} (of : A → Change) (named : Write → Option K) where
   pub named-step : (changes : List A) (i : ℕ) (a : A) (change : Change) (all old new : List K) → i < length changes → a ≡ get_or changes i a → change ≡ of a

@@ -45,8 +45,9 @@ pub fn build_part(
     ensures { IfOk result (λ part. part ≡ part_of (contents_in (listed_in meta.now (writes_of (map arc_value changes.now)))) year) }
 {
     let reading = Reading::of(alloc, changes)?;
-    let part = reading.part_of_year(alloc, meta, &year)?;
-    Ok(part)
+    let part = reading.part_of_year(alloc, meta, &year);
+    drop(reading);
+    part
 }
 
 // The events that the changes name, of what the world holds after them.

@@ -14,6 +14,7 @@ ghost use Rattle.table_build.specs.Placed as known;
 ghost use Rattle.table_build.specs.Values as values;
 
 use crate::in_year::is_value_key_in;
+use crate::lists::put_found;
 use crate::values::{ValueObjects, objects_of, row_with};
 use dh_base::memory::Memory;
 use dh_changes::change::{Change, Write};
@@ -255,9 +256,7 @@ fn rows_last(alloc: Global, placed: &[PlacedRow]) -> Result<Vec<Row>, Memory>
     let mut rows = Vec::new(alloc);
     rows.reserve(placed.len())?;
     for i in 0..placed.len() {
-        if let Some(row) = row_left(&placed[i], &placed[i + 1..]) {
-            rows.push(row)?;
-        }
+        put_found(&mut rows, row_left(&placed[i], &placed[i + 1..]))?;
     }
     Ok(rows)
 }

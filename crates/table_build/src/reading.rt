@@ -72,9 +72,21 @@ impl<'a> Reading<'a> {
         ensures { IfOk result (λ reading. reading ≡ map arc_value changes.now) }
     {
         let others = with_others(alloc, changes)?;
-        let regs: Vec<RegKey> = named_in(alloc, &others)?;
-        let world = world_of(alloc, &others)?;
-        let places = places_named(alloc, &world, &others)?;
+        Reading::with(alloc, changes, &others)
+    }
+
+    // Reads the changes, of which these write something else than data values.
+    fn with(
+        alloc: Global,
+        changes: &'a [Arc<Change>],
+        others: &[Arc<Change>],
+    ) -> Result<Reading<'a>, Memory>
+        requires { map arc_value others.now ≡ log.with_others (map arc_value changes.now) }
+        ensures { IfOk result (λ reading. reading ≡ map arc_value changes.now) }
+    {
+        let regs: Vec<RegKey> = named_in(alloc, others)?;
+        let world = world_of(alloc, others)?;
+        let places = places_named(alloc, &world, others)?;
         Ok(Reading {
             changes,
             world,
