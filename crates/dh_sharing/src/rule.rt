@@ -7,7 +7,7 @@ use crate::access::{Access, Right};
 use dh_base::items::Items;
 
 /// What the rule of sharing asks of a user.
-#[derive(Drop, PartialEq, Eq)]
+#[derive(Drop)]
 pub struct UserFacts {
     /// The user's number.
     pub number: u32,
@@ -19,7 +19,7 @@ pub struct UserFacts {
 
 /// How a metadata object is shared: with its owner, with everybody, and with single users and user
 /// groups, each named by its number.
-#[derive(Drop, PartialEq, Eq)]
+#[derive(Drop)]
 pub struct Sharing {
     pub owner: Option<u32>,
     pub public: Access,
@@ -50,15 +50,21 @@ fn is_owner(user: &UserFacts, object: &Sharing) -> bool
 fn user_may(number: u32, right: Right, users: &[(u32, Access)]) -> bool
     ensures { result ≡ list_any (λ entry. (entry.0 == number) && has entry.1 right) users.now }
 {
-    users
-        .iter()
-        .any(|entry| entry.0 == number && entry.1.has(right))
+    for entry in users {
+        if entry.0 == number && entry.1.has(right) {
+            return true;
+        }
+    }
+    false
 }
 
 fn group_may(own: &[u32], right: Right, groups: &[(u32, Access)]) -> bool
     ensures { result ≡ list_any (λ entry. list_any (λ group. group == entry.0) own.now && has entry.1 right) groups.now }
 {
-    groups
-        .iter()
-        .any(|entry| own.contains(&entry.0) && entry.1.has(right))
+    for entry in groups {
+        if own.contains(&entry.0) && entry.1.has(right) {
+            return true;
+        }
+    }
+    false
 }
