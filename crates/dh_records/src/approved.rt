@@ -13,7 +13,7 @@ use dh_metadata::metadata::Metadata;
 use dh_periods::{Period, containing};
 
 /// What an approval is of, beside its unit.
-#[derive(Clone, Copy, PartialEq, Eq)]
+#[derive(Clone, Copy)]
 pub struct Scope {
     pub workflow: Uid,
     /// A period of the workflow's type.

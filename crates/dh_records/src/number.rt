@@ -30,7 +30,7 @@ pub fn is_numeric(value_type: ValueType) -> bool
 fn has_point(text: &[u8]) -> bool
     ensures { result ≡ list_any is_point text.now }
 {
-    text.iter().any(|byte| *byte == b'.')
+    text.contains(&b'.')
 }
 
 #[tactic(auto, unfolding(crate::specs::Values::integer_of))]
