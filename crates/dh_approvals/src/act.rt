@@ -4,7 +4,7 @@ use dh_base::uid::Uid;
 use dh_changes::keys::ApprovalKey;
 
 /// What is done with an approval.
-#[derive(Clone, Copy, PartialEq, Eq)]
+#[derive(Clone, Copy)]
 pub enum Verb {
     Approve,
     Unapprove,
@@ -23,7 +23,7 @@ pub struct ApprovalAct {
 }
 
 /// Why an act is refused.
-#[derive(Clone, Copy, PartialEq, Eq)]
+#[derive(Clone, Copy)]
 pub enum ApprovalFault {
     /// The user lacks the right to do this at the unit.
     NoRight,

@@ -16,7 +16,7 @@ use org_tree::tree::Tree;
 fn is_own(captures: &[u32], unit: u32) -> bool
     ensures { result ≡ known.is_own captures.now unit }
 {
-    captures.iter().any(|capture| *capture == unit)
+    captures.contains(&unit)
 }
 
 fn is_lower(tree: &Tree, captures: &[u32], unit: u32) -> bool
