@@ -1,3 +1,4 @@
 pub mod KeepLemmas
 pub mod PieceLemmas
+mod ReadLemmas
 pub mod TalkLemmas

@@ -1,5 +1,5 @@
 // A link in memory: what is read of it and written to it, and in which order.
-ghost use Rattle.std.specs.Prelude.{◌≡◌, ◌≤◌, ◌<◌, ◌∷◌, ◌++◌, true, List, [], Some, length, drop, take, refl, IfOk, OnOk, OnErr};
+ghost use Rattle.std.specs.Prelude.{◌≡◌, ◌≤◌, ◌<◌, ◌∷◌, ◌++◌, true, [], Some, length, drop, refl, IfOk, OnOk, OnErr};
 ghost use Rattle.std.specs.Result.{is_err};
 ghost use Rattle.std.specs.Io.{ReadsAtMost, WritesAtMost};
 ghost use Rattle.std.specs.Io.KnownBytes.{ReadConsumes, WriteAppends};
@@ -7,7 +7,8 @@ ghost use Rattle.dh_outside.specs.Faults.{Rose, one_more};
 ghost use Rattle.dh_outside.specs.Memory.{LinkSeen, heard_of, is_listed};
 ghost use Rattle.dh_outside.specs.Talk.{Hears, Says, heard_one, moved};
 
-use crate::memory::{copy_front, is_listed};
+use crate::calls::{add_fault, fails};
+use crate::memory::copy_from;
 use crate::{Failed, Link, Sink, Source};
 use dh_base::memory::Memory;
 use std::alloc::Global;
@@ -108,14 +109,12 @@ impl Source for MemLink {
         ensures calls { self.new.calls ≡ one_more self.old.calls }
         ensures failing { self.new.failing ≡ self.old.failing }
     {
-        self.calls = self.calls.saturating_add(1);
-        if is_listed(&self.failing, self.calls) {
-            self.faults = self.faults.saturating_add(1);
+        if fails(&self.failing, &mut self.calls, &mut self.faults) {
             return Err(Failed);
         }
-        let count = copy_front(&self.bytes[self.at..], into);
+        let count = copy_from(&self.bytes, self.at, into);
         if note(self.alloc, &mut self.heard, &self.written, &into[..count]).is_err() {
-            self.faults = self.faults.saturating_add(1);
+            add_fault(&mut self.faults);
             return Err(Failed);
         }
         self.at += count;
@@ -141,14 +140,12 @@ impl Sink for MemLink {
         ensures calls { self.new.calls ≡ one_more self.old.calls }
         ensures failing { self.new.failing ≡ self.old.failing }
     {
-        self.calls = self.calls.saturating_add(1);
-        if is_listed(&self.failing, self.calls) {
-            self.faults = self.faults.saturating_add(1);
+        if fails(&self.failing, &mut self.calls, &mut self.faults) {
             return Err(Failed);
         }
         let count = piece.len();
         if self.written.extend_from_slice(&piece[..count]).is_err() {
-            self.faults = self.faults.saturating_add(1);
+            add_fault(&mut self.faults);
             return Err(Failed);
         }
         Ok(count)

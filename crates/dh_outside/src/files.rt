@@ -6,7 +6,7 @@ ghost use Rattle.dh_outside.specs.Files.{file_named, pairs_of, is_failed};
 ghost use Rattle.dh_outside.specs.Memory.{FilesSeen, is_listed};
 ghost use Rattle.dh_outside.specs.declared.files.FileFault.TheVariants.{Failed, TooLong, Memory};
 
-use crate::memory::is_listed;
+use crate::calls::is_listed;
 use std::alloc::{AllocError, AllocFailed, Global};
 use std::marker::Model;
 

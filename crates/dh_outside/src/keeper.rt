@@ -7,7 +7,7 @@ ghost use Rattle.dh_outside.specs.Memory.{is_listed};
 ghost use Rattle.dh_outside.specs.declared.keeper.KeepFault.TheVariants.{Failed, TooLong, Memory};
 ghost use Rattle.dh_base.specs.declared.limits.TheConstants.{MOST_LOG_BYTES};
 
-use crate::memory::is_listed;
+use crate::calls::fails;
 use std::alloc::{AllocError, Global};
 use std::marker::Model;
 
@@ -159,9 +159,7 @@ impl Keeper for MemKeeper {
         ensures calls { self.new.calls ≡ one_more self.old.calls }
         ensures failing { self.new.failing ≡ self.old.failing }
     {
-        self.calls = self.calls.saturating_add(1);
-        if is_listed(&self.failing, self.calls) {
-            self.faults = self.faults.saturating_add(1);
+        if fails(&self.failing, &mut self.calls, &mut self.faults) {
             return Err(KeepFault::Failed);
         }
         self.bytes.extend_from_slice(bytes)?;
@@ -182,9 +180,7 @@ impl Keeper for MemKeeper {
         ensures calls { self.new.calls ≡ one_more self.old.calls }
         ensures failing { self.new.failing ≡ self.old.failing }
     {
-        self.calls = self.calls.saturating_add(1);
-        if is_listed(&self.failing, self.calls) {
-            self.faults = self.faults.saturating_add(1);
+        if fails(&self.failing, &mut self.calls, &mut self.faults) {
             return Err(KeepFault::Failed);
         }
         copy_within(alloc, &self.bytes, most)

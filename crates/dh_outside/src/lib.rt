@@ -7,6 +7,7 @@
 
 mod adapters;
 mod both_ways;
+mod calls;
 mod files;
 mod keeper;
 mod memory;

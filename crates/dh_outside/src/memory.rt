@@ -1,13 +1,13 @@
 // A source, a sink and a clock in memory: they tell their bytes, and fail at the calls that are listed.
-ghost use Rattle.std.specs.Prelude.{◌≡◌, ◌≤◌, ◌<◌, ◌-◌, ℕ, ℤ, List, [], ◌∷◌, None, Some, ⊤, length, drop, take, min, IfOk, OnErr, Contains, nat_eq, vec_len};
+ghost use Rattle.std.specs.Prelude.{◌≡◌, ◌≤◌, ◌<◌, ◌+◌, ◌-◌, ◌++◌, ℤ, List, [], None, Some, ⊤, length, drop, take, min, IfOk, OnErr, Contains, vec_len};
 ghost use Rattle.std.specs.Prelude.{vec_capacity};
 ghost use Rattle.std.specs.Result.{is_err};
-ghost use Rattle.std.specs.List.{list_any};
 ghost use Rattle.std.specs.Io.{ReadsAtMost, WritesAtMost};
 ghost use Rattle.std.specs.Io.KnownBytes.{ReadConsumes, WriteAppends};
 ghost use Rattle.dh_outside.specs.Faults.{Rose, one_more};
 ghost use Rattle.dh_outside.specs.Memory.{SourceSeen, SinkSeen, is_listed};
 
+use crate::calls::{add_fault, fails};
 use crate::{Clock, Failed, Sink, Source};
 use dh_base::memory::Memory;
 use std::alloc::Global;
@@ -47,20 +47,16 @@ impl MemSource {
     }
 }
 
-// Whether a call with this number, counted from 1, is one of those that fail.
-pub(crate) fn is_listed(failing: &[u64], call: u64) -> bool
-    ensures { result ≡ list_any (λ listed. nat_eq listed call) failing.now }
+// Copies as many bytes as stand from a place on and fit to the front of `into`, and says how many.
+pub(crate) fn copy_from(bytes: &[u8], at: usize, into: &mut [u8]) -> usize
+    requires { at ≤ length bytes.now }
+    ensures count { result ≡ min (length (drop at bytes.now)) (length into.old) }
+    ensures moved { drop at bytes.now ≡ take result into.new ++ drop (at + result) bytes.now }
+    ensures end { result ≡ 0 → 0 < length into.new → drop (at + result) bytes.now ≡ [] }
 {
-    failing.iter().any(|listed| *listed == call)
-}
-
-// Copies as many bytes as there are and fit to the front of `into`, and says how many.
-pub(crate) fn copy_front(bytes: &[u8], into: &mut [u8]) -> usize
-    ensures count { result ≡ min (length bytes.now) (length into.old) }
-    ensures front { take result into.new ≡ take result bytes.now }
-{
-    let count = bytes.len().min(into.len());
-    into[..count].copy_from_slice(&bytes[..count]);
+    let rest = &bytes[at..];
+    let count = rest.len().min(into.len());
+    into[..count].copy_from_slice(&rest[..count]);
     count
 }
 
@@ -83,12 +79,10 @@ impl Source for MemSource {
         ensures full { IfOk result (λ n. n ≡ min (length self.old.left) (length into.old)) }
         ensures unharmed { IfOk result (λ _. self.new.faults ≡ self.old.faults) }
     {
-        self.calls = self.calls.saturating_add(1);
-        if is_listed(&self.failing, self.calls) {
-            self.faults = self.faults.saturating_add(1);
+        if fails(&self.failing, &mut self.calls, &mut self.faults) {
             return Err(Failed);
         }
-        let count = copy_front(&self.bytes[self.at..], into);
+        let count = copy_from(&self.bytes, self.at, into);
         self.at += count;
         Ok(count)
     }
@@ -154,14 +148,12 @@ impl Sink for MemSink {
         ensures room { self.new.room ≡ self.old.room }
         ensures full { IfOk result (λ n. n ≡ min (self.old.room - length self.old.written) (length piece.now)) }
     {
-        self.calls = self.calls.saturating_add(1);
-        if is_listed(&self.failing, self.calls) {
-            self.faults = self.faults.saturating_add(1);
+        if fails(&self.failing, &mut self.calls, &mut self.faults) {
             return Err(Failed);
         }
         let count = (self.room as usize - self.bytes.len()).min(piece.len());
         if count == 0 && !piece.is_empty() {
-            self.faults = self.faults.saturating_add(1);
+            add_fault(&mut self.faults);
         }
         self.bytes.extend_from_slice(&piece[..count]).unwrap();
         Ok(count)

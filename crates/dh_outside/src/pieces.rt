@@ -47,8 +47,10 @@ pub fn take_piece<S: Source>(source: &mut S, bytes: &mut Vec<u8>, read: &mut u64
     }
     let mut piece = [0u8; PIECE];
     match source.read(&mut piece[..room]) {
-        Ok(0) => Piece::Over,
         Ok(count) => {
+            if count == 0 {
+                return Piece::Over;
+            }
             bytes.extend_from_slice(&piece[..count]).unwrap();
             *read += count as u64;
             Piece::More
