@@ -34,3 +34,20 @@ periods_more day kept new found texts i text whole within is read put so_far =
     ∙ ap (λ (t : List ℕ). periods_from day kept (t ∷ left)) (sym is)
     ∙ ap (λ (o : Option (List PeriodName)). option_and_then (λ xs. periods_from day (once_from same_period kept xs) left) o) read)
     ∙ so_far
+
+-- a text without form leaves nothing
+pub each_none : {T : Type 0} (form : List ℕ → Option T) (done : List T) (texts : List (List ℕ)) (i : ℕ) (text : List ℕ) (whole : Option (List T))
+    → i < length texts → text ≡ get_or texts i text → form text ≡ None → whole ≡ option_map (λ xs. done ++ xs) (each form (drop i texts)) → whole ≡ None
+each_none {T = T} form done texts i text whole within is unread so_far =
+    let left = drop (i + 1) texts in
+    so_far ∙ ap (λ l. option_map (λ xs. done ++ xs) (each form l)) (drop_more texts i text within)
+    ∙ ap (λ (t : List ℕ). option_map (λ xs. done ++ xs) (each form (t ∷ left))) (sym is)
+    ∙ ap (λ (o : Option T). option_map (λ xs. done ++ xs) (option_and_then (λ x. option_map (λ xs. x ∷ xs) (each form left)) o)) unread
+
+pub periods_none : (day : ℤ) (kept : List PeriodName) (texts : List (List ℕ)) (i : ℕ) (text : List ℕ) (whole : Option (List PeriodName))
+    → i < length texts → text ≡ get_or texts i text → period_form day text ≡ None → periods_from day kept (drop i texts) ≡ whole → whole ≡ None
+periods_none day kept texts i text whole within is unread so_far =
+    let left = drop (i + 1) texts in
+    sym so_far ∙ ap (λ l. periods_from day kept l) (drop_more texts i text within)
+    ∙ ap (λ (t : List ℕ). periods_from day kept (t ∷ left)) (sym is)
+    ∙ ap (λ (o : Option (List PeriodName)). option_and_then (λ xs. periods_from day (once_from same_period kept xs) left) o) unread

@@ -1,5 +1,6 @@
 pub mod OnceLemmas
 pub mod EachLemmas
+pub mod LoopLemmas
 pub mod SetLemmas
 pub mod WalkLemmas
 pub mod RangeLemmas

@@ -1,5 +1,5 @@
 -- The forms of the items of dimensions.
-use Rattle.std.specs.Prelude.{ℕ, ℤ, nat_le, nat_lt, ◌&&◌, ◌==◌, if◌then◌else◌, List, [], ◌∷◌, length, take, drop, slice_index, bytes_eq, codes, Option, None}
+use Rattle.std.specs.Prelude.{ℕ, ℤ, nat_lt, ◌&&◌, ◌==◌, if◌then◌else◌, List, [], ◌∷◌, length, take, drop, slice_index, bytes_eq, codes, Option, None}
 use Rattle.std.specs.Prelude.{Some, option_map, option_and_then}
 use Rattle.dh_base.specs.Uid.{uid_of}
 use Rattle.dh_base.specs.declared.plain.Rate.{Rate}
@@ -15,6 +15,11 @@ use Rattle.query_lang.specs.declared.item.UnitForm.{UnitForm}
 use Rattle.query_lang.specs.declared.item.UnitForm.TheVariants as unit
 use Rattle.query_lang.specs.declared.item.UnitItem.{UnitItem}
 use Rattle.query_lang.specs.Once.{once_from, pieces, texts_once}
+
+-- what stands beside a name in a table
+abbrev pub beside : {T : Type 0} → List (List ℕ × T) → List ℕ → Option T
+beside [] name = None
+beside (entry ∷ more) name = if bytes_eq name entry.0 then Some entry.1 else beside more name
 
 -- the figure of a data set that has this name
 unfoldable pub rate_named : List ℕ → Option Rate
@@ -66,12 +71,12 @@ single_form text = option_map (λ id. unit.Unit id) (uid_of text)
 -- `OU_GROUP-` with an identifier, or an identifier
 unfoldable pub group_or_unit : List ℕ → Option UnitForm
 group_or_unit text =
-    if nat_le 9 (length text) && bytes_eq (take 9 text) (codes "OU_GROUP-") then group_form (drop 9 text) else single_form text
+    if bytes_eq (take 9 text) (codes "OU_GROUP-") then group_form (drop 9 text) else single_form text
 
 -- `LEVEL-` with a number, `OU_GROUP-` with an identifier, or an identifier
 unfoldable pub named_unit : List ℕ → Option UnitForm
 named_unit text =
-    if nat_le 6 (length text) && bytes_eq (take 6 text) (codes "LEVEL-") then option_map (λ n. unit.Level n) (level_number (drop 6 text))
+    if bytes_eq (take 6 text) (codes "LEVEL-") then option_map (λ n. unit.Level n) (level_number (drop 6 text))
     else group_or_unit text
 
 -- an item of the dimension `ou`

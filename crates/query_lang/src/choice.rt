@@ -20,25 +20,41 @@ use std::collections::HashSet;
 fn names_group(parts: &[Part]) -> bool
     ensures { result ≡ list_any is_group parts.now }
 {
-    parts.iter().any(|part| part.is_group())
+    for part in parts {
+        if part.is_group() {
+            return true;
+        }
+    }
+    false
 }
 
 fn names_narrowing(parts: &[Part]) -> bool
     ensures { result ≡ list_any is_narrowing parts.now }
 {
-    parts.iter().any(|part| part.is_narrowing())
+    for part in parts {
+        if part.is_narrowing() {
+            return true;
+        }
+    }
+    false
 }
 
 fn only_narrows(parts: &[Part]) -> bool
     ensures { result ≡ list_all is_narrowing parts.now }
 {
-    parts.iter().all(|part| part.is_narrowing())
+    for part in parts {
+        if !part.is_narrowing() {
+            return false;
+        }
+    }
+    true
 }
 
+#[tactic(auto, using(crate::proofs::SetLemmas::contained))]
 fn has_level(levels: &[u8], level: u8) -> bool
     ensures { result ≡ has levels.now level }
 {
-    levels.iter().any(|own| level == *own)
+    levels.contains(&level)
 }
 
 #[tactic(auto, unfolding(crate::specs::Choice::listed_units))]

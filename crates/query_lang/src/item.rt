@@ -1,6 +1,6 @@
 //! The items of dimensions.
-ghost use Rattle.std.specs.Prelude.{◌≡◌, ◌≤◌, ◌^◌, ◌<◌, ℕ, List, length, take, drop, option_map};
-ghost use Rattle.query_lang.specs.Items.{rate_named, part_form, pair_form, dx_form, level_number, group_form, single_form, group_or_unit, named_unit};
+ghost use Rattle.std.specs.Prelude.{◌≡◌, ◌≤◌, ◌^◌, ◌<◌, ℕ, List, length, map, take, drop, option_map};
+ghost use Rattle.query_lang.specs.Items.{beside, rate_named, part_form, pair_form, dx_form, level_number, group_form, single_form, group_or_unit, named_unit};
 ghost use Rattle.query_lang.specs.Items.{unit_form};
 ghost use Rattle.dh_periods.specs.Texts.{number_of_one, number_of_two};
 
@@ -52,26 +52,37 @@ pub struct UnitItem {
     pub text: Items<u8>,
 }
 
+const RATES: [(&[u8], Rate); 5] = [
+    (b"EXPECTED_REPORTS", Rate::Expected),
+    (b"ACTUAL_REPORTS", Rate::Actual),
+    (b"ACTUAL_REPORTS_ON_TIME", Rate::OnTime),
+    (b"REPORTING_RATE", Rate::Reported),
+    (b"REPORTING_RATE_ON_TIME", Rate::ReportedOnTime),
+];
+
+const USER_UNITS: [(&[u8], UnitForm); 3] = [
+    (b"USER_ORGUNIT", UnitForm::User),
+    (b"USER_ORGUNIT_CHILDREN", UnitForm::Children),
+    (b"USER_ORGUNIT_GRANDCHILDREN", UnitForm::Grandchildren),
+];
+
+/// What stands beside a name in a table.
+fn beside<T: Copy>(table: &[(&[u8], T)], name: &[u8]) -> Option<T>
+    ensures { result ≡ beside (map (λ entry. (entry.0.now, entry.1)) table.now) name.now }
+{
+    for entry in table {
+        if name == entry.0 {
+            return Some(entry.1);
+        }
+    }
+    None
+}
+
 #[tactic(auto, unfolding(crate::specs::Items::rate_named))]
 fn rate_named(name: &[u8]) -> Option<Rate>
     ensures { result ≡ rate_named name.now }
 {
-    if name == b"EXPECTED_REPORTS".as_slice() {
-        return Some(Rate::Expected);
-    }
-    if name == b"ACTUAL_REPORTS".as_slice() {
-        return Some(Rate::Actual);
-    }
-    if name == b"ACTUAL_REPORTS_ON_TIME".as_slice() {
-        return Some(Rate::OnTime);
-    }
-    if name == b"REPORTING_RATE".as_slice() {
-        return Some(Rate::Reported);
-    }
-    if name == b"REPORTING_RATE_ON_TIME".as_slice() {
-        return Some(Rate::ReportedOnTime);
-    }
-    None
+    beside(&RATES, name)
 }
 
 fn part_form(id: Uid, rest: &[u8]) -> Option<DxForm>
@@ -167,20 +178,20 @@ fn single_form(text: &[u8]) -> Option<UnitForm>
 fn group_or_unit(text: &[u8]) -> Option<UnitForm>
     ensures { result ≡ group_or_unit text.now }
 {
-    if text.len() >= 9 && &text[..9] == b"OU_GROUP-".as_slice() {
-        return group_form(&text[9..]);
+    match text.strip_prefix(b"OU_GROUP-".as_slice()) {
+        Some(group) => group_form(group),
+        None => single_form(text),
     }
-    single_form(text)
 }
 
 #[tactic(auto, unfolding(crate::specs::Items::named_unit))]
 fn named_unit(text: &[u8]) -> Option<UnitForm>
     ensures { result ≡ named_unit text.now }
 {
-    if text.len() >= 6 && &text[..6] == b"LEVEL-".as_slice() {
-        return level_form(&text[6..]);
+    match text.strip_prefix(b"LEVEL-".as_slice()) {
+        Some(level) => level_form(level),
+        None => group_or_unit(text),
     }
-    group_or_unit(text)
 }
 
 /// What an item of the dimension `ou` names, `None` where it has no form of such an item.
@@ -188,14 +199,8 @@ fn named_unit(text: &[u8]) -> Option<UnitForm>
 pub fn unit_form(text: &[u8]) -> Option<UnitForm>
     ensures { result ≡ unit_form text.now }
 {
-    if text == b"USER_ORGUNIT".as_slice() {
-        return Some(UnitForm::User);
+    match beside(&USER_UNITS, text) {
+        Some(form) => Some(form),
+        None => named_unit(text),
     }
-    if text == b"USER_ORGUNIT_CHILDREN".as_slice() {
-        return Some(UnitForm::Children);
-    }
-    if text == b"USER_ORGUNIT_GRANDCHILDREN".as_slice() {
-        return Some(UnitForm::Grandchildren);
-    }
-    named_unit(text)
 }

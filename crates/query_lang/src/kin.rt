@@ -1,5 +1,5 @@
 //! View units, their children and grandchildren.
-ghost use Rattle.std.specs.Prelude.{◌≡◌, ◌<◌, length, IfOk};
+ghost use Rattle.std.specs.Prelude.{◌≡◌, ◌<◌, ◌++◌, length, OnOk};
 ghost use Rattle.org_tree.specs.Units.{climb};
 ghost use Rattle.query_lang.specs.Walk.{Knows};
 ghost use Rattle.query_lang.specs.Parts.{is_kin, kin_of};
@@ -36,22 +36,22 @@ fn is_kin(tree: &Tree, views: &[u32], seen: &HashSet<u32>, degree: u8, unit: u32
     }
 }
 
-/// The units so many steps below the view units, in the order of the tree.
+/// Puts the units so many steps below the view units at the end, in the order of the tree.
 #[tactic(auto, unfolding(crate::specs::Parts::kin_of, crate::specs::Walk::walk_of))]
-pub(crate) fn kin_of(
+pub(crate) fn push_kin(
     alloc: Global,
+    units: &mut Vec<u32>,
     tree: &Tree,
     views: &[u32],
     degree: u8,
-) -> Result<Vec<u32>, Memory>
-    ensures { IfOk result (λ found. found.items ≡ kin_of tree.now views.now degree) }
+) -> Result<(), Memory>
+    ensures { OnOk result (units.new.items ≡ units.old.items ++ kin_of tree.now views.now degree) }
 {
     let seen = set_of(alloc, views)?;
-    let mut found = Vec::new(alloc);
     for order in 0..tree.count() {
         let unit = tree.unit_at(order);
         let passes = is_kin(tree, views, &seen, degree, unit);
-        push_if(&mut found, unit, passes)?;
+        push_if(units, unit, passes)?;
     }
-    Ok(found)
+    Ok(())
 }

@@ -20,7 +20,7 @@ use dh_sharing::access::Right;
 use std::alloc::Global;
 
 /// What an item of the dimension `dx` names.
-#[derive(Clone, Copy, PartialEq, Eq)]
+#[derive(Clone, Copy)]
 pub struct Found {
     pub kind: DxKind,
     /// The object's number among those of its kind.
@@ -156,7 +156,8 @@ pub(crate) fn each_dx(
 {
     let mut all = Vec::new(alloc);
     for item in items {
-        all.push(dx_of(alloc, meta, user, item)?)?;
+        let dx = dx_of(alloc, meta, user, item)?;
+        all.push(dx)?;
     }
     Ok(Items::from(all))
 }

@@ -3,7 +3,7 @@ ghost use Rattle.std.specs.Prelude.{◌≡◌};
 ghost use Rattle.query_lang.specs.Parts.{level_in, is_group, is_narrowing};
 
 /// What an item of the dimension `ou` chooses.
-#[derive(Clone, Copy, PartialEq, Eq)]
+#[derive(Clone, Copy)]
 pub enum Part {
     /// The unit with that number.
     Unit(u32),

@@ -1,34 +1,32 @@
 //! The units and the levels of items.
-ghost use Rattle.std.specs.Prelude.{◌≡◌, [], ◌∷◌, nat_lt, if◌then◌else◌, length, IfOk};
+ghost use Rattle.std.specs.Prelude.{◌≡◌, ◌++◌, IfOk, OnOk};
 ghost use Rattle.query_lang.specs.Parts.{part_units, levels_of};
 ghost use Rattle.query_lang.specs.Choice.{parts_units};
 
-use crate::kin::kin_of;
+use crate::kin::push_kin;
 use crate::part::Part;
+use crate::set::push_if;
 use dh_base::memory::Memory;
 use org_tree::tree::Tree;
 use std::alloc::Global;
 
-fn single(alloc: Global, tree: &Tree, unit: u32) -> Result<Vec<u32>, Memory>
-    ensures { IfOk result (λ units. units.items ≡ (if nat_lt unit (length tree.now) then unit ∷ [] else [])) }
-{
-    let mut units = Vec::new(alloc);
-    if unit < tree.count() {
-        units.push(unit)?;
-    }
-    Ok(units)
-}
-
-fn part_units(alloc: Global, tree: &Tree, views: &[u32], part: Part) -> Result<Vec<u32>, Memory>
-    ensures { IfOk result (λ units. units.items ≡ part_units tree.now views.now part) }
+/// Puts the units of an item at the end.
+fn push_units(
+    alloc: Global,
+    units: &mut Vec<u32>,
+    tree: &Tree,
+    views: &[u32],
+    part: Part,
+) -> Result<(), Memory>
+    ensures { OnOk result (units.new.items ≡ units.old.items ++ part_units tree.now views.now part) }
 {
     match part {
-        Part::Unit(unit) => single(alloc, tree, unit),
-        Part::User => kin_of(alloc, tree, views, 0),
-        Part::Children => kin_of(alloc, tree, views, 1),
-        Part::Grandchildren => kin_of(alloc, tree, views, 2),
-        Part::Level(_) => Ok(Vec::new(alloc)),
-        Part::Group(_) => Ok(Vec::new(alloc)),
+        Part::Unit(unit) => push_if(units, unit, unit < tree.count()),
+        Part::User => push_kin(alloc, units, tree, views, 0),
+        Part::Children => push_kin(alloc, units, tree, views, 1),
+        Part::Grandchildren => push_kin(alloc, units, tree, views, 2),
+        Part::Level(_) => Ok(()),
+        Part::Group(_) => Ok(()),
     }
 }
 
@@ -44,8 +42,7 @@ pub(crate) fn parts_units(
 {
     let mut units = Vec::new(alloc);
     for part in parts {
-        let own = part_units(alloc, tree, views, *part)?;
-        units.extend_from_slice(&own)?;
+        push_units(alloc, &mut units, tree, views, *part)?;
     }
     Ok(units)
 }

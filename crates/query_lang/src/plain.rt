@@ -5,7 +5,7 @@ use dh_base::plain::Rate;
 use dh_periods::Period;
 
 /// What kind of item a `dx` item is.
-#[derive(Clone, Copy, PartialEq, Eq)]
+#[derive(Clone, Copy)]
 pub enum DxKind {
     /// A data element, or an operand of one.
     Element,

@@ -2,11 +2,12 @@
 ghost use Rattle.std.specs.Prelude.{◌≡◌, [], true, false, not, bytes_eq, codes, ◌≤ℤ◌, ◌<◌, IfOk, IfSome, length, position, option_map};
 ghost use Rattle.dh_base.specs.declared.limits.TheConstants.{FIRST_QUERY_DAY, LAST_QUERY_DAY};
 ghost use Rattle.std.specs.Prelude.{option_and_then};
+ghost use Rattle.std.specs.List.{list_any};
 ghost use Rattle.std.specs.Option.{option_copied};
 ghost use Rattle.dh_base.specs.Memory.{Answers, IsFirst};
 ghost use Rattle.query_lang.specs.Given.{cause_of, left_in, refusal};
 ghost use Rattle.query_lang.specs.Items.{dx_items, unit_items, period_items};
-ghost use Rattle.query_lang.specs.Form.{data_parameters, scheme_parameters, layout_parameters, is_listed, is_colon, pairs_of, decoded, is_unsupported};
+ghost use Rattle.query_lang.specs.Form.{is_colon, pairs_of, decoded, is_unsupported};
 ghost use Rattle.query_lang.specs.Form.{head_of, tail_of, fresh, with_dx, with_periods, with_units, with_dimension, with_pair, with_pairs, nothing, whole};
 ghost use Rattle.query_lang.specs.Form.{form_of};
 
@@ -24,83 +25,46 @@ use dh_periods::Period;
 use form_urlencoded::{decode, raw_pairs};
 use std::alloc::Global;
 
-fn is_data_parameter(name: &[u8]) -> bool
-    ensures { result ≡ is_listed data_parameters name.now }
-{
-    if name == b"startDate".as_slice() {
-        return true;
-    }
-    if name == b"endDate".as_slice() {
-        return true;
-    }
-    if name == b"measureCriteria".as_slice() {
-        return true;
-    }
-    if name == b"preAggregationMeasureCriteria".as_slice() {
-        return true;
-    }
-    if name == b"lastYears".as_slice() {
-        return true;
-    }
-    if name == b"aggregationType".as_slice() {
-        return true;
-    }
-    if name == b"relativePeriodDate".as_slice() {
-        return true;
-    }
-    false
-}
+/// Parameters that choose other data.
+const DATA_PARAMETERS: [&[u8]; 7] = [
+    b"startDate",
+    b"endDate",
+    b"measureCriteria",
+    b"preAggregationMeasureCriteria",
+    b"lastYears",
+    b"aggregationType",
+    b"relativePeriodDate",
+];
 
-fn is_scheme_parameter(name: &[u8]) -> bool
-    ensures { result ≡ is_listed scheme_parameters name.now }
-{
-    if name == b"outputIdScheme".as_slice() {
-        return true;
-    }
-    if name == b"inputIdScheme".as_slice() {
-        return true;
-    }
-    if name == b"timeField".as_slice() {
-        return true;
-    }
-    if name == b"orgUnitField".as_slice() {
-        return true;
-    }
-    if name == b"skipData".as_slice() {
-        return true;
-    }
-    if name == b"completedOnly".as_slice() {
-        return true;
-    }
-    if name == b"approvalLevel".as_slice() {
-        return true;
-    }
-    false
-}
+/// Parameters that choose other names, or leave out data.
+const SCHEME_PARAMETERS: [&[u8]; 7] = [
+    b"outputIdScheme",
+    b"inputIdScheme",
+    b"timeField",
+    b"orgUnitField",
+    b"skipData",
+    b"completedOnly",
+    b"approvalLevel",
+];
 
-fn is_layout_parameter(name: &[u8]) -> bool
-    ensures { result ≡ is_listed layout_parameters name.now }
+/// Parameters that choose another layout.
+const LAYOUT_PARAMETERS: [&[u8]; 7] = [
+    b"userOrgUnit",
+    b"order",
+    b"columns",
+    b"rows",
+    b"tableLayout",
+    b"includeNumDen",
+    b"skipRounding",
+];
+
+fn is_one_of(names: &[&[u8]], name: &[u8]) -> bool
+    ensures { result ≡ list_any (λ other. bytes_eq name.now other.now) names.now }
 {
-    if name == b"userOrgUnit".as_slice() {
-        return true;
-    }
-    if name == b"order".as_slice() {
-        return true;
-    }
-    if name == b"columns".as_slice() {
-        return true;
-    }
-    if name == b"rows".as_slice() {
-        return true;
-    }
-    if name == b"tableLayout".as_slice() {
-        return true;
-    }
-    if name == b"includeNumDen".as_slice() {
-        return true;
-    }
-    if name == b"skipRounding".as_slice() {
-        return true;
+    for other in names {
+        if name == *other {
+            return true;
+        }
     }
     false
 }
@@ -110,7 +74,9 @@ fn is_layout_parameter(name: &[u8]) -> bool
 fn is_unsupported(name: &[u8]) -> bool
     ensures { result ≡ is_unsupported name.now }
 {
-    is_data_parameter(name) || is_scheme_parameter(name) || is_layout_parameter(name)
+    is_one_of(&DATA_PARAMETERS, name)
+        || is_one_of(&SCHEME_PARAMETERS, name)
+        || is_one_of(&LAYOUT_PARAMETERS, name)
 }
 
 fn colon(value: &[u8]) -> Option<usize>

@@ -126,7 +126,8 @@ pub(crate) fn each_part(
 {
     let mut all = Vec::new(alloc);
     for item in items {
-        all.push(part_of(alloc, meta, user, view, item)?)?;
+        let part = part_of(alloc, meta, user, view, item)?;
+        all.push(part)?;
     }
     Ok(Items::from(all))
 }

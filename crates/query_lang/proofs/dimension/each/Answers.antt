@@ -1,6 +1,6 @@
 use Rattle.std.proofs.Common.{◌∙◌, sym, ap}
 use Rattle.query_lang.specs.Items.{each}
-use Rattle.query_lang.proofs.EachLemmas.{each_more}
+use Rattle.query_lang.proofs.EachLemmas.{each_more, each_none}
 use Rattle.query_lang.proofs.dimension.each.Goals as goal
 
 pub loop-text-preserved : goal.loop-text-preserved
@@ -10,3 +10,9 @@ loop-text-preserved g c =
     (each form c.args.texts.now)
     c.loop-text-test.true c.text-item.is (ap form (sym c.as_slice.ensures) ∙ sym c.in_ok-item.ensures
     ∙ c.in-Some.is) c.in_ok-push.ensures.items c.loop-text.invariant
+
+pub returns-in_default : goal.returns-in_default
+returns-in_default g c =
+    let form = g.T.ReadItem.form in
+    sym (each_none form c.loop-text.items.items c.args.texts.now c.loop-text.text-index c.text-item.result (each form c.args.texts.now)
+    c.loop-text-test.true c.text-item.is (ap form (sym c.as_slice.ensures) ∙ sym c.in_ok-item.ensures ∙ c.in_default.is) c.loop-text.invariant)

@@ -1,0 +1,7 @@
+use Rattle.std.proofs.Common.{◌≡◌, take, false}
+use Rattle.std.specs.List.{list_any}
+use Rattle.query_lang.specs.Parts.{is_group}
+use Rattle.query_lang.proofs.choice.names_group.Given as goal
+
+abbrev pub invariant-loop-part : goal.invariant-loop-part
+invariant-loop-part l = list_any is_group (take l.part-index l.parts) ≡ false

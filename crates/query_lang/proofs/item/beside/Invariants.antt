@@ -1,0 +1,8 @@
+use Rattle.std.proofs.Common.{◌≡◌, drop, map}
+use Rattle.query_lang.specs.Items.{beside}
+use Rattle.query_lang.proofs.item.beside.Given as goal
+
+abbrev pub invariant-loop-entry : goal.invariant-loop-entry
+invariant-loop-entry g l =
+    beside (map (λ entry. (entry.0.now, entry.1)) (drop l.entry-index l.table)) l.name
+    ≡ beside (map (λ entry. (entry.0.now, entry.1)) l.table) l.name

@@ -1,7 +1,0 @@
-use Rattle.std.proofs.Common.{◌≡◌, filter}
-use Rattle.query_lang.specs.Walk.{first_units}
-use Rattle.query_lang.specs.Parts.{is_kin}
-use Rattle.query_lang.proofs.kin.kin_of.Given as goal
-
-abbrev pub invariant-loop-order : goal.invariant-loop-order
-invariant-loop-order l = l.found.items ≡ filter (is_kin l.tree l.views l.degree) (first_units l.tree l.order)

@@ -1,0 +1,6 @@
+use Rattle.std.proofs.Common.{◌≡◌, take, false, bytes_eq}
+use Rattle.std.specs.List.{list_any}
+use Rattle.query_lang.proofs.text.is_one_of.Given as goal
+
+abbrev pub invariant-loop-other : goal.invariant-loop-other
+invariant-loop-other l = list_any (λ other. bytes_eq l.name other.now) (take l.other-index l.names) ≡ false

@@ -1,0 +1,7 @@
+use Rattle.query_lang.proofs.LoopLemmas.{covers-more}
+use Rattle.query_lang.proofs.view.intervals.Goals as goal
+
+pub loop-unit-preserved : goal.loop-unit-preserved
+loop-unit-preserved c =
+    covers-more c.args.tree.now c.args.units.now c.loop-unit.intervals.items c.push.new.self.items c.loop-unit.unit-index c.interval.result
+    c.loop-unit-test.true c.interval.ensures.members c.in_ok-push.ensures.items c.loop-unit.invariant
