@@ -1,6 +1,6 @@
 //! The states of a unit's approval and of those above it.
 
-ghost use Rattle.std.specs.Prelude.{◌≡◌, ◌<◌, IsTrue, length};
+ghost use Rattle.std.specs.Prelude.{◌≡◌, ◌<◌, IsTrue, length, option_and_then, slice_get};
 ghost use Rattle.dh_changes.specs.World.{facts};
 ghost use Rattle.dh_metadata.specs.Linked.{IsBelow};
 ghost use Rattle.dh_records.specs.Approved.{counts, is_approved_as};
@@ -67,6 +67,17 @@ fn approved_ancestor(asking: &Asking<'_>, unit: u32, level: u8) -> Option<u32>
     }
 }
 
+// The approved ancestor at a position.
+fn approved_at(asking: &Asking<'_>, levels: &[u8], unit: u32, position: u8) -> Option<u32>
+    requires { unit < length asking.now.meta.now.organisation_units }
+    ensures value { result
+        ≡ option_and_then (known.approved_ancestor (facts asking.now.world.now) asking.now.meta.now asking.now.scope unit) (slice_get levels.now position) }
+    ensures in_range { IsBelow (length asking.now.meta.now.organisation_units) result }
+{
+    let level = *levels.get(position as usize)?;
+    approved_ancestor(asking, unit, level)
+}
+
 /// The nearest approved ancestor at a position below this one.
 pub fn nearest_above(asking: &Asking<'_>, levels: &[u8], unit: u32, position: u8) -> Option<u32>
     requires { unit < length asking.now.meta.now.organisation_units }
@@ -76,10 +87,8 @@ pub fn nearest_above(asking: &Asking<'_>, levels: &[u8], unit: u32, position: u8
     let mut left = position;
     while 0 < left {
         left -= 1;
-        if let Some(level) = levels.get(left as usize) {
-            if let Some(above) = approved_ancestor(asking, unit, *level) {
-                return Some(above);
-            }
+        if let Some(above) = approved_at(asking, levels, unit, left) {
+            return Some(above);
         }
     }
     None
