@@ -8,6 +8,7 @@ use Rattle.import_forms.specs.declared.pair.Pair.{Pair}
 use Rattle.import_forms.specs.declared.event.BundleEvent.{BundleEvent}
 use Rattle.import_forms.specs.declared.enrollment.BundleEnrollment.{BundleEnrollment}
 use Rattle.import_forms.specs.declared.enrollment.EnrollmentForm.{EnrollmentForm}
+use Rattle.import_forms.specs.Both.{◌⊗◌}
 use Rattle.import_forms.specs.Lists.{list_at}
 use Rattle.import_forms.specs.Pairs.{attributes_of}
 use Rattle.import_forms.specs.Events.{event_form}
@@ -32,9 +33,12 @@ whole_enrollment json = and_then (attributes_of json) (λ told. Ok (enrollment_o
 abbrev pub in_enrollment : Option (List ℕ) → BundleEvent → BundleEvent
 in_enrollment id event = record event { enrollment = option_or event.enrollment id }
 
+abbrev pub with_events : BundleEnrollment → List BundleEvent → EnrollmentForm
+with_events own events = record { own = own; events = map (in_enrollment own.id) events }
+
 -- the events come before the attributes
+unfoldable pub enrollment_parts : Data → Formed (List BundleEvent × BundleEnrollment)
+enrollment_parts json = list_at (codes "events") event_form json ⊗ whole_enrollment json
+
 unfoldable pub enrollment_form : Data → Formed EnrollmentForm
-enrollment_form = object_of (λ json.
-    and_then (list_at (codes "events") event_form json) (λ events.
-    and_then (whole_enrollment json) (λ own.
-    Ok (record { own = own; events = map (in_enrollment own.id) events }))))
+enrollment_form = object_of (λ json. and_then (enrollment_parts json) (λ parts. Ok (with_events parts.1 parts.0)))

@@ -1,4 +1,5 @@
 pub mod Bodies
+pub mod Both
 pub mod Texts
 pub mod Sets
 pub mod Completions

@@ -21,6 +21,10 @@ text_at key json = and_then (field_or_of key text_or_null_of (record { text = No
 abbrev pub text_in : List ℕ → Data → Option (List ℕ)
 text_in key json = option_and_then as_str (get key json)
 
+-- the texts under four keys
+abbrev pub four_texts_in : (a b c d : List ℕ) → Data → (Option (List ℕ) × Option (List ℕ)) × (Option (List ℕ) × Option (List ℕ))
+four_texts_in a b c d json = ((text_in a json, text_in b json), (text_in c json, text_in d json))
+
 abbrev pub truth_in : List ℕ → Data → Option Bool
 truth_in key json = option_and_then as_bool (get key json)
 

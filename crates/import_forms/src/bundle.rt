@@ -4,9 +4,10 @@ ghost use Rattle.std.specs.Prelude.{◌≡◌, IfOk};
 ghost use Rattle.json_read.specs.Views.{data_of};
 ghost use Rattle.json_read.specs.Given as forms;
 ghost use Rattle.import_forms.specs.Bodies.{body_of, Gives};
-ghost use Rattle.import_forms.specs.Bundles.{lists_of, in_order, bundle_of};
+ghost use Rattle.import_forms.specs.Bundles.{three_lists, lists_of, in_order, bundle_of};
 
 use crate::body::{fault_of, no_document};
+use crate::both::both;
 use crate::enrollment::{BundleEnrollment, EnrollmentForm, put_enrollments};
 use crate::entity::{BundleEntity, EntityForm, put_entities};
 use crate::event::BundleEvent;
@@ -21,7 +22,7 @@ use json_read::read::read;
 use std::alloc::Global;
 
 /// How a bundle is to be imported.
-#[derive(Clone, Copy, PartialEq, Eq)]
+#[derive(Clone, Copy)]
 pub struct BundleParams {
     pub strategy: ImportStrategy,
     /// Whether one conflict leaves all objects unwritten.
@@ -46,14 +47,29 @@ pub struct Bundle {
     pub events: Items<BundleEvent>,
 }
 
+type Lists = (
+    Items<EntityForm>,
+    (Items<EnrollmentForm>, Items<BundleEvent>),
+);
+
+fn three_lists(alloc: Global, value: &Value<'_>) -> Result<Lists, FormFault>
+    ensures { forms.Gives (three_lists (data_of value.now)) result }
+{
+    both(
+        list_at(alloc, value, "trackedEntities"),
+        both(
+            list_at(alloc, value, "enrollments"),
+            list_at(alloc, value, "events"),
+        ),
+    )
+}
+
 #[tactic(auto, unfolding(crate::specs::Bundles::lists_of))]
 fn lists_of(alloc: Global, value: &Value<'_>) -> Result<BundleLists, FormFault>
     ensures { forms.Gives (lists_of (data_of value.now)) result }
 {
     require_object(alloc, value)?;
-    let entities: Items<EntityForm> = list_at(alloc, value, "trackedEntities")?;
-    let enrollments: Items<EnrollmentForm> = list_at(alloc, value, "enrollments")?;
-    let events: Items<BundleEvent> = list_at(alloc, value, "events")?;
+    let (entities, (enrollments, events)) = three_lists(alloc, value)?;
     Ok(BundleLists {
         entities,
         enrollments,

@@ -7,7 +7,8 @@ ghost use Rattle.import_forms.specs.Bodies.{body_of, Gives};
 ghost use Rattle.import_forms.specs.Completions.{completion_of, completions_of};
 
 use crate::body::{fault_of, no_document};
-use crate::text::{held_text_in, truth_in};
+use crate::both::both;
+use crate::text::{four_held_texts_in, held_text_in, truth_in};
 use dh_base::items::Items;
 use dh_base::memory::Memory;
 use dh_changes::outcome::BodyFault;
@@ -37,12 +38,24 @@ pub struct Completion {
 fn completion_of(alloc: Global, value: &Value<'_>) -> Result<Completion, Memory>
     ensures { IfOk result (λ found. found ≡ completion_of (data_of value.now)) }
 {
+    let (key, date) = both(
+        four_held_texts_in(
+            alloc,
+            value,
+            "dataSet",
+            "period",
+            "organisationUnit",
+            "attributeOptionCombo",
+        ),
+        held_text_in(alloc, value, "date"),
+    )?;
+    let ((data_set, period), (unit, attribute)) = key;
     Ok(Completion {
-        data_set: held_text_in(alloc, value, "dataSet")?,
-        period: held_text_in(alloc, value, "period")?,
-        unit: held_text_in(alloc, value, "organisationUnit")?,
-        attribute: held_text_in(alloc, value, "attributeOptionCombo")?,
-        date: held_text_in(alloc, value, "date")?,
+        data_set,
+        period,
+        unit,
+        attribute,
+        date,
         done: truth_in(value, "completed").unwrap_or(true),
     })
 }

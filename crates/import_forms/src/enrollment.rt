@@ -5,12 +5,13 @@ ghost use Rattle.std.specs.Option.{option_or};
 ghost use Rattle.std.specs.List.{flat_map};
 ghost use Rattle.json_read.specs.Views.{data_of};
 ghost use Rattle.json_read.specs.Given.{Gives};
-ghost use Rattle.import_forms.specs.Enrollments.{enrollment_of, whole_enrollment, in_enrollment};
+ghost use Rattle.import_forms.specs.Enrollments.{enrollment_of, whole_enrollment, in_enrollment, with_events, enrollment_parts};
 
+use crate::both::both;
 use crate::event::BundleEvent;
 use crate::lists::{append, list_at};
 use crate::pair::{Pair, attributes_of};
-use crate::text::text_in;
+use crate::text::{four_texts_in, text_in};
 use dh_base::items::Items;
 use dh_base::memory::Memory;
 use json::Value;
@@ -46,14 +47,31 @@ pub struct EnrollmentForm {
 fn enrollment_of(alloc: Global, value: &Value<'_>) -> Result<BundleEnrollment, AllocError>
     ensures { IfOk result (λ own. own ≡ enrollment_of [] (data_of value.now)) }
 {
+    let days = both(
+        text_in(alloc, value, "enrolledAt"),
+        text_in(alloc, value, "occurredAt"),
+    );
+    let (ids, (days, status)) = both(
+        four_texts_in(
+            alloc,
+            value,
+            "enrollment",
+            "trackedEntity",
+            "program",
+            "orgUnit",
+        ),
+        both(days, text_in(alloc, value, "status")),
+    )?;
+    let ((id, entity), (program, unit)) = ids;
+    let (enrolled, occurred) = days;
     Ok(BundleEnrollment {
-        id: text_in(alloc, value, "enrollment")?,
-        entity: text_in(alloc, value, "trackedEntity")?,
-        program: text_in(alloc, value, "program")?,
-        unit: text_in(alloc, value, "orgUnit")?,
-        enrolled: text_in(alloc, value, "enrolledAt")?,
-        occurred: text_in(alloc, value, "occurredAt")?,
-        status: text_in(alloc, value, "status")?,
+        id,
+        entity,
+        program,
+        unit,
+        enrolled,
+        occurred,
+        status,
         attributes: Items::new(alloc),
     })
 }
@@ -94,8 +112,13 @@ fn in_enrollment(
     ensures { IfOk result (λ filled. filled ≡ in_enrollment id.now event) }
 {
     let mut event = event;
-    fill_in(alloc, &mut event.enrollment, id)?;
-    Ok(event)
+    match fill_in(alloc, &mut event.enrollment, id) {
+        Ok(()) => Ok(event),
+        Err(fault) => {
+            drop(event);
+            Err(fault)
+        }
+    }
 }
 
 fn all_in_enrollment(
@@ -112,6 +135,35 @@ fn all_in_enrollment(
     Ok(Items::from(filled))
 }
 
+fn with_events(
+    alloc: Global,
+    own: BundleEnrollment,
+    events: Items<BundleEvent>,
+) -> Result<EnrollmentForm, AllocError>
+    ensures { IfOk result (λ form. form ≡ with_events own events) }
+{
+    match all_in_enrollment(alloc, &own.id, events) {
+        Ok(events) => Ok(EnrollmentForm { own, events }),
+        Err(fault) => {
+            drop(own);
+            Err(fault)
+        }
+    }
+}
+
+// The events that stand in an enrollment, and the enrollment.
+fn enrollment_parts(
+    alloc: Global,
+    value: &Value<'_>,
+) -> Result<(Items<BundleEvent>, BundleEnrollment), FormFault>
+    ensures { Gives (enrollment_parts (data_of value.now)) result }
+{
+    both(
+        list_at(alloc, value, "events"),
+        whole_enrollment(alloc, value),
+    )
+}
+
 impl ReadJson for EnrollmentForm {
     ghost use Rattle.import_forms.specs.Enrollments.{enrollment_form};
 
@@ -120,10 +172,8 @@ impl ReadJson for EnrollmentForm {
     #[tactic(auto, unfolding(crate::specs::Enrollments::enrollment_form))]
     fn read(alloc: Global, value: &Value<'_>) -> Result<EnrollmentForm, FormFault> {
         require_object(alloc, value)?;
-        let events: Items<BundleEvent> = list_at(alloc, value, "events")?;
-        let own = whole_enrollment(alloc, value)?;
-        let events = all_in_enrollment(alloc, &own.id, events)?;
-        Ok(EnrollmentForm { own, events })
+        let (events, own) = enrollment_parts(alloc, value)?;
+        Ok(with_events(alloc, own, events)?)
     }
 }
 

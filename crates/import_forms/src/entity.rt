@@ -4,8 +4,9 @@ ghost use Rattle.std.specs.Prelude.{◌≡◌, ◌++◌, [], IfOk, OnOk, map};
 ghost use Rattle.std.specs.List.{flat_map};
 ghost use Rattle.json_read.specs.Views.{data_of};
 ghost use Rattle.json_read.specs.Given.{Gives};
-ghost use Rattle.import_forms.specs.Entities.{entity_of, whole_entity, in_entity};
+ghost use Rattle.import_forms.specs.Entities.{entity_of, whole_entity, in_entity, with_enrollments, entity_parts};
 
+use crate::both::both;
 use crate::enrollment::{EnrollmentForm, fill_in};
 use crate::lists::{append, list_at};
 use crate::pair::{Pair, attributes_of};
@@ -40,10 +41,15 @@ pub struct EntityForm {
 fn entity_of(alloc: Global, value: &Value<'_>) -> Result<BundleEntity, AllocError>
     ensures { IfOk result (λ own. own ≡ entity_of [] (data_of value.now)) }
 {
+    let ids = both(
+        text_in(alloc, value, "trackedEntity"),
+        text_in(alloc, value, "trackedEntityType"),
+    );
+    let ((id, kind), unit) = both(ids, text_in(alloc, value, "orgUnit"))?;
     Ok(BundleEntity {
-        id: text_in(alloc, value, "trackedEntity")?,
-        kind: text_in(alloc, value, "trackedEntityType")?,
-        unit: text_in(alloc, value, "orgUnit")?,
+        id,
+        kind,
+        unit,
         attributes: Items::new(alloc),
     })
 }
@@ -67,8 +73,13 @@ fn in_entity(
     ensures { IfOk result (λ filled. filled ≡ in_entity id.now form) }
 {
     let mut form = form;
-    fill_in(alloc, &mut form.own.entity, id)?;
-    Ok(form)
+    match fill_in(alloc, &mut form.own.entity, id) {
+        Ok(()) => Ok(form),
+        Err(fault) => {
+            drop(form);
+            Err(fault)
+        }
+    }
 }
 
 fn all_in_entity(
@@ -85,6 +96,35 @@ fn all_in_entity(
     Ok(Items::from(filled))
 }
 
+fn with_enrollments(
+    alloc: Global,
+    own: BundleEntity,
+    enrollments: Items<EnrollmentForm>,
+) -> Result<EntityForm, AllocError>
+    ensures { IfOk result (λ form. form ≡ with_enrollments own enrollments) }
+{
+    match all_in_entity(alloc, &own.id, enrollments) {
+        Ok(enrollments) => Ok(EntityForm { own, enrollments }),
+        Err(fault) => {
+            drop(own);
+            Err(fault)
+        }
+    }
+}
+
+// The enrollments that stand in an entity, and the entity.
+fn entity_parts(
+    alloc: Global,
+    value: &Value<'_>,
+) -> Result<(Items<EnrollmentForm>, BundleEntity), FormFault>
+    ensures { Gives (entity_parts (data_of value.now)) result }
+{
+    both(
+        list_at(alloc, value, "enrollments"),
+        whole_entity(alloc, value),
+    )
+}
+
 impl ReadJson for EntityForm {
     ghost use Rattle.import_forms.specs.Entities.{entity_form};
 
@@ -93,10 +133,8 @@ impl ReadJson for EntityForm {
     #[tactic(auto, unfolding(crate::specs::Entities::entity_form))]
     fn read(alloc: Global, value: &Value<'_>) -> Result<EntityForm, FormFault> {
         require_object(alloc, value)?;
-        let enrollments: Items<EnrollmentForm> = list_at(alloc, value, "enrollments")?;
-        let own = whole_entity(alloc, value)?;
-        let enrollments = all_in_entity(alloc, &own.id, enrollments)?;
-        Ok(EntityForm { own, enrollments })
+        let (enrollments, own) = entity_parts(alloc, value)?;
+        Ok(with_enrollments(alloc, own, enrollments)?)
     }
 }
 

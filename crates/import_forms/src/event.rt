@@ -4,8 +4,9 @@ ghost use Rattle.std.specs.Prelude.{◌≡◌, [], IfOk};
 ghost use Rattle.json_read.specs.Views.{data_of};
 ghost use Rattle.import_forms.specs.Events.{event_of};
 
+use crate::both::both;
 use crate::pair::{Pair, values_of};
-use crate::text::text_in;
+use crate::text::four_texts_in;
 use dh_base::items::Items;
 use json::Value;
 use json_read::fault::FormFault;
@@ -34,15 +35,35 @@ pub struct BundleEvent {
 fn event_of(alloc: Global, value: &Value<'_>) -> Result<BundleEvent, AllocError>
     ensures { IfOk result (λ event. event ≡ event_of [] (data_of value.now)) }
 {
+    let (ids, facts) = both(
+        four_texts_in(
+            alloc,
+            value,
+            "event",
+            "enrollment",
+            "program",
+            "programStage",
+        ),
+        four_texts_in(
+            alloc,
+            value,
+            "orgUnit",
+            "occurredAt",
+            "scheduledAt",
+            "status",
+        ),
+    )?;
+    let ((id, enrollment), (program, stage)) = ids;
+    let ((unit, occurred), (scheduled, status)) = facts;
     Ok(BundleEvent {
-        id: text_in(alloc, value, "event")?,
-        enrollment: text_in(alloc, value, "enrollment")?,
-        program: text_in(alloc, value, "program")?,
-        stage: text_in(alloc, value, "programStage")?,
-        unit: text_in(alloc, value, "orgUnit")?,
-        occurred: text_in(alloc, value, "occurredAt")?,
-        scheduled: text_in(alloc, value, "scheduledAt")?,
-        status: text_in(alloc, value, "status")?,
+        id,
+        enrollment,
+        program,
+        stage,
+        unit,
+        occurred,
+        scheduled,
+        status,
         values: Items::new(alloc),
     })
 }

@@ -2,6 +2,7 @@
 #![tactic(auto)]
 
 pub mod body;
+mod both;
 pub mod bundle;
 pub mod completion;
 pub mod enrollment;

@@ -4,10 +4,11 @@ ghost use Rattle.std.specs.Prelude.{◌≡◌, IfOk, codes};
 ghost use Rattle.json_read.specs.Views.{data_of};
 ghost use Rattle.json_read.specs.Given as forms;
 ghost use Rattle.import_forms.specs.Bodies.{body_of, Gives};
-ghost use Rattle.import_forms.specs.Sets.{value_of, values_at, place_of, set_of};
+ghost use Rattle.import_forms.specs.Sets.{value_of, values_at, fields_of, set_of};
 
 use crate::body::{fault_of, no_document};
-use crate::text::{held_text_in, held_written_in, text_at, truth_in};
+use crate::both::both;
+use crate::text::{four_held_texts_in, held_text_in, held_written_in, text_at, truth_in};
 use dh_base::items::Items;
 use dh_base::memory::Memory;
 use dh_changes::outcome::{BodyFault, ImportStrategy};
@@ -20,7 +21,7 @@ use json_read::read::read;
 use std::alloc::Global;
 
 /// How a set is to be imported.
-#[derive(Clone, Copy, PartialEq, Eq)]
+#[derive(Clone, Copy)]
 pub struct SetParams {
     pub strategy: ImportStrategy,
     /// Whether the set is only judged.
@@ -49,14 +50,6 @@ pub struct SetValues {
     pub values: Items<SetValue>,
 }
 
-/// The organisation unit, the attribute option combination and the values of a set.
-#[derive(Drop)]
-pub struct SetPlace {
-    pub unit: Option<Text>,
-    pub attribute: Option<Text>,
-    pub values: Items<SetValue>,
-}
-
 /// A data value set, as it stands in the body. A value's own texts go before those of the set.
 #[derive(Drop)]
 pub struct ValueSet {
@@ -75,13 +68,28 @@ pub struct ValueSet {
 fn value_of(alloc: Global, value: &Value<'_>) -> Result<SetValue, Memory>
     ensures { IfOk result (λ found. found ≡ value_of (data_of value.now)) }
 {
+    let (key, (attribute, told)) = both(
+        four_held_texts_in(
+            alloc,
+            value,
+            "dataElement",
+            "categoryOptionCombo",
+            "period",
+            "orgUnit",
+        ),
+        both(
+            held_text_in(alloc, value, "attributeOptionCombo"),
+            held_written_in(alloc, value, "value"),
+        ),
+    )?;
+    let ((element, combo), (period, unit)) = key;
     Ok(SetValue {
-        element: held_text_in(alloc, value, "dataElement")?,
-        combo: held_text_in(alloc, value, "categoryOptionCombo")?,
-        attribute: held_text_in(alloc, value, "attributeOptionCombo")?,
-        value: held_written_in(alloc, value, "value")?,
-        period: held_text_in(alloc, value, "period")?,
-        unit: held_text_in(alloc, value, "orgUnit")?,
+        element,
+        combo,
+        attribute,
+        value: told,
+        period,
+        unit,
         deleted: truth_in(value, "deleted").unwrap_or(false),
     })
 }
@@ -128,18 +136,31 @@ fn values_at(alloc: Global, value: &Value<'_>, key: &str) -> Result<Items<SetVal
     Ok(found.values)
 }
 
-#[tactic(auto, unfolding(crate::specs::Sets::place_of, crate::specs::Texts::text_at))]
-fn place_of(alloc: Global, value: &Value<'_>) -> Result<SetPlace, FormFault>
-    ensures { forms.Gives (place_of (data_of value.now)) result }
+type Texts = (Option<Text>, Option<Text>);
+
+// The texts of a set and its values, in their order.
+fn fields_of(
+    alloc: Global,
+    value: &Value<'_>,
+) -> Result<(Texts, (Option<Text>, (Texts, Items<SetValue>))), FormFault>
+    ensures { forms.Gives (fields_of (data_of value.now)) result }
 {
-    let unit = text_at(alloc, value, "orgUnit")?;
-    let attribute = text_at(alloc, value, "attributeOptionCombo")?;
-    let values = values_at(alloc, value, "dataValues")?;
-    Ok(SetPlace {
-        unit,
-        attribute,
-        values,
-    })
+    both(
+        both(
+            text_at(alloc, value, "dataSet"),
+            text_at(alloc, value, "completeDate"),
+        ),
+        both(
+            text_at(alloc, value, "period"),
+            both(
+                both(
+                    text_at(alloc, value, "orgUnit"),
+                    text_at(alloc, value, "attributeOptionCombo"),
+                ),
+                values_at(alloc, value, "dataValues"),
+            ),
+        ),
+    )
 }
 
 #[tactic(auto, unfolding(crate::specs::Sets::set_of))]
@@ -147,18 +168,16 @@ fn set_of(alloc: Global, params: SetParams, value: &Value<'_>) -> Result<ValueSe
     ensures { forms.Gives (set_of params (data_of value.now)) result }
 {
     require_object(alloc, value)?;
-    let data_set = text_at(alloc, value, "dataSet")?;
-    let complete_date = text_at(alloc, value, "completeDate")?;
-    let period = text_at(alloc, value, "period")?;
-    let place = place_of(alloc, value)?;
+    let ((data_set, complete_date), (period, place)) = fields_of(alloc, value)?;
+    let ((unit, attribute), values) = place;
     Ok(ValueSet {
         params,
         data_set,
         complete_date,
         period,
-        unit: place.unit,
-        attribute: place.attribute,
-        values: place.values,
+        unit,
+        attribute,
+        values,
     })
 }
 

@@ -5,8 +5,9 @@ ghost use Rattle.std.specs.Fmt.{decimal, signed_decimal};
 ghost use Rattle.json_read.specs.Views.{data_of};
 ghost use Rattle.serde_json.specs.Find.{as_number};
 ghost use Rattle.json_read.specs.Given.{Gives};
-ghost use Rattle.import_forms.specs.Texts.{text_at, text_in, truth_in, truth_text, whole_text, written_of, written_in};
+ghost use Rattle.import_forms.specs.Texts.{text_at, text_in, four_texts_in, truth_in, truth_text, whole_text, written_of, written_in};
 
+use crate::both::both;
 use dh_base::items::Items;
 use dh_base::memory::Memory;
 use dh_changes::text::Text;
@@ -85,6 +86,48 @@ pub(crate) fn held_text_in(
         Some(found) => Ok(Some(Text::of(alloc, found.as_bytes())?)),
         None => Ok(None),
     }
+}
+
+type Four<T> = ((Option<T>, Option<T>), (Option<T>, Option<T>));
+
+/// The texts under four keys.
+pub(crate) fn four_texts_in(
+    alloc: Global,
+    value: &Value<'_>,
+    first: &str,
+    second: &str,
+    third: &str,
+    fourth: &str,
+) -> Result<Four<Items<u8>>, AllocError>
+    ensures { IfOk result (λ texts. texts ≡ four_texts_in first.now second.now third.now fourth.now (data_of value.now)) }
+{
+    both(
+        both(text_in(alloc, value, first), text_in(alloc, value, second)),
+        both(text_in(alloc, value, third), text_in(alloc, value, fourth)),
+    )
+}
+
+/// The same texts where short ones stand in their owner.
+pub(crate) fn four_held_texts_in(
+    alloc: Global,
+    value: &Value<'_>,
+    first: &str,
+    second: &str,
+    third: &str,
+    fourth: &str,
+) -> Result<Four<Text>, Memory>
+    ensures { IfOk result (λ texts. texts ≡ four_texts_in first.now second.now third.now fourth.now (data_of value.now)) }
+{
+    both(
+        both(
+            held_text_in(alloc, value, first),
+            held_text_in(alloc, value, second),
+        ),
+        both(
+            held_text_in(alloc, value, third),
+            held_text_in(alloc, value, fourth),
+        ),
+    )
 }
 
 /// The truth under a key, where data of another type counts as absent.

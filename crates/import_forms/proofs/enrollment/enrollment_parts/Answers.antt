@@ -1,0 +1,6 @@
+use Rattle.import_forms.proofs.BothLemmas.{gives_both}
+use Rattle.import_forms.proofs.enrollment.enrollment_parts.Goals as goal
+
+pub returns : goal.returns
+unfolding Rattle.import_forms.specs.Enrollments.enrollment_parts
+returns c = gives_both _ _ _ _ _ c.both.ensures c.list_at.ensures c.whole_enrollment.ensures
