@@ -5,8 +5,8 @@ ghost use Rattle.serde_json.specs.View.{view};
 ghost use Rattle.http.specs.StatusCode.{IsStatusCode};
 ghost use Rattle.request_session.specs.Bodies.{message_of, error_of, refusal_of, error_text};
 
-use crate::members::{with_number, with_text, with_value};
-use crate::phrase::phrase;
+use crate::members::{with_text, with_value};
+use crate::response::with_status;
 use dh_base::codes::Refusal;
 use dh_base::memory::Memory;
 use serde_json::{Map, Value};
@@ -37,10 +37,7 @@ fn error_value(
     let message = Value::String(String::from_utf8_lossy(alloc, message)?);
     let members = with_value(alloc, Map::new(alloc), "message", message)?;
     let members = with_text(alloc, members, "errorCode", number)?;
-    let members = with_text(alloc, members, "httpStatus", phrase(status))?;
-    let members = with_number(alloc, members, "httpStatusCode", u64::from(status))?;
-    let members = with_text(alloc, members, "status", "ERROR")?;
-    Ok(Value::Object(members))
+    with_status(alloc, members, status, "ERROR")
 }
 
 #[tactic(auto, using(crate::proofs::HeadLemmas::has_status))]
