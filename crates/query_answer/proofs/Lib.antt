@@ -2,6 +2,7 @@ pub mod ValueLaws
 pub mod FloatLemmas
 pub mod AskedLemmas
 pub mod LoopLemmas
+pub mod NameLemmas
 pub mod AnswerLemmas
 pub mod UnseenLemmas
 pub mod PlanLemmas

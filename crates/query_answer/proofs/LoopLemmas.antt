@@ -1,7 +1,8 @@
 -- Steps of the loops over what is asked.
 use Rattle.std.proofs.Common.{◌≡◌, ℕ, zero, suc, ◌+◌, ◌<◌, Bool, true, false, ◌||◌, List, [], ◌∷◌, ◌++◌, length, take, drop, get_or, Some, None, refl, sym}
 use Rattle.std.proofs.Common.{ap, ◌∙◌, append_assoc, add-one, drop-cons, arith}
-use Rattle.std.specs.List.{find, list_any}
+use Rattle.std.specs.List.{find, flat_map, list_any}
+use Rattle.std.proofs.lemmas.List.{flat_map_more, take_more}
 use Rattle.dh_metadata.specs.declared.held.Records.{Records}
 use Rattle.cell_values.specs.Seen.{SeenRecords}
 use Rattle.query_lang.specs.declared.plain.Dx.{Dx}
@@ -39,3 +40,10 @@ dx_step r shown query xs i dx mid all within here so_far =
     let rows : rows_from r shown query i (drop i xs) ≡ dx_rows r shown query i dx ++ more =
     ap (rows_from r shown query i) next ∙ ap (λ d. dx_rows r shown query i d ++ more) (sym here) in
     append_assoc mid (dx_rows r shown query i dx) more ∙ ap (λ l. mid ++ l) (sym rows) ∙ so_far
+
+-- what one more gives stands after what those before it gave
+pub joined-more : {X Y : Type 0} (f : X → List Y) (xs : List X) (old found more : List Y) (i : ℕ) (d : X) → i < length xs
+    → found ≡ old ++ flat_map f (take i xs) → more ≡ found ++ f (get_or xs i d) → more ≡ old ++ flat_map f (take (i + 1) xs)
+joined-more f xs old found more i d within before put =
+    put ∙ ap (λ l. l ++ f (get_or xs i d)) before ∙ flat_map_more f old (take i xs) (get_or xs i d)
+    ∙ ap (λ l. old ++ flat_map f l) (sym (take_more xs i d within))

@@ -42,10 +42,10 @@ unit_seen r user parts slots place part are within at all =
     subst (IsUnitPart r user) (sym at) (all place part (unit_there parts slots place are within))
 
 -- a part more
-pub unit_step : (parts new : List UnitPart) (slots : List (Slot ℕ)) (i : ℕ) (x : UnitPart) → i < length slots
-    → unit_slot x ≡ get_or slots i (unit_slot x) → new ≡ parts ++ x ∷ [] → map unit_slot parts ≡ take i slots → map unit_slot new ≡ take (i + 1) slots
-unit_step parts new slots i x within at is before =
-    ap (map unit_slot) is ∙ map_push unit_slot parts x
-    ∙ ap (λ (l : List (Slot ℕ)). l ++ unit_slot x ∷ []) before
-    ∙ ap (λ (s : Slot ℕ). take i slots ++ s ∷ []) at
-    ∙ sym (take_more slots i (unit_slot x) within)
+pub part_step : {P S : Type 0} (slot : P → S) (parts new : List P) (slots : List S) (i : ℕ) (x : P) → i < length slots
+    → slot x ≡ get_or slots i (slot x) → new ≡ parts ++ x ∷ [] → map slot parts ≡ take i slots → map slot new ≡ take (i + 1) slots
+part_step slot parts new slots i x within at is before =
+    ap (map slot) is ∙ map_push slot parts x
+    ∙ ap (λ l. l ++ slot x ∷ []) before
+    ∙ ap (λ s. take i slots ++ s ∷ []) at
+    ∙ sym (take_more slots i (slot x) within)

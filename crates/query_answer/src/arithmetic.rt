@@ -8,7 +8,7 @@ use dh_base::plain::NumFault;
 use expr_eval::Value;
 
 /// What a cell of an answer holds.
-#[derive(Clone, Copy, PartialEq, Eq)]
+#[derive(Clone, Copy)]
 pub enum CellValue {
     Number(Frac),
     /// There is no value.

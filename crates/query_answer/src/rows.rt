@@ -197,7 +197,9 @@ fn write_period<S: RowStore>(
         part,
         groups: &groups,
     };
-    write_units(alloc, asking, item, &period, rows)
+    let wide = write_units(alloc, asking, item, &period, rows);
+    drop(groups);
+    wide
 }
 
 /// The periods of a query, one by one or all together.
@@ -264,7 +266,9 @@ fn write_dx<S: RowStore>(
         plan: &plan,
         place,
     };
-    write_periods(alloc, asking, &item, rows)
+    let wide = write_periods(alloc, asking, &item, rows);
+    drop(plan);
+    wide
 }
 
 fn copy(alloc: Global, text: &[u8]) -> Result<Items<u8>, Memory>

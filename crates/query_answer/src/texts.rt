@@ -35,7 +35,12 @@ fn is_plain(byte: u8) -> bool
 fn are_plain(bytes: &[u8]) -> bool
     ensures { result ≡ list_all is_plain bytes.now }
 {
-    bytes.iter().all(|byte| is_plain(*byte))
+    for byte in bytes {
+        if !is_plain(*byte) {
+            return false;
+        }
+    }
+    true
 }
 
 fn push_plain(text: &mut Vec<u8>, bytes: &[u8]) -> Result<(), Memory>

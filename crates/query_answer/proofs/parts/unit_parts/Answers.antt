@@ -4,7 +4,7 @@ use Rattle.std.proofs.lemmas.List.Elements.{All-push}
 use Rattle.query_answer.specs.Rows.{slot_of, slots}
 use Rattle.query_answer.specs.declared.parts.UnitPart.{UnitPart}
 use Rattle.query_answer.specs.Parts.{unit_slot, IsUnitPart}
-use Rattle.query_answer.proofs.PartLemmas.{unit_step}
+use Rattle.query_answer.proofs.PartLemmas.{part_step}
 use Rattle.query_answer.proofs.AskedLemmas.{units_there}
 use Rattle.query_answer.proofs.parts.unit_parts.Goals as goal
 
@@ -26,7 +26,7 @@ loop-place-preserved c =
     subst (λ (units : List ℕ). slot_of label units ≡ get_or all c.loop-place.place (slot_of label units)) (sym c.in_ok-units.ensures.units)
     c.part_at-part.ensures.part in
     record {
-      slots = unit_step c.loop-place.parts.items c.push.new.self.items all c.loop-place.place x within at c.in_ok-push.ensures.items
+      slots = part_step unit_slot c.loop-place.parts.items c.push.new.self.items all c.loop-place.place x within at c.in_ok-push.ensures.items
           c.loop-place.invariant.slots;
       seen =
           subst (All (IsUnitPart c.args.meta.now c.args.seer.now.user)) (sym c.in_ok-push.ensures.items)

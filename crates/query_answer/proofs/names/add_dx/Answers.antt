@@ -1,0 +1,21 @@
+use Rattle.std.proofs.Common.{◌∙◌, ℕ, List, ap}
+use Rattle.serde_json.specs.View.{members_view}
+use Rattle.query_lang.specs.declared.plain.Dx.{Dx}
+use Rattle.query_answer.specs.Names.{dx_name}
+use Rattle.query_answer.proofs.NameLemmas.{ids-more, names-more}
+use Rattle.query_answer.proofs.names.add_dx.Goals as goal
+
+pub loop-each-preserved : goal.loop-each-preserved
+loop-each-preserved c =
+    let dx = c.args.dx.now in
+    let i = c.loop-each.each-index in
+    let each = c.each-item.result in
+    let named : Dx → List ℕ × List ℕ = λ item. (item.text, dx_name c.args.meta.now item) in
+    let id = c.as_slice-text.ensures ∙ ap (λ (item : Dx). item.text) c.each-item.is in
+    let name = c.name_of_dx.ensures ∙ ap (dx_name c.args.meta.now) c.each-item.is in
+    record {
+      ids = ids-more dx named _ _ i each c.as_slice-text.result.now c.loop-each-test.true id c.loop-each.invariant.ids c.in_ok-push_text.ensures;
+      names = names-more dx named (members_view c.loop-each.items.entries) (members_view c.add_name.new.items.entries) _ i each
+          c.as_slice-text.result.now c.name_of_dx.result.now
+          c.loop-each-test.true id name c.loop-each.invariant.names c.in_ok-add_name.ensures;
+    }

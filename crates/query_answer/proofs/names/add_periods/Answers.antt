@@ -1,0 +1,22 @@
+use Rattle.std.proofs.Common.{◌≡◌, ◌∙◌, List, ℕ, get_or, ap}
+use Rattle.serde_json.specs.View.{members_view}
+use Rattle.dh_periods.specs.declared.name.PeriodName.{PeriodName}
+use Rattle.dh_periods.specs.Texts.{period_text}
+use Rattle.query_answer.proofs.NameLemmas.{ids-more, names-more}
+use Rattle.query_answer.proofs.names.add_periods.Goals as goal
+
+pub loop-each-preserved : goal.loop-each-preserved
+loop-each-preserved c =
+    let periods = c.args.periods.now in
+    let i = c.loop-each.each-index in
+    let each = c.each-item.result in
+    let named : PeriodName → List ℕ × List ℕ = λ period. (period_text period, period_text period) in
+    let text : c.in_ok-text.text.items ≡ period_text (get_or periods i each) = c.in_ok-text.ensures.text ∙ ap period_text c.each-item.is in
+    record {
+      ids = ids-more periods named _ _ i each c.as_slice-in-loop-each-2.result.now
+          c.loop-each-test.true (c.as_slice-in-loop-each-2.ensures.value ∙ text) c.loop-each.invariant.ids c.in_ok-push_text.ensures;
+      names = names-more periods named (members_view c.loop-each.items.entries) (members_view c.add_name.new.items.entries) _ i each
+          c.as_slice.result.now c.as_slice-in-loop-each.result.now
+          c.loop-each-test.true (c.as_slice.ensures.value ∙ text) (c.as_slice-in-loop-each.ensures.value ∙ text) c.loop-each.invariant.names
+          c.in_ok-add_name.ensures;
+    }
