@@ -73,7 +73,12 @@ impl MemDoor {
 fn is_listed(failing: &[u64], call: u64) -> bool
     ensures { result ≡ list_any (λ listed. nat_eq listed call) failing.now }
 {
-    failing.iter().any(|listed| *listed == call)
+    for listed in failing {
+        if *listed == call {
+            return true;
+        }
+    }
+    false
 }
 
 // The first of the links that wait.
