@@ -66,14 +66,15 @@ pub(crate) fn reply_to_change<K: Keeper>(
     engine: &mut Engine<K>,
     user: u32,
     moment: i64,
-    request: &ChangeRequest,
+    request: ChangeRequest,
     keep: bool,
 ) -> Result<Reply, Memory>
     requires user { user < length engine.old.meta.users }
-    ensures replies { ChangeReply engine.old (asking moment user request.now) keep (told result) engine.new }
+    ensures replies { ChangeReply engine.old (asking moment user request) keep (told result) engine.new }
     ensures sound { IsSound engine.old → IsSound engine.new }
     ensures sure { NeverFails K.keeper_faults → engine.old.faults ≡ 0 → engine.new.faults ≡ 0 }
 {
-    let found = engine.change(alloc, Who::User(user), moment, request);
+    let found = engine.change(alloc, Who::User(user), moment, &request);
+    drop(request);
     tell(alloc, found, keep)
 }

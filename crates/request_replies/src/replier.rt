@@ -40,7 +40,9 @@ fn reply_to_call<K: Keeper>(
 {
     match call {
         Call::Query { user, asked, query } => {
-            reply_to_query(alloc, engine, user, asked, &query, keep)
+            let reply = reply_to_query(alloc, engine, user, asked, &query, keep);
+            drop(query);
+            reply
         }
         Call::Check {
             user,
@@ -53,7 +55,7 @@ fn reply_to_call<K: Keeper>(
             engine,
             user,
             moment,
-            &ChangeRequest::Values(set),
+            ChangeRequest::Values(set),
             keep,
         ),
         Call::Completion { user, list } => reply_to_change(
@@ -61,7 +63,7 @@ fn reply_to_call<K: Keeper>(
             engine,
             user,
             moment,
-            &ChangeRequest::Completion(list),
+            ChangeRequest::Completion(list),
             keep,
         ),
         Call::Approval { user, act } => reply_to_change(
@@ -69,7 +71,7 @@ fn reply_to_call<K: Keeper>(
             engine,
             user,
             moment,
-            &ChangeRequest::Approval(act),
+            ChangeRequest::Approval(act),
             keep,
         ),
         Call::Tracker { user, bundle } => reply_to_change(
@@ -77,7 +79,7 @@ fn reply_to_call<K: Keeper>(
             engine,
             user,
             moment,
-            &ChangeRequest::Tracker(bundle),
+            ChangeRequest::Tracker(bundle),
             keep,
         ),
     }

@@ -20,11 +20,11 @@ pub(crate) fn reply_to_change<J: Naming, K: Keeper, R: Wait, G>(
     pass: &mut Pass<J>,
     user: u32,
     moment: i64,
-    request: &ChangeRequest,
+    request: ChangeRequest,
     keep: bool,
 ) -> Result<Reply, Memory>
     requires user { user < length J.made.meta.users }
-    ensures { ChangeReply J.made (asking moment user request.now) keep pass.old (told result) pass.new }
+    ensures { ChangeReply J.made (asking moment user request) keep pass.old (told result) pass.new }
 {
     let found = system.shared.change(
         system.rt,
@@ -32,7 +32,8 @@ pub(crate) fn reply_to_change<J: Naming, K: Keeper, R: Wait, G>(
         pass,
         Who::User(user),
         moment,
-        request,
+        &request,
     );
+    drop(request);
     tell(system.alloc, found, keep)
 }

@@ -43,7 +43,9 @@ fn reply_to_call<J: Naming, K: Keeper, R: Wait, G, U: Updates<Pass<J>> + Drop>(
 {
     match call {
         Call::Query { user, asked, query } => {
-            reply_to_query(system, pass, meta, user, asked, &query, keep)
+            let reply = reply_to_query(system, pass, meta, user, asked, &query, keep);
+            drop(query);
+            reply
         }
         Call::Check {
             user,
@@ -56,7 +58,7 @@ fn reply_to_call<J: Naming, K: Keeper, R: Wait, G, U: Updates<Pass<J>> + Drop>(
             pass,
             user,
             moment,
-            &ChangeRequest::Values(set),
+            ChangeRequest::Values(set),
             keep,
         ),
         Call::Completion { user, list } => reply_to_change(
@@ -64,7 +66,7 @@ fn reply_to_call<J: Naming, K: Keeper, R: Wait, G, U: Updates<Pass<J>> + Drop>(
             pass,
             user,
             moment,
-            &ChangeRequest::Completion(list),
+            ChangeRequest::Completion(list),
             keep,
         ),
         Call::Approval { user, act } => reply_to_change(
@@ -72,7 +74,7 @@ fn reply_to_call<J: Naming, K: Keeper, R: Wait, G, U: Updates<Pass<J>> + Drop>(
             pass,
             user,
             moment,
-            &ChangeRequest::Approval(act),
+            ChangeRequest::Approval(act),
             keep,
         ),
         Call::Tracker { user, bundle } => reply_to_change(
@@ -80,7 +82,7 @@ fn reply_to_call<J: Naming, K: Keeper, R: Wait, G, U: Updates<Pass<J>> + Drop>(
             pass,
             user,
             moment,
-            &ChangeRequest::Tracker(bundle),
+            ChangeRequest::Tracker(bundle),
             keep,
         ),
     }

@@ -14,7 +14,7 @@ pub returns : goal.returns
 returns g c =
     let fits : FitsSigned w64 c.args.moment = c.ranges.moment in
     subst
-    (λ (m : ℤ). ChangeReply g.J.Naming.made (asking m c.args.user c.args.request.now) c.args.keep c.args.pass.now (told c.tell.result)
+    (λ (m : ℤ). ChangeReply g.J.Naming.made (asking m c.args.user c.args.request) c.args.keep c.args.pass.now (told c.tell.result)
     c.change-found.new.pass)
     (to_z-of_z w64 c.args.moment fits)
     (change_replied g.J.Naming.made _ _ _ c.args.keep c.change-found.result _ c.change-found.ensures c.tell.ensures.tells c.tell.ensures.sure)
