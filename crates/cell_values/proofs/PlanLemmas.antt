@@ -1,6 +1,6 @@
 -- The value of a cell by what was worked out before it.
-use Rattle.std.proofs.Common.{◌≡◌, ◌∙◌, ℕ, ◌+◌, ◌<◌, Bool, true, false, cond, ◌&&◌, List, [], ◌∷◌, ◌++◌, length, map, take, get_or, Option, Some, None, refl, sym, ap}
-use Rattle.std.proofs.lemmas.List.{map-append, map_more, take_more}
+use Rattle.std.proofs.Common.{◌≡◌, ◌∙◌, ℕ, ◌+◌, ◌<◌, Bool, true, false, cond, ◌&&◌, List, [], ◌∷◌, ◌++◌, length, map, take, drop, get_or, append_assoc, Option, Some, None, refl, sym, ap}
+use Rattle.std.proofs.lemmas.List.{drop_more, map-append, map_more, take_more}
 use Rattle.std.proofs.lemmas.List.Elements.{filter_more}
 use Rattle.std.specs.Prelude.{option_map, option_and_then, slice_get}
 use Rattle.std.specs.List.{filter}
@@ -216,3 +216,24 @@ items-more plans after plan items i x is before within at of =
     ∙ ap (λ (xs : List Item). xs ++ plan.item ∷ []) before
     ∙ ap (λ (v : Item). take i items ++ v ∷ []) (of ∙ sym at)
     ∙ sym (take_more items i x within)
+
+-- what is made of one more stands after what was there at the start, and what is made of those before it
+pub mapped-after : {X Y : Type 0} (f : X → Y) (xs : List X) (start found more : List Y) (i : ℕ) (x : X) (y : Y) → i < length xs → x ≡ get_or xs i x
+    → found ≡ start ++ map f (take i xs) → more ≡ found ++ y ∷ [] → y ≡ f x → more ≡ start ++ map f (take (i + 1) xs)
+mapped-after f xs start found more i x y within at before is made =
+    is
+    ∙ ap (λ v. found ++ v ∷ []) (made ∙ ap f at)
+    ∙ ap (λ all. all ++ f (get_or xs i x) ∷ []) before
+    ∙ append_assoc start (map f (take i xs)) (f (get_or xs i x) ∷ [])
+    ∙ ap (λ all. start ++ all) (sym (map_more f xs i x within))
+
+-- what comes of one more, where something is made of those that are left too
+pub taken-more : {X Y : Type 0} (F : List X → List Y) (one : X → List Y) → ((x : X) (more : List X) → F (x ∷ more) ≡ one x ++ F more)
+    → (xs : List X) (i : ℕ) (x : X) (found new whole : List Y) → i < length xs → x ≡ get_or xs i x → found ++ F (drop i xs) ≡ whole → new ≡ found ++ one x
+    → new ++ F (drop (i + 1) xs) ≡ whole
+taken-more F one rule xs i x found new whole within at before is =
+    let left = drop (i + 1) xs in
+    ap (λ l. l ++ F left) is
+    ∙ append_assoc found (one x) (F left)
+    ∙ ap (λ l. found ++ l) (sym (ap F (drop_more xs i x within ∙ ap (λ y. y ∷ left) (sym at)) ∙ rule x left))
+    ∙ before

@@ -13,7 +13,7 @@ use dh_base::memory::Memory;
 use dh_metadata::metadata::Metadata;
 use dh_periods::Period;
 use dh_sharing::ranges::ViewRanges;
-use std::alloc::{AllocError, Global};
+use std::alloc::Global;
 use std::marker::Model;
 
 /// What values are asked from: the metadata, the records, and who sees them.
@@ -52,14 +52,12 @@ impl Model for CellPeriods {
     ghost invariant = { λ cell. AreCounted cell.periods cell.days };
 }
 
-fn copied_periods(alloc: Global, periods: &[Period]) -> Result<Vec<Period>, AllocError>
-    ensures { IfOk result (λ copy. copy.items ≡ periods.now) }
+fn copy_of<T: Copy>(alloc: Global, items: &[T]) -> Result<Items<T>, Memory>
+    ensures { IfOk result (λ copy. copy ≡ items.now) }
 {
     let mut copy = Vec::new(alloc);
-    for period in periods {
-        copy.push(*period)?;
-    }
-    Ok(copy)
+    copy.extend_from_slice(items)?;
+    Ok(Items::from(copy))
 }
 
 impl CellPeriods {
@@ -69,11 +67,8 @@ impl CellPeriods {
         ensures { IfOk result (λ cell. cell ≡ periods.now) }
     {
         let days = days(alloc, periods)?;
-        let copy = copied_periods(alloc, periods)?;
-        Ok(CellPeriods {
-            periods: Items::from(copy),
-            days,
-        })
+        let periods = copy_of(alloc, periods)?;
+        Ok(CellPeriods { periods, days })
     }
 
     /// The periods.
@@ -102,14 +97,6 @@ pub struct CellUnits {
     pub seen: ViewRanges,
 }
 
-fn copied_units(alloc: Global, units: &[u32]) -> Result<Items<u32>, Memory>
-    ensures { IfOk result (λ copy. copy ≡ units.now) }
-{
-    let mut copy = Vec::new(alloc);
-    copy.extend_from_slice(units)?;
-    Ok(Items::from(copy))
-}
-
 impl CellUnits {
     /// These units, as the user sees them.
     pub fn of(
@@ -125,7 +112,7 @@ impl CellUnits {
         ensures units { IfOk result (λ cell. cell.units ≡ units.now) }
         ensures alone { IfOk result (λ cell. cell.alone ≡ alone) }
     {
-        let copy = copied_units(alloc, units)?;
+        let copy = copy_of(alloc, units)?;
         let asked = unit_ranges(alloc, seer.tree(meta), units, alone)?;
         let seen = cut(alloc, seer.views(), &asked)?;
         Ok(CellUnits {

@@ -1,6 +1,6 @@
 -- A log that grows.
 use Rattle.std.proofs.Common.{◌≡◌, ◌∙◌, ◌≤◌, ◌<◌, ◌+◌, ℕ, List, [], ◌∷◌, ◌++◌, length, sym, ap, subst, refl, arith, option_map, rules}
-use Rattle.std.specs.Prelude.{Option, None, Some, Result, Ok, Err, IfSome}
+use Rattle.std.specs.Prelude.{Option, None, Some, Result, Ok, Err, IfSome, IsErrAnd}
 use Rattle.std.specs.List.{All}
 use Rattle.std.proofs.lemmas.Grind.{flat_map-append}
 use Rattle.std.proofs.lemmas.Bool.Decides.{nat_tests}
@@ -10,6 +10,7 @@ use Rattle.std.proofs.lemmas.List.Elements.{All-append}
 use Rattle.dh_changes.specs.declared.change.Change.{Change}
 use Rattle.change_log.specs.Bytes.{change_bytes, body_bytes}
 use Rattle.change_log.specs.Forms.{WriteFits}
+use Rattle.change_log.specs.Held.{Keeps}
 use Rattle.change_log.specs.LogBytes.{log_bytes}
 use Rattle.change_log.proofs.Logs.{log-more}
 use Rattle.change_log.specs.declared.limits.AppendFault.{AppendFault}
@@ -65,6 +66,42 @@ whole_after old new c (Err (LogFull limit)) h fits some step = subst IsWhole (sy
 whole_after old new c (Err StoreFault) h fits some step =
     subst IsWhole (sym step.1.1.1) (record { acknowledged = h.acknowledged; kept = h.kept; within = h.within; limits = h.limits; few = h.few; fits = h.fits })
 whole_after old new c (Err Memory) h fits some step = subst IsWhole (sym step) h
+
+-- a fault of memory that leaves the log as it was
+pub memory_leaves : (old new : LogSeen) (c : Change) (result : Result ℕ AppendFault) → IsErrAnd result (λ fault. fault ≡ Memory) → new ≡ old
+    → Appends old c result new
+memory_leaves old new c (Ok n) is same = absurd is
+memory_leaves old new c (Err fault) is same = subst (λ (f : AppendFault). Appends old c (Err f) new) (sym is) same
+
+abbrev pub log_of : List Change → ℕ → Option (List ℕ) → ℕ → Limits → LogSeen
+log_of changes acknowledged kept faults limits =
+    record { changes = changes; acknowledged = acknowledged; kept = kept; faults = faults; limits = limits }
+
+left_but_faults : (old : LogSeen) (changes : List Change) (acknowledged : ℕ) (kept : Option (List ℕ)) (faults : ℕ) → changes ≡ old.changes
+    → acknowledged ≡ old.acknowledged → kept ≡ old.kept
+    → log_of changes acknowledged kept faults old.limits ≡ log_of old.changes old.acknowledged old.kept faults old.limits
+left_but_faults old changes acknowledged kept faults p q r =
+    ap (λ (x : List Change). log_of x acknowledged kept faults old.limits) p ∙ ap (λ (x : ℕ). log_of old.changes x kept faults old.limits) q
+    ∙ ap (λ (x : Option (List ℕ)). log_of old.changes old.acknowledged x faults old.limits) r
+
+-- a fault of the keeper
+pub keeper_leaves : (old : LogSeen) (changes : List Change) (acknowledged : ℕ) (kept : Option (List ℕ)) (faults : ℕ) (c : Change) (bytes : List ℕ)
+    (fault : AppendFault) (result : Result ℕ AppendFault)
+    → IsErrAnd result (λ f. f ≡ fault) → changes ≡ old.changes → passed old.limits (old.changes ++ c ∷ []) ≡ None
+    → Keeps old.acknowledged acknowledged old.kept kept old.faults faults bytes (Err fault)
+    → Appends old c result (log_of changes acknowledged kept faults old.limits)
+keeper_leaves old changes acknowledged kept faults c bytes fault (Ok n) is same within keeps = absurd is
+keeper_leaves old changes acknowledged kept faults c bytes fault (Err f) is same within keeps =
+    subst (λ (x : AppendFault). Appends old c (Err x) (log_of changes acknowledged kept faults old.limits)) (sym is) (by_fault fault keeps)
+  where
+    by_fault : (fault : AppendFault) → Keeps old.acknowledged acknowledged old.kept kept old.faults faults bytes (Err fault)
+        → Appends old c (Err fault) (log_of changes acknowledged kept faults old.limits)
+    by_fault (LogFull limit) keeps = absurd keeps
+    by_fault StoreFault keeps =
+        (within, (keeps.1.1.0, (keeps.1.1.1, left_but_faults old changes acknowledged kept faults same keeps.0 keeps.1.0)))
+    by_fault Memory keeps =
+        left_but_faults old changes acknowledged kept faults same keeps.0 keeps.1.0
+        ∙ ap (λ (x : ℕ). log_of old.changes old.acknowledged old.kept x old.limits) keeps.1.1
 
 -- ---- an empty log
 

@@ -161,7 +161,6 @@ fn store<K: Keeper>(
     Ok(number)
 }
 
-#[tactic(auto, using(crate::proofs::LogLemmas::whole_after))]
 pub(crate) fn bring<K: Keeper>(
     alloc: Global,
     held: &mut Held,

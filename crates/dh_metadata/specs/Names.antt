@@ -1,5 +1,5 @@
 -- The names of values in a metadata file.
-use Rattle.std.specs.Prelude.{ℕ, List, [], ◌∷◌, Option, find, bytes_eq}
+use Rattle.std.specs.Prelude.{ℕ, List, [], ◌∷◌, Option, Some, None, if◌then◌else◌, find, bytes_eq}
 use lib.Chars.{codes}
 use Rattle.dh_metadata.specs.declared.names.ValueType.{ValueType}
 use Rattle.dh_metadata.specs.declared.names.ValueType.TheVariants as value_type
@@ -13,6 +13,11 @@ use Rattle.dh_base.specs.declared.plain.AggType.{AggType}
 use Rattle.dh_base.specs.declared.plain.AggType.TheVariants as aggregation
 use Rattle.dh_base.specs.declared.plain.Strategy.{Strategy}
 use Rattle.dh_base.specs.declared.plain.Strategy.TheVariants as strategy
+
+-- what stands beside a name in a table
+abbrev pub named : {T : Type 0} → List (List ℕ × T) → List ℕ → Option T
+named [] name = None
+named (entry ∷ more) name = if bytes_eq entry.0 name then Some entry.1 else named more name
 
 -- the name of the value type
 abbrev pub value_type_name : ValueType → List ℕ

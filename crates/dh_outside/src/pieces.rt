@@ -13,7 +13,7 @@ const PIECE: usize = 16384;
 const MOST: u64 = 1 << 63;
 
 /// What came of asking a source for one more piece.
-#[derive(Clone, Copy, Drop, PartialEq, Eq)]
+#[derive(Clone, Copy, Drop)]
 pub enum Piece {
     /// At least one more byte came.
     More,

@@ -7,7 +7,7 @@ ghost use Rattle.dh_periods.specs.Spans.{span_as, span_of};
 
 use crate::kind::{Shape, shape_of};
 use crate::name::PeriodName;
-use jiff::civil::{Date, ISOWeekDate, Weekday, date};
+use jiff_core::civil::{Date, ISOWeekDate, Weekday};
 
 /// The first year of which there are periods.
 pub(crate) const FIRST_YEAR: u16 = 1900;
@@ -28,8 +28,8 @@ pub(crate) fn month_start(place: u16) -> i32
     ensures { result ≡ unix_day (days_before_month place) }
 {
     let year = (FIRST_YEAR + place / 12) as i16;
-    let month = (place % 12 + 1) as i8;
-    date(year, month, 1).to_plain().to_unix_epoch_day()
+    let month = (place % 12 + 1) as u8;
+    Date::constrain(year, month, 1).to_unix_epoch_day()
 }
 
 fn span_of_day(name: PeriodName) -> Option<Span>
@@ -42,7 +42,7 @@ fn span_of_day(name: PeriodName) -> Option<Span>
     }
     match Date::new(name.year as i16, name.number as i8, name.day as i8) {
         Ok(date) => {
-            let day = date.to_plain().to_unix_epoch_day();
+            let day = date.to_unix_epoch_day();
             Some(Span {
                 first: day,
                 last: day,
@@ -62,7 +62,7 @@ fn span_of_week(name: PeriodName) -> Option<Span>
     }
     match ISOWeekDate::new(name.year as i16, name.number as i8, Weekday::Monday) {
         Ok(week) => {
-            let first = week.date().to_plain().to_unix_epoch_day();
+            let first = week.to_date().to_unix_epoch_day();
             Some(Span {
                 first,
                 last: first + 6,

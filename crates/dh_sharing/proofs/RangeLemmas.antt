@@ -99,6 +99,12 @@ pub record Joins (sorted : List (ℕ × ℕ)) (taken : ℕ) (parts : List (ℕ �
   pub first : (i : ℕ) → taken ≤ i → i < length sorted → last.0 ≤ (get_or sorted i (0, 0)).0
   pub members : (n : ℕ) → (is_within parts n || is_in_range n last) ≡ is_within (take taken sorted) n
 
+-- the same of lists and ranges that are equal
+pub Joins-same : (sorted : List (ℕ × ℕ)) (taken : ℕ) (parts others : List (ℕ × ℕ)) (last other : ℕ × ℕ) → others ≡ parts → other ≡ last
+    → Joins sorted taken parts last → Joins sorted taken others other
+Joins-same sorted taken parts others last other p q so_far =
+    subst (λ (v : List (ℕ × ℕ)). Joins sorted taken v other) (sym p) (subst (λ (r : ℕ × ℕ). Joins sorted taken parts r) (sym q) so_far)
+
 pub Joins-first : (sorted : List (ℕ × ℕ)) → ByFirst sorted → 0 < length sorted → Joins sorted 1 [] (get_or sorted 0 (0, 0))
 Joins-first sorted by h = record {
   apart = AreApart-none;

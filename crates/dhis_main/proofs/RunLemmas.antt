@@ -13,7 +13,7 @@ use Rattle.request_session.specs.declared.ended.Ended.TheVariants as ended
 use Rattle.request_replies.specs.declared.over_file.SessionEnd.{SessionEnd}
 use Rattle.request_replies.specs.declared.over_file.SessionEnd.TheVariants as end
 use Rattle.dhis_main.specs.Words.{command_of}
-use Rattle.dhis_main.specs.Outcome.{word_at, help_reply, version_reply, usage_reply, outcome_of, IsQueryReplyNow, IsReportNow}
+use Rattle.dhis_main.specs.Outcome.{word_at, help_reply, version_reply, usage_reply, outcome_of, IsQueryReplyNow, IsReport, IsReportNow}
 use Rattle.dhis_main.specs.Shown.{Side, Shown}
 use Rattle.dhis_main.specs.Session.{status_of, status_over, SessionRuns}
 use Rattle.dhis_main.specs.Run.{IsReplyToInput, ReplyRuns, UnreadRuns, QueryRuns, RunsAs, Runs, ReplyAnswers, AnswersAs, AnswersTold, RefusesWords, Delivers}
@@ -78,6 +78,37 @@ pub session_runs : (c : Command) (words : List (List ℕ)) (name : List ℕ) (sh
     → c ≡ command.Session → word_at words 1 ≡ name → SessionRuns shows name shown result → RunsAs c words shows shown result
 session_runs c words name shows shown result at second run =
     subst (λ k. RunsAs k words shows shown result) (sym at) (subst (λ n. SessionRuns shows n shown result) (sym second) run)
+
+-- a command that reads nothing writes its reply
+pub help_runs : (c : Command) (words : List (List ℕ)) (shows : ℤ → Type 0) (shown : Shown) (made : Result Reply Memory) (result : Status) → c ≡ command.Help
+    → shown.input.after ≡ shown.input.before → IfOk made (λ reply. reply ≡ help_reply) → Delivers made shown.output result → RunsAs c words shows shown result
+help_runs c words shows shown made result at unread is sent =
+    subst (λ k. RunsAs k words shows shown result) (sym at) (unread, delivered (λ reply. reply ≡ help_reply) made shown.output result is sent)
+
+pub version_runs : (c : Command) (words : List (List ℕ)) (shows : ℤ → Type 0) (shown : Shown) (made : Result Reply Memory) (result : Status)
+    → c ≡ command.Version → shown.input.after ≡ shown.input.before → IfOk made (λ reply. reply ≡ version_reply) → Delivers made shown.output result
+    → RunsAs c words shows shown result
+version_runs c words shows shown made result at unread is sent =
+    subst (λ k. RunsAs k words shows shown result) (sym at) (unread, delivered (λ reply. reply ≡ version_reply) made shown.output result is sent)
+
+pub usage_runs : (c : Command) (place : ℕ) (words : List (List ℕ)) (shows : ℤ → Type 0) (shown : Shown) (made : Result Reply Memory) (result : Status)
+    → c ≡ command.Bad place → shown.input.after ≡ shown.input.before → IfOk made (λ reply. reply ≡ usage_reply place) → Delivers made shown.output result
+    → RunsAs c words shows shown result
+usage_runs c place words shows shown made result at unread is sent =
+    subst (λ k. RunsAs k words shows shown result) (sym at) (unread, delivered (λ reply. reply ≡ usage_reply place) made shown.output result is sent)
+
+report-now : (count : ℕ) (moment : ℤ) (shows : ℤ → Type 0) (made : Result Reply Memory) → shows moment → IfOk made (IsReport count moment)
+    → IfOk made (IsReportNow count shows)
+report-now count moment shows (Ok reply) at is = (moment, at, is)
+report-now count moment shows (Err wanting) at is = tt
+
+pub report_runs : (c : Command) (count : ℕ) (moment : ℤ) (words : List (List ℕ)) (shows : ℤ → Type 0) (shown : Shown) (made : Result Reply Memory)
+    (result : Status)
+    → c ≡ command.Generate count → shown.input.after ≡ shown.input.before → shows moment → IfOk made (IsReport count moment)
+    → Delivers made shown.output result → RunsAs c words shows shown result
+report_runs c count moment words shows shown made result at unread now is sent =
+    subst (λ k. RunsAs k words shows shown result) (sym at)
+    (unread, delivered (IsReportNow count shows) made shown.output result (report-now count moment shows made now is) sent)
 
 -- ---- what a run is over told bytes
 

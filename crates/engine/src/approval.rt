@@ -1,5 +1,5 @@
 //! What an act on an approval comes to.
-ghost use Rattle.std.specs.Prelude.{◌≡◌, ◌<◌, length, IfOk, Some};
+ghost use Rattle.std.specs.Prelude.{◌≡◌, ◌<◌, ◌∷◌, [], length, IfOk, Some};
 ghost use Rattle.std.specs.List.{All};
 ghost use Rattle.change_log.specs.Forms.{WriteFits};
 ghost use Rattle.dh_base.specs.Memory.{Answers, IsFirst};
@@ -29,19 +29,34 @@ fn body(alloc: Global) -> Result<Items<u8>, Memory>
     Ok(Items::from(Vec::from_slice(alloc, BODY)?))
 }
 
+// A list of one write.
+fn only(alloc: Global, write: Write) -> Result<Items<Write>, Memory>
+    requires { WriteFits write }
+    ensures list { IfOk result (λ writes. writes ≡ write ∷ []) }
+    ensures fits { IfOk result (λ writes. All WriteFits writes) }
+{
+    let mut writes = Items::new(alloc);
+    writes.push(write)?;
+    Ok(writes)
+}
+
 fn report(alloc: Global, write: Write) -> Result<Judged, Memory>
     requires { WriteFits write }
     ensures value { IfOk result (λ judged. judged ≡ approval_report write) }
     ensures fits { IfOk result (λ judged. All WriteFits judged.writes) }
 {
-    let body = body(alloc)?;
-    let mut writes = Items::new(alloc);
-    writes.push(write)?;
-    Ok(Judged {
-        writes,
-        body,
-        status: 200,
-    })
+    let writes = only(alloc, write)?;
+    match body(alloc) {
+        Ok(body) => Ok(Judged {
+            writes,
+            body,
+            status: 200,
+        }),
+        Err(fault) => {
+            drop(writes);
+            Err(fault)
+        }
+    }
 }
 
 fn refused(alloc: Global, code: Code, detail: &[u8]) -> JudgeFault

@@ -49,7 +49,7 @@ pub enum PiItem {
 }
 
 /// Why a program indicator has no value.
-#[derive(Clone, Copy, PartialEq, Eq)]
+#[derive(Clone, Copy)]
 pub enum PiFault {
     /// A number on the way is too wide to be computed.
     Wide,

@@ -121,7 +121,7 @@ skip_at allowed best bytes (w ∷ ws) (suc n) lt h =
     let e : suc n + 1 ≡ suc (n + 1) = omega arith in
     ap (λ (k : ℕ). longest_from best allowed (drop k (w ∷ ws)) bytes) e ∙ skip_at allowed best bytes ws n (omega arith) h
 
-differ : (x y : ℕ) → ¬ (x ≡ y) → nat_eq x y ≡ false
+pub differ : (x y : ℕ) → ¬ (x ≡ y) → nat_eq x y ≡ false
 differ x y h =
     (elim (nat_eq x y) as (λ t. nat_eq x y ≡ t → t ≡ false) [ true ↦ λ e. absurd (h (grind (arith, nat_tests))) | false ↦ λ e. refl ]) refl
 

@@ -5,6 +5,7 @@ pub mod Decimals
 pub mod Listing
 pub mod BranchLemmas
 pub mod MakingLemmas
+pub mod NumberLemmas
 pub mod ExprLemmas
 pub mod Letters
 pub mod Shorter

@@ -6,7 +6,7 @@ ghost use Rattle.json_read.specs.Given as forms;
 ghost use Rattle.import_forms.specs.Bodies.{body_of, Gives};
 ghost use Rattle.import_forms.specs.Bundles.{three_lists, lists_of, in_order, bundle_of};
 
-use crate::body::{fault_of, no_document};
+use crate::body::{BodyForm, read_body};
 use crate::both::both;
 use crate::enrollment::{BundleEnrollment, EnrollmentForm, put_enrollments};
 use crate::entity::{BundleEntity, EntityForm, put_entities};
@@ -15,10 +15,9 @@ use crate::lists::list_at;
 use dh_base::items::Items;
 use dh_base::memory::Memory;
 use dh_changes::outcome::{BodyFault, ImportStrategy};
-use json::{Scratch, Value};
+use json::Value;
 use json_read::fault::FormFault;
 use json_read::form::require_object;
-use json_read::read::read;
 use std::alloc::Global;
 
 /// How a bundle is to be imported.
@@ -98,14 +97,18 @@ fn in_order(alloc: Global, params: BundleParams, lists: BundleLists) -> Result<B
     })
 }
 
-#[tactic(auto, unfolding(crate::specs::Bundles::bundle_of))]
-fn bundle_of(alloc: Global, params: BundleParams, value: &Value<'_>) -> Result<Bundle, FormFault>
-    ensures { forms.Gives (bundle_of params (data_of value.now)) result }
-{
-    let lists = lists_of(alloc, value)?;
-    match in_order(alloc, params, lists) {
-        Ok(bundle) => Ok(bundle),
-        Err(_) => Err(FormFault::Memory),
+impl BodyForm<Bundle> for BundleParams {
+    ghost use Rattle.import_forms.specs.Bundles.{bundle_of};
+
+    ghost meant = { bundle_of };
+
+    #[tactic(auto, unfolding(crate::specs::Bundles::bundle_of))]
+    fn form(&self, alloc: Global, value: &Value<'_>) -> Result<Bundle, FormFault> {
+        let lists = lists_of(alloc, value)?;
+        match in_order(alloc, *self, lists) {
+            Ok(bundle) => Ok(bundle),
+            Err(_) => Err(FormFault::Memory),
+        }
     }
 }
 
@@ -115,13 +118,5 @@ fn bundle_of(alloc: Global, params: BundleParams, value: &Value<'_>) -> Result<B
 pub fn read_bundle(alloc: Global, body: &[u8], params: BundleParams) -> Result<Bundle, BodyFault>
     ensures { Gives (body_of (bundle_of params) body.now) result }
 {
-    let mut scratch = Scratch::new(alloc);
-    match read(alloc, body, &mut scratch) {
-        Ok(Some(value)) => match bundle_of(alloc, params, &value) {
-            Ok(bundle) => Ok(bundle),
-            Err(fault) => Err(fault_of(fault)),
-        },
-        Ok(None) => Err(no_document(alloc)),
-        Err(_) => Err(BodyFault::Memory),
-    }
+    read_body(alloc, body, &params)
 }

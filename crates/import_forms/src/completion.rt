@@ -6,17 +6,16 @@ ghost use Rattle.json_read.specs.Given as forms;
 ghost use Rattle.import_forms.specs.Bodies.{body_of, Gives};
 ghost use Rattle.import_forms.specs.Completions.{completion_of, completions_of};
 
-use crate::body::{fault_of, no_document};
+use crate::body::{BodyForm, read_body};
 use crate::both::both;
 use crate::text::{four_held_texts_in, held_text_in, truth_in};
 use dh_base::items::Items;
 use dh_base::memory::Memory;
 use dh_changes::outcome::BodyFault;
 use dh_changes::text::Text;
-use json::{Scratch, Value};
+use json::Value;
 use json_read::fault::FormFault;
 use json_read::form::{ReadJson, require_object, required_list};
-use json_read::read::read;
 use std::alloc::Global;
 
 /// A complete data set registration, as it stands in the body.
@@ -74,12 +73,19 @@ impl ReadJson for Completion {
     }
 }
 
-#[tactic(auto, unfolding(crate::specs::Completions::completions_of))]
-fn completions_of(alloc: Global, value: &Value<'_>) -> Result<Items<Completion>, FormFault>
-    ensures { forms.Gives (completions_of (data_of value.now)) result }
-{
-    require_object(alloc, value)?;
-    required_list(alloc, value, "completeDataSetRegistrations")
+// The registrations of a body.
+struct AllCompletions;
+
+impl BodyForm<Items<Completion>> for AllCompletions {
+    ghost use Rattle.import_forms.specs.Completions.{completions_of};
+
+    ghost meant = { λ form. completions_of };
+
+    #[tactic(auto, unfolding(crate::specs::Completions::completions_of))]
+    fn form(&self, alloc: Global, value: &Value<'_>) -> Result<Items<Completion>, FormFault> {
+        require_object(alloc, value)?;
+        required_list(alloc, value, "completeDataSetRegistrations")
+    }
 }
 
 /// The complete data set registrations of a body. A body that isn't JSON or no object is at fault with
@@ -87,13 +93,5 @@ fn completions_of(alloc: Global, value: &Value<'_>) -> Result<Items<Completion>,
 pub fn read_completions(alloc: Global, body: &[u8]) -> Result<Items<Completion>, BodyFault>
     ensures { Gives (body_of completions_of body.now) result }
 {
-    let mut scratch = Scratch::new(alloc);
-    match read(alloc, body, &mut scratch) {
-        Ok(Some(value)) => match completions_of(alloc, &value) {
-            Ok(list) => Ok(list),
-            Err(fault) => Err(fault_of(fault)),
-        },
-        Ok(None) => Err(no_document(alloc)),
-        Err(_) => Err(BodyFault::Memory),
-    }
+    read_body(alloc, body, &AllCompletions)
 }

@@ -6,18 +6,17 @@ ghost use Rattle.json_read.specs.Given as forms;
 ghost use Rattle.import_forms.specs.Bodies.{body_of, Gives};
 ghost use Rattle.import_forms.specs.Sets.{value_of, values_at, fields_of, set_of};
 
-use crate::body::{fault_of, no_document};
+use crate::body::{BodyForm, read_body};
 use crate::both::both;
 use crate::text::{four_held_texts_in, held_text_in, held_written_in, text_at, truth_in};
 use dh_base::items::Items;
 use dh_base::memory::Memory;
 use dh_changes::outcome::{BodyFault, ImportStrategy};
 use dh_changes::text::Text;
-use json::{Scratch, Value};
+use json::Value;
 use json_read::fault::FormFault;
 use json_read::form::{ReadJson, field_or, read_list, require_object};
 use json_read::look::is_null;
-use json_read::read::read;
 use std::alloc::Global;
 
 /// How a set is to be imported.
@@ -163,22 +162,26 @@ fn fields_of(
     )
 }
 
-#[tactic(auto, unfolding(crate::specs::Sets::set_of))]
-fn set_of(alloc: Global, params: SetParams, value: &Value<'_>) -> Result<ValueSet, FormFault>
-    ensures { forms.Gives (set_of params (data_of value.now)) result }
-{
-    require_object(alloc, value)?;
-    let ((data_set, complete_date), (period, place)) = fields_of(alloc, value)?;
-    let ((unit, attribute), values) = place;
-    Ok(ValueSet {
-        params,
-        data_set,
-        complete_date,
-        period,
-        unit,
-        attribute,
-        values,
-    })
+impl BodyForm<ValueSet> for SetParams {
+    ghost use Rattle.import_forms.specs.Sets.{set_of};
+
+    ghost meant = { set_of };
+
+    #[tactic(auto, unfolding(crate::specs::Sets::set_of))]
+    fn form(&self, alloc: Global, value: &Value<'_>) -> Result<ValueSet, FormFault> {
+        require_object(alloc, value)?;
+        let ((data_set, complete_date), (period, place)) = fields_of(alloc, value)?;
+        let ((unit, attribute), values) = place;
+        Ok(ValueSet {
+            params: *self,
+            data_set,
+            complete_date,
+            period,
+            unit,
+            attribute,
+            values,
+        })
+    }
 }
 
 /// The values of a bundle: those under `dataValues`, none where the key is absent or null. No other key is
@@ -195,13 +198,5 @@ pub fn read_values(alloc: Global, bundle: &Value<'_>) -> Result<Items<SetValue>,
 pub fn read_set(alloc: Global, body: &[u8], params: SetParams) -> Result<ValueSet, BodyFault>
     ensures { Gives (body_of (set_of params) body.now) result }
 {
-    let mut scratch = Scratch::new(alloc);
-    match read(alloc, body, &mut scratch) {
-        Ok(Some(value)) => match set_of(alloc, params, &value) {
-            Ok(set) => Ok(set),
-            Err(fault) => Err(fault_of(fault)),
-        },
-        Ok(None) => Err(no_document(alloc)),
-        Err(_) => Err(BodyFault::Memory),
-    }
+    read_body(alloc, body, &params)
 }

@@ -7,7 +7,7 @@ use dh_base::items::Items;
 use std::alloc::{AllocError, AllocFailed};
 
 /// Why JSON data wasn't read.
-#[derive(Drop, PartialEq, Eq)]
+#[derive(Drop)]
 pub enum FormFault {
     /// The data isn't in the form. The path leads to the first place that isn't, and is empty for the data itself.
     At(Items<u8>),

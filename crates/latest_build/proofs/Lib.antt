@@ -10,3 +10,4 @@ pub mod LeadLemmas
 pub mod OverLemmas
 pub mod HeldLemmas
 pub mod ToldLemmas
+pub mod LoopLemmas

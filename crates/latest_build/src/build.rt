@@ -94,9 +94,9 @@ pub(crate) fn latest_with(
 {
     units_stand(meta);
     let HeldRows { places, rows } = held;
+    let touched = touched_keys(alloc, meta, world, &asked.keys, places)?;
     let store = store_of(alloc, meta, world, changes, &asked.keys, &rows)?;
     drop(rows);
-    let touched = touched_keys(alloc, meta, world, &asked.keys, places)?;
     Ok(Latest::of(touched, store, asked.from, changes.len() as u64))
 }
 

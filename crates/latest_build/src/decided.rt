@@ -104,7 +104,9 @@ fn decided_by(
 {
     let keys = found(alloc, meta, base, approvals)?;
     let world = approved_alone(alloc, approvals)?;
-    decided_among(alloc, meta, &world, &keys)
+    let decided = decided_among(alloc, meta, &world, &keys);
+    drop(world);
+    decided
 }
 
 // The values of the base whose approval the last of the changes decide.

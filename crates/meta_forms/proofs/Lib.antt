@@ -1,3 +1,4 @@
 pub mod BothLemmas
 pub mod DefaultLemmas
 pub mod MemberLemmas
+pub mod ObjectLemmas

@@ -1,6 +1,7 @@
 //! The objects of a key.
 
-ghost use Rattle.std.specs.Prelude.{◌≡◌, ℕ, ◌+◌, ◌<◌, ◌^◌, List, [], ◌∷◌, ◌++◌, Option, Result, Ok, Err, IfOk, map, drop};
+ghost use Rattle.std.specs.Prelude.{◌≡◌, ℕ, ◌+◌, ◌<◌, ◌^◌, List, [], ◌∷◌, ◌++◌, Option, Result, Ok, Err, IfOk, OnOk, map, drop};
+ghost use Rattle.std.specs.Option.{option_to_list};
 ghost use Rattle.std.specs.Fmt.{decimal};
 ghost use Rattle.serde_json.specs.Data.{Data};
 ghost use Rattle.json_read.specs.Views.{data_of, items_data};
@@ -104,15 +105,24 @@ fn read_at<T: ReadObject>(
     }
 }
 
+// Puts an object that was read at the end.
+fn keep<T: Drop>(all: &mut Vec<T>, found: Option<T>) -> Result<(), AllocError>
+    ensures { OnOk result (all.new.items ≡ all.old.items ++ option_to_list found) }
+{
+    if let Some(object) = found {
+        all.push(object)?;
+    }
+    Ok(())
+}
+
 fn read_each<T: ReadObject>(alloc: Global, values: &[Value<'_>]) -> Result<Items<T>, FormFault>
     ensures { Gives (objects_of (named_form T.form T.made) 0 (items_data values.now)) result }
 {
     let mut all = Vec::new(alloc);
     let mut place = 0;
     for value in values {
-        if let Some(object) = read_at(alloc, place, value)? {
-            all.push(object)?;
-        }
+        let found = read_at(alloc, place, value)?;
+        keep(&mut all, found)?;
         place += 1;
     }
     Ok(Items::from(all))

@@ -35,8 +35,9 @@ pub fn read_file(alloc: Global, bytes: &[u8]) -> Result<MetaParts, FileFault>
         return Err(FileFault::TooLong);
     }
     let mut scratch = Scratch::new(alloc);
-    match read(alloc, bytes, &mut scratch)? {
-        Some(value) => shaped(alloc, &value),
-        None => Err(FileFault::NotJson),
+    match read(alloc, bytes, &mut scratch) {
+        Ok(Some(value)) => shaped(alloc, &value),
+        Ok(None) => Err(FileFault::NotJson),
+        Err(_) => Err(FileFault::Memory),
     }
 }

@@ -3,3 +3,5 @@ pub mod LevelLemmas
 pub mod ReadLemmas
 pub mod MadeLemmas
 pub mod StageLemmas
+pub mod LoopLemmas
+pub mod DayLemmas

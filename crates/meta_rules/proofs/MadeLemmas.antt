@@ -1,7 +1,9 @@
 -- Objects made one after the other.
-use Rattle.std.proofs.Common.{◌≡◌, ◌∙◌, ℕ, zero, suc, ◌+◌, ◌<◌, List, [], ◌∷◌, ◌++◌, length, get_or, drop, Option, None, sym, ap}
+use Rattle.std.proofs.Common.{◌≡◌, ◌∙◌, ℕ, zero, suc, ◌+◌, ◌<◌, ◌≤◌, List, [], ◌∷◌, ◌++◌, length, get_or, drop, Option, None, Some, sym, ap}
 use Rattle.std.proofs.Common.{add-one, drop-cons, append_assoc}
+use Rattle.std.proofs.lemmas.List.{append-nil, drop_all}
 use Rattle.std.specs.Option.{option_or}
+use Rattle.dh_base.specs.Memory.{IsFirst}
 use Rattle.meta_rules.specs.declared.expr_fault.ExprFault.{ExprFault}
 use Rattle.meta_rules.specs.Objects.{first_unread, made_of}
 
@@ -38,3 +40,22 @@ made_step unread_of make raw links i x own old new made one within at left taken
           ∙ ap (λ y. made ++ y ∷ made_of make (drop (i + 1) raw) (drop (i + 1) links)) (sym is)
           ∙ sym (append_assoc made (one ∷ []) (made_of make (drop (i + 1) raw) (drop (i + 1) links)));
     }
+
+-- all are made
+pub made_all : {A B C : Type 0} (unread_of : A → Option ExprFault) (make : A → B → C) (raw : List A) (links : List B) (i : ℕ) (made : List C)
+    → length raw ≤ i → first_unread unread_of raw ≡ first_unread unread_of (drop i raw)
+    → made_of make raw links ≡ made ++ made_of make (drop i raw) (drop i links)
+    → (first_unread unread_of raw ≡ None) × (made ≡ made_of make raw links)
+made_all unread_of make raw links i made past unread so_far =
+    let none : drop i raw ≡ [] = drop_all i raw past in (
+      unread ∙ ap (first_unread unread_of) none,
+      sym (so_far ∙ ap (λ l. made ++ made_of make l (drop i links)) none ∙ append-nil made),
+    )
+
+-- one isn't read
+pub unread_at : {A : Type 0} (unread_of : A → Option ExprFault) (raw : List A) (i : ℕ) (x : A) (cause : Option ExprFault) → i < length raw
+    → x ≡ get_or raw i x → first_unread unread_of raw ≡ first_unread unread_of (drop i raw) → IsFirst (unread_of x) cause
+    → IsFirst (first_unread unread_of raw) cause
+unread_at unread_of raw i x None within at unread met = tt
+unread_at unread_of raw i x (Some fault) within at unread met =
+    unread ∙ ap (first_unread unread_of) (split raw i x within at) ∙ ap (λ o. option_or o (first_unread unread_of (drop (i + 1) raw))) met

@@ -9,6 +9,7 @@ ghost use Rattle.dh_metadata.specs.Rows.{option_combo_rows};
 ghost use Rattle.meta_rules.specs.Categories.{options_of, combo_lists, option_combo_id, combo_error, rows_broken, combo_broken};
 
 use crate::fault::{BrokenRule, RuleError, RuleFault};
+use crate::item::item_at;
 use dh_base::memory::Memory;
 use dh_base::uid::Uid;
 use dh_categories::combos::Combos;
@@ -19,7 +20,7 @@ use std::alloc::{AllocError, Global};
 fn options(alloc: Global, categories: &[Category], place: u32) -> Result<Vec<u32>, AllocError>
     ensures { IfOk result (λ options. options.items ≡ options_of categories.now place) }
 {
-    match categories.get(place as usize) {
+    match item_at(categories, place as usize) {
         Some(category) => Vec::from_slice(alloc, category.category_options.as_slice()),
         None => Ok(Vec::new(alloc)),
     }
@@ -64,7 +65,7 @@ fn rows(alloc: Global, option_combos: &[OptionCombo]) -> Result<Vec<(u32, Vec<u3
 fn id_at(option_combos: &[OptionCombo], place: u32) -> Option<Uid>
     ensures { result ≡ option_combo_id option_combos.now place }
 {
-    match option_combos.get(place as usize) {
+    match item_at(option_combos, place as usize) {
         Some(option_combo) => Some(option_combo.id),
         None => None,
     }

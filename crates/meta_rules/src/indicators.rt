@@ -29,15 +29,21 @@ fn texts(
         × (texts.1.0 ≡ expr_in reading.answer days.now Aggregate Number raw.now.numerator)
         × (texts.1.1 ≡ expr_in reading.answer days.now Aggregate Number raw.now.denominator)) result }
 {
-    let read = read_numbers(
+    let name = copied(alloc, raw.name.as_slice())?;
+    match read_numbers(
         alloc,
         ids,
         days,
         raw.id,
         raw.numerator.as_slice(),
         raw.denominator.as_slice(),
-    )?;
-    Ok((copied(alloc, raw.name.as_slice())?, read))
+    ) {
+        Ok(read) => Ok((name, read)),
+        Err(fault) => {
+            drop(name);
+            Err(fault)
+        }
+    }
 }
 
 fn with_links(

@@ -9,6 +9,7 @@ pub mod expr_fault;
 pub mod fault;
 pub mod held;
 pub mod indicators;
+mod item;
 pub mod levels;
 pub mod limits;
 pub mod names;

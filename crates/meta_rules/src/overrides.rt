@@ -5,6 +5,7 @@ ghost use Rattle.org_tree.specs.Count.{first_below};
 ghost use Rattle.meta_rules.specs.Overrides.{differs, entry_overrides, set_overrides, override_fault, override_broken};
 
 use crate::fault::{BrokenRule, RuleFault};
+use crate::item::item_at;
 use dh_base::uid::Uid;
 use dh_metadata::raw::{RawDataSet, RawElement};
 use dh_metadata::records::DataSet;
@@ -15,7 +16,7 @@ fn differs(elements: &[RawElement], element: u32, named: Option<Uid>) -> bool
 {
     match named {
         None => false,
-        Some(combo) => match elements.get(element as usize) {
+        Some(combo) => match item_at(elements, element as usize) {
             None => false,
             Some(found) => found.category_combo != combo,
         },
@@ -30,9 +31,9 @@ fn entry_overrides(
 ) -> bool
     ensures { result ≡ entry_overrides elements.now numbers.now entries.now place }
 {
-    match entries.get(place) {
+    match item_at(entries, place) {
         None => false,
-        Some(entry) => match numbers.get(place) {
+        Some(entry) => match item_at(numbers, place) {
             None => false,
             Some(number) => differs(elements, *number, entry.1),
         },
@@ -59,9 +60,9 @@ fn set_overrides(
 ) -> bool
     ensures { result ≡ set_overrides elements.now raw.now sets.now place }
 {
-    match raw.get(place) {
+    match item_at(raw, place) {
         None => false,
-        Some(from) => match sets.get(place) {
+        Some(from) => match item_at(sets, place) {
             None => false,
             Some(set) => overrides(
                 elements,
@@ -75,7 +76,7 @@ fn set_overrides(
 fn fault_at(raw: &[RawDataSet], place: usize) -> RuleFault
     ensures { result ≡ override_fault raw.now place }
 {
-    let uid = match raw.get(place) {
+    let uid = match item_at(raw, place) {
         Some(set) => Some(set.id),
         None => None,
     };

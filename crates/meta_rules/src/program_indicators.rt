@@ -45,6 +45,36 @@ fn read_filter(
     }
 }
 
+// The expression of a program indicator and its filter.
+fn expressions(
+    alloc: Global,
+    ids: &Ids,
+    days: &DayItems,
+    raw: &RawProgramIndicator,
+) -> Result<(Expr, Option<Expr>), ExprError>
+    ghost reading: { Reading }
+    ensures { Finds expr_cause (program_indicator_unread reading.answer ids.now days.now raw.now) (λ read.
+        (read.0 ≡ expr_in reading.answer days.now Program Number raw.now.expression)
+        × (read.1 ≡ option_map (expr_in reading.answer days.now Program Truth) raw.now.filter)) result }
+{
+    let expression = read_of(
+        alloc,
+        ids,
+        days,
+        raw.id,
+        raw.expression.as_slice(),
+        Place::Program,
+        Sort::Number,
+    )?;
+    match read_filter(alloc, ids, days, raw.id, &raw.filter) {
+        Ok(filter) => Ok((expression, filter)),
+        Err(fault) => {
+            drop(expression);
+            Err(fault)
+        }
+    }
+}
+
 fn texts(
     alloc: Global,
     ids: &Ids,
@@ -56,17 +86,14 @@ fn texts(
         × (texts.1.0 ≡ expr_in reading.answer days.now Program Number raw.now.expression)
         × (texts.1.1 ≡ option_map (expr_in reading.answer days.now Program Truth) raw.now.filter)) result }
 {
-    let expression = read_of(
-        alloc,
-        ids,
-        days,
-        raw.id,
-        raw.expression.as_slice(),
-        Place::Program,
-        Sort::Number,
-    )?;
-    let filter = read_filter(alloc, ids, days, raw.id, &raw.filter)?;
-    Ok((copied(alloc, raw.name.as_slice())?, (expression, filter)))
+    let name = copied(alloc, raw.name.as_slice())?;
+    match expressions(alloc, ids, days, raw) {
+        Ok(read) => Ok((name, read)),
+        Err(fault) => {
+            drop(name);
+            Err(fault)
+        }
+    }
 }
 
 fn with_links(

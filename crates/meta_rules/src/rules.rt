@@ -30,15 +30,21 @@ fn texts(
         × (texts.1.0 ≡ expr_in reading.answer days.now Aggregate Number raw.now.left_side.0)
         × (texts.1.1 ≡ expr_in reading.answer days.now Aggregate Number raw.now.right_side.0)) result }
 {
-    let read = read_numbers(
+    let name = copied(alloc, raw.name.as_slice())?;
+    match read_numbers(
         alloc,
         ids,
         days,
         raw.id,
         raw.left_side.0.as_slice(),
         raw.right_side.0.as_slice(),
-    )?;
-    Ok((copied(alloc, raw.name.as_slice())?, read))
+    ) {
+        Ok(read) => Ok((name, read)),
+        Err(fault) => {
+            drop(name);
+            Err(fault)
+        }
+    }
 }
 
 fn with_links(raw: &RawRule, texts: (Items<u8>, (Expr, Expr)), links: Sharing) -> Rule

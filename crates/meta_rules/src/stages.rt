@@ -6,6 +6,7 @@ ghost use Rattle.expr_lang.specs.Expr.{items_in};
 ghost use Rattle.meta_rules.specs.Stages.{IsStageOf, is_stage_of, is_foreign, is_foreign_filter, is_aggregated, indicator_broken, stages_broken};
 
 use crate::fault::{BrokenRule, RuleFault};
+use crate::item::item_at;
 use crate::names::{is_known, stage_before};
 use dh_base::plain::AggType;
 use dh_base::uid::Uid;
@@ -20,7 +21,7 @@ fn is_stage_of(ids: &Ids, stages: &[Stage], program: u32, stage: Uid) -> bool
 {
     match ids.find(Kind::ProgramStage, stage) {
         None => false,
-        Some(place) => match stages.get(place as usize) {
+        Some(place) => match item_at(stages, place as usize) {
             None => false,
             Some(found) => found.program == program,
         },

@@ -8,6 +8,7 @@ ghost use Rattle.dh_metadata.specs.Rows.{tree_rows};
 ghost use Rattle.meta_rules.specs.Trees.{id_at, tree_uid, tree_error, tree_broken};
 
 use crate::fault::{BrokenRule, RuleError, RuleFault};
+use crate::item::item_at;
 use dh_base::uid::Uid;
 use dh_metadata::records::Unit;
 use org_tree::fault::TreeFault;
@@ -26,7 +27,7 @@ pub(crate) fn rows(alloc: Global, units: &[Unit]) -> Result<Vec<(Uid, Option<u32
 fn id_at(units: &[Unit], unit: u32) -> Option<Uid>
     ensures { result ≡ id_at units.now unit }
 {
-    match units.get(unit as usize) {
+    match item_at(units, unit as usize) {
         Some(unit) => Some(unit.id),
         None => None,
     }

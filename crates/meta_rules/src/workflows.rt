@@ -9,6 +9,7 @@ ghost use Rattle.dh_metadata.specs.Workflows.{AreWorkflows};
 ghost use Rattle.meta_rules.specs.Workflows.{torn_fault, workflow_broken};
 
 use crate::fault::{BrokenRule, RuleError, RuleFault};
+use crate::item::item_at;
 use dh_metadata::records::{DataSet, Element};
 use std::alloc::{AllocError, Global};
 
@@ -109,7 +110,7 @@ fn listed(alloc: Global, seen: &[Seen]) -> Result<Vec<Option<u32>>, AllocError>
 fn torn(elements: &[Element], place: u32) -> RuleFault
     ensures { result ≡ torn_fault elements.now place }
 {
-    let uid = match elements.get(place as usize) {
+    let uid = match item_at(elements, place as usize) {
         Some(element) => Some(element.id),
         None => None,
     };

@@ -1,8 +1,10 @@
 -- One step of the loops over subjects, samples and identifiers.
-use Rattle.std.proofs.Common.{◌≡◌, ◌∙◌, ◌<◌, ◌+◌, ℕ, suc, Bool, List, [], ◌∷◌, ◌++◌, map, take, drop, get_or, length, refl, sym, ap, add-one}
-use Rattle.std.proofs.Common.{drop-cons, append_assoc, arith}
+use Rattle.std.proofs.Common.{◌≡◌, ◌∙◌, ◌<◌, ◌≤◌, ◌+◌, ℕ, suc, Bool, true, false, cond, List, [], ◌∷◌, ◌++◌, map, take, drop, get_or, length, refl, sym, ap, add-one}
+use Rattle.std.proofs.Common.{drop-cons, append_assoc, append-nil, arith}
 use Rattle.std.proofs.Common.{Option, Some, None}
-use Rattle.std.proofs.lemmas.List.{map-append, take_more}
+use Rattle.std.proofs.lemmas.List.{drop_all, map-append, take_more}
+use Rattle.std.proofs.lemmas.List.Elements.{filter_more}
+use Rattle.std.specs.List.{filter}
 use Rattle.std.specs.Prelude.{option_and_then, option_map, if◌then◌else◌}
 use Rattle.std.specs.Option.{unwrap_or}
 use Rattle.dh_base.specs.Fractions.{Fraction, add_of}
@@ -28,6 +30,37 @@ viewed_more made f view xs found more i x y within at before is of =
     ∙ ap (λ all. all ++ f (view x) ∷ []) before
     ∙ sym (ap (map f) (ap (map view) (first_at xs i x within at) ∙ map-append view (take i xs) (x ∷ []))
     ∙ map-append f (map view (take i xs)) (view x ∷ []))
+
+-- what is made of one more stands after what was there at the start, and what is made of those before it
+pub listed_more : {X Y : Type 0} (f : X → Y) (xs : List X) (start found more : List Y) (i : ℕ) (x : X) (y : Y) → i < length xs → x ≡ get_or xs i x
+    → found ≡ start ++ map f (take i xs) → more ≡ found ++ y ∷ [] → y ≡ f x → more ≡ start ++ map f (take (i + 1) xs)
+listed_more f xs start found more i x y within at before is made =
+    is
+    ∙ ap (λ v. found ++ v ∷ []) made
+    ∙ ap (λ all. all ++ f x ∷ []) before
+    ∙ append_assoc start (map f (take i xs)) (f x ∷ [])
+    ∙ ap (λ all. start ++ all) (sym (ap (map f) (first_at xs i x within at) ∙ map-append f (take i xs) (x ∷ [])))
+
+-- one member more that passes and is lent
+pub lent_more : {W Y : Type 0} (made : W → Y) (p : Y → Bool) (xs : List Y) (found more : List W) (i : ℕ) (x : Y) (w : W) → i < length xs
+    → x ≡ get_or xs i x → map made found ≡ filter p (take i xs) → more ≡ found ++ w ∷ [] → made w ≡ x → p x ≡ true
+    → map made more ≡ filter p (take (i + 1) xs)
+lent_more made p xs found more i x w within at before is of passes =
+    ap (map made) is
+    ∙ map-append made found (w ∷ [])
+    ∙ ap (λ y. map made found ++ y ∷ []) of
+    ∙ ap (λ all. all ++ x ∷ []) before
+    ∙ ap (λ b. filter p (take i xs) ++ cond b (x ∷ []) []) (sym passes)
+    ∙ sym (filter_more p xs i x within ∙ ap (λ y. filter p (take i xs) ++ cond (p y) (y ∷ []) []) (sym at))
+
+-- one that doesn't pass
+pub lent_no_more : {W Y : Type 0} (made : W → Y) (p : Y → Bool) (xs : List Y) (found : List W) (i : ℕ) (x : Y) → i < length xs → x ≡ get_or xs i x
+    → map made found ≡ filter p (take i xs) → p x ≡ false → map made found ≡ filter p (take (i + 1) xs)
+lent_no_more made p xs found i x within at before out =
+    before
+    ∙ sym (append-nil (filter p (take i xs)))
+    ∙ ap (λ b. filter p (take i xs) ++ cond b (x ∷ []) []) (sym out)
+    ∙ sym (filter_more p xs i x within ∙ ap (λ y. filter p (take i xs) ++ cond (p y) (y ∷ []) []) (sym at))
 
 -- ---- subjects
 
@@ -67,6 +100,18 @@ pub subjects_end : {X A B : Type 0} (view : X → A) (passing : A → Option Boo
 subjects_end view passing own xs i x done all within at so_far is =
     sym (so_far ∙ ap (λ rest. option_map (λ more. done ++ more) (collected passing own (map view rest))) (rest_at xs i x within at)
     ∙ lacking (if_passing (passing (view x)) (own (view x))) done (collected passing own (map view (drop (i + 1) xs))) is)
+
+-- before the first subject
+pub subjects_start : {B : Type 0} (done : List B) (all : Option (List B)) → done ≡ [] → all ≡ option_map (λ more. done ++ more) all
+subjects_start done None none = refl
+subjects_start done (Some more) none = ap (λ l. Some (l ++ more)) (sym none)
+
+-- after the last one
+pub subjects_done : {X A B : Type 0} (view : X → A) (passing : A → Option Bool) (own : A → Option (List B)) (xs : List X) (i : ℕ) (done : List B)
+    (all : Option (List B)) → length xs ≤ i → all ≡ option_map (λ more. done ++ more) (collected passing own (map view (drop i xs))) → Some done ≡ all
+subjects_done view passing own xs i done all past so_far =
+    ap Some (sym (append-nil done))
+    ∙ sym (so_far ∙ ap (λ rest. option_map (λ more. done ++ more) (collected passing own (map view rest))) (drop_all i xs past))
 
 -- ---- numbers
 

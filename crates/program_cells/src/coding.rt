@@ -75,10 +75,10 @@ pub(crate) fn code_of(
 ) -> Result<PiCode, Memory>
     ensures { IfOk result (IsCodeOf meta.now indicator.now) }
 {
+    let filter_items = filter_items(alloc, meta, &indicator.filter)?;
     let value = value_of(alloc, &indicator.expression)?;
     let value_items = value_items(alloc, meta, &value, &indicator.expression)?;
     let filter = filter_of(alloc, &indicator.filter)?;
-    let filter_items = filter_items(alloc, meta, &indicator.filter)?;
     Ok(PiCode {
         program: indicator.program,
         value,

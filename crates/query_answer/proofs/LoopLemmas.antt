@@ -1,8 +1,9 @@
 -- Steps of the loops over what is asked.
-use Rattle.std.proofs.Common.{◌≡◌, ℕ, zero, suc, ◌+◌, ◌<◌, Bool, true, false, ◌||◌, List, [], ◌∷◌, ◌++◌, length, take, drop, get_or, Some, None, refl, sym}
+use Rattle.std.proofs.Common.{◌≡◌, ℕ, zero, suc, ◌+◌, ◌<◌, ◌≤◌, Bool, true, false, ◌||◌, List, [], ◌∷◌, ◌++◌, length, take, drop, get_or, Some, None, refl, sym}
 use Rattle.std.proofs.Common.{ap, ◌∙◌, append_assoc, add-one, drop-cons, arith}
 use Rattle.std.specs.List.{find, flat_map, list_any}
-use Rattle.std.proofs.lemmas.List.{flat_map_more, take_more}
+use Rattle.std.proofs.lemmas.List.{flat_map_more, take_all, take_more}
+use Rattle.std.proofs.lemmas.List.Folds.{list_any_more}
 use Rattle.dh_metadata.specs.declared.held.Records.{Records}
 use Rattle.cell_values.specs.Seen.{SeenRecords}
 use Rattle.query_lang.specs.declared.plain.Dx.{Dx}
@@ -47,3 +48,17 @@ pub joined-more : {X Y : Type 0} (f : X → List Y) (xs : List X) (old found mor
 joined-more f xs old found more i d within before put =
     put ∙ ap (λ l. l ++ f (get_or xs i d)) before ∙ flat_map_more f old (take i xs) (get_or xs i d)
     ∙ ap (λ l. old ++ flat_map f l) (sym (take_more xs i d within))
+
+-- nor does one more pass
+pub none-more : {X : Type 0} (test : X → Bool) (xs : List X) (i : ℕ) (x : X) → i < length xs → x ≡ get_or xs i x → list_any test (take i xs) ≡ false
+    → test x ≡ false → list_any test (take (i + 1) xs) ≡ false
+none-more test xs i x within at none here =
+    list_any_more test xs i x within ∙ ap (λ b. b || test (get_or xs i x)) none ∙ ap test (sym at) ∙ here
+
+-- all were looked at
+pub none-passed : {X : Type 0} (test : X → Bool) (xs : List X) (i : ℕ) → length xs ≤ i → list_any test (take i xs) ≡ false → false ≡ list_any test xs
+none-passed test xs i past none = sym (ap (list_any test) (sym (take_all i xs past)) ∙ none)
+
+pub joined-all : {X Y : Type 0} (f : X → List Y) (xs : List X) (old found : List Y) (i : ℕ) → length xs ≤ i → found ≡ old ++ flat_map f (take i xs)
+    → found ≡ old ++ flat_map f xs
+joined-all f xs old found i past before = before ∙ ap (λ l. old ++ flat_map f l) (take_all i xs past)

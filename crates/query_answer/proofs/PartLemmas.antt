@@ -1,13 +1,11 @@
 -- The parts of a query by their places.
 use Rattle.std.proofs.Common.{◌≡◌, ◌∙◌, ℕ, ◌<◌, List, length, map, take, get_or, [], ◌∷◌, ◌++◌, ◌+◌, sym, ap, subst}
-use Rattle.std.specs.List.{All}
 use Rattle.std.proofs.lemmas.List.{length-map, get_or-map, map_push, take_more}
 use Rattle.dh_periods.specs.declared.name.PeriodName.{PeriodName}
-use Rattle.dh_metadata.specs.declared.held.Records.{Records}
 use Rattle.query_answer.specs.declared.parts.PeriodPart.{PeriodPart}
 use Rattle.query_answer.specs.declared.parts.UnitPart.{UnitPart}
 use Rattle.query_answer.specs.Rows.{Slot}
-use Rattle.query_answer.specs.Parts.{period_slot, unit_slot, IsUnitPart}
+use Rattle.query_answer.specs.Parts.{period_slot, unit_slot}
 
 pub period_many : (parts : List PeriodPart) (slots : List (Slot PeriodName)) → map period_slot parts ≡ slots → length parts ≡ length slots
 period_many parts slots are = sym (length-map parts period_slot) ∙ ap length are
@@ -35,11 +33,6 @@ unit_found parts slots place part are within at =
     ap unit_slot at
     ∙ sym (get_or-map unit_slot parts place part (unit_slot part) (unit_there parts slots place are within))
     ∙ ap (λ (l : List (Slot ℕ)). get_or l place (unit_slot part)) are
-
-pub unit_seen : (r : Records) (user : ℕ) (parts : List UnitPart) (slots : List (Slot ℕ)) (place : ℕ) (part : UnitPart) → map unit_slot parts ≡ slots
-    → place < length slots → part ≡ get_or parts place part → All (IsUnitPart r user) parts → IsUnitPart r user part
-unit_seen r user parts slots place part are within at all =
-    subst (IsUnitPart r user) (sym at) (all place part (unit_there parts slots place are within))
 
 -- a part more
 pub part_step : {P S : Type 0} (slot : P → S) (parts new : List P) (slots : List S) (i : ℕ) (x : P) → i < length slots

@@ -107,7 +107,6 @@ fn row_start(alloc: Global, dx: &[Dx], row: &AnswerRow) -> Result<RowStart, Memo
     })
 }
 
-#[tactic(auto, using(crate::proofs::RowLemmas::one_period))]
 fn is_one_period(one: Option<Period>, other: Option<Period>) -> bool
     ensures { result ≡ true → one ≡ other }
 {

@@ -61,9 +61,9 @@ fn indicator_plan<S: RowStore>(
     ensures { IfOk result (λ plan. IsIndicatorPlan source.now.meta.now source.now.seer.now.user
         (contents_of (S.rows source.now.store.now) (S.events source.now.store.now) (S.regs source.now.store.now)) indicator.now plan) }
 {
-    let sides = sides_of(alloc, source.meta, indicator)?;
     let over = item_plans(alloc, source, indicator.numerator.items())?;
     let under = item_plans(alloc, source, indicator.denominator.items())?;
+    let sides = sides_of(alloc, source.meta, indicator)?;
     Ok(IndicatorPlan { sides, over, under })
 }
 

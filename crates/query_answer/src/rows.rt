@@ -62,7 +62,6 @@ fn unit_count<S>(asking: &Asking<'_, S>) -> usize
     asking.units.len()
 }
 
-#[tactic(auto, using(crate::proofs::PartLemmas::unit_there, crate::proofs::PartLemmas::unit_found, crate::proofs::PartLemmas::unit_seen))]
 fn unit_at<'a, S>(asking: &'a Asking<'_, S>, place: usize) -> &'a UnitPart
     requires parts { map unit_slot asking.now.units.now ≡ unit_slots asking.now.query.now }
     requires place { place < length (unit_slots asking.now.query.now) }

@@ -71,7 +71,10 @@ fn query_rows<S: RowStore>(
         periods,
         units,
     };
-    write_rows(alloc, &asking, rows)
+    let found = write_rows(alloc, &asking, rows);
+    drop(all_units);
+    drop(all_periods);
+    found
 }
 
 /// The text of the body that answers a query over the records that the user sees.

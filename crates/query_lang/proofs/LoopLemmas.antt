@@ -1,7 +1,7 @@
 -- Loops that put what they make of each member at the end of a list.
-use Rattle.std.proofs.Common.{◌≡◌, ◌∙◌, ℕ, ◌+◌, ◌<◌, Bool, List, [], ◌∷◌, ◌++◌, length, get_or, drop, take, map, bytes_eq, cond, ◌||◌, false}
+use Rattle.std.proofs.Common.{◌≡◌, ◌∙◌, ℕ, ◌+◌, ◌<◌, ◌≤◌, Bool, List, [], ◌∷◌, ◌++◌, length, get_or, drop, take, map, bytes_eq, cond, ◌||◌, false}
 use Rattle.std.proofs.Common.{Option, Some, None, Result, Ok, Err, refl, sym, ap, append_assoc}
-use Rattle.std.proofs.lemmas.List.{drop_more, take_more, append-nil}
+use Rattle.std.proofs.lemmas.List.{drop_all, drop_more, take_more, append-nil}
 use Rattle.std.proofs.lemmas.List.Folds.{list_any-append}
 use Rattle.std.specs.List.{flat_map, filter_map, cons_option}
 use Rattle.std.specs.Option.{option_to_list}
@@ -105,3 +105,16 @@ beside-past table view i entry name found whole within at met before =
     ∙ sym (ap (λ l. beside (map view l) name) (drop_more table i entry within)
     ∙ ap (λ e. beside (map view (e ∷ left)) name) (sym at))
     ∙ before
+
+-- no member is left
+pub flattened-all : {X Y : Type 0} (f : X → List Y) (xs : List X) (found : List Y) (i : ℕ) → length xs ≤ i
+    → flat_map f xs ≡ found ++ flat_map f (drop i xs) → found ≡ flat_map f xs
+flattened-all f xs found i past known = sym (known ∙ ap (λ l. found ++ flat_map f l) (drop_all i xs past) ∙ append-nil found)
+
+pub picked-all : {X Y : Type 0} (f : X → Option Y) (xs : List X) (found : List Y) (i : ℕ) → length xs ≤ i
+    → filter_map f xs ≡ found ++ filter_map f (drop i xs) → found ≡ filter_map f xs
+picked-all f xs found i past known = sym (known ∙ ap (λ l. found ++ filter_map f l) (drop_all i xs past) ∙ append-nil found)
+
+pub each-all : {A B : Type 0} (f : A → Result B Refusal) (xs : List A) (done : List B) (i : ℕ) (whole : Result (List B) Refusal) → length xs ≤ i
+    → whole ≡ beyond done (each_of f (drop i xs)) → whole ≡ Ok done
+each-all f xs done i whole past known = known ∙ ap (λ l. beyond done (each_of f l)) (drop_all i xs past) ∙ ap Ok (append-nil done)

@@ -40,3 +40,9 @@ of_fault old moment meant None keep made is none =
 of_fault old moment meant (Some refused) keep made is refuses = of_refusal old moment meant refused keep made is refuses
 
 pub ruleset replies = (gives_up, of_call, of_fault, is_told)
+
+-- a call's reply is that of the call which it is, at the moment
+pub call_replied : (old new : Seen) (asked meant : Call) (moment at : ℤ) (keep : Bool) (made : Option (List ℕ)) → asked ≡ meant → at ≡ moment
+    → CallReply old at meant keep made new → CallReply old moment asked keep made new
+call_replied old new asked meant moment at keep made is when replied =
+    subst (λ (k : Call). CallReply old moment k keep made new) (sym is) (subst (λ (m : ℤ). CallReply old m meant keep made new) when replied)

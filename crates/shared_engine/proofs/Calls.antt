@@ -30,7 +30,7 @@ use Rattle.engine.specs.Tables.{tables_of}
 use Rattle.engine.specs.declared.machine.View.{View}
 use Rattle.table_rows.specs.Store.{contents_in}
 use Rattle.std.specs.Arc.{arc_value}
-use Rattle.std.specs.Prelude.{take, map, IfOk}
+use Rattle.std.specs.Prelude.{take, IfOk}
 use Rattle.shared_engine.specs.Entries.{Entry, caller_of, named_of, Stand, entries_if, entries_of, entry_by, entries_by, after_entries, IsRight, IsFault, Owns}
 use Rattle.shared_engine.specs.Histories.{Made, begin, stand_of, IsLegal, StandsAt, IsRunning, IsBegunBy}
 use Rattle.shared_engine.specs.Calls.{IsCall, IsUpdate, last_of}

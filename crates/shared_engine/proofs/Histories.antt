@@ -1,6 +1,6 @@
 -- A history that grows, and the entries of one caller in it.
-use Rattle.std.proofs.Common.{◌≡◌, ◌≢◌, ◌⊎◌, ℕ, ◌+◌, ◌*◌, ◌/◌, ◌%◌, ◌^◌, ◌<◌, List, [], ◌∷◌, ◌++◌, length, cond}
-use Rattle.std.proofs.Common.{Option, append-nil, refl, sym, ap, ◌∙◌, ⊎_elim, inl, inr, arith, length-append, ne_eqb}
+use Rattle.std.proofs.Common.{◌≡◌, ◌≢◌, ℕ, ◌+◌, ◌*◌, ◌/◌, ◌%◌, ◌<◌, List, [], ◌∷◌, ◌++◌, length, cond}
+use Rattle.std.proofs.Common.{Option, append-nil, sym, ap, ◌∙◌, ⊎_elim, inl, inr, arith, length-append, ne_eqb}
 use native.Mathlib.Nat.{mod-add-div, add-mul-mod_self_left}
 use Rattle.std.proofs.lemmas.List.{get_or_append_left}
 use Rattle.std.proofs.lemmas.List.Elements.{filter-append}

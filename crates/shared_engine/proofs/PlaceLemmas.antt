@@ -1,7 +1,7 @@
 -- Places for years.
-use Rattle.std.proofs.Common.{ℕ, ℤ, List, [], ◌∷◌, ◌≡◌, ◌<◌, suc, zero, Option, None, Some, IfSome, ◌+◌, ◌≤◌, ◌++◌, length, set, take, map, ap, refl, sym}
+use Rattle.std.proofs.Common.{ℕ, ℤ, List, [], ◌∷◌, ◌≡◌, ◌<◌, suc, zero, Option, None, Some, ◌+◌, ◌≤◌, ◌++◌, length, set, take, map, ap, refl, sym}
 use Rattle.std.proofs.Common.{subst, ◌∙◌, arith}
-use Rattle.std.specs.Prelude.{get_or, pos, ⊤}
+use Rattle.std.specs.Prelude.{get_or, pos}
 use Rattle.std.proofs.lemmas.List.{take_more, take_all, map-append}
 use Rattle.shared_engine.specs.Places.{ArePlaces}
 

@@ -1,5 +1,5 @@
 -- Legal histories of one system, made for one metadata and one set of limits, over a keeper that had so many faults when it began.
-use Rattle.std.specs.Prelude.{◌≡◌, ◌≤◌, ℕ, List, [], false, true, map, take, length, None, Some}
+use Rattle.std.specs.Prelude.{◌≡◌, ◌≤◌, ℕ, List, [], false, map, take, length, None, Some}
 use Rattle.atomic_table.specs.Seated.{TableId}
 use Rattle.shared_engine.specs.Views.{LockView}
 use Rattle.dh_metadata.specs.declared.held.Records.{Records}

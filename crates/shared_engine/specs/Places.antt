@@ -1,5 +1,5 @@
 -- Parts of years, and the places that they are put into.
-use Rattle.std.specs.Prelude.{◌<◌, ◌∷◌, [], ℕ, ℤ, pos, List, length, get_or, Option, IfSome, Result, IfOk, Vec, ⊤}
+use Rattle.std.specs.Prelude.{◌<◌, ◌∷◌, [], ℤ, pos, List, length, get_or, Option, IfSome, Result, IfOk, Vec, ⊤}
 use Rattle.std.specs.List.{All}
 use Rattle.std.specs.declared.alloc.Global.{Global}
 use Rattle.dh_base.specs.declared.memory.Memory.{Memory}

@@ -1,21 +1,18 @@
 //! The parts of an update's years: they are built outside the lock, and handed in under it.
-ghost use Rattle.std.specs.Prelude.{◌≡◌, true, map, take, IfOk, IfSome};
+ghost use Rattle.std.specs.Prelude.{◌≡◌, true, map, take, IfOk};
 ghost use Rattle.std.specs.Arc.{arc_value};
 ghost use Rattle.shared_engine.specs.Places.{ArePlaces};
 ghost use Rattle.engine.specs.Machine.{has_ticket, number_in};
-ghost use Rattle.engine.specs.Seen.{IsPartOf};
 ghost use Rattle.shared_engine.specs.Builds.{CanBuild, IsYearOf, ArePartsOf, HasParts};
 
 use crate::{Builder, Gate, build_each};
 use dh_base::memory::Memory;
 use dh_base::plain::CutKind;
-use dh_changes::change::Change;
 use dh_metadata::metadata::Metadata;
 use dh_outside::Keeper;
 use engine::{Cut, Engine, Reading, build_year, read_changes};
 use std::alloc::Global;
 use std::marker::Model;
-use std::sync::Arc;
 use std::thread::Threads;
 use table_sums::Partition;
 
@@ -52,24 +49,6 @@ impl<'a> Builder<Partition> for CutBuilder<'a> {
     }
 }
 
-// Builds the parts of years of what changes leave, by so many workers. The changes are read once, for all of them.
-fn build_of<R: Threads + Sync, G: Gate + Sync>(
-    rt: &R,
-    alloc: Global,
-    meta: &Metadata,
-    changes: &[Arc<Change>],
-    years: &[i32],
-    workers: u32,
-    gate: &G,
-) -> Result<Vec<Option<Partition>>, Memory>
-    requires { CanBuild (map arc_value changes.now) }
-    ensures { IfOk result (λ parts. ArePlaces (IsYearOf meta.now (map arc_value changes.now)) years.now parts.items) }
-{
-    let reading = read_changes(alloc, changes)?;
-    let builder = CutBuilder { meta, reading };
-    build_each(rt, alloc, years, &builder, gate, workers)
-}
-
 /// So many workers build the parts of a cut's years at the same time, of one reading of its changes. There is a place for each year,
 /// in their order; one whose building found no memory has no part.
 pub fn build_all<R: Threads + Sync, G: Gate + Sync>(
@@ -83,38 +62,15 @@ pub fn build_all<R: Threads + Sync, G: Gate + Sync>(
     requires { CanBuild (map arc_value cut.now.changes.items) }
     ensures { IfOk result (λ parts. ArePlaces (IsYearOf meta.now (map arc_value cut.now.changes.items)) cut.now.years parts.items) }
 {
-    build_of(
-        rt,
-        alloc,
-        meta,
-        cut.changes.as_slice(),
-        cut.years.as_slice(),
-        workers,
-        gate,
-    )
+    let changes = cut.changes.as_slice();
+    let years = cut.years.as_slice();
+    let reading = read_changes(alloc, changes)?;
+    let builder = CutBuilder { meta, reading };
+    build_each(rt, alloc, years, &builder, gate, workers)
 }
 
-// The parts of a full cut's years that were built; out of memory there is none.
+/// The parts of a cut's years that were built; out of memory there is none. A latest update has none: its part is made by the cut.
 #[tactic(auto, using(crate::proofs::BuildLemmas::built))]
-fn built_parts<R: Threads + Sync, G: Gate + Sync>(
-    rt: &R,
-    alloc: Global,
-    meta: &Metadata,
-    cut: &Cut,
-    workers: u32,
-    gate: &G,
-) -> Vec<Option<Partition>>
-    requires { CanBuild (map arc_value cut.now.changes.items) }
-    ensures { ArePartsOf meta.now (map arc_value cut.now.changes.items) result.items }
-{
-    match build_all(rt, alloc, meta, cut, workers, gate) {
-        Ok(parts) => parts,
-        Err(_) => Vec::new(alloc),
-    }
-}
-
-/// The parts of a cut's years that were built. A latest update has none: its part is made by the cut.
-#[tactic(auto, using(crate::proofs::BuildLemmas::none_built))]
 pub(crate) fn build_parts<R: Threads + Sync, G: Gate + Sync>(
     rt: &R,
     alloc: Global,
@@ -127,19 +83,11 @@ pub(crate) fn build_parts<R: Threads + Sync, G: Gate + Sync>(
     ensures { ArePartsOf meta.now (map arc_value cut.now.changes.items) result.items }
 {
     match cut.kind {
-        CutKind::Full => built_parts(rt, alloc, meta, cut, workers, gate),
+        CutKind::Full => match build_all(rt, alloc, meta, cut, workers, gate) {
+            Ok(parts) => parts,
+            Err(_) => Vec::new(alloc),
+        },
         CutKind::Latest => Vec::new(alloc),
-    }
-}
-
-// Hands in what was built of a year.
-fn hand_in<K: Keeper>(engine: &mut Engine<K>, ticket: u64, part: Option<Partition>)
-    requires begun { has_ticket ticket engine.old.state.full ≡ true }
-    requires part { IfSome part (IsPartOf engine.old.meta (take (number_in engine.old.state.full) engine.old.state.log)) }
-    ensures { engine.new ≡ engine.old }
-{
-    if let Some(part) = part {
-        engine.hand_in(ticket, part);
     }
 }
 
@@ -150,7 +98,9 @@ fn hand_in_all<K: Keeper>(engine: &mut Engine<K>, ticket: u64, parts: Vec<Option
     ensures { engine.new ≡ engine.old }
 {
     for part in parts {
-        hand_in(engine, ticket, part);
+        if let Some(part) = part {
+            engine.hand_in(ticket, part);
+        }
     }
 }
 

@@ -16,7 +16,7 @@ ghost use Rattle.shared_engine.specs.Builds.{CanBuild, ArePartsOf, IsCutBy};
 ghost use Rattle.shared_engine.specs.Calls.{IsCall};
 
 use crate::names::{Item, Naming};
-use crate::notes::{note_change, note_cut, note_end, note_look};
+use crate::notes::{Begun, Changed, Looked, note, note_end};
 use crate::steps::end_with;
 use crate::{HistoryTable, LockSeat, Token};
 use dh_base::memory::Memory;
@@ -76,15 +76,13 @@ impl<J: Naming, K: Keeper> Locked<J, K> {
     {
         self.seat.take_in(words, token);
         let reply = self.engine.change(alloc, who, moment, request);
-        note_change(
-            &mut self.seat,
-            words,
-            &self.engine,
+        let call = Changed {
             who,
             moment,
             request,
-            &reply,
-        );
+            reply: &reply,
+        };
+        note(&mut self.seat, words, &self.engine, &call);
         let token = self.seat.give_back(words);
         (token, reply)
     }
@@ -106,7 +104,11 @@ impl<J: Naming, K: Keeper> Locked<J, K> {
     {
         self.seat.take_in(words, token);
         let reply = self.engine.look(asked);
-        note_look(&mut self.seat, words, &self.engine, asked, &reply);
+        let call = Looked {
+            asked,
+            reply: &reply,
+        };
+        note(&mut self.seat, words, &self.engine, &call);
         let token = self.seat.give_back(words);
         (token, reply)
     }
@@ -126,7 +128,11 @@ impl<J: Naming, K: Keeper> Locked<J, K> {
     {
         self.seat.take_in(words, token);
         let reply = self.engine.cut(alloc, kind);
-        note_cut(&mut self.seat, words, &self.engine, kind, &reply);
+        let call = Begun {
+            kind,
+            reply: &reply,
+        };
+        note(&mut self.seat, words, &self.engine, &call);
         let token = self.seat.give_back(words);
         (token, reply)
     }

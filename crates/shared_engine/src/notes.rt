@@ -1,13 +1,13 @@
 //! The entries that calls add to the history, in the name of the caller who is taken in. A call that found no memory adds none.
+//!
+//! A note knows of the engine no more than its keeper's count of faults, and of the call no more than the act of the machine that it was.
 ghost use Rattle.std.specs.Prelude.{◌≡◌, ◌≤◌, ◌++◌, ◌∷◌, [], IsSome, IfOk};
-ghost use Rattle.engine.specs.Machine.{change_lacks, cut_lacks, look_lacks};
-ghost use Rattle.engine.specs.Machine.Act.{changed, begun, looked};
-ghost use Rattle.engine.specs.Seen.{update_in, published_in};
-ghost use Rattle.shared_engine.specs.Entries.{entry_by, entries_by};
+ghost use Rattle.engine.specs.Machine.{lacks_memory};
+ghost use Rattle.shared_engine.specs.Entries.{Entry, entry_by, entries_by};
 ghost use Rattle.shared_engine.specs.Ends.{end_act, told_after};
 
 use crate::names::Item;
-use crate::{EntryName, HistoryTable, LockSeat};
+use crate::{HistoryTable, LockSeat};
 use dh_base::memory::Memory;
 use dh_base::plain::CutKind;
 use dh_changes::outcome::Who;
@@ -15,184 +15,137 @@ use dh_outside::Keeper;
 use engine::{ChangeFault, ChangeRequest, Cut, CutFault, Engine, LookFault, Report, View};
 use std::marker::Brand;
 
-fn change_lacks(reply: &Result<Report, ChangeFault>) -> bool
-    ensures { result ≡ change_lacks reply.now }
-{
-    match reply {
-        Ok(_) => false,
-        Err(ChangeFault::Refused(_)) => false,
-        Err(ChangeFault::LogFull { .. }) => false,
-        Err(ChangeFault::StoreFault) => false,
-        Err(ChangeFault::Memory) => true,
+/// Has a keeper, whose faults are counted.
+pub(crate) trait Kept {
+    ghost use Rattle.std.specs.Prelude.{ℕ};
+
+    ghost faults: { Self → ℕ };
+}
+
+impl<K: Keeper> Kept for Engine<K> {
+    ghost faults = { λ engine. engine.faults };
+}
+
+/// A call of the engine with its reply.
+pub(crate) trait Told {
+    ghost use Rattle.engine.specs.Machine.{Act};
+
+    /// The act of the machine that it was.
+    ghost act: { Self → Act };
+
+    /// Whether it found no memory.
+    fn lacks(&self) -> bool
+        ensures { result ≡ lacks_memory (act self.now) };
+}
+
+/// A change.
+#[derive(Drop)]
+pub(crate) struct Changed<'a> {
+    pub(crate) who: Who,
+    pub(crate) moment: i64,
+    pub(crate) request: &'a ChangeRequest,
+    pub(crate) reply: &'a Result<Report, ChangeFault>,
+}
+
+impl<'a> Told for Changed<'a> {
+    ghost use Rattle.engine.specs.Machine.Act.{changed};
+
+    ghost act = { λ call. changed (record { who = call.who; moment = call.moment; request = call.request.now }) call.reply.now };
+
+    fn lacks(&self) -> bool {
+        match self.reply {
+            Ok(_) => false,
+            Err(ChangeFault::Refused(_)) => false,
+            Err(ChangeFault::LogFull { .. }) => false,
+            Err(ChangeFault::StoreFault) => false,
+            Err(ChangeFault::Memory) => true,
+        }
     }
 }
 
-fn stamp_change<N: EntryName<Item>, K: Keeper>(
-    seat: &mut LockSeat<Item>,
-    words: &HistoryTable<Item>,
-    engine: &Engine<K>,
-    who: Who,
-    moment: i64,
-    request: &ChangeRequest,
-    reply: &Result<Report, ChangeFault>,
-)
-    requires table { seat.old.table ≡ words.now }
-    requires taken { IsSome seat.old.taken }
-    requires entry { N.added ≡ entry_by seat.old.taken (changed (record { who = who; moment = moment; request = request.now }) reply.now) engine.now.faults
-        ∷ [] }
-    ensures { seat.new ≡ record seat.old {
-      list = seat.old.list
-          ++ entry_by seat.old.taken (changed (record { who = who; moment = moment; request = request.now }) reply.now) engine.now.faults ∷ [];
-    } }
-{
-    seat.stamp::<N>(words);
+/// A look at the tables.
+#[derive(Drop)]
+pub(crate) struct Looked<'a> {
+    pub(crate) asked: u64,
+    pub(crate) reply: &'a Result<View, LookFault>,
 }
 
-/// Adds the entry of a change.
+impl<'a> Told for Looked<'a> {
+    ghost use Rattle.engine.specs.Machine.Act.{looked};
+    ghost use Rattle.engine.specs.Seen.{published_in};
+
+    ghost act = { λ call. looked call.asked (published_in call.reply.now) };
+
+    fn lacks(&self) -> bool {
+        match self.reply {
+            Ok(_) => false,
+            Err(LookFault::NotYet { .. }) => false,
+            Err(LookFault::Memory) => true,
+        }
+    }
+}
+
+/// The beginning of an update.
+#[derive(Drop)]
+pub(crate) struct Begun<'a> {
+    pub(crate) kind: CutKind,
+    pub(crate) reply: &'a Result<Cut, CutFault>,
+}
+
+impl<'a> Told for Begun<'a> {
+    ghost use Rattle.engine.specs.Machine.Act.{begun};
+    ghost use Rattle.engine.specs.Seen.{update_in};
+
+    ghost act = { λ call. begun call.kind (update_in call.reply.now) };
+
+    fn lacks(&self) -> bool {
+        match self.reply {
+            Ok(_) => false,
+            Err(CutFault::Busy { .. }) => false,
+            Err(CutFault::UpdatesSpent { .. }) => false,
+            Err(CutFault::Memory) => true,
+        }
+    }
+}
+
+/// Adds the entry of a call, unless it found no memory.
 #[tactic(auto, using(crate::proofs::Calls::none_added, crate::proofs::Calls::one_added))]
-pub(crate) fn note_change<K: Keeper>(
+pub(crate) fn note<E: Kept, A: Told>(
     seat: &mut LockSeat<Item>,
     words: &HistoryTable<Item>,
-    engine: &Engine<K>,
-    who: Who,
-    moment: i64,
-    request: &ChangeRequest,
-    reply: &Result<Report, ChangeFault>,
+    engine: &E,
+    call: &A,
 )
+    ghost entry: { Entry }
     requires table { seat.old.table ≡ words.now }
     requires taken { IsSome seat.old.taken }
-    ensures { seat.new ≡ record seat.old {
-      list = seat.old.list
-          ++ entries_by seat.old.taken (changed (record { who = who; moment = moment; request = request.now }) reply.now) engine.now.faults;
-    } }
+    requires entry { entry ≡ entry_by seat.old.taken (A.act call.now) (E.faults engine.now) }
+    ensures { seat.new ≡ record seat.old { list = seat.old.list ++ entries_by seat.old.taken (A.act call.now) (E.faults engine.now) } }
 {
-    if change_lacks(reply) {
-        return;
+    if !call.lacks() {
+        seat.stamp::<Brand>(words);
     }
-    stamp_change::<Brand, K>(seat, words, engine, who, moment, request, reply);
-}
-
-fn look_lacks(reply: &Result<View, LookFault>) -> bool
-    ensures { result ≡ look_lacks (published_in reply.now) }
-{
-    match reply {
-        Ok(_) => false,
-        Err(LookFault::NotYet { .. }) => false,
-        Err(LookFault::Memory) => true,
-    }
-}
-
-fn stamp_look<N: EntryName<Item>, K: Keeper>(
-    seat: &mut LockSeat<Item>,
-    words: &HistoryTable<Item>,
-    engine: &Engine<K>,
-    asked: u64,
-    reply: &Result<View, LookFault>,
-)
-    requires table { seat.old.table ≡ words.now }
-    requires taken { IsSome seat.old.taken }
-    requires entry { N.added ≡ entry_by seat.old.taken (looked asked (published_in reply.now)) engine.now.faults ∷ [] }
-    ensures { seat.new ≡ record seat.old { list = seat.old.list ++ entry_by seat.old.taken (looked asked (published_in reply.now)) engine.now.faults ∷ [] } }
-{
-    seat.stamp::<N>(words);
-}
-
-/// Adds the entry of a look.
-#[tactic(auto, using(crate::proofs::Calls::none_added, crate::proofs::Calls::one_added))]
-pub(crate) fn note_look<K: Keeper>(
-    seat: &mut LockSeat<Item>,
-    words: &HistoryTable<Item>,
-    engine: &Engine<K>,
-    asked: u64,
-    reply: &Result<View, LookFault>,
-)
-    requires table { seat.old.table ≡ words.now }
-    requires taken { IsSome seat.old.taken }
-    ensures { seat.new ≡ record seat.old { list = seat.old.list ++ entries_by seat.old.taken (looked asked (published_in reply.now)) engine.now.faults } }
-{
-    if look_lacks(reply) {
-        return;
-    }
-    stamp_look::<Brand, K>(seat, words, engine, asked, reply);
-}
-
-fn cut_lacks(reply: &Result<Cut, CutFault>) -> bool
-    ensures { result ≡ cut_lacks (update_in reply.now) }
-{
-    match reply {
-        Ok(_) => false,
-        Err(CutFault::Busy { .. }) => false,
-        Err(CutFault::UpdatesSpent { .. }) => false,
-        Err(CutFault::Memory) => true,
-    }
-}
-
-fn stamp_cut<N: EntryName<Item>, K: Keeper>(
-    seat: &mut LockSeat<Item>,
-    words: &HistoryTable<Item>,
-    engine: &Engine<K>,
-    kind: CutKind,
-    reply: &Result<Cut, CutFault>,
-)
-    requires table { seat.old.table ≡ words.now }
-    requires taken { IsSome seat.old.taken }
-    requires entry { N.added ≡ entry_by seat.old.taken (begun kind (update_in reply.now)) engine.now.faults ∷ [] }
-    ensures { seat.new ≡ record seat.old { list = seat.old.list ++ entry_by seat.old.taken (begun kind (update_in reply.now)) engine.now.faults ∷ [] } }
-{
-    seat.stamp::<N>(words);
-}
-
-/// Adds the entry of a cut.
-#[tactic(auto, using(crate::proofs::Calls::none_added, crate::proofs::Calls::one_added))]
-pub(crate) fn note_cut<K: Keeper>(
-    seat: &mut LockSeat<Item>,
-    words: &HistoryTable<Item>,
-    engine: &Engine<K>,
-    kind: CutKind,
-    reply: &Result<Cut, CutFault>,
-)
-    requires table { seat.old.table ≡ words.now }
-    requires taken { IsSome seat.old.taken }
-    ensures { seat.new ≡ record seat.old { list = seat.old.list ++ entries_by seat.old.taken (begun kind (update_in reply.now)) engine.now.faults } }
-{
-    if cut_lacks(reply) {
-        return;
-    }
-    stamp_cut::<Brand, K>(seat, words, engine, kind, reply);
-}
-
-fn stamp_end<N: EntryName<Item>, K: Keeper>(
-    seat: &mut LockSeat<Item>,
-    words: &HistoryTable<Item>,
-    engine: &Engine<K>,
-    ticket: u64,
-    reply: &Result<u64, Memory>,
-)
-    requires table { seat.old.table ≡ words.now }
-    requires taken { IsSome seat.old.taken }
-    requires entry { N.added ≡ entry_by seat.old.taken (end_act ticket reply.now) engine.now.faults ∷ [] }
-    ensures { seat.new ≡ record seat.old { list = seat.old.list ++ entry_by seat.old.taken (end_act ticket reply.now) engine.now.faults ∷ [] } }
-{
-    seat.stamp::<N>(words);
 }
 
 /// Adds the entry of an update's end, and then tells the number that was swapped in.
-pub(crate) fn note_end<K: Keeper>(
+pub(crate) fn note_end<E: Kept>(
     seat: &mut LockSeat<Item>,
     words: &HistoryTable<Item>,
-    engine: &Engine<K>,
+    engine: &E,
     ticket: u64,
     reply: &Result<u64, Memory>,
 )
+    ghost entry: { Entry }
     requires table { seat.old.table ≡ words.now }
     requires taken { IsSome seat.old.taken }
     requires rises { IfOk reply.now (λ number. seat.old.told ≤ number) }
+    requires entry { entry ≡ entry_by seat.old.taken (end_act ticket reply.now) (E.faults engine.now) }
     ensures { seat.new ≡ record seat.old {
-      list = seat.old.list ++ entry_by seat.old.taken (end_act ticket reply.now) engine.now.faults ∷ [];
+      list = seat.old.list ++ entry_by seat.old.taken (end_act ticket reply.now) (E.faults engine.now) ∷ [];
       told = told_after seat.old.told reply.now;
     } }
 {
-    stamp_end::<Brand, K>(seat, words, engine, ticket, reply);
+    seat.stamp::<Brand>(words);
     match reply {
         Ok(number) => seat.tell(words, *number),
         Err(_) => (),

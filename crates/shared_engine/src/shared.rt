@@ -133,13 +133,19 @@ pub fn open<K: Keeper>(
     requires meta { engine.meta ≡ arc_value meta }
     ensures { IfOk result (λ opened. (opened.meta ≡ engine.meta) × (opened.limits ≡ engine.limits) × (opened.opening ≡ engine.faults)) }
 {
-    let (words, seat) = HistoryTable::new(alloc)?;
-    Ok(Opened {
-        words,
-        seat,
-        meta,
-        engine,
-    })
+    match HistoryTable::new(alloc) {
+        Ok((words, seat)) => Ok(Opened {
+            words,
+            seat,
+            meta,
+            engine,
+        }),
+        Err(fault) => {
+            drop(engine);
+            drop(meta);
+            Err(fault)
+        }
+    }
 }
 
 impl<J: Naming, K: Keeper> Shared<J, K> {
@@ -258,7 +264,8 @@ impl<J: Naming, K: Keeper> Shared<J, K> {
         let (token, begun) = self.begin(rt, alloc, token, kind);
         match begun {
             Ok(cut) => {
-                let parts = self.build(rt, alloc, &cut, workers, gate);
+                // Nobody has to wait for the lock meanwhile.
+                let parts = build_parts(rt, alloc, self.meta(), &cut, workers, gate);
                 let (token, ended) = self.end(rt, alloc, token, &cut, parts);
                 (token, answer_of(ended))
             }
@@ -280,21 +287,6 @@ impl<J: Naming, K: Keeper> Shared<J, K> {
     {
         let mut locked = self.lock.lock(rt);
         locked.cut(alloc, &self.words, token, kind)
-    }
-
-    // The parts of a cut's years, built while nobody has to wait for the lock. A latest update has none.
-    fn build<R: Threads + Sync, G: Gate + Sync>(
-        &self,
-        rt: &R,
-        alloc: Global,
-        cut: &Cut,
-        workers: u32,
-        gate: &G,
-    ) -> Vec<Option<Partition>>
-        requires { CanBuild (map arc_value cut.now.changes.items) }
-        ensures { ArePartsOf J.made.meta (map arc_value cut.now.changes.items) result.items }
-    {
-        build_parts(rt, alloc, self.meta(), cut, workers, gate)
     }
 
     fn end<R: Wait>(

@@ -51,6 +51,13 @@ pub user_made : (made : Made) (after : Records) (user : ℕ) → ((log : List Ch
 user_made made after user is below =
     user_before made.meta [] user (subst (λ (r : Records). user < length r.users) (is []) below)
 
+-- a call's reply is that of the call which it is, at the moment
+pub call_replied : (made : Made) (moment at : ℤ) (asked meant : Call) (keep : Bool) (before now : TokenView Entry) (text : Option (List ℕ)) → asked ≡ meant
+    → at ≡ moment → CallReply made at meant keep before text now → CallReply made moment asked keep before text now
+call_replied made moment at asked meant keep before now text is when replied =
+    subst (λ (k : Call). CallReply made moment k keep before text now) (sym is)
+    (subst (λ (m : ℤ). CallReply made m meant keep before text now) when replied)
+
 -- ---- what a request is read as
 
 pub of_call : (made : Made) (moment : ℤ) (meant : Result Call Refusal) (asked : Call) (keep : Bool) (before now : TokenView Entry) (text : Option (List ℕ))

@@ -4,6 +4,7 @@ pub mod PlaceLemmas
 pub mod LastLemmas
 pub mod OrderLemmas
 pub mod NamedLemmas
+pub mod LoopLemmas
 pub mod EachLemmas
 pub mod DayLemmas
 pub mod FactLemmas

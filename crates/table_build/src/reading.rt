@@ -86,13 +86,18 @@ impl<'a> Reading<'a> {
     {
         let regs: Vec<RegKey> = named_in(alloc, others)?;
         let world = world_of(alloc, others)?;
-        let places = places_named(alloc, &world, others)?;
-        Ok(Reading {
-            changes,
-            world,
-            regs,
-            places,
-        })
+        match places_named(alloc, &world, others) {
+            Ok(places) => Ok(Reading {
+                changes,
+                world,
+                regs,
+                places,
+            }),
+            Err(fault) => {
+                drop(world);
+                Err(fault)
+            }
+        }
     }
 
     /// The part of one year: its rows, registrations and events, of those that the changes leave. It is made of what is written of

@@ -216,8 +216,26 @@ fn parts_for(
     Ok(parts)
 }
 
-// The tables of the parts in the slots, and of parts that are made for the others, one after the other. For these the log is
-// read once.
+// The parts of all slots. For those that are made the log is read once, and the reading is given back before the parts are used.
+fn all_parts(
+    alloc: Global,
+    meta: &Metadata,
+    changes: &[Arc<Change>],
+    slots: Vec<Slot>,
+) -> Result<Vec<Partition>, Memory>
+    requires few { length (writes_of (map arc_value changes.now)) ≤ MOST_RECORDS }
+    requires days { IsTrue (list_all is_of_days (writes_of (map arc_value changes.now))) }
+    requires slots { AllByRecursion (IsSlotOf (contents_in (listed_in meta.now (writes_of (map arc_value changes.now))))) slots.items }
+    ensures { IfOk result (λ parts. parts.items
+        ≡ map (part_of (contents_in (listed_in meta.now (writes_of (map arc_value changes.now))))) (slot_years slots.items)) }
+{
+    let reading = reading_for(alloc, changes, &slots)?;
+    let parts = parts_for(alloc, meta, changes, &reading, slots);
+    drop(reading);
+    parts
+}
+
+// The tables of the parts in the slots, and of parts that are made for the others, one after the other.
 fn build_of_parts(
     alloc: Global,
     meta: &Metadata,
@@ -231,8 +249,7 @@ fn build_of_parts(
     ensures years { IfOk result (λ tables. years_in tables.parts ≡ (listed_in meta.now (writes_of (map arc_value changes.now))).years) }
     ensures base_cut { IfOk result (λ tables. tables.base_cut ≡ length changes.now) }
 {
-    let reading = reading_for(alloc, changes, &slots)?;
-    let parts = parts_for(alloc, meta, changes, &reading, slots)?;
+    let parts = all_parts(alloc, meta, changes, slots)?;
     let tables = Tables::of(alloc, parts, changes.len() as u64)?;
     Ok(tables)
 }

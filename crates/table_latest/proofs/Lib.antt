@@ -6,3 +6,4 @@ pub mod GroupLemmas
 pub mod OverLemmas
 pub mod LaterLemmas
 pub mod ReplacedLemmas
+pub mod LoopLemmas

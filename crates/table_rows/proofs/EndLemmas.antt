@@ -1,6 +1,9 @@
 -- Of samples in series order the one that counts in each series, found in one pass.
 use Rattle.std.proofs.Common.{◌≡◌, ◌∙◌, ℕ, zero, suc, ◌+◌, ◌<◌, ◌≤◌, Bool, true, false, not, cond, ◌&&◌, ◌||◌, List, [], ◌∷◌, ◌++◌, length, map, take}
 use Rattle.std.proofs.Common.{get_or, ℤ, pos, ◌+ℤ◌, ◌-ℤ◌, Some, None, inl, inr, refl, sym, ap, subst, arith, length-append, Ordering, Less, Equal, Greater}
+use Rattle.std.proofs.Common.{unsigned_abs, ◌^◌, to_z, of_z, to_z-of_z}
+use Rattle.std.specs.Int.{w128}
+use Rattle.std.proofs.lemmas.Int.{ints, fits_signed_from_abs}
 use Rattle.std.specs.Prelude.{nat_eq}
 use Rattle.std.specs.Cmp.{IsTotalOrder}
 use Rattle.std.specs.List.{filter, list_any, list_all, AllByRecursion}
@@ -19,7 +22,7 @@ use Rattle.table_rows.specs.declared.sample.Sample.{Sample}
 use Rattle.table_rows.specs.declared.sample.Series.{Series}
 use Rattle.table_rows.specs.Samples.{series_cmp, same_series, may_precede, in_series_order, has_number, numbered, number_of, total, series_of, goes_beyond}
 use Rattle.table_rows.specs.Samples.{outermost, backwards}
-use Rattle.table_rows.specs.Ends.{order_of, run_with, next_run, found_if_any}
+use Rattle.table_rows.specs.Ends.{order_of, run_with, begins_series, next_run, found_if_any}
 use Rattle.table_rows.specs.declared.ends.End.{End}
 use Rattle.table_rows.specs.declared.ends.End.TheVariants.{First, Last}
 use Rattle.table_rows.specs.contracts.sample.SeriesOrd.TheImpl.Laws as series
@@ -616,3 +619,64 @@ pub run-some : (order : PeriodName → PeriodName → Ordering) (samples : List 
 run-some order [] i run past within is few some = absurd (some (omega arith))
 run-some order (s ∷ ss) i run past within is few some =
     some_of order (numbered (s ∷ ss)) run (get_or (s ∷ ss) run.best s) (run_of_all order (s ∷ ss) i run s past is) some
+
+-- ---- one sample more, by what its tests say
+
+by_false : {A : Type 0} (t : Bool) (x y : A) → t ≡ false → y ≡ cond t x y
+by_false false x y is = refl
+by_false true x y is = absurd cc
+
+by_true : {A : Type 0} (t : Bool) (x y : A) → t ≡ true → x ≡ cond t x y
+by_true true x y is = refl
+by_true false x y is = absurd cc
+
+-- it has no number
+pub next-none : (order : PeriodName → PeriodName → Ordering) (run : Run) (best sample : Sample) (at : ℕ) → has_number sample ≡ false
+    → run ≡ next_run order run best sample at
+next-none order run best sample at none = by_true (not (has_number sample)) run _ (ap (λ b. not b) none)
+
+-- the best of its series stays
+pub next-same : (order : PeriodName → PeriodName → Ordering) (run : Run) (best sample : Sample) (at : ℕ) → has_number sample ≡ true
+    → begins_series run best sample ≡ false → is_gt (order sample.period best.period) ≡ false
+    → run ≡ next_run order run best sample at
+next-same order run best sample at some goes_on below =
+    by_false (is_gt (order sample.period best.period)) _ run below ∙ by_false (begins_series run best sample) _ _ goes_on
+    ∙ by_false (not (has_number sample)) run _ (ap (λ b. not b) some)
+
+-- it begins a series
+pub next-begins : (order : PeriodName → PeriodName → Ordering) (run : Run) (best sample : Sample) (at : ℕ) (micros : ℤ) → has_number sample ≡ true
+    → begins_series run best sample ≡ true → micros ≡ run.micros +ℤ number_of sample
+    → run_with micros (run.series + 1) at ≡ next_run order run best sample at
+next-begins order run best sample at micros some begins sum =
+    ap (λ m. run_with m (run.series + 1) at) sum ∙ by_true (begins_series run best sample) _ _ begins
+    ∙ by_false (not (has_number sample)) run _ (ap (λ b. not b) some)
+
+-- it goes beyond the best of its series
+pub next-beyond : (order : PeriodName → PeriodName → Ordering) (run : Run) (best sample : Sample) (at : ℕ) (micros : ℤ) → has_number sample ≡ true
+    → begins_series run best sample ≡ false → is_gt (order sample.period best.period) ≡ true
+    → micros ≡ (run.micros -ℤ number_of best) +ℤ number_of sample
+    → run_with micros run.series at ≡ next_run order run best sample at
+next-beyond order run best sample at micros some goes_on beyond sum =
+    ap (λ m. run_with m run.series at) sum ∙ by_true (is_gt (order sample.period best.period)) _ run beyond
+    ∙ by_false (begins_series run best sample) _ _ goes_on ∙ by_false (not (has_number sample)) run _ (ap (λ b. not b) some)
+
+-- ---- numbers that come back from 128 bits
+
+abbrev told : ℤ → ℤ
+told z = to_z w128 (of_z w128 z)
+
+comes_back : (z : ℤ) → unsigned_abs z < 2 ^ 127 → told z ≡ z
+comes_back z small = to_z-of_z (fits_signed_from_abs w128 z small)
+
+pub sum-told : (sum more number : ℤ) → unsigned_abs sum ≤ 2 ^ 90 → unsigned_abs more ≤ 2 ^ 63 → more ≡ number → told (told sum +ℤ told more) ≡ sum +ℤ number
+sum-told sum more number small short is =
+    ap (λ z. told (z +ℤ told more)) (comes_back sum (omega arith)) ∙ ap (λ z. told (sum +ℤ z)) (comes_back more (omega arith))
+    ∙ comes_back (sum +ℤ more) (omega (arith, ints)) ∙ ap (λ z. sum +ℤ z) is
+
+pub moved-told : (sum old new moved from to : ℤ) → unsigned_abs sum ≤ 2 ^ 90 → unsigned_abs old ≤ 2 ^ 63 → unsigned_abs new ≤ 2 ^ 63 → old ≡ from → new ≡ to
+    → moved ≡ (told sum -ℤ told old) +ℤ told new → unsigned_abs moved ≤ unsigned_abs (told sum) + 2 ^ 64
+    → told moved ≡ (sum -ℤ from) +ℤ to
+moved-told sum old new moved from to small short brief is_old is_new is size =
+    let same : told sum ≡ sum = comes_back sum (omega arith) in
+    comes_back moved (omega (arith, size, ap unsigned_abs same)) ∙ is ∙ ap (λ z. (z -ℤ told old) +ℤ told new) same
+    ∙ ap (λ z. (sum -ℤ z) +ℤ told new) (comes_back old (omega arith) ∙ is_old) ∙ ap (λ z. (sum -ℤ from) +ℤ z) (comes_back new (omega arith) ∙ is_new)

@@ -1,6 +1,6 @@
 //! The verdict on a tracker bundle.
 
-ghost use Rattle.std.specs.Prelude.{◌≡◌, ◌<◌, ◌^◌, ◌∷◌, [], length, option_map, option_and_then, IfOk, OnOk};
+ghost use Rattle.std.specs.Prelude.{◌≡◌, ◌<◌, ◌^◌, ◌∷◌, [], ◌&&◌, not, length, option_map, option_and_then, IfOk, OnOk};
 ghost use Rattle.std.specs.List.{All};
 ghost use Rattle.std.specs.Option.{option_copied, option_map_or};
 ghost use Rattle.change_log.specs.Forms.{WriteFits};
@@ -436,6 +436,26 @@ fn with_all(
     }
 }
 
+// Whether nothing of a verdict is to be written.
+fn is_unwritten(atomic: bool, verdict: &Verdict) -> bool
+    ensures { result ≡ (atomic && not (outcomes.is_whole verdict.now)) }
+{
+    atomic && !verdict.conflicts.is_empty()
+}
+
+// The verdict without its writes, all objects ignored.
+fn unwritten(alloc: Global, verdict: Verdict, judged: u64) -> Verdict
+    ensures { result ≡ outcomes.unwritten judged verdict }
+{
+    let mut verdict = verdict;
+    verdict.writes = Items::new(alloc);
+    verdict.imported = 0;
+    verdict.updated = 0;
+    verdict.ignored = judged;
+    verdict.deleted = 0;
+    verdict
+}
+
 #[tactic(auto, unfolding(crate::specs::Outcomes::finished))]
 fn finished(alloc: Global, atomic: bool, batch: Batch) -> Verdict
     requires { AreAtMost (length batch.judged) batch.verdict }
@@ -443,17 +463,14 @@ fn finished(alloc: Global, atomic: bool, batch: Batch) -> Verdict
     ensures total { outcomes.total_of result < 2 ^ 64 }
 {
     let Batch {
-        mut verdict,
+        verdict,
         judged,
         seen: _,
         notes: _,
     } = batch;
-    if atomic && !verdict.conflicts.is_empty() {
-        verdict.writes = Items::new(alloc);
-        verdict.imported = 0;
-        verdict.updated = 0;
-        verdict.ignored = judged.len() as u64;
-        verdict.deleted = 0;
+    let count = judged.len() as u64;
+    if is_unwritten(atomic, &verdict) {
+        return unwritten(alloc, verdict, count);
     }
     verdict
 }

@@ -4,3 +4,4 @@ pub mod OrderLemmas
 pub mod SideLemmas
 pub mod BodyLemmas
 pub mod UnseenLemmas
+pub mod LoopLemmas

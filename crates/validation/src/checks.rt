@@ -213,5 +213,8 @@ pub fn run<S: RowStore>(
 {
     let order = rules_by_id(alloc, source.meta)?;
     let spot = spot_of(alloc, source, place)?;
-    check_all(alloc, source, &spot, &order)
+    let found = check_all(alloc, source, &spot, &order);
+    drop(spot);
+    drop(order);
+    found
 }

@@ -3,6 +3,7 @@
 ghost use Rattle.std.specs.Prelude.{◌≡◌, ◌≤◌, ◌++◌, ◌∷◌, [], ◌<◌, IfOk, map, length, get_or};
 
 use crate::ids::has_id::HasId;
+use dh_base::items::Items;
 use dh_base::memory::Memory;
 use dh_base::uid::Uid;
 use std::alloc::Global;
@@ -42,10 +43,10 @@ impl Lists {
 
     /// With one more list: that of the built-in objects and of these.
     #[tactic(auto, using(crate::proofs::CutLemmas::cut_add, crate::proofs::CutLemmas::ends_more))]
-    pub fn add<T: HasId>(self, built_in: &[Uid], objects: &[T]) -> Result<Lists, Memory>
+    pub fn add<T: HasId>(self, built_in: &[Uid], objects: &Items<T>) -> Result<Lists, Memory>
         ensures { IfOk result (λ lists. lists ≡ self ++ (built_in.now ++ map T.id_of objects.now) ∷ []) }
     {
-        let ids = grown(self.ids, built_in, objects)?;
+        let ids = grown(self.ids, built_in, objects.as_slice())?;
         let ends = ended(self.ends, ids.len())?;
         Ok(Lists { ids, ends })
     }

@@ -57,7 +57,9 @@ fn over_tables(
     ensures { IfOk result (λ reply. reply ≡ answer_reply (answer_of meta.now query.now (seen_of meta.now user (contents_in tables.now.all)))) }
 {
     let seer = Seer::of(alloc, meta, user)?;
-    match answer(alloc, meta, tables, &seer, query) {
+    let found = answer(alloc, meta, tables, &seer, query);
+    drop(seer);
+    match found {
         Ok(body) => answered(body.items),
         Err(AnswerFault::Wide { id }) => query_refused(alloc, &refusal(Code::F18, id)),
         Err(AnswerFault::Memory) => Err(Memory),

@@ -45,13 +45,17 @@ fn unit_text(alloc: Global, facility: u32) -> Result<Text, Memory>
 fn value_of(alloc: Global, sample: &Sample) -> Result<SetValue, Memory>
     ensures { IfOk result (λ value. value ≡ value_of sample.now) }
 {
+    let element = element_text(alloc)?;
+    let value = amount_text(alloc, sample.amount)?;
+    let period = period_text(alloc, sample.month)?;
+    let unit = unit_text(alloc, sample.facility)?;
     Ok(SetValue {
-        element: Some(element_text(alloc)?),
+        element: Some(element),
         combo: None,
         attribute: None,
-        value: Some(amount_text(alloc, sample.amount)?),
-        period: Some(period_text(alloc, sample.month)?),
-        unit: Some(unit_text(alloc, sample.facility)?),
+        value: Some(value),
+        period: Some(period),
+        unit: Some(unit),
         deleted: false,
     })
 }
@@ -71,6 +75,7 @@ fn values_of(alloc: Global, samples: &[Sample]) -> Result<Items<SetValue>, Memor
 pub(crate) fn set_of(alloc: Global, samples: &[Sample]) -> Result<ValueSet, Memory>
     ensures { IfOk result (λ set. set ≡ set_of samples.now) }
 {
+    let values = values_of(alloc, samples)?;
     Ok(ValueSet {
         params: SetParams {
             strategy: ImportStrategy::CreateAndUpdate,
@@ -81,6 +86,6 @@ pub(crate) fn set_of(alloc: Global, samples: &[Sample]) -> Result<ValueSet, Memo
         period: None,
         unit: None,
         attribute: None,
-        values: values_of(alloc, samples)?,
+        values,
     })
 }

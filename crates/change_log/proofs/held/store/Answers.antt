@@ -4,8 +4,8 @@ use Rattle.dh_changes.specs.declared.change.Change.{Change}
 use Rattle.change_log.specs.Bytes.{change_bytes}
 use Rattle.change_log.specs.LogBytes.{log_bytes}
 use Rattle.change_log.specs.Log.{writes_of}
-use Rattle.change_log.specs.Held.{changes_of}
-use Rattle.change_log.proofs.LogLemmas.{within-limits, change-length, grown-is}
+use Rattle.change_log.specs.Held.{changes_of, seen}
+use Rattle.change_log.proofs.LogLemmas.{within-limits, change-length, grown-is, log_of, memory_leaves, keeper_leaves}
 use Rattle.change_log.proofs.held.store.Goals as goal
 
 pub prepare-requires-clause-fits : goal.prepare-requires-clause-fits
@@ -57,7 +57,34 @@ returns-clause-appends g c =
         ap (λ n. n + 1) c.count_of-number.ensures,
         (
           c.in_ok-keep.ensures.1.1,
-          grown-is _ _ _ _ _ _ _ _ _ _ _ last c.requires.kept.whole.acknowledged are c.in_ok-keep.ensures.0 c.in_ok-keep.ensures.1.0,
+          grown-is (changes_of c.args.held.now) (changes_of c.put_last.new.held) c.args.change (g.K.Keeper.acknowledged c.args.keeper.now)
+              (g.K.Keeper.acknowledged c.keep.new.keeper) (g.K.Keeper.keeper_faults c.args.keeper.now) (g.K.Keeper.keeper_faults c.keep.new.keeper)
+              (g.K.Keeper.kept c.args.keeper.now) (g.K.Keeper.kept c.keep.new.keeper) c.args.limits.now c.deref.result.now last c.requires.kept.whole.acknowledged are c.in_ok-keep.ensures.0 c.in_ok-keep.ensures.1.0,
         ),
       ),
     )
+
+pub returns-in_err-bytes-clause-appends : goal.returns-in_err-bytes-clause-appends
+returns-in_err-bytes-clause-appends g c =
+    memory_leaves (seen c.args.held.now (g.K.Keeper.acknowledged c.args.keeper.now) (g.K.Keeper.kept c.args.keeper.now)
+    (g.K.Keeper.keeper_faults c.args.keeper.now) c.args.limits.now) (seen c.prepare.new.held (g.K.Keeper.acknowledged c.args.keeper.now) (g.K.Keeper.kept c.args.keeper.now)
+    (g.K.Keeper.keeper_faults c.args.keeper.now) c.args.limits.now) c.args.change c.from_residual.result c.from_residual.ensures.1
+    (ap (λ xs. log_of (map arc_value xs) (g.K.Keeper.acknowledged c.args.keeper.now) (g.K.Keeper.kept c.args.keeper.now)
+    (g.K.Keeper.keeper_faults c.args.keeper.now) c.args.limits.now) c.prepare.ensures.same)
+
+pub returns-in_err-entry-clause-appends : goal.returns-in_err-entry-clause-appends
+returns-in_err-entry-clause-appends g c =
+    memory_leaves (seen c.args.held.now (g.K.Keeper.acknowledged c.args.keeper.now) (g.K.Keeper.kept c.args.keeper.now)
+    (g.K.Keeper.keeper_faults c.args.keeper.now) c.args.limits.now) (seen c.prepare.new.held (g.K.Keeper.acknowledged c.args.keeper.now) (g.K.Keeper.kept c.args.keeper.now)
+    (g.K.Keeper.keeper_faults c.args.keeper.now) c.args.limits.now) c.args.change c.from_residual-in_err-entry.result
+    c.from_residual-in_err-entry.ensures.1
+    (ap (λ xs. log_of (map arc_value xs) (g.K.Keeper.acknowledged c.args.keeper.now) (g.K.Keeper.kept c.args.keeper.now)
+    (g.K.Keeper.keeper_faults c.args.keeper.now) c.args.limits.now) c.prepare.ensures.same)
+
+pub returns-in_err-keep-clause-appends : goal.returns-in_err-keep-clause-appends
+returns-in_err-keep-clause-appends g c =
+    keeper_leaves (seen c.args.held.now (g.K.Keeper.acknowledged c.args.keeper.now) (g.K.Keeper.kept c.args.keeper.now)
+    (g.K.Keeper.keeper_faults c.args.keeper.now) c.args.limits.now) (changes_of c.prepare.new.held) (g.K.Keeper.acknowledged c.keep.new.keeper)
+    (g.K.Keeper.kept c.keep.new.keeper) (g.K.Keeper.keeper_faults c.keep.new.keeper) c.args.change c.deref.result.now c.in_err-keep.field-0.0
+    c.from_residual-in_err-keep.result c.from_residual-in_err-keep.ensures.1 (ap (map arc_value) c.prepare.ensures.same) c.requires.within
+    c.in_err-keep.ensures

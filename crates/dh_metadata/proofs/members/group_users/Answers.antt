@@ -1,4 +1,5 @@
-use Rattle.std.proofs.Common.{◌+◌, map, take, subst, sym}
+use Rattle.std.proofs.Common.{◌+◌, List, map, take, subst, sym}
+use Rattle.std.proofs.lemmas.List.{take_all}
 use Rattle.dh_metadata.specs.declared.records.UserGroup.{UserGroup}
 use Rattle.dh_metadata.specs.Members.{IsSortedCopy, AreSortedCopies}
 use Rattle.dh_metadata.proofs.SetLemmas.{copies_more}
@@ -11,3 +12,8 @@ loop-group-preserved c =
     (copies_more (λ (object : UserGroup). object.users) c.args.groups.now i c.group-item.result c.loop-group.all.items c.in_ok-sorted.field-0
     c.loop-group-test.true c.group-item.is c.loop-group.invariant
     (subst (λ n. IsSortedCopy n c.in_ok-sorted.field-0) c.as_slice.ensures c.in_ok-sorted.ensures))
+
+pub returns : goal.returns
+returns c =
+    subst (λ (objects : List UserGroup). AreSortedCopies (map (λ (object : UserGroup). object.users) objects) c.loop-group.all.items)
+    (take_all c.loop-group.group-index c.args.groups.now c.loop-group-test.false) c.loop-group.invariant

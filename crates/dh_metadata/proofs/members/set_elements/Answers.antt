@@ -1,4 +1,5 @@
-use Rattle.std.proofs.Common.{◌+◌, map, take, subst, sym}
+use Rattle.std.proofs.Common.{◌+◌, List, map, take, subst, sym}
+use Rattle.std.proofs.lemmas.List.{take_all}
 use Rattle.dh_metadata.specs.declared.records.DataSet.{DataSet}
 use Rattle.dh_metadata.specs.Members.{IsSortedCopy, AreSortedCopies}
 use Rattle.dh_metadata.proofs.SetLemmas.{copies_more}
@@ -11,3 +12,8 @@ loop-set-preserved c =
     (copies_more (λ (object : DataSet). object.data_set_elements) c.args.sets.now i c.set-item.result c.loop-set.all.items c.in_ok-sorted.field-0
     c.loop-set-test.true c.set-item.is c.loop-set.invariant
     (subst (λ n. IsSortedCopy n c.in_ok-sorted.field-0) c.as_slice.ensures c.in_ok-sorted.ensures))
+
+pub returns : goal.returns
+returns c =
+    subst (λ (objects : List DataSet). AreSortedCopies (map (λ (object : DataSet). object.data_set_elements) objects) c.loop-set.all.items)
+    (take_all c.loop-set.set-index c.args.sets.now c.loop-set-test.false) c.loop-set.invariant

@@ -1,5 +1,6 @@
-use Rattle.std.proofs.Common.{arith, ◌≡◌, ◌≤◌, ◌<◌, ◌++◌, length, take, refl, inl}
+use Rattle.std.proofs.Common.{arith, ◌∙◌, sym, Result, Ok, Err, OnOk, is_err, false, ℕ, ◌+◌, List, ◌≡◌, ◌≤◌, ◌<◌, ◌++◌, length, take, refl, inl}
 use Rattle.std.proofs.lemmas.Grind.{common_steps}
+use Rattle.std.proofs.lemmas.List.{length-take}
 use Rattle.dh_outside.proofs.PieceLemmas.{Gains-none, Gains-kept, Gains-end, Gains-piece}
 use Rattle.dh_outside.proofs.pieces.take_piece.Goals as goal
 
@@ -49,3 +50,17 @@ pub returns-else-count-eq0-clause-bound : goal.returns-else-count-eq0-clause-bou
 returns-else-count-eq0-clause-bound g c =
     let few : c.in-Ok.count ≤ c.min-room.result = grind (arith, common_steps) in
     omega arith
+
+-- what a call gives that had no error
+when_ok : {A E : Type 0} (result : Result A E) (P : Type 0) → is_err result ≡ false → OnOk result P → P
+when_ok (Ok done) P is given = given
+when_ok (Err fault) P is given = absurd cc
+
+fits_in : (len room capacity count : ℕ) (xs : List ℕ) → count ≤ room → len + room ≤ capacity → len + length (take count xs) ≤ capacity
+fits_in len room capacity count xs few given = omega (arith, length-take count xs)
+
+pub unwrap-requires : goal.unwrap-requires
+unwrap-requires g c =
+    let few : c.in-Ok.count ≤ c.min-room.result = grind (arith, common_steps) in
+    let room = when_ok c.reserve.result _ (sym c.is_err.ensures.value ∙ c.if-is_err.false) c.reserve.ensures.ok in
+    c.extend_from_slice.ensures.succeeds (fits_in _ c.min-room.result _ c.in-Ok.count _ few room)

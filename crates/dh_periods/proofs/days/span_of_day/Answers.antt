@@ -1,6 +1,5 @@
-use Rattle.std.proofs.Common.{◌≡◌, ◌∙◌, arith, w8, w16, w32, pos, ap, to_z, of_z, to_z-of_z, refl, sym, FitsSigned, rules}
+use Rattle.std.proofs.Common.{◌≡◌, ◌∙◌, arith, w8, w16, w32, pos, to_z, of_z, to_z-of_z, refl, sym, FitsSigned, rules}
 use Rattle.std.proofs.lemmas.Int.{to_z_pos}
-use Rattle.jiff_core.specs.Date.{epoch_day}
 use Rattle.dh_periods.specs.Calendar.{unix_day, day_place}
 use Rattle.dh_periods.proofs.JiffLemmas.{epoch_day-is}
 use Rattle.dh_periods.proofs.SpanLemmas.{date_listed, some_span, unix_day-back}
@@ -22,6 +21,6 @@ returns-in-Ok c =
     let counted = epoch_day-is c.in-Ok.date p.year p.number p.day c.requires.year_from year_is month_is day_is in
     let fits : FitsSigned w32 c.to_unix_epoch_day-day.result = search rules in
     let first : to_z w32 (of_z w32 c.to_unix_epoch_day-day.result) ≡ unix_day (day_place p.year p.number p.day) =
-    to_z-of_z fits ∙ c.to_unix_epoch_day-day.ensures.value ∙ ap epoch_day c.to_plain.ensures ∙ counted in
+    to_z-of_z fits ∙ c.to_unix_epoch_day-day.ensures.value ∙ counted in
     some_span _ _ _ (span_as Day p) (date_listed p c.requires.year_from c.requires.year_to (has.0 refl)) first (first
     ∙ sym (unix_day-back (day_place p.year p.number p.day)))

@@ -17,13 +17,13 @@ returns-in-Ok c =
     let week : to_z w8 p.number ≡ pos p.number = to_z_pos w8 p.number (omega arith) in
     let has = rw (year, week) at c.in-Ok.ensures.succeeds in
     let parts = rw (year, week) at c.in-Ok.ensures.value in
-    let week_is : c.in-Ok.week.inner.week ≡ p.number = cc (parts.1) in
+    let week_is : c.in-Ok.week.week ≡ p.number = cc (parts.1) in
     let place = 7 * (first_week p.year + (p.number - 1)) in
-    let counted : epoch_day c.date.result ≡ unix_day place =
-    c.date.ensures ∙ rw (parts.0, week_is, parts.2) (days_from_iso-monday p.year p.number c.requires.year_from) in
+    let counted : epoch_day c.to_date.result ≡ unix_day place =
+    c.to_date.ensures ∙ rw (parts.0, week_is, parts.2) (days_from_iso-monday p.year p.number c.requires.year_from) in
     let fits : FitsSigned w32 c.to_unix_epoch_day-first.result = search rules in
     let first : to_z w32 (of_z w32 c.to_unix_epoch_day-first.result) ≡ unix_day place =
-    to_z-of_z fits ∙ c.to_unix_epoch_day-first.ensures.value ∙ ap epoch_day c.to_plain.ensures ∙ counted in
+    to_z-of_z fits ∙ c.to_unix_epoch_day-first.ensures.value ∙ counted in
     let back : to_z w32 (of_z w32 c.to_unix_epoch_day-first.result) ≡ c.to_unix_epoch_day-first.result = to_z-of_z fits in
     let room : FitsSigned w32 (to_z w32 (of_z w32 c.to_unix_epoch_day-first.result) +ℤ pos 6) = rw back (omega (arith, signed_arith)) in
     some_span _ _ _ (span_as Week p) (week_listed p c.requires.year_from c.requires.year_to c.if-name-ne1.false (has.0 refl)) first (to_z-of_z room

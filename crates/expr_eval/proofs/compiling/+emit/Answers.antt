@@ -1,16 +1,26 @@
-use Rattle.std.proofs.Common.{◌≡◌, ℕ, List, [], ◌∷◌, ◌++◌, sym, ap, ◌∙◌, subst}
-use Rattle.std.specs.Prelude.{OnOk}
+use Rattle.std.proofs.Common.{◌≡◌, ℕ, List, [], ◌∷◌, ◌++◌, sym, ap, ◌∙◌, subst, append_assoc}
+use Rattle.std.proofs.lemmas.List.{map-append}
+use Rattle.std.specs.Prelude.{OnOk, map}
 use Rattle.expr_lang.specs.declared.tree.Item.{Item}
 use Rattle.expr_lang.specs.declared.tree.Leaf.TheVariants as leaf
 use Rattle.expr_lang.specs.Branches.{shape_in}
 use Rattle.expr_lang.specs.Shape.{Shape}
 use Rattle.expr_eval.specs.declared.code.Instr.{Instr}
 use Rattle.expr_eval.specs.declared.code.Instr.TheVariants as instr
+use Rattle.expr_eval.specs.Applied.{plain_items}
 use Rattle.expr_eval.specs.Given.{index_in}
 use Rattle.expr_eval.specs.Code.{codes_of, code_in, if_code}
 use Rattle.expr_eval.proofs.Patch.{patch_if, code_in_same}
 use Rattle.expr_eval.proofs.Places.{at-place}
 use Rattle.expr_eval.proofs.compiling.+emit.Goals as goal
+
+-- what three parts list, one after the other
+plain_three : (index : Item → ℕ) (a b d e : List ℕ) (p q r : List Item) → b ≡ a ++ map index p → d ≡ b ++ map index q → e ≡ d ++ map index r
+    → e ≡ a ++ map index (p ++ (q ++ r))
+plain_three index a b d e p q r first second third =
+    third ∙ ap (λ (l : List ℕ). l ++ map index r) (second ∙ ap (λ (l : List ℕ). l ++ map index q) first)
+    ∙ append_assoc (a ++ map index p) (map index q) (map index r) ∙ append_assoc a (map index p) (map index q ++ map index r)
+    ∙ ap (λ (l : List ℕ). a ++ (map index p ++ l)) (sym (map-append index q r)) ∙ ap (λ (l : List ℕ). a ++ l) (sym (map-append index p (q ++ r)))
 
 pub returns-in-Day-clause-code : goal.returns-in-Day-clause-code
 returns-in-Day-clause-code t c =
@@ -31,3 +41,12 @@ returns-in_ok-emit-in-If-3-clause-code t c =
     ∙ c.emit-in-If-2.new.code.ok.0) c.in_ok-put-in-If-2.ensures c.in_ok-emit-in-If-3.ensures.code (c.len.ensures ∙ c.emit-in-If-3.new.code.ok.0)
     ∙ ap (λ (l : List Instr). base ++ l) (sym (code_in_same c.args.list (if_code (one c.in-If.test) (one c.in-If.one) (one c.in-If.other))))
     ∙ ap (λ (s : Shape). base ++ code_in c.args.list (codes_of (index_in items) s)) (sym c.in-If.ensures.shape)
+
+pub returns-in_ok-emit-in-If-3-clause-plain : goal.returns-in_ok-emit-in-If-3-clause-plain
+returns-in_ok-emit-in-If-3-clause-plain t c =
+    let items : List Item = c.args.source.now.items.now in
+    let shape : ℕ → Shape = λ n. shape_in items c.args.source.now.branches.now n in
+    plain_three (index_in items) c.args.plain.now.items c.emit-in-If.new.plain.items c.emit-in-If-2.new.plain.items c.emit-in-If-3.new.plain.items
+    (plain_items (shape c.in-If.test)) (plain_items (shape c.in-If.one)) (plain_items (shape c.in-If.other))
+    c.in_ok-emit-in-If.ensures.plain c.in_ok-emit-in-If-2.ensures.plain c.in_ok-emit-in-If-3.ensures.plain
+    ∙ ap (λ (s : Shape). c.args.plain.now.items ++ map (index_in items) (plain_items s)) (sym c.in-If.ensures.shape)

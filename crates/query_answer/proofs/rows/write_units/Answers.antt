@@ -1,8 +1,9 @@
-use Rattle.std.proofs.Common.{◌≡◌, ◌<◌, ◌∙◌, sym, ap, get_or, length, true, arith}
+use Rattle.std.proofs.Common.{◌≡◌, ◌<◌, ◌∙◌, ◌++◌, sym, ap, get_or, length, true, arith}
 use Rattle.std.proofs.lemmas.List.Folds.{list_any_at}
 use Rattle.cell_values.specs.Seen.{seen_of, contents_of}
 use Rattle.query_answer.specs.Parts.{period_slot, unit_slot}
-use Rattle.query_answer.specs.Rows.{unit_slots, unit_is_wide, period_is_wide}
+use Rattle.query_answer.specs.Rows.{unit_slots, unit_is_wide, unit_rows, period_is_wide, period_rows}
+use Rattle.query_answer.proofs.LoopLemmas.{joined-all, joined-more, none-more, none-passed}
 use Rattle.query_answer.proofs.rows.write_units.Goals as goal
 
 pub write_cell-requires-clause-unit : goal.write_cell-requires-clause-unit
@@ -23,3 +24,44 @@ returns-then-branch-clause-wide g c =
     let here : test (get_or all c.loop-place.place x) ≡ true =
     ap test (sym c.unit_at-unit.ensures.slot) ∙ (sym c.in_ok-write_cell.ensures.wide ∙ c.if-branch.true) in
     sym (list_any_at test all c.loop-place.place x within here)
+
+pub loop-place-preserved : goal.loop-place-preserved
+loop-place-preserved g c =
+    let r = c.args.asking.now.source.now.meta.now in
+    let shown = (seen_of c.args.asking.now.source.now.meta.now c.args.asking.now.source.now.seer.now.user
+    (contents_of (g.S.RowStore.rows c.args.asking.now.source.now.store.now) (g.S.RowStore.events c.args.asking.now.source.now.store.now)
+    (g.S.RowStore.regs c.args.asking.now.source.now.store.now))) in
+    let dx = c.args.item.now.dx.now in
+    let period = period_slot c.args.period.now.part.now in
+    let rows = unit_rows r shown c.args.item.now.place dx period in
+    let all = unit_slots c.args.asking.now.query.now in
+    let x = unit_slot c.unit_at-unit.result.now in
+    let within : c.loop-place.place < length all = omega arith in
+    record {
+      none = none-more (unit_is_wide r shown dx period) all c.loop-place.place x within c.unit_at-unit.ensures.slot c.loop-place.invariant.none
+          (sym c.in_ok-write_cell.ensures.wide ∙ c.if-branch.false);
+      rows = joined-more rows all c.args.rows.now.items c.loop-place.rows.items c.write_cell.new.rows.items c.loop-place.place x within
+          c.loop-place.invariant.rows (c.in_ok-write_cell.ensures.rows ∙ ap (λ slot. c.loop-place.rows.items ++ rows slot) c.unit_at-unit.ensures.slot);
+    }
+
+pub returns-clause-wide : goal.returns-clause-wide
+unfolding period_is_wide
+returns-clause-wide g c =
+    none-passed
+    (unit_is_wide c.args.asking.now.source.now.meta.now
+    (seen_of c.args.asking.now.source.now.meta.now c.args.asking.now.source.now.seer.now.user
+    (contents_of (g.S.RowStore.rows c.args.asking.now.source.now.store.now) (g.S.RowStore.events c.args.asking.now.source.now.store.now)
+    (g.S.RowStore.regs c.args.asking.now.source.now.store.now)))
+    c.args.item.now.dx.now (period_slot c.args.period.now.part.now))
+    (unit_slots c.args.asking.now.query.now) c.loop-place.place (omega arith) c.loop-place.invariant.none
+
+pub returns-clause-rows : goal.returns-clause-rows
+unfolding period_rows
+returns-clause-rows g c = λ fine.
+    joined-all
+    (unit_rows c.args.asking.now.source.now.meta.now
+    (seen_of c.args.asking.now.source.now.meta.now c.args.asking.now.source.now.seer.now.user
+    (contents_of (g.S.RowStore.rows c.args.asking.now.source.now.store.now) (g.S.RowStore.events c.args.asking.now.source.now.store.now)
+    (g.S.RowStore.regs c.args.asking.now.source.now.store.now)))
+    c.args.item.now.place c.args.item.now.dx.now (period_slot c.args.period.now.part.now))
+    (unit_slots c.args.asking.now.query.now) c.args.rows.now.items c.loop-place.rows.items c.loop-place.place (omega arith) c.loop-place.invariant.rows

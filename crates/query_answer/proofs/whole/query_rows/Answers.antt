@@ -3,8 +3,8 @@ use Rattle.std.specs.List.{All}
 use Rattle.query_answer.specs.Parts.{period_slot, unit_slot, IsUnitPart}
 use Rattle.query_answer.proofs.whole.query_rows.Goals as goal
 
-pub write_rows-requires-clause-parts : goal.write_rows-requires-clause-parts
-write_rows-requires-clause-parts g c = record {
+pub write_rows-found-requires-clause-parts : goal.write_rows-found-requires-clause-parts
+write_rows-found-requires-clause-parts g c = record {
   periods = ap (map period_slot) c.as_slice-periods.ensures.value ∙ c.in_ok-all_periods.ensures;
   units = ap (map unit_slot) c.as_slice-units.ensures.value ∙ c.in_ok-all_units.ensures.slots;
   seen =

@@ -1,9 +1,9 @@
-use Rattle.std.proofs.Common.{rules}
+use Rattle.std.proofs.Common.{Ok, rules, sym, ap, ◌∙◌}
 use Rattle.dh_base.specs.Memory.{IsCause}
 use Rattle.query_lang.specs.Given.{cause_of}
 use Rattle.query_lang.specs.Each.{each_of}
 use Rattle.query_lang.specs.Named.{dx_of}
-use Rattle.query_lang.proofs.LoopLemmas.{each-more, each-cause}
+use Rattle.query_lang.proofs.LoopLemmas.{each-more, each-cause, each-all}
 use Rattle.query_lang.proofs.named.each_dx.Goals as goal
 
 pub loop-item-preserved : goal.loop-item-preserved
@@ -19,3 +19,10 @@ returns-in_err-dx c =
     (cause_of c.in_err-dx.field-0.0) _
     c.loop-item-test.true c.item-item.is c.in_err-dx.ensures c.loop-item.invariant in
     search rules
+
+pub returns : goal.returns
+returns c =
+    let meant = each_of (dx_of c.args.meta.now c.args.user) c.args.items.now in
+    each-all (dx_of c.args.meta.now c.args.user) c.args.items.now c.loop-item.all.items c.loop-item.item-index meant c.loop-item-test.false
+    c.loop-item.invariant
+    ∙ ap Ok (sym c.from.ensures)

@@ -2,7 +2,7 @@ use Rattle.std.proofs.Common.{◌≡◌, ◌∙◌, ◌++◌, ℕ, List, Option,
 use Rattle.std.proofs.lemmas.List.{append-nil}
 use Rattle.std.specs.Option.{option_to_list}
 use Rattle.query_lang.specs.Parts.{level_in}
-use Rattle.query_lang.proofs.LoopLemmas.{picked-more}
+use Rattle.query_lang.proofs.LoopLemmas.{picked-more, picked-all}
 use Rattle.query_lang.proofs.parts.levels_of.Goals.{in-Some+in_ok-push, in_default}
 use Rattle.query_lang.proofs.parts.levels_of.Goals as goal
 
@@ -19,3 +19,8 @@ loop-part-preserved c =
     ] in
     picked-more level_in c.args.parts.now c.loop-part.levels.items c.match-level.levels.items c.loop-part.part-index _ level _
     c.loop-part-test.true c.level.ensures put c.loop-part.invariant
+
+pub returns : goal.returns
+unfolding Rattle.query_lang.specs.Parts.levels_of
+returns c =
+    picked-all level_in c.args.parts.now c.loop-part.levels.items c.loop-part.part-index c.loop-part-test.false c.loop-part.invariant

@@ -1,5 +1,6 @@
-use Rattle.std.proofs.Common.{◌≡◌, ◌∙◌, Vec, Global, None, option_map, sym, ap, subst, FitsSigned, w32, rules}
+use Rattle.std.proofs.Common.{◌≡◌, ◌∙◌, Vec, Global, None, Some, option_map, sym, ap, subst, FitsSigned, w32, rules}
 use Rattle.std.proofs.lemmas.Int.{to_z-of_z}
+use Rattle.std.proofs.lemmas.List.{drop_all}
 use Rattle.dh_periods.specs.declared.name.PeriodName.{PeriodName}
 use Rattle.dh_periods.specs.Keys.{same_period}
 use Rattle.query_lang.specs.Once.{once_from}
@@ -27,3 +28,10 @@ returns-in_default c =
     (ap (period_form _) (sym c.as_slice.ensures) ∙ sym c.in_ok-found.ensures
     ∙ ap (option_map (λ (periods : Vec PeriodName Global). periods.items)) c.in_default.is)
     c.loop-text.invariant.rest)
+
+pub returns : goal.returns
+returns c =
+    let fits : FitsSigned w32 c.args.day = search rules in
+    let kept = c.loop-text.kept.items in
+    subst (λ day. periods_from day c.args.kept.now.items c.args.texts.now ≡ Some kept) (to_z-of_z w32 c.args.day fits)
+    (sym c.loop-text.invariant.rest ∙ ap (periods_from _ kept) (drop_all c.loop-text.text-index c.args.texts.now c.loop-text-test.false))

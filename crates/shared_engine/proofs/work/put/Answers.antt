@@ -1,4 +1,3 @@
-use Rattle.std.proofs.Common.{sym}
 use Rattle.shared_engine.proofs.PlaceLemmas.{has_place, with_part}
 use Rattle.shared_engine.proofs.work.put.Goals as goal
 

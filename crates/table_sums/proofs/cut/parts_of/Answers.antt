@@ -1,8 +1,8 @@
-use Rattle.std.proofs.Common.{◌∙◌, [], get_or, pos}
-use Rattle.std.proofs.lemmas.List.{get_or_default}
+use Rattle.std.proofs.Common.{◌∙◌, [], get_or, pos, map, ap}
+use Rattle.std.proofs.lemmas.List.{get_or_default, take_all}
 use Rattle.std.specs.List.{filter}
 use Rattle.table_sums.specs.Years.{is_row_in, is_event_in, is_reg_in}
-use Rattle.table_sums.specs.YearParts.{cut_by, listed_as}
+use Rattle.table_sums.specs.YearParts.{cut_by, listed_as, part_of}
 use Rattle.table_sums.proofs.CutLemmas.{no-years, year-store-of, years-of-rise}
 use Rattle.table_sums.proofs.ByYearLemmas.{part-more, rest-stays, still-within, taken-is}
 use Rattle.table_sums.proofs.cut.parts_of.Goals as goal
@@ -74,3 +74,16 @@ loop-at-preserved c =
       regs = rest-stays at c.loop-at.own_regs.items c.take_at-regs.new.lists.items (cut_by is_reg_in c.args.years.now c.args.regs.items) []
           c.take_at-regs.ensures.left c.loop-at.invariant.regs;
     }
+
+pub loop-at-init : goal.loop-at-init
+loop-at-init c = record {
+  parts = c.new-parts.ensures.items;
+  rows = c.in_ok-own_rows.ensures;
+  events = c.in_ok-own_events.ensures;
+  regs = c.in_ok-own_regs.ensures;
+}
+
+pub returns : goal.returns
+returns c =
+    c.loop-at.invariant.parts
+    ∙ ap (map (part_of (listed_as c.args.rows.items c.args.events.items c.args.regs.items))) (take_all c.loop-at.at c.args.years.now c.loop-at-test.false)

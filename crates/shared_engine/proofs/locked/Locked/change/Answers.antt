@@ -20,7 +20,7 @@ change-reply-requires g c = subst (λ (meta : Records). IsKnown meta c.args.who)
 pub invariant_of-self : goal.invariant_of-self
 invariant_of-self g c =
     (change_made g.J.Naming.made _ _ _ _ _ _ _ _ _ _ c.self.invariant c.requires.table.1 c.take_in.ensures.taken c.take_in.ensures.follows
-    c.change-reply.ensures.step c.change-reply.ensures.brought c.note_change.ensures c.give_back-token.ensures.lock c.give_back-token.ensures.token).0
+    c.change-reply.ensures.step c.change-reply.ensures.brought c.note.ensures c.give_back-token.ensures.lock c.give_back-token.ensures.token).0
 
 pub returns : goal.returns
 returns g c =
@@ -31,6 +31,6 @@ returns g c =
           (changed (record { who = c.args.who; moment = m; request = c.args.request.now }) c.change-reply.result) c.change-reply.new.self.faults))
           (to_z-of_z fits)
           (change_made g.J.Naming.made _ _ _ _ _ _ _ _ _ _ c.self.invariant c.requires.table.1 c.take_in.ensures.taken c.take_in.ensures.follows
-          c.change-reply.ensures.step c.change-reply.ensures.brought c.note_change.ensures c.give_back-token.ensures.lock
+          c.change-reply.ensures.step c.change-reply.ensures.brought c.note.ensures c.give_back-token.ensures.lock
           c.give_back-token.ensures.token).1,
     )

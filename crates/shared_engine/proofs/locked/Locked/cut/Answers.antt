@@ -19,7 +19,7 @@ invariant_of-self g c =
     (cut_made g.J.Naming.made _ _ _ _ _ _ _ _ _ _ c.self.invariant c.requires.table.1 c.take_in.ensures.taken c.take_in.ensures.follows
     (cut_goes c.self.inside.engine c.cut-reply.new.self c.args.kind (update_in c.cut-reply.result) c.cut-reply.ensures.step
     c.cut-reply.ensures.same) (cut_published c.self.inside.engine c.cut-reply.new.self c.args.kind (update_in c.cut-reply.result)
-    c.cut-reply.ensures.step) c.note_cut.ensures c.give_back-token.ensures.lock
+    c.cut-reply.ensures.step) c.note.ensures c.give_back-token.ensures.lock
     c.give_back-token.ensures.token).0
 
 pub returns-clause-call : goal.returns-clause-call
@@ -28,7 +28,7 @@ returns-clause-call g c = (
   (cut_made g.J.Naming.made _ _ _ _ _ _ _ _ _ _ c.self.invariant c.requires.table.1 c.take_in.ensures.taken c.take_in.ensures.follows
       (cut_goes c.self.inside.engine c.cut-reply.new.self c.args.kind (update_in c.cut-reply.result) c.cut-reply.ensures.step
       c.cut-reply.ensures.same) (cut_published c.self.inside.engine c.cut-reply.new.self c.args.kind (update_in c.cut-reply.result)
-      c.cut-reply.ensures.step) c.note_cut.ensures c.give_back-token.ensures.lock
+      c.cut-reply.ensures.step) c.note.ensures c.give_back-token.ensures.lock
       c.give_back-token.ensures.token).1,
 )
 
@@ -37,7 +37,7 @@ returns-clause-begun g c =
     let all = cut_made g.J.Naming.made _ _ _ _ _ _ _ c.give_back-token.result _ _ c.self.invariant c.requires.table.1 c.take_in.ensures.taken
     c.take_in.ensures.follows (cut_goes c.self.inside.engine c.cut-reply.new.self c.args.kind (update_in c.cut-reply.result) c.cut-reply.ensures.step
     c.cut-reply.ensures.same) (cut_published c.self.inside.engine c.cut-reply.new.self c.args.kind (update_in c.cut-reply.result)
-    c.cut-reply.ensures.step) c.note_cut.ensures c.give_back-token.ensures.lock
+    c.cut-reply.ensures.step) c.note.ensures c.give_back-token.ensures.lock
     c.give_back-token.ensures.token in
     subst (λ (l : List Entry). IfOk c.cut-reply.result (IsCutBy g.J.Naming.made l c.args.token.caller)) (sym all.4)
     (cut_begun g.J.Naming.made c.self.inside.engine c.cut-reply.new.self c.self.inside.seat.list c.args.token.caller c.args.kind c.cut-reply.result

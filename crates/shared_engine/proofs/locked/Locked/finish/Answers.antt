@@ -1,4 +1,4 @@
-use Rattle.std.proofs.Common.{sym, ◌∙◌}
+use Rattle.std.proofs.Common.{sym, ◌∙◌, ◌≤◌, IfOk, rules}
 use Rattle.shared_engine.specs.Ends.{staged_in}
 use Rattle.shared_engine.proofs.BuildLemmas.{parts_handed}
 use Rattle.shared_engine.proofs.Calls.{end_made, end_staged, end_begun, end_low}
@@ -24,9 +24,11 @@ end_with-reply-requires-clause-parts g c =
     parts_handed g.J.Naming.made c.self.inside.engine c.args.cut.now c.args.cut.now.kind c.requires.begun.log c.args.parts.items
     c.self.invariant.stands.meta staged.0 staged.1 c.requires.begun.whole c.requires.parts
 
-pub note_end-requires-clause-rises : goal.note_end-requires-clause-rises
-note_end-requires-clause-rises g c =
-    end_low g.J.Naming.made _ _ _ _ _ c.self.invariant c.take_in.ensures.taken c.end_with-reply.ensures.rises
+pub note_end-requires : goal.note_end-requires
+note_end-requires g c =
+    let rises : IfOk c.end_with-reply.result (λ number. c.take_in.new.self.told ≤ number) =
+    end_low g.J.Naming.made _ _ _ _ _ c.self.invariant c.take_in.ensures.taken c.end_with-reply.ensures.rises in
+    search rules
 
 pub invariant_of-self : goal.invariant_of-self
 invariant_of-self g c =

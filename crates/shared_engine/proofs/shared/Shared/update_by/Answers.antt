@@ -1,10 +1,13 @@
-use Rattle.std.proofs.Common.{subst}
+use Rattle.std.proofs.Common.{map, subst}
+use Rattle.std.specs.Arc.{arc_value}
+use Rattle.dh_metadata.specs.declared.held.Records.{Records}
 use Rattle.std.specs.Prelude.{Result}
 use Rattle.engine.specs.declared.machine.Cut.{Cut}
 use Rattle.engine.specs.declared.machine.CutFault.{CutFault}
 use Rattle.engine.specs.Machine.Act.{begun}
 use Rattle.engine.specs.Seen.{update_in}
 use Rattle.shared_engine.specs.Entries.{entries_of}
+use Rattle.shared_engine.specs.Builds.{ArePartsOf}
 use Rattle.shared_engine.specs.Calls.{IsCall}
 use Rattle.shared_engine.proofs.Calls.{update_ended}
 use Rattle.shared_engine.proofs.shared.Shared.update_by.Goals as goal
@@ -17,3 +20,8 @@ returns-in-Ok g c =
     (subst (λ (r : Result Cut CutFault). IsCall g.J.Naming.made c.args.token c.begin-token.result.0
     (entries_of c.args.token.caller (begun c.args.kind (update_in r)) first.0)) c.in-Ok.is first.1)
     c.end-token.ensures.1
+
+pub end-token-requires-clause-parts : goal.end-token-requires-clause-parts
+end-token-requires-clause-parts g c =
+    subst (λ (r : Records). ArePartsOf r (map arc_value c.in-Ok.cut.changes.items) c.build_parts-parts.result.items) c.meta.ensures
+    c.build_parts-parts.ensures

@@ -1,0 +1,35 @@
+use Rattle.std.proofs.Common.{◌∙◌, Bool, true, false, append-nil, sym, ap}
+use Rattle.std.specs.List.{filter}
+use Rattle.std.proofs.lemmas.List.{take_all}
+use Rattle.table_rows.specs.declared.row.Group.{Group}
+use Rattle.table_latest.specs.Latest.{is_kept_group, untouched_rows}
+use Rattle.table_latest.proofs.LoopLemmas.{kept-more}
+use Rattle.table_latest.proofs.groups.kept_groups.Goals.{then-is_kept+in_ok-push, else-is_kept}
+use Rattle.table_latest.proofs.groups.kept_groups.Goals as goal
+
+pub loop-group-init : goal.loop-group-init
+loop-group-init g c = c.new-kept.ensures.items
+
+pub loop-group-preserved : goal.loop-group-preserved
+loop-group-preserved g c =
+    let stays : Group → Bool = is_kept_group (untouched_rows c.args.places.now (g.S.RowStore.rows c.args.base.now)) c.args.now.now in
+    let groups = c.args.groups.now in
+    let found = c.loop-group.kept.items in
+    let at = c.loop-group.group-index in
+    let x = c.group-item.result in
+    elim c.if-is_kept.branch [
+      | then-is_kept+in_ok-push w ↦
+          ap (λ kept. kept.items) w.kept-is
+          ∙ kept-more stays groups found w.push.new.self.items at x true c.loop-group-test.true c.group-item.is c.loop-group.invariant
+          w.in_ok-push.ensures.items (sym w.if-is_kept.true ∙ c.is_kept.ensures)
+      | else-is_kept w ↦
+          ap (λ kept. kept.items) w.kept-is
+          ∙ kept-more stays groups found found at x false c.loop-group-test.true c.group-item.is c.loop-group.invariant (sym (append-nil found))
+          (sym w.if-is_kept.false ∙ c.is_kept.ensures)
+    ]
+
+pub returns : goal.returns
+returns g c =
+    c.loop-group.invariant
+    ∙ ap (filter (is_kept_group (untouched_rows c.args.places.now (g.S.RowStore.rows c.args.base.now)) c.args.now.now))
+    (take_all c.loop-group.group-index c.args.groups.now c.loop-group-test.false)
