@@ -19,11 +19,20 @@ use std::marker::Model;
 use std::sync::Arc;
 
 /// A log whose changes are kept, with the index of what it says.
-#[derive(Drop)]
 pub struct ChangeLog<K: Keeper> {
     held: Held,
     keeper: K,
     limits: Limits,
+}
+
+impl<K: Keeper + Drop> Drop for ChangeLog<K> {
+    fn drop(self) {
+        let ChangeLog {
+            held: _,
+            keeper: _,
+            limits: _,
+        } = self;
+    }
 }
 
 impl<K: Keeper> Model for ChangeLog<K> {

@@ -8,9 +8,14 @@ use std::boxed::Box;
 use std::marker::Model;
 
 /// A value in memory of its own, which contracts see as that value. Where it stands takes a pointer.
-#[derive(Drop)]
 pub struct Apart<T> {
     boxed: Box<T>,
+}
+
+impl<T: Drop> Drop for Apart<T> {
+    fn drop(self) {
+        let Apart { boxed: _ } = self;
+    }
 }
 
 impl<T> Model for Apart<T> {

@@ -11,7 +11,6 @@ use dh_base::uid::Uid;
 use std::alloc::Global;
 
 /// What one write of a change says. Most writes of a log are values: what is wider stands apart.
-#[derive(Drop)]
 pub enum Write {
     ValueSet { key: ValueKey, value: Text },
     ValueCleared { key: ValueKey },
@@ -28,6 +27,27 @@ pub enum Write {
     /// The day is counted from 1 January 1970.
     Complete { key: RegKey, day: i32 },
     Uncomplete { key: RegKey },
+}
+
+impl Drop for Write {
+    fn drop(self) {
+        match self {
+            Write::ValueSet { key: _, value: _ } => {}
+            Write::ValueCleared { key: _ } => {}
+            Write::EventWritten(_) => {}
+            Write::EventDeleted(_) => {}
+            Write::EnrollmentWritten(_) => {}
+            Write::EnrollmentDeleted(_) => {}
+            Write::EntityWritten(_) => {}
+            Write::EntityDeleted(_) => {}
+            Write::Approve(_) => {}
+            Write::Unapprove(_) => {}
+            Write::Accept(_) => {}
+            Write::Unaccept(_) => {}
+            Write::Complete { key: _, day: _ } => {}
+            Write::Uncomplete { key: _ } => {}
+        }
+    }
 }
 
 impl Write {
@@ -54,7 +74,6 @@ impl Write {
 }
 
 /// An entry of the log.
-#[derive(Drop)]
 pub struct Change {
     /// Who made it, or `None` for the loader.
     pub user: Option<Uid>,
@@ -62,4 +81,14 @@ pub struct Change {
     pub moment: i64,
     /// The writes in their order.
     pub writes: Items<Write>,
+}
+
+impl Drop for Change {
+    fn drop(self) {
+        let Change {
+            user: _,
+            moment: _,
+            writes: _,
+        } = self;
+    }
 }

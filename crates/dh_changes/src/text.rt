@@ -20,9 +20,14 @@ pub enum Kept {
 }
 
 /// A text, which contracts see as the list of its bytes.
-#[derive(Drop)]
 pub struct Text {
     kept: Kept,
+}
+
+impl Drop for Text {
+    fn drop(self) {
+        let Text { kept: _ } = self;
+    }
 }
 
 impl Model for Text {

@@ -2,7 +2,6 @@ use dh_base::items::Items;
 use dh_base::uid::Uid;
 
 /// A tracker event as a write leaves it.
-#[derive(Drop)]
 pub struct Event {
     pub id: Uid,
     /// The enrollment, or `None` in a program without registration.
@@ -20,6 +19,22 @@ pub struct Event {
     pub scheduled: Option<i32>,
     /// Data elements and their values, in byte order of the identifiers.
     pub values: Items<(Uid, Items<u8>)>,
+}
+
+impl Drop for Event {
+    fn drop(self) {
+        let Event {
+            id: _,
+            enrollment: _,
+            program: _,
+            stage: _,
+            unit: _,
+            status: _,
+            occurred: _,
+            scheduled: _,
+            values: _,
+        } = self;
+    }
 }
 
 /// An enrollment as a write leaves it.
@@ -40,7 +55,6 @@ pub struct Enrollment {
 }
 
 /// A tracked entity as a write leaves it.
-#[derive(Drop)]
 pub struct Entity {
     pub id: Uid,
     /// The tracked entity type.
@@ -49,4 +63,15 @@ pub struct Entity {
     pub unit: Uid,
     /// Attributes and their values, in byte order of the identifiers.
     pub attributes: Items<(Uid, Items<u8>)>,
+}
+
+impl Drop for Entity {
+    fn drop(self) {
+        let Entity {
+            id: _,
+            kind: _,
+            unit: _,
+            attributes: _,
+        } = self;
+    }
 }

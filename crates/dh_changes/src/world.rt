@@ -22,11 +22,19 @@ use std::collections::HashMap;
 use std::marker::Model;
 
 /// What the log holds under each key after its writes so far.
-#[derive(Drop)]
 pub struct World {
     index: Index,
     // What a change will say, the last first.
     waiting: Vec<Said>,
+}
+
+impl Drop for World {
+    fn drop(self) {
+        let World {
+            index: _,
+            waiting: _,
+        } = self;
+    }
 }
 
 impl Model for World {

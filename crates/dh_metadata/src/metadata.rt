@@ -37,7 +37,6 @@ use std::marker::Model;
 
 /// The metadata. An object is named by its number among those of its kind, and contracts see the
 /// records alone.
-#[derive(Drop)]
 pub struct Metadata {
     records: Records,
     ids: Ids,
@@ -50,6 +49,24 @@ pub struct Metadata {
     sets_with: Vec<Items<u32>>,
     facts: Vec<UserFacts>,
     tokens: HashMap<Vec<u8>, u32>,
+}
+
+impl Drop for Metadata {
+    fn drop(self) {
+        let Metadata {
+            records: _,
+            ids: _,
+            tree: _,
+            combos: _,
+            workflows: _,
+            levels: _,
+            set_elements: _,
+            set_units: _,
+            sets_with: _,
+            facts: _,
+            tokens: _,
+        } = self;
+    }
 }
 
 impl Model for Metadata {

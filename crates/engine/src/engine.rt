@@ -47,11 +47,20 @@ fn meta_after(meta: &Metadata) -> &Metadata
 }
 
 /// The log with its tables.
-#[derive(Drop)]
 pub struct Engine<K: Keeper> {
     log: ChangeLog<K>,
     meta: Arc<Metadata>,
     shown: Shown,
+}
+
+impl<K: Keeper + Drop> Drop for Engine<K> {
+    fn drop(self) {
+        let Engine {
+            log: _,
+            meta: _,
+            shown: _,
+        } = self;
+    }
 }
 
 impl<K: Keeper> Model for Engine<K> {

@@ -11,7 +11,6 @@ use import_forms::completion::Completion;
 use import_forms::set::ValueSet;
 
 /// What may be asked to be changed.
-#[derive(Drop)]
 pub enum ChangeRequest {
     /// Data values are imported.
     Values(ValueSet),
@@ -21,6 +20,17 @@ pub enum ChangeRequest {
     Approval(ApprovalAct),
     /// Tracker objects are written or taken away.
     Tracker(Bundle),
+}
+
+impl Drop for ChangeRequest {
+    fn drop(self) {
+        match self {
+            ChangeRequest::Values(_) => {}
+            ChangeRequest::Completion(_) => {}
+            ChangeRequest::Approval(_) => {}
+            ChangeRequest::Tracker(_) => {}
+        }
+    }
 }
 
 /// The writes that a request comes to, and the body and status of the report on it.

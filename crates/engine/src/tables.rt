@@ -27,11 +27,16 @@ use table_rows::{EventRow, Group, RegRow, Row, RowStore, Sum};
 use table_sums::{Partition, Tables as YearTables};
 
 /// The tables, as a store of rows: yearly parts, and a latest part over them if there is one.
-#[derive(Drop)]
 pub struct Tables {
     base: Arc<YearTables>,
     // The same under a latest part, if one lies over them.
     over: Option<Overlay<YearTables>>,
+}
+
+impl Drop for Tables {
+    fn drop(self) {
+        let Tables { base: _, over: _ } = self;
+    }
 }
 
 impl Model for Tables {

@@ -5,11 +5,20 @@ use dh_base::items::Items;
 use std::marker::Model;
 
 /// An expression that was read.
-#[derive(Drop)]
 pub struct Expr {
     branches: Items<Branch>,
     items: Items<Item>,
     places: Items<usize>,
+}
+
+impl Drop for Expr {
+    fn drop(self) {
+        let Expr {
+            branches: _,
+            items: _,
+            places: _,
+        } = self;
+    }
 }
 
 impl Model for Expr {

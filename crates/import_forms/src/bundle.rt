@@ -38,12 +38,22 @@ pub struct BundleLists {
 
 /// A tracker bundle, each of its lists in the order in which its objects are judged: those of the body's list first, then
 /// those that stand in other objects, in the order of these.
-#[derive(Drop)]
 pub struct Bundle {
     pub params: BundleParams,
     pub entities: Items<BundleEntity>,
     pub enrollments: Items<BundleEnrollment>,
     pub events: Items<BundleEvent>,
+}
+
+impl Drop for Bundle {
+    fn drop(self) {
+        let Bundle {
+            params: _,
+            entities: _,
+            enrollments: _,
+            events: _,
+        } = self;
+    }
 }
 
 type Lists = (

@@ -19,7 +19,6 @@ use json_read::form::{ReadJson, require_object, required_list};
 use std::alloc::Global;
 
 /// A complete data set registration, as it stands in the body.
-#[derive(Drop)]
 pub struct Completion {
     pub data_set: Option<Text>,
     pub period: Option<Text>,
@@ -31,6 +30,19 @@ pub struct Completion {
     pub date: Option<Text>,
     /// Whether the set is completed; else the registration is taken away.
     pub done: bool,
+}
+
+impl Drop for Completion {
+    fn drop(self) {
+        let Completion {
+            data_set: _,
+            period: _,
+            unit: _,
+            attribute: _,
+            date: _,
+            done: _,
+        } = self;
+    }
 }
 
 #[tactic(auto, unfolding(crate::specs::Completions::completion_of))]

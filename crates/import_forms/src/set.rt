@@ -50,7 +50,6 @@ pub struct SetValues {
 }
 
 /// A data value set, as it stands in the body. A value's own texts go before those of the set.
-#[derive(Drop)]
 pub struct ValueSet {
     pub params: SetParams,
     pub data_set: Option<Text>,
@@ -61,6 +60,20 @@ pub struct ValueSet {
     /// The attribute option combination.
     pub attribute: Option<Text>,
     pub values: Items<SetValue>,
+}
+
+impl Drop for ValueSet {
+    fn drop(self) {
+        let ValueSet {
+            params: _,
+            data_set: _,
+            complete_date: _,
+            period: _,
+            unit: _,
+            attribute: _,
+            values: _,
+        } = self;
+    }
 }
 
 #[tactic(auto, unfolding(crate::specs::Sets::value_of))]

@@ -37,7 +37,6 @@ pub struct Axis<T> {
 }
 
 /// A query that may be answered.
-#[derive(Drop)]
 pub struct Query {
     pub dx: Items<Dx>,
     pub periods: Axis<Period>,
@@ -45,6 +44,17 @@ pub struct Query {
     pub units: Axis<u32>,
     /// Whether the answer tells names and dimensions.
     pub meta: bool,
+}
+
+impl Drop for Query {
+    fn drop(self) {
+        let Query {
+            dx: _,
+            periods: _,
+            units: _,
+            meta: _,
+        } = self;
+    }
 }
 
 /// Why a query isn't answered.

@@ -16,7 +16,6 @@ use table_rows::{EventRow, RegRow, Row};
 use table_sums::{SummedRows, with_sums};
 
 /// The keys that were touched, each list in its order.
-#[derive(Drop)]
 pub struct TouchedKeys {
     pub rows: Vec<RowPlace>,
     /// Events by their identifiers.
@@ -24,13 +23,33 @@ pub struct TouchedKeys {
     pub regs: Vec<RegPlace>,
 }
 
+impl Drop for TouchedKeys {
+    fn drop(self) {
+        let TouchedKeys {
+            rows: _,
+            events: _,
+            regs: _,
+        } = self;
+    }
+}
+
 /// The keys that changes touched, and what each of them holds after the changes, or nothing where it is gone.
-#[derive(Drop)]
 pub struct Latest {
     keys: TouchedKeys,
     store: SummedRows,
     from: u64,
     to: u64,
+}
+
+impl Drop for Latest {
+    fn drop(self) {
+        let Latest {
+            keys: _,
+            store: _,
+            from: _,
+            to: _,
+        } = self;
+    }
 }
 
 impl Model for Latest {

@@ -25,12 +25,21 @@ use table_sums::SummedRows;
 
 /// A base store with a latest part over it. A touched key has what the latest part holds, or nothing; each other key has
 /// what the base holds. It shares both, so that they outlive those who lent them.
-#[derive(Drop)]
 pub struct Overlay<S: RowStore> {
     base: Arc<S>,
     latest: Arc<Latest>,
     // the base's rows of the latest part's keys
     replaced: SummedRows,
+}
+
+impl<S: RowStore + Drop> Drop for Overlay<S> {
+    fn drop(self) {
+        let Overlay {
+            base: _,
+            latest: _,
+            replaced: _,
+        } = self;
+    }
 }
 
 impl<S: RowStore> Model for Overlay<S> {

@@ -21,7 +21,6 @@ pub enum ItemValue {
 }
 
 /// A live event. A unit stands by its order in the tree, days are days since 1 January 1970.
-#[derive(Drop)]
 pub struct EventRow {
     pub id: Uid,
     pub enrollment: Option<Uid>,
@@ -37,6 +36,23 @@ pub struct EventRow {
     pub values: Items<(u32, ItemValue)>,
     /// Attributes of its entity with their values.
     pub attributes: Items<(u32, ItemValue)>,
+}
+
+impl Drop for EventRow {
+    fn drop(self) {
+        let EventRow {
+            id: _,
+            enrollment: _,
+            entity: _,
+            program: _,
+            stage: _,
+            order: _,
+            day: _,
+            enrolled: _,
+            values: _,
+            attributes: _,
+        } = self;
+    }
 }
 
 /// A data set that was registered as complete.

@@ -14,12 +14,22 @@ use std::alloc::Global;
 use std::marker::Model;
 
 /// A store that holds its lists as they are and looks through them at each call.
-#[derive(Drop)]
 pub struct ListRows {
     rows: Vec<Row>,
     events: Vec<EventRow>,
     regs: Vec<RegRow>,
     years: Vec<i32>,
+}
+
+impl Drop for ListRows {
+    fn drop(self) {
+        let ListRows {
+            rows: _,
+            events: _,
+            regs: _,
+            years: _,
+        } = self;
+    }
 }
 
 impl Model for ListRows {

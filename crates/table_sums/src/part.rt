@@ -6,10 +6,15 @@ use crate::SummedRows;
 use std::marker::Model;
 
 /// A year and the store of its rows, events and registrations.
-#[derive(Drop)]
 pub struct Partition {
     year: i32,
     store: SummedRows,
+}
+
+impl Drop for Partition {
+    fn drop(self) {
+        let Partition { year: _, store: _ } = self;
+    }
 }
 
 impl Model for Partition {

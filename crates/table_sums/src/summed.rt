@@ -19,12 +19,21 @@ use std::sync::ledger::{Blank, Ledger};
 use table_rows::{EventRow, EventsAsked, Group, ListRows, RegRow, Row, RowStore, Sum};
 
 /// A store that finds rows by binary search and takes sums as differences of running sums.
-#[derive(Drop)]
 pub struct SummedRows {
     list: RunningRows,
     events: Vec<EventRow>,
     // the registrations and years
     rest: ListRows,
+}
+
+impl Drop for SummedRows {
+    fn drop(self) {
+        let SummedRows {
+            list: _,
+            events: _,
+            rest: _,
+        } = self;
+    }
 }
 
 impl Model for SummedRows {

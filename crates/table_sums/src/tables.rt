@@ -13,11 +13,20 @@ use std::marker::Model;
 use table_rows::{EventRow, EventsAsked, Group, RegRow, Row, RowStore, Sum};
 
 /// A store of parts by ascending year.
-#[derive(Drop)]
 pub struct Tables {
     parts: Vec<Partition>,
     years: Vec<i32>,
     base_cut: u64,
+}
+
+impl Drop for Tables {
+    fn drop(self) {
+        let Tables {
+            parts: _,
+            years: _,
+            base_cut: _,
+        } = self;
+    }
 }
 
 impl Model for Tables {
