@@ -25,6 +25,7 @@ pub struct ChangeLog<K: Keeper> {
     limits: Limits,
 }
 
+// By hand, so that it is proved here alone and not in each crate above.
 impl<K: Keeper + Drop> Drop for ChangeLog<K> {
     fn drop(self) {
         let ChangeLog {

@@ -12,6 +12,7 @@ pub struct Apart<T> {
     boxed: Box<T>,
 }
 
+// By hand, so that it is proved here alone and not in each crate above.
 impl<T: Drop> Drop for Apart<T> {
     fn drop(self) {
         let Apart { boxed: _ } = self;

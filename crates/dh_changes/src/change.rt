@@ -29,6 +29,7 @@ pub enum Write {
     Uncomplete { key: RegKey },
 }
 
+// By hand, so that it is proved here alone and not in each crate above.
 impl Drop for Write {
     fn drop(self) {
         match self {
@@ -83,6 +84,7 @@ pub struct Change {
     pub writes: Items<Write>,
 }
 
+// By hand, so that it is proved here alone and not in each crate above.
 impl Drop for Change {
     fn drop(self) {
         let Change {

@@ -24,6 +24,7 @@ pub struct Text {
     kept: Kept,
 }
 
+// By hand, so that it is proved here alone and not in each crate above.
 impl Drop for Text {
     fn drop(self) {
         let Text { kept: _ } = self;

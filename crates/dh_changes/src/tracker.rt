@@ -21,6 +21,7 @@ pub struct Event {
     pub values: Items<(Uid, Items<u8>)>,
 }
 
+// By hand, so that it is proved here alone and not in each crate above.
 impl Drop for Event {
     fn drop(self) {
         let Event {
@@ -65,6 +66,7 @@ pub struct Entity {
     pub attributes: Items<(Uid, Items<u8>)>,
 }
 
+// By hand, so that it is proved here alone and not in each crate above.
 impl Drop for Entity {
     fn drop(self) {
         let Entity {

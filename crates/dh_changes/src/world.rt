@@ -28,6 +28,7 @@ pub struct World {
     waiting: Vec<Said>,
 }
 
+// By hand, so that it is proved here alone and not in each crate above.
 impl Drop for World {
     fn drop(self) {
         let World {

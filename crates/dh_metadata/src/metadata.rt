@@ -51,6 +51,7 @@ pub struct Metadata {
     tokens: HashMap<Vec<u8>, u32>,
 }
 
+// By hand, so that it is proved here alone and not in each crate above.
 impl Drop for Metadata {
     fn drop(self) {
         let Metadata {

@@ -53,6 +53,7 @@ pub struct Engine<K: Keeper> {
     shown: Shown,
 }
 
+// By hand, so that it is proved here alone and not in each crate above.
 impl<K: Keeper + Drop> Drop for Engine<K> {
     fn drop(self) {
         let Engine {

@@ -22,6 +22,7 @@ pub enum ChangeRequest {
     Tracker(Bundle),
 }
 
+// By hand, so that it is proved here alone and not in each crate above.
 impl Drop for ChangeRequest {
     fn drop(self) {
         match self {

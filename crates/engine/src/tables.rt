@@ -33,6 +33,7 @@ pub struct Tables {
     over: Option<Overlay<YearTables>>,
 }
 
+// By hand, so that it is proved here alone and not in each crate above.
 impl Drop for Tables {
     fn drop(self) {
         let Tables { base: _, over: _ } = self;

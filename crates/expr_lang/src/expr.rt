@@ -11,6 +11,7 @@ pub struct Expr {
     places: Items<usize>,
 }
 
+// By hand, so that it is proved here alone and not in each crate above.
 impl Drop for Expr {
     fn drop(self) {
         let Expr {

@@ -45,6 +45,7 @@ pub struct Bundle {
     pub events: Items<BundleEvent>,
 }
 
+// By hand, so that it is proved here alone and not in each crate above.
 impl Drop for Bundle {
     fn drop(self) {
         let Bundle {

@@ -32,6 +32,7 @@ pub struct Completion {
     pub done: bool,
 }
 
+// By hand, so that it is proved here alone and not in each crate above.
 impl Drop for Completion {
     fn drop(self) {
         let Completion {

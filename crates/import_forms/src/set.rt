@@ -62,6 +62,7 @@ pub struct ValueSet {
     pub values: Items<SetValue>,
 }
 
+// By hand, so that it is proved here alone and not in each crate above.
 impl Drop for ValueSet {
     fn drop(self) {
         let ValueSet {

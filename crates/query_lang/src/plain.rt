@@ -46,6 +46,7 @@ pub struct Query {
     pub meta: bool,
 }
 
+// By hand, so that it is proved here alone and not in each crate above.
 impl Drop for Query {
     fn drop(self) {
         let Query {

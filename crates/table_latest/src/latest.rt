@@ -23,6 +23,7 @@ pub struct TouchedKeys {
     pub regs: Vec<RegPlace>,
 }
 
+// By hand, so that it is proved here alone and not in each crate above.
 impl Drop for TouchedKeys {
     fn drop(self) {
         let TouchedKeys {
@@ -41,6 +42,7 @@ pub struct Latest {
     to: u64,
 }
 
+// By hand, so that it is proved here alone and not in each crate above.
 impl Drop for Latest {
     fn drop(self) {
         let Latest {

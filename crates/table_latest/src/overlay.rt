@@ -32,6 +32,7 @@ pub struct Overlay<S: RowStore> {
     replaced: SummedRows,
 }
 
+// By hand, so that it is proved here alone and not in each crate above.
 impl<S: RowStore + Drop> Drop for Overlay<S> {
     fn drop(self) {
         let Overlay {

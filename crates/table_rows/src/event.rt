@@ -38,6 +38,7 @@ pub struct EventRow {
     pub attributes: Items<(u32, ItemValue)>,
 }
 
+// By hand, so that it is proved here alone and not in each crate above.
 impl Drop for EventRow {
     fn drop(self) {
         let EventRow {

@@ -21,6 +21,7 @@ pub struct ListRows {
     years: Vec<i32>,
 }
 
+// By hand, so that it is proved here alone and not in each crate above.
 impl Drop for ListRows {
     fn drop(self) {
         let ListRows {

@@ -11,6 +11,7 @@ pub struct Partition {
     store: SummedRows,
 }
 
+// By hand, so that it is proved here alone and not in each crate above.
 impl Drop for Partition {
     fn drop(self) {
         let Partition { year: _, store: _ } = self;

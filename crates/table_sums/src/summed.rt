@@ -26,6 +26,7 @@ pub struct SummedRows {
     rest: ListRows,
 }
 
+// By hand, so that it is proved here alone and not in each crate above.
 impl Drop for SummedRows {
     fn drop(self) {
         let SummedRows {

@@ -19,6 +19,7 @@ pub struct Tables {
     base_cut: u64,
 }
 
+// By hand, so that it is proved here alone and not in each crate above.
 impl Drop for Tables {
     fn drop(self) {
         let Tables {
