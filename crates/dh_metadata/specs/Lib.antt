@@ -8,6 +8,7 @@ pub mod Causes
 pub mod Workflows
 pub mod Positions
 pub mod Rows
+pub mod Records
 pub mod Objects
 pub mod Linked
 pub mod Members

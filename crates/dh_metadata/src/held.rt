@@ -1,5 +1,8 @@
 //! All objects as they are held.
 
+ghost use Rattle.std.specs.Prelude.{◌≡◌};
+ghost use Rattle.dh_metadata.specs.Records.{held_with};
+
 use crate::records::{
     ApprovalLevel, Attribute, Category, CategoryCombo, CategoryOption, Constant, DataSet, Element,
     EntityType, Indicator, IndicatorLinks, IndicatorType, OptionCombo, Program, ProgramIndicator,
@@ -10,7 +13,6 @@ use dh_sharing::rule::Sharing;
 
 /// All objects with their references, where the expressions of indicators, validation rules and
 /// program indicators are not read yet.
-#[derive(Drop)]
 pub struct Links {
     pub organisation_units: Items<Unit>,
     pub organisation_unit_groups: Items<UnitGroup>,
@@ -38,8 +40,134 @@ pub struct Links {
     pub api_tokens: Items<(Items<u8>, u32)>,
 }
 
+// By hand, so that it is proved here alone and not in each crate above, and in groups: what is still held is told at each step.
+impl Drop for Links {
+    fn drop(self) {
+        let Links {
+            organisation_units,
+            organisation_unit_groups,
+            category_options,
+            categories,
+            category_combos,
+            category_option_combos,
+            data_elements,
+            data_approval_levels,
+            data_approval_workflows,
+            data_sets,
+            constants,
+            indicator_types,
+            indicators,
+            validation_rules,
+            tracked_entity_types,
+            tracked_entity_attributes,
+            programs,
+            program_stages,
+            program_indicators,
+            user_roles,
+            users,
+            user_groups,
+            api_tokens,
+        } = self;
+        drop((
+            organisation_units,
+            organisation_unit_groups,
+            category_options,
+            categories,
+            category_combos,
+            category_option_combos,
+        ));
+        drop((
+            data_elements,
+            data_approval_levels,
+            data_approval_workflows,
+            data_sets,
+            constants,
+            indicator_types,
+        ));
+        drop((
+            indicators,
+            validation_rules,
+            tracked_entity_types,
+            tracked_entity_attributes,
+            programs,
+            program_stages,
+        ));
+        drop((
+            program_indicators,
+            user_roles,
+            users,
+            user_groups,
+            api_tokens,
+        ));
+    }
+}
+
+impl Links {
+    /// All objects as they are held: those that are linked, with those whose expressions were read.
+    pub fn with(
+        self,
+        indicators: Items<Indicator>,
+        validation_rules: Items<Rule>,
+        program_indicators: Items<ProgramIndicator>,
+        acceptance_required: bool,
+    ) -> Records
+        ensures { result ≡ held_with self indicators validation_rules program_indicators acceptance_required }
+    {
+        let Links {
+            organisation_units,
+            organisation_unit_groups,
+            category_options,
+            categories,
+            category_combos,
+            category_option_combos,
+            data_elements,
+            data_approval_levels,
+            data_approval_workflows,
+            data_sets,
+            constants,
+            indicator_types,
+            indicators: _,
+            validation_rules: _,
+            tracked_entity_types,
+            tracked_entity_attributes,
+            programs,
+            program_stages,
+            program_indicators: _,
+            user_roles,
+            users,
+            user_groups,
+            api_tokens,
+        } = self;
+        Records {
+            organisation_units,
+            organisation_unit_groups,
+            category_options,
+            categories,
+            category_combos,
+            category_option_combos,
+            data_elements,
+            data_approval_levels,
+            data_approval_workflows,
+            data_sets,
+            constants,
+            indicator_types,
+            indicators,
+            validation_rules,
+            tracked_entity_types,
+            tracked_entity_attributes,
+            programs,
+            program_stages,
+            program_indicators,
+            user_roles,
+            users,
+            user_groups,
+            api_tokens,
+            acceptance_required,
+        }
+    }
+}
+
 /// All objects as they are held, in the order of the file, a built-in object before those of its kind.
-#[derive(Drop)]
 pub struct Records {
     pub organisation_units: Items<Unit>,
     pub organisation_unit_groups: Items<UnitGroup>,
@@ -67,4 +195,67 @@ pub struct Records {
     pub api_tokens: Items<(Items<u8>, u32)>,
     /// Whether an approval has to be accepted before the level above may approve.
     pub acceptance_required: bool,
+}
+
+// By hand, so that it is proved here alone and not in each crate above, and in groups: what is still held is told at each step.
+impl Drop for Records {
+    fn drop(self) {
+        let Records {
+            organisation_units,
+            organisation_unit_groups,
+            category_options,
+            categories,
+            category_combos,
+            category_option_combos,
+            data_elements,
+            data_approval_levels,
+            data_approval_workflows,
+            data_sets,
+            constants,
+            indicator_types,
+            indicators,
+            validation_rules,
+            tracked_entity_types,
+            tracked_entity_attributes,
+            programs,
+            program_stages,
+            program_indicators,
+            user_roles,
+            users,
+            user_groups,
+            api_tokens,
+            acceptance_required: _,
+        } = self;
+        drop((
+            organisation_units,
+            organisation_unit_groups,
+            category_options,
+            categories,
+            category_combos,
+            category_option_combos,
+        ));
+        drop((
+            data_elements,
+            data_approval_levels,
+            data_approval_workflows,
+            data_sets,
+            constants,
+            indicator_types,
+        ));
+        drop((
+            indicators,
+            validation_rules,
+            tracked_entity_types,
+            tracked_entity_attributes,
+            programs,
+            program_stages,
+        ));
+        drop((
+            program_indicators,
+            user_roles,
+            users,
+            user_groups,
+            api_tokens,
+        ));
+    }
 }

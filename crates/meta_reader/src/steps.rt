@@ -135,32 +135,12 @@ fn take_unread(alloc: Global, links: &mut Links) -> Unread
 fn records_with(parts: &MetaParts, links: Links, made: Expressions) -> Records
     ensures { result ≡ records_of parts.now links made }
 {
-    Records {
-        organisation_units: links.organisation_units,
-        organisation_unit_groups: links.organisation_unit_groups,
-        category_options: links.category_options,
-        categories: links.categories,
-        category_combos: links.category_combos,
-        category_option_combos: links.category_option_combos,
-        data_elements: links.data_elements,
-        data_approval_levels: links.data_approval_levels,
-        data_approval_workflows: links.data_approval_workflows,
-        data_sets: links.data_sets,
-        constants: links.constants,
-        indicator_types: links.indicator_types,
-        indicators: made.indicators,
-        validation_rules: made.validation_rules,
-        tracked_entity_types: links.tracked_entity_types,
-        tracked_entity_attributes: links.tracked_entity_attributes,
-        programs: links.programs,
-        program_stages: links.program_stages,
-        program_indicators: made.program_indicators,
-        user_roles: links.user_roles,
-        users: links.users,
-        user_groups: links.user_groups,
-        api_tokens: links.api_tokens,
-        acceptance_required: parts.acceptance_required,
-    }
+    links.with(
+        made.indicators,
+        made.validation_rules,
+        made.program_indicators,
+        parts.acceptance_required,
+    )
 }
 
 /// The objects with their expressions, where each text is one.
