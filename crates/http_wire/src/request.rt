@@ -2,7 +2,6 @@
 use dh_base::items::Items;
 
 /// A request. The texts are bytes as they came.
-#[derive(Drop)]
 pub struct Request {
     pub method: Items<u8>,
     /// The target up to the first question mark.
@@ -16,4 +15,19 @@ pub struct Request {
     pub body: Items<u8>,
     /// Whether the connection goes on after the reply.
     pub keep: bool,
+}
+
+// By hand, so that it is proved here alone and not in each crate above.
+impl Drop for Request {
+    fn drop(self) {
+        let Request {
+            method: _,
+            path: _,
+            query: _,
+            token: _,
+            asked: _,
+            body: _,
+            keep: _,
+        } = self;
+    }
 }
