@@ -1,4 +1,4 @@
--- The lists of all kinds of objects as pairs of pairs, in the order of the kinds, and the tokens last.
+-- The lists of all kinds of objects as pairs, in the order of the kinds, and the tokens last.
 use Rattle.std.specs.Prelude.{ℕ, List}
 use Rattle.dh_sharing.specs.declared.rule.Sharing.{Sharing}
 use Rattle.dh_metadata.specs.declared.held.Links.{Links}
@@ -25,50 +25,50 @@ use Rattle.dh_metadata.specs.declared.records.User.{User}
 use Rattle.dh_metadata.specs.declared.records.UserGroup.{UserGroup}
 
 abbrev pub Units : Type 0
-Units = (List Unit × List UnitGroup) × (List CategoryOption × List Category)
+Units = List Unit × (List UnitGroup × (List CategoryOption × List Category))
 
 abbrev pub Combos : Type 0
-Combos = (List CategoryCombo × List OptionCombo) × (List Element × List ApprovalLevel)
+Combos = List CategoryCombo × (List OptionCombo × (List Element × List ApprovalLevel))
 
 abbrev pub Sets : Type 0
-Sets = (List Workflow × List DataSet) × (List Constant × List IndicatorType)
+Sets = List Workflow × (List DataSet × (List Constant × List IndicatorType))
 
 abbrev pub Rules : Type 0
-Rules = (List IndicatorLinks × List Sharing) × (List EntityType × List Attribute)
+Rules = List IndicatorLinks × (List Sharing × (List EntityType × List Attribute))
 
 abbrev pub Programs : Type 0
-Programs = (List Program × List Stage) × List ProgramIndicatorLinks
+Programs = List Program × (List Stage × List ProgramIndicatorLinks)
 
 abbrev pub Users : Type 0
-Users = (List Role × List User) × List UserGroup
+Users = List Role × (List User × List UserGroup)
 
 abbrev pub Groups : Type 0
-Groups = (((Units × Combos) × (Sets × Rules)) × (Programs × Users)) × List (List ℕ × ℕ)
+Groups = Units × (Combos × (Sets × (Rules × (Programs × (Users × List (List ℕ × ℕ))))))
 
 -- all objects, from their lists
 abbrev pub assembled : Groups → Links
 assembled groups = record {
-  organisation_units = groups.0.0.0.0.0.0;
-  organisation_unit_groups = groups.0.0.0.0.0.1;
-  category_options = groups.0.0.0.0.1.0;
-  categories = groups.0.0.0.0.1.1;
-  category_combos = groups.0.0.0.1.0.0;
-  category_option_combos = groups.0.0.0.1.0.1;
-  data_elements = groups.0.0.0.1.1.0;
-  data_approval_levels = groups.0.0.0.1.1.1;
-  data_approval_workflows = groups.0.0.1.0.0.0;
-  data_sets = groups.0.0.1.0.0.1;
-  constants = groups.0.0.1.0.1.0;
-  indicator_types = groups.0.0.1.0.1.1;
-  indicators = groups.0.0.1.1.0.0;
-  validation_rules = groups.0.0.1.1.0.1;
-  tracked_entity_types = groups.0.0.1.1.1.0;
-  tracked_entity_attributes = groups.0.0.1.1.1.1;
-  programs = groups.0.1.0.0.0;
-  program_stages = groups.0.1.0.0.1;
-  program_indicators = groups.0.1.0.1;
-  user_roles = groups.0.1.1.0.0;
-  users = groups.0.1.1.0.1;
-  user_groups = groups.0.1.1.1;
-  api_tokens = groups.1;
+  organisation_units = groups.0.0;
+  organisation_unit_groups = groups.0.1.0;
+  category_options = groups.0.1.1.0;
+  categories = groups.0.1.1.1;
+  category_combos = groups.1.0.0;
+  category_option_combos = groups.1.0.1.0;
+  data_elements = groups.1.0.1.1.0;
+  data_approval_levels = groups.1.0.1.1.1;
+  data_approval_workflows = groups.1.1.0.0;
+  data_sets = groups.1.1.0.1.0;
+  constants = groups.1.1.0.1.1.0;
+  indicator_types = groups.1.1.0.1.1.1;
+  indicators = groups.1.1.1.0.0;
+  validation_rules = groups.1.1.1.0.1.0;
+  tracked_entity_types = groups.1.1.1.0.1.1.0;
+  tracked_entity_attributes = groups.1.1.1.0.1.1.1;
+  programs = groups.1.1.1.1.0.0;
+  program_stages = groups.1.1.1.1.0.1.0;
+  program_indicators = groups.1.1.1.1.0.1.1;
+  user_roles = groups.1.1.1.1.1.0.0;
+  users = groups.1.1.1.1.1.0.1.0;
+  user_groups = groups.1.1.1.1.1.0.1.1;
+  api_tokens = groups.1.1.1.1.1.1;
 }

@@ -38,7 +38,7 @@ pub trait Entries {
 }
 
 /// A list and what its entries refer to.
-#[derive(Clone, Copy)]
+#[derive(Drop)]
 pub struct Listed<'a, E, X> {
     pub each: E,
     pub entries: &'a Items<X>,

@@ -17,7 +17,7 @@ use dh_metadata::kind::Kind;
 use std::alloc::Global;
 
 /// A reference to an object of a kind.
-#[derive(Clone, Copy)]
+#[derive(Drop)]
 pub struct One<P> {
     pub at: P,
     pub of: Kind,
@@ -46,7 +46,7 @@ impl<P: Place> Link for One<P> {
 }
 
 /// A reference that may be absent.
-#[derive(Clone, Copy)]
+#[derive(Drop)]
 pub struct Optional<P> {
     pub at: P,
     pub of: Kind,

@@ -28,33 +28,32 @@ use std::alloc::Global;
 
 // The objects of a file by their kinds, in the order of the kinds, and the tokens last.
 type Units = (
-    (Items<Unit>, Items<UnitGroup>),
-    (Items<CategoryOption>, Items<Category>),
+    Items<Unit>,
+    (Items<UnitGroup>, (Items<CategoryOption>, Items<Category>)),
 );
 
 type Combos = (
-    (Items<CategoryCombo>, Items<OptionCombo>),
-    (Items<Element>, Items<ApprovalLevel>),
+    Items<CategoryCombo>,
+    (Items<OptionCombo>, (Items<Element>, Items<ApprovalLevel>)),
 );
 
 type Sets = (
-    (Items<Workflow>, Items<DataSet>),
-    (Items<Constant>, Items<IndicatorType>),
+    Items<Workflow>,
+    (Items<DataSet>, (Items<Constant>, Items<IndicatorType>)),
 );
 
 type Rules = (
-    (Items<IndicatorLinks>, Items<Sharing>),
-    (Items<EntityType>, Items<Attribute>),
+    Items<IndicatorLinks>,
+    (Items<Sharing>, (Items<EntityType>, Items<Attribute>)),
 );
 
-type Programs = ((Items<Program>, Items<Stage>), Items<ProgramIndicatorLinks>);
+type Programs = (Items<Program>, (Items<Stage>, Items<ProgramIndicatorLinks>));
 
-type Users = ((Items<Role>, Items<User>), Items<UserGroup>);
+type Users = (Items<Role>, (Items<User>, Items<UserGroup>));
 
-type Groups = (
-    (((Units, Combos), (Sets, Rules)), (Programs, Users)),
-    Items<(Items<u8>, u32)>,
-);
+type Others = (Users, Items<(Items<u8>, u32)>);
+
+type Groups = (Units, (Combos, (Sets, (Rules, (Programs, Others)))));
 
 /// All objects with their references as numbers, a built-in object before those of its kind.
 #[tactic(auto, using(crate::proofs::Walk::after_nothing))]
@@ -88,49 +87,60 @@ fn look_up(
         named: &parts.category_option_combos,
     };
     let units = (
-        (&parts.organisation_units, &parts.organisation_unit_groups),
-        (&parts.category_options, &parts.categories),
+        &parts.organisation_units,
+        (
+            &parts.organisation_unit_groups,
+            (&parts.category_options, &parts.categories),
+        ),
     );
     let combos = (
-        (combos, option_combos),
-        (&parts.data_elements, &parts.data_approval_levels),
+        combos,
+        (
+            option_combos,
+            (&parts.data_elements, &parts.data_approval_levels),
+        ),
     );
     let sets = (
-        (&parts.data_approval_workflows, &parts.data_sets),
-        (&parts.constants, &parts.indicator_types),
+        &parts.data_approval_workflows,
+        (&parts.data_sets, (&parts.constants, &parts.indicator_types)),
     );
     let rules = (
-        (&parts.indicators, &parts.validation_rules),
+        &parts.indicators,
         (
-            &parts.tracked_entity_types,
-            &parts.tracked_entity_attributes,
+            &parts.validation_rules,
+            (
+                &parts.tracked_entity_types,
+                &parts.tracked_entity_attributes,
+            ),
         ),
     );
     let programs = (
-        (&parts.programs, &parts.program_stages),
-        &parts.program_indicators,
+        &parts.programs,
+        (&parts.program_stages, &parts.program_indicators),
     );
-    let users = ((&parts.user_roles, &parts.users), &parts.user_groups);
-    let lists = (((units, combos), (sets, rules)), (programs, users));
+    let users = (&parts.user_roles, (&parts.users, &parts.user_groups));
     let tokens = Listed {
         each: Tokens {},
         entries: &parts.api_tokens,
     };
-    (lists, tokens).link(alloc, ids, unknown)
+    let groups = (
+        units,
+        (combos, (sets, (rules, (programs, (users, tokens))))),
+    );
+    groups.link(alloc, ids, unknown)
 }
 
 // The objects of all kinds. This can't fail.
 fn all_links(groups: Groups) -> Links
     ensures { result ≡ assembled groups }
 {
-    let (groups, api_tokens) = groups;
-    let (((units, combos), (sets, rules)), (programs, users)) = groups;
-    let ((organisation_units, organisation_unit_groups), (category_options, categories)) = units;
-    let ((category_combos, category_option_combos), (data_elements, data_approval_levels)) = combos;
-    let ((data_approval_workflows, data_sets), (constants, indicator_types)) = sets;
-    let ((indicators, validation_rules), (tracked_entity_types, tracked_entity_attributes)) = rules;
-    let ((programs, program_stages), program_indicators) = programs;
-    let ((user_roles, users), user_groups) = users;
+    let (units, (combos, (sets, (rules, (programs, (users, api_tokens)))))) = groups;
+    let (organisation_units, (organisation_unit_groups, (category_options, categories))) = units;
+    let (category_combos, (category_option_combos, (data_elements, data_approval_levels))) = combos;
+    let (data_approval_workflows, (data_sets, (constants, indicator_types))) = sets;
+    let (indicators, (validation_rules, (tracked_entity_types, tracked_entity_attributes))) = rules;
+    let (programs, (program_stages, program_indicators)) = programs;
+    let (user_roles, (users, user_groups)) = users;
     Links {
         organisation_units,
         organisation_unit_groups,

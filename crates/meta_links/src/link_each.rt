@@ -13,7 +13,7 @@ use std::alloc::Global;
 /// Something whose references are looked up.
 pub trait Link {
     /// It as it is held.
-    type Held: Drop;
+    type Held;
 
     /// Its references, in their order in the file.
     ghost references: { Self → List Reference };
@@ -28,7 +28,10 @@ pub trait Link {
 }
 
 /// One after the other. A caller that links several so holds nothing while it may have to return early.
-impl<A: Link, B: Link> Link for (A, B) {
+impl<A: Link, B: Link> Link for (A, B)
+where
+    A::Held: Drop,
+{
     type Held = (A::Held, B::Held);
 
     ghost references = { λ pair. A.references pair.0 ++ B.references pair.1 };
@@ -49,7 +52,10 @@ impl<A: Link, B: Link> Link for (A, B) {
 }
 
 /// The objects of a list.
-impl<'a, T: Link> Link for &'a Items<T> {
+impl<'a, T: Link> Link for &'a Items<T>
+where
+    T::Held: Drop,
+{
     type Held = Items<T::Held>;
 
     ghost references = { λ objects. flat_map T.references objects.now };
@@ -74,6 +80,8 @@ pub fn link_each<T: Link>(
     built_in: Vec<T::Held>,
     objects: &[T],
 ) -> Result<Items<T::Held>, Memory>
+where
+    T::Held: Drop,
     ensures held { IfOk result (λ all. all ≡ built_in.items ++ map (T.held ids.now) objects.now) }
     ensures told { OnOk result (unknown.new ≡ after ids.now unknown.old (flat_map T.references objects.now)) }
 {

@@ -227,8 +227,8 @@ impl Link for RawOptionCombo {
             },
             entries: &self.category_options,
         };
-        let fields = ((name, category_combo), category_options);
-        let ((name, category_combo), category_options) = fields.link(alloc, ids, unknown)?;
+        let fields = (name, (category_combo, category_options));
+        let (name, (category_combo, category_options)) = fields.link(alloc, ids, unknown)?;
         Ok(OptionCombo {
             id: self.id,
             name,
@@ -263,8 +263,8 @@ impl Link for RawElement {
             place,
             sharing: &self.sharing,
         };
-        let fields = ((name, category_combo), sharing);
-        let ((name, category_combo), sharing) = fields.link(alloc, ids, unknown)?;
+        let fields = (name, (category_combo, sharing));
+        let (name, (category_combo, sharing)) = fields.link(alloc, ids, unknown)?;
         Ok(Element {
             id: self.id,
             name,
@@ -390,18 +390,15 @@ impl Link for RawDataSet {
             sharing: &self.sharing,
         };
         let fields = (
+            name,
             (
-                (
-                    ((name, data_set_elements), organisation_units),
-                    category_combo,
-                ),
-                workflow,
+                data_set_elements,
+                (organisation_units, (category_combo, (workflow, sharing))),
             ),
-            sharing,
         );
         let (
-            ((((name, data_set_elements), organisation_units), category_combo), workflow),
-            sharing,
+            name,
+            (data_set_elements, (organisation_units, (category_combo, (workflow, sharing)))),
         ) = fields.link(alloc, ids, unknown)?;
         Ok(DataSet {
             id: self.id,
@@ -600,13 +597,13 @@ impl Link for RawProgram {
             sharing: &self.sharing,
         };
         let fields = (
+            name,
             (
-                (name, tracked_entity_type),
-                program_tracked_entity_attributes,
+                (tracked_entity_type, program_tracked_entity_attributes),
+                sharing,
             ),
-            sharing,
         );
-        let (((name, tracked_entity_type), program_tracked_entity_attributes), sharing) =
+        let (name, ((tracked_entity_type, program_tracked_entity_attributes), sharing)) =
             fields.link(alloc, ids, unknown)?;
         Ok(Program {
             id: self.id,
@@ -651,8 +648,8 @@ impl Link for RawStage {
             },
             entries: &self.program_stage_data_elements,
         };
-        let fields = ((name, program), program_stage_data_elements);
-        let ((name, program), program_stage_data_elements) = fields.link(alloc, ids, unknown)?;
+        let fields = (name, (program, program_stage_data_elements));
+        let (name, (program, program_stage_data_elements)) = fields.link(alloc, ids, unknown)?;
         Ok(Stage {
             id: self.id,
             name,
@@ -761,10 +758,13 @@ impl Link for RawUser {
             entries: &self.user_roles,
         };
         let fields = (
-            ((name, organisation_units), data_view_organisation_units),
-            user_roles,
+            name,
+            (
+                (organisation_units, data_view_organisation_units),
+                user_roles,
+            ),
         );
-        let (((name, organisation_units), data_view_organisation_units), user_roles) = fields.link(
+        let (name, ((organisation_units, data_view_organisation_units), user_roles)) = fields.link(
             alloc, ids, unknown,
         )?;
         Ok(User {

@@ -32,17 +32,32 @@ pub struct Field<'a> {
 }
 
 /// An entry of a list, by its place.
-#[derive(Clone, Copy)]
+#[derive(Copy)]
 pub struct Entry<P> {
     pub list: P,
     pub place: usize,
 }
 
+impl<P: Copy> Clone for Entry<P> {
+    fn clone(&self) -> Result<Entry<P>, AllocError> {
+        Ok(*self)
+    }
+}
+
 /// A member of an object, by its name.
-#[derive(Clone, Copy)]
+#[derive(Copy)]
 pub struct Member<'a, P> {
     pub object: P,
     pub name: &'a [u8],
+}
+
+impl<'a, P: Copy> Clone for Member<'a, P> {
+    fn clone(&self) -> Result<Member<'a, P>, AllocError> {
+        Ok(Member {
+            object: self.object,
+            name: self.name,
+        })
+    }
 }
 
 impl<'a> Place for Key<'a> {

@@ -68,7 +68,7 @@ impl<'a> Link for Shared<'a> {
             },
             entries: &self.sharing.groups,
         };
-        let ((owner, users), groups) = ((owner, users), groups).link(alloc, ids, unknown)?;
+        let (owner, (users, groups)) = (owner, (users, groups)).link(alloc, ids, unknown)?;
         Ok(Sharing {
             owner,
             public: self.sharing.public,
