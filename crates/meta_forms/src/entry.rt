@@ -14,6 +14,7 @@ ghost use Rattle.meta_forms.specs.Entries.{side_of, tokens_of};
 use crate::entries::{Entry, entries};
 use crate::field::{optional_reference, reference};
 use crate::named::named_or;
+use crate::part::Part;
 use dh_base::decimal::{Micros, read_decimal};
 use dh_base::items::Items;
 use dh_base::plain::Strategy;
@@ -328,21 +329,35 @@ pub fn rule_side(
 }
 
 /// The tokens, each with the identifier of its user.
-#[tactic(auto, unfolding(crate::specs::Entries::tokens_of))]
-pub fn tokens(alloc: Global, value: &Value<'_>) -> Result<Items<(Items<u8>, Uid)>, FormFault>
-    ensures { Gives (tokens_of (data_of value.now)) result }
-{
-    entries::<Token>(alloc, value, "apiTokens")
+#[derive(Clone, Copy)]
+pub struct Tokens {}
+
+impl Part for Tokens {
+    type Read = Items<(Items<u8>, Uid)>;
+
+    ghost form = { λ _. tokens_of };
+
+    #[tactic(auto, unfolding(crate::specs::Entries::tokens_of))]
+    fn read(&self, alloc: Global, value: &Value<'_>) -> Result<Items<(Items<u8>, Uid)>, FormFault> {
+        entries::<Token>(alloc, value, "apiTokens")
+    }
 }
 
 /// Whether an approval has to be accepted before the level above may approve.
-#[tactic(auto, unfolding(crate::specs::Entries::acceptance_of))]
-pub fn acceptance_required(alloc: Global, value: &Value<'_>) -> Result<bool, FormFault>
-    ensures { Gives (acceptance_of (data_of value.now)) result }
-{
-    let default = Settings {
-        acceptance_required: false,
-    };
-    let settings: Settings = field_or(alloc, value, "systemSettings", default)?;
-    Ok(settings.acceptance_required)
+#[derive(Clone, Copy)]
+pub struct AcceptanceRequired {}
+
+impl Part for AcceptanceRequired {
+    type Read = bool;
+
+    ghost form = { λ _. acceptance_of };
+
+    #[tactic(auto, unfolding(crate::specs::Entries::acceptance_of))]
+    fn read(&self, alloc: Global, value: &Value<'_>) -> Result<bool, FormFault> {
+        let default = Settings {
+            acceptance_required: false,
+        };
+        let settings: Settings = field_or(alloc, value, "systemSettings", default)?;
+        Ok(settings.acceptance_required)
+    }
 }

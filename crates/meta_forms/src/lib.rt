@@ -10,6 +10,7 @@ mod field;
 mod formulas;
 mod named;
 mod object;
+mod part;
 pub mod parts;
 mod path;
 mod people;

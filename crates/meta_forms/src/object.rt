@@ -10,6 +10,7 @@ ghost use Rattle.json_read.specs.Given.{Gives};
 ghost use Rattle.meta_forms.specs.Objects.{IsPlace, named_form, object_of, objects_of, list_of, objects_at};
 
 use crate::field::name;
+use crate::part::Part;
 use dh_base::items::Items;
 use dh_base::uid::Uid;
 use dh_metadata::built_in::is_built_in;
@@ -19,6 +20,7 @@ use json_read::form::{field, require_object};
 use json_read::look::{items, member};
 use json_read::path::{here, seen_from};
 use std::alloc::{AllocError, Global};
+use std::marker::PhantomData;
 
 /// A record of an object that stands at a place of a key's list and has an identifier and a name.
 pub trait ReadObject: Sized + Drop {
@@ -137,19 +139,22 @@ fn read_list<T: ReadObject>(alloc: Global, value: &Value<'_>) -> Result<Items<T>
     }
 }
 
-/// The objects under a key.
-pub fn objects<T: ReadObject>(
-    alloc: Global,
-    value: &Value<'_>,
-    key: &str,
-) -> Result<Items<T>, FormFault>
-    ensures { Gives (objects_at key.now (named_form T.form T.made) (data_of value.now)) result }
-{
-    match member(value, key) {
-        Some(found) => match read_list(alloc, found) {
-            Ok(read) => Ok(read),
-            Err(fault) => Err(seen_from(alloc, key.as_bytes(), fault)),
-        },
-        None => Ok(Items::new(alloc)),
+/// The objects under a key, by the record that each is read as.
+#[derive(Drop)]
+pub struct Objects<'a, T>(pub &'a str, pub PhantomData<T>);
+
+impl<'a, T: ReadObject> Part for Objects<'a, T> {
+    type Read = Items<T>;
+
+    ghost form = { λ objects. objects_at objects.0.now (named_form T.form T.made) };
+
+    fn read(&self, alloc: Global, value: &Value<'_>) -> Result<Items<T>, FormFault> {
+        match member(value, self.0) {
+            Some(found) => match read_list(alloc, found) {
+                Ok(read) => Ok(read),
+                Err(fault) => Err(seen_from(alloc, self.0.as_bytes(), fault)),
+            },
+            None => Ok(Items::new(alloc)),
+        }
     }
 }

@@ -3,11 +3,11 @@
 ghost use Rattle.std.specs.Prelude.{◌≡◌};
 ghost use Rattle.json_read.specs.Views.{data_of};
 ghost use Rattle.json_read.specs.Given.{Gives};
-ghost use Rattle.meta_forms.specs.Parts.{hierarchy_of, elements_of, sets_of, indicators_of, programs_of, users_of, groups_of, joined, parts_of};
+ghost use Rattle.meta_forms.specs.Parts.{groups_of, joined, parts_of};
 
-use crate::both::both;
-use crate::entry::{acceptance_required, tokens};
-use crate::object::objects;
+use crate::entry::{AcceptanceRequired, Tokens};
+use crate::object::Objects;
+use crate::part::Part;
 use dh_base::items::Items;
 use dh_base::uid::Uid;
 use dh_metadata::parts::MetaParts;
@@ -21,139 +21,128 @@ use json::Value;
 use json_read::fault::FormFault;
 use json_read::form::require_object;
 use std::alloc::Global;
+use std::marker::PhantomData;
 
 // The units, and what categories are made of.
 type Hierarchy = (
+    Items<RawUnit>,
     (
-        (Items<RawUnit>, Items<RawUnitGroup>),
-        Items<RawCategoryOption>,
+        Items<RawUnitGroup>,
+        (Items<RawCategoryOption>, Items<RawCategory>),
     ),
-    Items<RawCategory>,
 );
-
-fn read_hierarchy(alloc: Global, value: &Value<'_>) -> Result<Hierarchy, FormFault>
-    ensures { Gives (hierarchy_of (data_of value.now)) result }
-{
-    let read = objects(alloc, value, "organisationUnits");
-    let read = both(read, objects(alloc, value, "organisationUnitGroups"));
-    let read = both(read, objects(alloc, value, "categoryOptions"));
-    both(read, objects(alloc, value, "categories"))
-}
 
 // Combinations, data elements and approval levels.
 type Elements = (
+    Items<RawCategoryCombo>,
     (
-        (Items<RawCategoryCombo>, Items<RawOptionCombo>),
-        Items<RawElement>,
+        Items<RawOptionCombo>,
+        (Items<RawElement>, Items<RawApprovalLevel>),
     ),
-    Items<RawApprovalLevel>,
 );
-
-fn read_elements(alloc: Global, value: &Value<'_>) -> Result<Elements, FormFault>
-    ensures { Gives (elements_of (data_of value.now)) result }
-{
-    let read = objects(alloc, value, "categoryCombos");
-    let read = both(read, objects(alloc, value, "categoryOptionCombos"));
-    let read = both(read, objects(alloc, value, "dataElements"));
-    both(read, objects(alloc, value, "dataApprovalLevels"))
-}
 
 // Workflows, data sets, constants and indicator types.
 type Sets = (
-    ((Items<RawWorkflow>, Items<RawDataSet>), Items<RawConstant>),
-    Items<RawIndicatorType>,
+    Items<RawWorkflow>,
+    (
+        Items<RawDataSet>,
+        (Items<RawConstant>, Items<RawIndicatorType>),
+    ),
 );
-
-fn read_sets(alloc: Global, value: &Value<'_>) -> Result<Sets, FormFault>
-    ensures { Gives (sets_of (data_of value.now)) result }
-{
-    let read = objects(alloc, value, "dataApprovalWorkflows");
-    let read = both(read, objects(alloc, value, "dataSets"));
-    let read = both(read, objects(alloc, value, "constants"));
-    both(read, objects(alloc, value, "indicatorTypes"))
-}
 
 // Indicators, validation rules, and what tracked entities are made of.
 type Indicators = (
-    ((Items<RawIndicator>, Items<RawRule>), Items<RawEntityType>),
-    Items<RawAttribute>,
+    Items<RawIndicator>,
+    (Items<RawRule>, (Items<RawEntityType>, Items<RawAttribute>)),
 );
-
-fn read_indicators(alloc: Global, value: &Value<'_>) -> Result<Indicators, FormFault>
-    ensures { Gives (indicators_of (data_of value.now)) result }
-{
-    let read = objects(alloc, value, "indicators");
-    let read = both(read, objects(alloc, value, "validationRules"));
-    let read = both(read, objects(alloc, value, "trackedEntityTypes"));
-    both(read, objects(alloc, value, "trackedEntityAttributes"))
-}
 
 // Programs, their stages and indicators, and user roles.
 type Programs = (
+    Items<RawProgram>,
     (
-        (Items<RawProgram>, Items<RawStage>),
-        Items<RawProgramIndicator>,
+        Items<RawStage>,
+        (Items<RawProgramIndicator>, Items<RawRole>),
     ),
-    Items<RawRole>,
 );
-
-fn read_programs(alloc: Global, value: &Value<'_>) -> Result<Programs, FormFault>
-    ensures { Gives (programs_of (data_of value.now)) result }
-{
-    let read = objects(alloc, value, "programs");
-    let read = both(read, objects(alloc, value, "programStages"));
-    let read = both(read, objects(alloc, value, "programIndicators"));
-    both(read, objects(alloc, value, "userRoles"))
-}
 
 // Users, their groups and tokens, and the settings of the system.
 type Users = (
-    (
-        (Items<RawUser>, Items<RawUserGroup>),
-        Items<(Items<u8>, Uid)>,
-    ),
-    bool,
+    Items<RawUser>,
+    (Items<RawUserGroup>, (Items<(Items<u8>, Uid)>, bool)),
 );
-
-fn read_users(alloc: Global, value: &Value<'_>) -> Result<Users, FormFault>
-    ensures { Gives (users_of (data_of value.now)) result }
-{
-    let read = objects(alloc, value, "users");
-    let read = both(read, objects(alloc, value, "userGroups"));
-    let read = both(read, tokens(alloc, value));
-    both(read, acceptance_required(alloc, value))
-}
 
 // All groups.
 type Groups = (
-    ((((Hierarchy, Elements), Sets), Indicators), Programs),
-    Users,
+    Hierarchy,
+    (Elements, (Sets, (Indicators, (Programs, Users)))),
 );
 
 fn read_groups(alloc: Global, value: &Value<'_>) -> Result<Groups, FormFault>
     ensures { Gives (groups_of (data_of value.now)) result }
 {
-    let read = read_hierarchy(alloc, value);
-    let read = both(read, read_elements(alloc, value));
-    let read = both(read, read_sets(alloc, value));
-    let read = both(read, read_indicators(alloc, value));
-    let read = both(read, read_programs(alloc, value));
-    both(read, read_users(alloc, value))
+    let organisation_units = Objects::<RawUnit>("organisationUnits", PhantomData);
+    let organisation_unit_groups = Objects::<RawUnitGroup>("organisationUnitGroups", PhantomData);
+    let category_options = Objects::<RawCategoryOption>("categoryOptions", PhantomData);
+    let categories = Objects::<RawCategory>("categories", PhantomData);
+    let hierarchy = (
+        organisation_units,
+        (organisation_unit_groups, (category_options, categories)),
+    );
+    let category_combos = Objects::<RawCategoryCombo>("categoryCombos", PhantomData);
+    let category_option_combos = Objects::<RawOptionCombo>("categoryOptionCombos", PhantomData);
+    let data_elements = Objects::<RawElement>("dataElements", PhantomData);
+    let data_approval_levels = Objects::<RawApprovalLevel>("dataApprovalLevels", PhantomData);
+    let elements = (
+        category_combos,
+        (
+            category_option_combos,
+            (data_elements, data_approval_levels),
+        ),
+    );
+    let data_approval_workflows = Objects::<RawWorkflow>("dataApprovalWorkflows", PhantomData);
+    let data_sets = Objects::<RawDataSet>("dataSets", PhantomData);
+    let constants = Objects::<RawConstant>("constants", PhantomData);
+    let indicator_types = Objects::<RawIndicatorType>("indicatorTypes", PhantomData);
+    let sets = (
+        data_approval_workflows,
+        (data_sets, (constants, indicator_types)),
+    );
+    let indicators = Objects::<RawIndicator>("indicators", PhantomData);
+    let validation_rules = Objects::<RawRule>("validationRules", PhantomData);
+    let tracked_entity_types = Objects::<RawEntityType>("trackedEntityTypes", PhantomData);
+    let tracked_entity_attributes = Objects::<RawAttribute>("trackedEntityAttributes", PhantomData);
+    let rules = (
+        indicators,
+        (
+            validation_rules,
+            (tracked_entity_types, tracked_entity_attributes),
+        ),
+    );
+    let programs = Objects::<RawProgram>("programs", PhantomData);
+    let program_stages = Objects::<RawStage>("programStages", PhantomData);
+    let program_indicators = Objects::<RawProgramIndicator>("programIndicators", PhantomData);
+    let user_roles = Objects::<RawRole>("userRoles", PhantomData);
+    let tracking = (programs, (program_stages, (program_indicators, user_roles)));
+    let users = Objects::<RawUser>("users", PhantomData);
+    let user_groups = Objects::<RawUserGroup>("userGroups", PhantomData);
+    let people = (users, (user_groups, (Tokens {}, AcceptanceRequired {})));
+    let groups = (hierarchy, (elements, (sets, (rules, (tracking, people)))));
+    groups.read(alloc, value)
 }
 
 // All that the groups of a file say.
 fn joined(groups: Groups) -> MetaParts
     ensures { result ≡ joined groups }
 {
-    let (((((hierarchy, elements), sets), rules), tracking), people) = groups;
-    let (((organisation_units, organisation_unit_groups), category_options), categories) =
+    let (hierarchy, (elements, (sets, (rules, (tracking, people))))) = groups;
+    let (organisation_units, (organisation_unit_groups, (category_options, categories))) =
         hierarchy;
-    let (((category_combos, category_option_combos), data_elements), data_approval_levels) =
+    let (category_combos, (category_option_combos, (data_elements, data_approval_levels))) =
         elements;
-    let (((data_approval_workflows, data_sets), constants), indicator_types) = sets;
-    let (((indicators, validation_rules), tracked_entity_types), tracked_entity_attributes) = rules;
-    let (((programs, program_stages), program_indicators), user_roles) = tracking;
-    let (((users, user_groups), api_tokens), acceptance_required) = people;
+    let (data_approval_workflows, (data_sets, (constants, indicator_types))) = sets;
+    let (indicators, (validation_rules, (tracked_entity_types, tracked_entity_attributes))) = rules;
+    let (programs, (program_stages, (program_indicators, user_roles))) = tracking;
+    let (users, (user_groups, (api_tokens, acceptance_required))) = people;
     MetaParts {
         organisation_units,
         organisation_unit_groups,
