@@ -21,6 +21,8 @@ use Rattle.dh_changes.specs.declared.change.Write.{Write}
 use Rattle.dh_changes.specs.declared.change.Write.TheVariants.{ValueSet, ValueCleared, EventWritten, EventDeleted, EnrollmentWritten, EnrollmentDeleted}
 use Rattle.dh_changes.specs.declared.change.Write.TheVariants.{EntityWritten, EntityDeleted, Approve, Unapprove, Accept, Unaccept, Complete, Uncomplete}
 use Rattle.dh_changes.specs.declared.change.Change.{Change}
+use Rattle.dh_changes.specs.declared.tracker.Event.{Event}
+use Rattle.dh_changes.specs.declared.tracker.Enrollment.{Enrollment}
 use Rattle.change_log.specs.ReadWords.{Reads, ◌⊗◌, mapped, number_at, text_at, times_at}
 use Rattle.change_log.specs.Words.{number, signed, text, listed, optional_id, IsId}
 use Rattle.change_log.proofs.WordCodecs.{IsBytes, Takes, Takes-then, IsCodec, and_then-some, map-some, both_codec, refined_codec, mapped_codec, wide8, wide16}
@@ -31,10 +33,10 @@ use Rattle.change_log.specs.Fields.{event_bytes, enrollment_bytes, entity_bytes}
 use Rattle.change_log.specs.Bytes.{write_bytes, body_bytes}
 use Rattle.change_log.specs.Forms.{IsDay, IsPeriod, IsValueKey, IsApprovalKey, IsRegKey, IsState, IsEvent, IsEnrollment, IsEntity, IsWrite, TextFits}
 use Rattle.change_log.specs.Forms.{event_statuses, enrollment_statuses}
-use Rattle.change_log.specs.Reading.{canonical_of, period_at, day_of, day_at, given_day_at, status_at, two_ids_at, three_ids_at, value_key_at}
-use Rattle.change_log.specs.Reading.{approval_key_at, reg_key_at, days_at, state_at, event_ids_at, event_at, enrollment_at, entity_at, value_set_at}
+use Rattle.change_log.specs.Reading.{canonical_of, period_at, day_of, day_at, given_day_at, two_ids_at, three_ids_at, value_key_at}
+use Rattle.change_log.specs.Reading.{approval_key_at, reg_key_at, days_at, state_at, event_ids_at, event_of, event_at, enrollment_of, enrollment_at, entity_at, value_set_at}
 use Rattle.change_log.specs.Reading.{complete_at, value_write_at, tracker_write_at, deletion_at, is_deletion, approval_at, registration_at, fields_at}
-use Rattle.change_log.specs.Reading.{write_at, writes_at, same_number_at, head_at, change_at}
+use Rattle.change_log.specs.Reading.{write_at, writes_at, head_at, change_in, change_at}
 use Rattle.change_log.proofs.TextLengths.{length_as, text-length}
 use Rattle.dh_base.specs.Limits.{is_day}
 
@@ -122,21 +124,12 @@ given_day_codec =
     (λ z y fits g e. let p = some-if (is_day z) z y e in (sym p.1, subst IsDay p.1 p.0))
     (λ z h. (ap (λ b. cond b (Some z) None) h, day-fits z h))
 
-pub status_codec : (n : ℕ) → n < 2 ^ 8 → IsCodec (number w8) (status_at n) (λ s. s < n)
-unfolding status_at
-status_codec n small =
-    refined_codec (λ s. cond (nat_lt s n) (Some s) None) (λ s. s) (λ s. s < n) (number_codec w8 (2 ^ 8) wide8)
-    (λ s y fits g e. let p = some-if (nat_lt s n) s y e in (sym p.1, subst (λ z. z < n) p.1 (ltb-true s n p.0)))
-    (λ s lt. (ap (λ b. cond b (Some s) None) (lt-ltb s n lt), omega arith))
-
 -- ---- keys and tracker objects
 
 two_ids_codec : IsCodec (λ p. p.0 ++ p.1) two_ids_at (λ p. IsId p.0 × IsId p.1)
-unfolding two_ids_at
 two_ids_codec = both_codec id_codec id_codec
 
 three_ids_codec : IsCodec (λ p. p.0 ++ (p.1.0 ++ p.1.1)) three_ids_at (λ p. IsId p.0 × (IsId p.1.0 × IsId p.1.1))
-unfolding three_ids_at
 three_ids_codec = both_codec id_codec two_ids_codec
 
 value_key_codec : IsCodec value_key_bytes value_key_at IsValueKey
@@ -160,45 +153,52 @@ reg_key_codec =
     (both_codec id_codec (both_codec period_codec two_ids_codec)) (λ p fits g. (refl, g)) (λ k g. (refl, g))
 
 days_codec : IsCodec (λ p. day_bytes p.0 ++ day_bytes p.1) days_at (λ p. IfSome p.0 IsDay × IfSome p.1 IsDay)
-unfolding days_at
 days_codec = both_codec day_codec day_codec
 
-state_codec : (n : ℕ) → n < 2 ^ 8 → IsCodec (λ p. state_bytes p.0 p.1.0 p.1.1.0 p.1.1.1) (state_at n) (λ p. IsState n p.0 p.1.0 p.1.1.0 p.1.1.1)
-unfolding state_at
-state_codec n small = both_codec id_codec (both_codec (status_codec n small) days_codec)
+state_codec : IsCodec (λ p. state_bytes p.0 p.1.0 p.1.1.0 p.1.1.1) state_at (λ p. IsState (2 ^ 8) p.0 p.1.0 p.1.1.0 p.1.1.1)
+state_codec = both_codec id_codec (both_codec (number_codec w8 (2 ^ 8) wide8) days_codec)
+
+-- a status below so many, as it is read
+status-meant : {A : Type 0} (s n : ℕ) (x z : A) → cond (nat_lt s n) (Some x) None ≡ Some z → (s < n) × (x ≡ z)
+status-meant s n x z e = let p = some-if (nat_lt s n) x z e in (ltb-true s n p.0, p.1)
 
 event_ids_codec : IsCodec (λ p. p.0 ++ (optional_id p.1.0 ++ (p.1.1.0 ++ p.1.1.1))) event_ids_at (λ p. IsId p.0
     × (IfSome p.1.0 IsId × (IsId p.1.1.0 × IsId p.1.1.1)))
-unfolding event_ids_at
 event_ids_codec = both_codec id_codec (both_codec optional_id_codec two_ids_codec)
 
 event_codec : IsCodec event_bytes event_at IsEvent
 unfolding event_at
 event_codec =
-    mapped_codec
-    (λ p. record {
-      id = p.0.0;
-      enrollment = p.0.1.0;
-      program = p.0.1.1.0;
-      stage = p.0.1.1.1;
-      unit = p.1.0.0;
-      status = p.1.0.1.0;
-      occurred =
-          p.1.0.1.1.0;
-      scheduled = p.1.0.1.1.1;
-      values = p.1.1;
-    })
+    refined_codec (λ p. cond (nat_lt p.1.0.1.0 event_statuses) (Some (event_of p)) None)
     (λ e. ((e.id, (e.enrollment, (e.program, e.stage))), ((e.unit, (e.status, (e.occurred, e.scheduled))), e.values)))
-    IsEvent (both_codec event_ids_codec (both_codec (state_codec event_statuses (omega arith)) (listed_codec w16 (2 ^ 16) wide16 id_text_codec))) (λ p fits g.
-    (refl, g)) (λ e g. (refl, g))
+    IsEvent (both_codec event_ids_codec (both_codec state_codec (listed_codec w16 (2 ^ 16) wide16 id_text_codec)))
+    (λ p e fits g read.
+    let meant = status-meant p.1.0.1.0 event_statuses (event_of p) e read in
+    let good : IsEvent (event_of p) = (g.0, ((g.1.0.0, (meant.0, g.1.0.1.1)), g.1.1)) in (
+      ap (λ (x : Event). ((x.id, (x.enrollment, (x.program, x.stage))), ((x.unit, (x.status, (x.occurred, x.scheduled))), x.values))) (sym meant.1),
+      subst IsEvent meant.1 good,
+    ))
+    (λ e g. (
+      ap (λ b. cond b (Some e) None) (lt-ltb e.status event_statuses g.1.0.1.0),
+      (g.0, ((g.1.0.0, (omega (arith, g.1.0.1.0), g.1.0.1.1)), g.1.1)),
+    ))
 
 enrollment_codec : IsCodec enrollment_bytes enrollment_at IsEnrollment
 unfolding enrollment_at
 enrollment_codec =
-    mapped_codec
-    (λ p. record { id = p.0.0; entity = p.0.1.0; program = p.0.1.1; unit = p.1.0; status = p.1.1.0; enrolled = p.1.1.1.0; occurred = p.1.1.1.1 })
+    refined_codec (λ p. cond (nat_lt p.1.1.0 enrollment_statuses) (Some (enrollment_of p)) None)
     (λ e. ((e.id, (e.entity, e.program)), (e.unit, (e.status, (e.enrolled, e.occurred)))))
-    IsEnrollment (both_codec three_ids_codec (state_codec enrollment_statuses (omega arith))) (λ p fits g. (refl, g)) (λ e g. (refl, g))
+    IsEnrollment (both_codec three_ids_codec state_codec)
+    (λ p e fits g read.
+    let meant = status-meant p.1.1.0 enrollment_statuses (enrollment_of p) e read in
+    let good : IsEnrollment (enrollment_of p) = (g.0, (g.1.0, (meant.0, g.1.1.1))) in (
+      ap (λ (x : Enrollment). ((x.id, (x.entity, x.program)), (x.unit, (x.status, (x.enrolled, x.occurred))))) (sym meant.1),
+      subst IsEnrollment meant.1 good,
+    ))
+    (λ e g. (
+      ap (λ b. cond b (Some e) None) (lt-ltb e.status enrollment_statuses g.1.1.0),
+      (g.0, (g.1.0, (omega (arith, g.1.1.0), g.1.1.1))),
+    ))
 
 entity_codec : IsCodec entity_bytes entity_at IsEntity
 unfolding entity_at
@@ -371,18 +371,9 @@ writes_codec = record {
       ∙ times_again write_codec ws rest (recursion_from_All IsWrite ws g.1.1);
 }
 
-same_number_codec : (n : ℕ) → IsCodec (number w64) (same_number_at n) (λ m. (m ≡ n) × (m < 2 ^ 64))
-unfolding same_number_at
-same_number_codec n =
-    refined_codec (λ m. cond (m == n) (Some m) None) (λ m. m) (λ m. (m ≡ n) × (m < 2 ^ 64)) (number_codec w64 (2 ^ 64) wide64)
-    (λ m y fits g e. let p = some-if (m == n) m y e in (sym p.1, (sym p.1 ∙ eqb-true m n p.0, subst (λ z. z < 2 ^ 64) p.1 g)))
-    (λ m g. (ap (λ b. cond b (Some m) None) (eq-eqb m n g.0), g.1))
-
-head_codec : (n : ℕ)
-    → IsCodec (λ p. number w64 p.0 ++ (optional_id p.1.0 ++ signed w64 p.1.1)) (head_at n) (λ p. ((p.0 ≡ n) × (p.0 < 2 ^ 64))
+head_codec : IsCodec (λ p. number w64 p.0 ++ (optional_id p.1.0 ++ signed w64 p.1.1)) head_at (λ p. (p.0 < 2 ^ 64)
     × (IfSome p.1.0 IsId × FitsSigned w64 p.1.1))
-unfolding head_at
-head_codec n = both_codec (same_number_codec n) (both_codec optional_id_codec (signed_codec w64 wide64))
+head_codec = both_codec (number_codec w64 (2 ^ 64) wide64) (both_codec optional_id_codec (signed_codec w64 wide64))
 
 -- what is read of a change under that number
 abbrev pub IsRead : ℕ → Change → Type 0
@@ -391,7 +382,12 @@ IsRead n c = (n < 2 ^ 64) × ((IfSome c.user IsId × FitsSigned w64 c.moment) ×
 pub change_codec : (n : ℕ) → IsCodec (body_bytes n) (change_at n) (IsRead n)
 unfolding change_at body_bytes
 change_codec n =
-    mapped_codec (λ p. record { user = p.0.1.0; moment = p.0.1.1; writes = p.1 }) (λ c. ((n, (c.user, c.moment)), c.writes)) (IsRead n)
-    (both_codec (head_codec n) writes_codec)
-    (λ p fits g. (ap (λ m. ((m, p.0.1), p.1)) (sym g.0.0.0), (subst (λ m. m < 2 ^ 64) g.0.0.0 g.0.0.1, (g.0.1, g.1))))
-    (λ c g. (refl, (((refl, g.0), g.1.0), g.1.1)))
+    refined_codec (λ p. cond (p.0.0 == n) (Some (change_in p)) None) (λ c. ((n, (c.user, c.moment)), c.writes)) (IsRead n) (both_codec head_codec writes_codec)
+    (λ p c fits g e.
+    let read = some-if (p.0.0 == n) (change_in p) c e in
+    let same : p.0.0 ≡ n = eqb-true p.0.0 n read.0 in
+    let good : IsRead n (change_in p) = (subst (λ m. m < 2 ^ 64) same g.0.0, (g.0.1, g.1)) in (
+      ap (λ (x : Change). ((n, (x.user, x.moment)), x.writes)) (sym read.1) ∙ ap (λ m. ((m, p.0.1), p.1)) (sym same),
+      subst (IsRead n) read.1 good,
+    ))
+    (λ c g. (ap (λ b. cond b (Some c) None) (eq-eqb n n refl), ((g.0, g.1.0), g.1.1)))

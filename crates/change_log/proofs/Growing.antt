@@ -30,11 +30,7 @@ pub both_put : {E : Type 0} (result : Result (Unit {0}) E) (start middle after a
 both_put (Ok done) start middle after a b was now = now ∙ ap (λ t. t ++ b) was ∙ append_assoc start a b
 both_put (Err fault) start middle after a b was now = now
 
--- what holds anyway, and what holds if all went well
-pub on_ok : {E A : Type 0} (result : Result (Unit {0}) E) → A → OnOk result A
-on_ok (Ok done) a = a
-on_ok (Err fault) a = tt
-
+-- what holds once both are put
 pub both_hold : {E A : Type 0} (B : Type 0) (result : Result (Unit {0}) E) → A → OnOk result B → OnOk result (A × B)
 both_hold B (Ok done) a b = (a, b)
 both_hold B (Err fault) a b = tt

@@ -301,5 +301,4 @@ optional_id_codec =
     refined_codec optional_id_of optional_id (λ o. IfSome o IsId) (bytes_codec 11) (λ x o fits len e. optional-meant x o e) optional-written
 
 pub id_text_codec : IsCodec id_text id_text_at IsIdText
-unfolding id_text_at
 id_text_codec = both_codec id_codec (text_codec w16 (2 ^ 16) wide16)

@@ -59,5 +59,5 @@ unfoldable pub optional_id_at : Reads (Option (List ℕ))
 optional_id_at = refined optional_id_of (bytes_at 11)
 
 -- an item's identifier and its value
-unfoldable pub id_text_at : Reads (List ℕ × List ℕ)
+abbrev pub id_text_at : Reads (List ℕ × List ℕ)
 id_text_at = id_at ⊗ text_at w16

@@ -37,14 +37,10 @@ day_at = refined day_of (signed_at w32)
 unfoldable pub given_day_at : Reads ℤ
 given_day_at = refined (λ z. if is_day z then Some z else None) (signed_at w32)
 
--- a status below so many
-unfoldable pub status_at : ℕ → Reads ℕ
-status_at statuses = refined (λ s. if nat_lt s statuses then Some s else None) (number_at w8)
-
-unfoldable pub two_ids_at : Reads (List ℕ × List ℕ)
+abbrev pub two_ids_at : Reads (List ℕ × List ℕ)
 two_ids_at = id_at ⊗ id_at
 
-unfoldable pub three_ids_at : Reads (List ℕ × (List ℕ × List ℕ))
+abbrev pub three_ids_at : Reads (List ℕ × (List ℕ × List ℕ))
 three_ids_at = id_at ⊗ two_ids_at
 
 unfoldable pub value_key_at : Reads ValueKey
@@ -57,35 +53,40 @@ approval_key_at = mapped (λ p. record { workflow = p.0; period = p.1.0; unit = 
 unfoldable pub reg_key_at : Reads RegKey
 reg_key_at = mapped (λ p. record { set = p.0; period = p.1.0; unit = p.1.1.0; attribute = p.1.1.1 }) (id_at ⊗ (period_at ⊗ two_ids_at))
 
-unfoldable pub days_at : Reads (Option ℤ × Option ℤ)
+abbrev pub days_at : Reads (Option ℤ × Option ℤ)
 days_at = day_at ⊗ day_at
 
-unfoldable pub state_at : ℕ → Reads (List ℕ × (ℕ × (Option ℤ × Option ℤ)))
-state_at statuses = id_at ⊗ (status_at statuses ⊗ days_at)
+abbrev pub state_at : Reads (List ℕ × (ℕ × (Option ℤ × Option ℤ)))
+state_at = id_at ⊗ (number_at w8 ⊗ days_at)
 
-unfoldable pub event_ids_at : Reads (List ℕ × (Option (List ℕ) × (List ℕ × List ℕ)))
+abbrev pub event_ids_at : Reads (List ℕ × (Option (List ℕ) × (List ℕ × List ℕ)))
 event_ids_at = id_at ⊗ (optional_id_at ⊗ two_ids_at)
 
+abbrev pub event_of : (List ℕ × (Option (List ℕ) × (List ℕ × List ℕ)))
+    × ((List ℕ × (ℕ × (Option ℤ × Option ℤ))) × List (List ℕ × List ℕ)) → Event
+event_of p = record {
+  id = p.0.0;
+  enrollment = p.0.1.0;
+  program = p.0.1.1.0;
+  stage = p.0.1.1.1;
+  unit = p.1.0.0;
+  status = p.1.0.1.0;
+  occurred = p.1.0.1.1.0;
+  scheduled = p.1.0.1.1.1;
+  values = p.1.1;
+}
+
+-- its status is one of the list
 unfoldable pub event_at : Reads Event
 event_at =
-    mapped (λ p. record {
-      id = p.0.0;
-      enrollment = p.0.1.0;
-      program = p.0.1.1.0;
-      stage = p.0.1.1.1;
-      unit = p.1.0.0;
-      status = p.1.0.1.0;
-      occurred =
-          p.1.0.1.1.0;
-      scheduled = p.1.0.1.1.1;
-      values = p.1.1;
-    })
-    (event_ids_at ⊗ (state_at event_statuses ⊗ listed_at w16 id_text_at))
+    refined (λ p. if nat_lt p.1.0.1.0 event_statuses then Some (event_of p) else None) (event_ids_at ⊗ (state_at ⊗ listed_at w16 id_text_at))
+
+abbrev pub enrollment_of : (List ℕ × (List ℕ × List ℕ)) × (List ℕ × (ℕ × (Option ℤ × Option ℤ))) → Enrollment
+enrollment_of p =
+    record { id = p.0.0; entity = p.0.1.0; program = p.0.1.1; unit = p.1.0; status = p.1.1.0; enrolled = p.1.1.1.0; occurred = p.1.1.1.1 }
 
 unfoldable pub enrollment_at : Reads Enrollment
-enrollment_at =
-    mapped (λ p. record { id = p.0.0; entity = p.0.1.0; program = p.0.1.1; unit = p.1.0; status = p.1.1.0; enrolled = p.1.1.1.0; occurred = p.1.1.1.1 })
-    (three_ids_at ⊗ state_at enrollment_statuses)
+enrollment_at = refined (λ p. if nat_lt p.1.1.0 enrollment_statuses then Some (enrollment_of p) else None) (three_ids_at ⊗ state_at)
 
 unfoldable pub entity_at : Reads Entity
 entity_at = mapped (λ p. record { id = p.0.0; kind = p.0.1.0; unit = p.0.1.1; attributes = p.1 }) (three_ids_at ⊗ listed_at w16 id_text_at)
@@ -148,15 +149,16 @@ write_at bytes = option_and_then (λ kind. fields_at kind.0 kind.1) (number_at w
 unfoldable pub writes_at : Reads (List Write)
 writes_at bytes = option_and_then (λ n. if n.0 == 0 then None else times_at n.0 write_at n.1) (number_at w32 bytes)
 
--- the number that is meant
-unfoldable pub same_number_at : ℕ → Reads ℕ
-same_number_at n = refined (λ m. if m == n then Some m else None) (number_at w64)
+-- the number of a change, who made it, and when
+abbrev pub head_at : Reads (ℕ × (Option (List ℕ) × ℤ))
+head_at = number_at w64 ⊗ (optional_id_at ⊗ signed_at w64)
 
-unfoldable pub head_at : ℕ → Reads (ℕ × (Option (List ℕ) × ℤ))
-head_at n = same_number_at n ⊗ (optional_id_at ⊗ signed_at w64)
+abbrev pub change_in : (ℕ × (Option (List ℕ) × ℤ)) × List Write → Change
+change_in p = record { user = p.0.1.0; moment = p.0.1.1; writes = p.1 }
 
+-- a change whose number is the one that is meant
 unfoldable pub change_at : ℕ → Reads Change
-change_at n = mapped (λ p. record { user = p.0.1.0; moment = p.0.1.1; writes = p.1 }) (head_at n ⊗ writes_at)
+change_at n = refined (λ p. if p.0.0 == n then Some (change_in p) else None) (head_at ⊗ writes_at)
 
 -- the change of that number whose fields are all of the bytes
 unfoldable pub change_of : ℕ → List ℕ → Option Change

@@ -9,12 +9,14 @@ mod decoding;
 mod encode_fields;
 mod encoding;
 mod fault;
+mod field;
 mod held;
 mod laws;
 mod lengths;
 mod limits;
 mod log;
 mod periods;
+mod put;
 mod read_words;
 mod write_words;
 

@@ -1,9 +1,10 @@
 ghost use Rattle.std.specs.Prelude.{◌≡◌, ℕ, List, length, take, drop, IfOk};
 ghost use Rattle.std.specs.Int.{w8, w16, w32, w64};
-ghost use Rattle.change_log.specs.ReadWords.{bytes_at, number_at, signed_at, text_at, times_at, listed_at, id_at, optional_id_at, id_text_at};
+ghost use Rattle.change_log.specs.ReadWords.{bytes_at, number_at, signed_at, text_at};
 ghost use Rattle.change_log.specs.Given.{GivesAs, Gives};
 
 use crate::fault::ReadFault;
+use crate::field::{Field, read_each};
 use dh_base::items::Items;
 use dh_base::uid::Uid;
 use dh_changes::text::Text;
@@ -33,6 +34,15 @@ pub fn read_u8(rest: &mut &[u8]) -> Result<u8, ReadFault>
     Ok(u8::from_be_bytes([piece[0]]))
 }
 
+/// A number of one byte.
+impl Field for u8 {
+    ghost form = { number_at w8 };
+
+    fn read(_alloc: Global, rest: &mut &[u8]) -> Result<u8, ReadFault> {
+        read_u8(rest)
+    }
+}
+
 /// A number of two bytes.
 #[tactic(auto, unfolding(crate::specs::ReadWords::number_at))]
 pub fn read_u16(rest: &mut &[u8]) -> Result<u16, ReadFault>
@@ -52,14 +62,16 @@ pub fn read_u32(rest: &mut &[u8]) -> Result<u32, ReadFault>
 }
 
 /// A number of eight bytes.
-#[tactic(auto, unfolding(crate::specs::ReadWords::number_at))]
-pub fn read_u64(rest: &mut &[u8]) -> Result<u64, ReadFault>
-    ensures { Gives (number_at w64 rest.old.now) result rest.new.now }
-{
-    let piece = read_bytes(rest, 8)?;
-    Ok(u64::from_be_bytes([
-        piece[0], piece[1], piece[2], piece[3], piece[4], piece[5], piece[6], piece[7],
-    ]))
+impl Field for u64 {
+    ghost form = { number_at w64 };
+
+    #[tactic(auto, unfolding(crate::specs::ReadWords::number_at))]
+    fn read(_alloc: Global, rest: &mut &[u8]) -> Result<u64, ReadFault> {
+        let piece = read_bytes(rest, 8)?;
+        Ok(u64::from_be_bytes([
+            piece[0], piece[1], piece[2], piece[3], piece[4], piece[5], piece[6], piece[7],
+        ]))
+    }
 }
 
 /// A number of four bytes that may be negative.
@@ -72,12 +84,14 @@ pub fn read_i32(rest: &mut &[u8]) -> Result<i32, ReadFault>
 }
 
 /// A number of eight bytes that may be negative.
-#[tactic(auto, unfolding(crate::specs::ReadWords::signed_at))]
-pub fn read_i64(rest: &mut &[u8]) -> Result<i64, ReadFault>
-    ensures { Gives (signed_at w64 rest.old.now) result rest.new.now }
-{
-    let number = read_u64(rest)?;
-    Ok(number.cast_signed())
+impl Field for i64 {
+    ghost form = { signed_at w64 };
+
+    #[tactic(auto, unfolding(crate::specs::ReadWords::signed_at))]
+    fn read(alloc: Global, rest: &mut &[u8]) -> Result<i64, ReadFault> {
+        let number = u64::read(alloc, rest)?;
+        Ok(number.cast_signed())
+    }
 }
 
 /// A text after its length of one byte, lent.
@@ -114,78 +128,69 @@ fn owned(alloc: Global, text: &[u8]) -> Result<Items<u8>, AllocError>
 }
 
 /// A text after its length of two bytes, copied.
-pub fn read_owned_text(alloc: Global, rest: &mut &[u8]) -> Result<Items<u8>, ReadFault>
-    ensures { Gives (text_at w16 rest.old.now) result rest.new.now }
-{
-    let text = read_text(rest)?;
-    Ok(owned(alloc, text)?)
+impl Field for Items<u8> {
+    ghost form = { text_at w16 };
+
+    fn read(alloc: Global, rest: &mut &[u8]) -> Result<Items<u8>, ReadFault> {
+        let text = read_text(rest)?;
+        Ok(owned(alloc, text)?)
+    }
 }
 
 /// A text after its length of two bytes, copied to where a short one stands in its owner.
-pub fn read_value_text(alloc: Global, rest: &mut &[u8]) -> Result<Text, ReadFault>
-    ensures { Gives (text_at w16 rest.old.now) result rest.new.now }
-{
-    let text = read_text(rest)?;
-    Ok(Text::of(alloc, text)?)
+impl Field for Text {
+    ghost form = { text_at w16 };
+
+    fn read(alloc: Global, rest: &mut &[u8]) -> Result<Text, ReadFault> {
+        let text = read_text(rest)?;
+        Ok(Text::of(alloc, text)?)
+    }
 }
 
 /// An identifier.
-#[tactic(auto, unfolding(crate::specs::ReadWords::id_at))]
-pub fn read_id(rest: &mut &[u8]) -> Result<Uid, ReadFault>
-    ensures { Gives (id_at rest.old.now) result rest.new.now }
-{
-    let piece = read_bytes(rest, 11)?;
-    match Uid::parse(piece) {
-        Some(id) => Ok(id),
-        None => Err(ReadFault::Bad),
+impl Field for Uid {
+    ghost use Rattle.change_log.specs.ReadWords.{id_at};
+
+    ghost form = { id_at };
+
+    #[tactic(auto, unfolding(crate::specs::ReadWords::id_at))]
+    fn read(_alloc: Global, rest: &mut &[u8]) -> Result<Uid, ReadFault> {
+        let piece = read_bytes(rest, 11)?;
+        match Uid::parse(piece) {
+            Some(id) => Ok(id),
+            None => Err(ReadFault::Bad),
+        }
     }
 }
 
 /// An identifier, or `None` where eleven zero bytes stand.
-#[tactic(auto, unfolding(crate::specs::ReadWords::optional_id_at))]
-pub fn read_optional_id(rest: &mut &[u8]) -> Result<Option<Uid>, ReadFault>
-    ensures { Gives (optional_id_at rest.old.now) result rest.new.now }
-{
-    let piece = read_bytes(rest, 11)?;
-    if piece == [0u8; 11].as_slice() {
-        return Ok(None);
-    }
-    match Uid::parse(piece) {
-        Some(id) => Ok(Some(id)),
-        None => Err(ReadFault::Bad),
-    }
-}
+impl Field for Option<Uid> {
+    ghost use Rattle.change_log.specs.ReadWords.{optional_id_at};
 
-/// An item's identifier and its value.
-#[tactic(auto, unfolding(crate::specs::ReadWords::id_text_at))]
-pub fn read_id_text(alloc: Global, rest: &mut &[u8]) -> Result<(Uid, Items<u8>), ReadFault>
-    ensures { Gives (id_text_at rest.old.now) result rest.new.now }
-{
-    let id = read_id(rest)?;
-    let value = read_owned_text(alloc, rest)?;
-    Ok((id, value))
-}
+    ghost form = { optional_id_at };
 
-// So many of them, each of which takes bytes: no memory is taken for what isn't there.
-fn read_each(
-    alloc: Global,
-    count: u16,
-    rest: &mut &[u8],
-) -> Result<Items<(Uid, Items<u8>)>, ReadFault>
-    ensures { Gives (times_at count id_text_at rest.old.now) result rest.new.now }
-{
-    let mut all = Vec::new(alloc);
-    for _ in 0..count {
-        all.push(read_id_text(alloc, rest)?)?;
+    #[tactic(auto, unfolding(crate::specs::ReadWords::optional_id_at))]
+    fn read(_alloc: Global, rest: &mut &[u8]) -> Result<Option<Uid>, ReadFault> {
+        let piece = read_bytes(rest, 11)?;
+        if piece == [0u8; 11].as_slice() {
+            return Ok(None);
+        }
+        match Uid::parse(piece) {
+            Some(id) => Ok(Some(id)),
+            None => Err(ReadFault::Bad),
+        }
     }
-    Ok(Items::from(all))
 }
 
 /// Items' identifiers and their values after their count of two bytes.
-#[tactic(auto, unfolding(crate::specs::ReadWords::listed_at))]
-pub fn read_id_texts(alloc: Global, rest: &mut &[u8]) -> Result<Items<(Uid, Items<u8>)>, ReadFault>
-    ensures { Gives (listed_at w16 id_text_at rest.old.now) result rest.new.now }
-{
-    let count = read_u16(rest)?;
-    read_each(alloc, count, rest)
+impl Field for Items<(Uid, Items<u8>)> {
+    ghost use Rattle.change_log.specs.ReadWords.{listed_at, id_text_at};
+
+    ghost form = { listed_at w16 id_text_at };
+
+    #[tactic(auto, unfolding(crate::specs::ReadWords::listed_at))]
+    fn read(alloc: Global, rest: &mut &[u8]) -> Result<Items<(Uid, Items<u8>)>, ReadFault> {
+        let count = read_u16(rest)?;
+        read_each(alloc, count as u32, rest)
+    }
 }

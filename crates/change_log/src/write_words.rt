@@ -1,11 +1,15 @@
-ghost use Rattle.std.specs.Prelude.{◌≡◌, ◌++◌, ◌<◌, ◌+◌, ◌^◌, length, IfSome, OnOk};
+ghost use Rattle.std.specs.Prelude.{◌≡◌, ◌++◌, ◌<◌, ◌+◌, ◌^◌, length, IfSome, OnOk, ⊤};
 ghost use Rattle.std.specs.List.{flat_map, All};
 ghost use Rattle.std.specs.Int.{w8, w16, w32, w64};
+ghost use Rattle.std.specs.Int.RustNames.{FitsSigned};
 ghost use Rattle.change_log.specs.Words.{number, signed, text, listed, optional_id, id_text, IsId, IsIdText, capped};
 
+use crate::put::{Put, put_each};
 use dh_base::items::Items;
 use dh_base::memory::Memory;
 use dh_base::uid::Uid;
+use dh_changes::text::Text;
+use std::alloc::Global;
 
 /// Puts bytes at the end, as each writer does.
 pub fn put_bytes(out: &mut Vec<u8>, bytes: &[u8]) -> Result<(), Memory>
@@ -36,25 +40,56 @@ pub fn put_u32(out: &mut Vec<u8>, value: u32) -> Result<(), Memory>
     put_bytes(out, &value.to_be_bytes())
 }
 
+/// A number of one byte.
+impl Put for u8 {
+    ghost bytes = { number w8 };
+
+    ghost Fits = { λ value. ⊤ };
+
+    ghost Holds = { λ value. ⊤ };
+
+    fn put(&self, _alloc: Global, out: &mut Vec<u8>) -> Result<(), Memory> {
+        put_u8(out, *self)
+    }
+}
+
 /// A number of eight bytes.
-pub fn put_u64(out: &mut Vec<u8>, value: u64) -> Result<(), Memory>
-    ensures { OnOk result (out.new.items ≡ out.old.items ++ number w64 value) }
-{
-    put_bytes(out, &value.to_be_bytes())
+impl Put for u64 {
+    ghost bytes = { number w64 };
+
+    ghost Fits = { λ value. ⊤ };
+
+    ghost Holds = { λ value. value < 2 ^ 64 };
+
+    fn put(&self, _alloc: Global, out: &mut Vec<u8>) -> Result<(), Memory> {
+        put_bytes(out, &self.to_be_bytes())
+    }
 }
 
 /// A number of four bytes that may be negative.
-pub fn put_i32(out: &mut Vec<u8>, value: i32) -> Result<(), Memory>
-    ensures { OnOk result (out.new.items ≡ out.old.items ++ signed w32 value) }
-{
-    put_bytes(out, &value.to_be_bytes())
+impl Put for i32 {
+    ghost bytes = { signed w32 };
+
+    ghost Fits = { λ value. ⊤ };
+
+    ghost Holds = { λ value. ⊤ };
+
+    fn put(&self, _alloc: Global, out: &mut Vec<u8>) -> Result<(), Memory> {
+        put_bytes(out, &self.to_be_bytes())
+    }
 }
 
 /// A number of eight bytes that may be negative.
-pub fn put_i64(out: &mut Vec<u8>, value: i64) -> Result<(), Memory>
-    ensures { OnOk result (out.new.items ≡ out.old.items ++ signed w64 value) }
-{
-    put_bytes(out, &value.to_be_bytes())
+impl Put for i64 {
+    ghost bytes = { signed w64 };
+
+    ghost Fits = { λ value. ⊤ };
+
+    ghost Holds = { FitsSigned w64 };
+
+    fn put(&self, _alloc: Global, out: &mut Vec<u8>) -> Result<(), Memory> {
+        put_bytes(out, &self.to_be_bytes())
+    }
 }
 
 /// A text after its length of one byte.
@@ -75,22 +110,58 @@ pub fn put_text(out: &mut Vec<u8>, value: &[u8]) -> Result<(), Memory>
     put_bytes(out, value)
 }
 
+/// A text after its length of two bytes.
+impl Put for Items<u8> {
+    ghost bytes = { text w16 };
+
+    ghost Fits = { λ value. length value < 2 ^ 16 };
+
+    ghost Holds = { λ value. length value < 2 ^ 16 };
+
+    fn put(&self, _alloc: Global, out: &mut Vec<u8>) -> Result<(), Memory> {
+        put_text(out, self.as_slice())
+    }
+}
+
+/// The same of a short one.
+impl Put for Text {
+    ghost bytes = { text w16 };
+
+    ghost Fits = { λ value. length value < 2 ^ 16 };
+
+    ghost Holds = { λ value. length value < 2 ^ 16 };
+
+    fn put(&self, _alloc: Global, out: &mut Vec<u8>) -> Result<(), Memory> {
+        put_text(out, self.as_slice())
+    }
+}
+
 /// An identifier.
-pub fn put_id(out: &mut Vec<u8>, id: Uid) -> Result<(), Memory>
-    ensures bytes { OnOk result (out.new.items ≡ out.old.items ++ id) }
-    ensures valid { IsId id }
-{
-    put_bytes(out, &id.bytes())
+impl Put for Uid {
+    ghost bytes = { λ id. id };
+
+    ghost Fits = { λ id. ⊤ };
+
+    ghost Holds = { IsId };
+
+    fn put(&self, _alloc: Global, out: &mut Vec<u8>) -> Result<(), Memory> {
+        put_bytes(out, &self.bytes())
+    }
 }
 
 /// An identifier, or eleven zero bytes.
-pub fn put_optional_id(out: &mut Vec<u8>, id: Option<Uid>) -> Result<(), Memory>
-    ensures bytes { OnOk result (out.new.items ≡ out.old.items ++ optional_id id) }
-    ensures valid { IfSome id IsId }
-{
-    match id {
-        Some(id) => put_id(out, id),
-        None => put_bytes(out, &[0; 11]),
+impl Put for Option<Uid> {
+    ghost bytes = { optional_id };
+
+    ghost Fits = { λ id. ⊤ };
+
+    ghost Holds = { λ id. IfSome id IsId };
+
+    fn put(&self, alloc: Global, out: &mut Vec<u8>) -> Result<(), Memory> {
+        match self {
+            Some(id) => id.put(alloc, out),
+            None => put_bytes(out, &[0; 11]),
+        }
     }
 }
 
@@ -102,36 +173,18 @@ pub fn id_len(id: Uid) -> u64
     id.bytes().len() as u64
 }
 
-/// An item's identifier and its value.
-pub fn put_id_text(out: &mut Vec<u8>, pair: &(Uid, Items<u8>)) -> Result<(), Memory>
-    requires { length pair.now.1 < 2 ^ 16 }
-    ensures bytes { OnOk result (out.new.items ≡ out.old.items ++ id_text pair.now) }
-    ensures valid { OnOk result (IsIdText pair.now) }
-{
-    put_id(out, pair.0)?;
-    put_text(out, pair.1.as_slice())
-}
-
-fn put_each(out: &mut Vec<u8>, values: &[(Uid, Items<u8>)]) -> Result<(), Memory>
-    requires { All (λ pair. length pair.1 < 2 ^ 16) values.now }
-    ensures bytes { OnOk result (out.new.items ≡ out.old.items ++ flat_map id_text values.now) }
-    ensures valid { OnOk result (All IsIdText values.now) }
-{
-    for pair in values {
-        put_id_text(out, pair)?;
-    }
-    Ok(())
-}
-
 /// Items' identifiers and their values after their count of two bytes.
-pub fn put_id_texts(out: &mut Vec<u8>, values: &[(Uid, Items<u8>)]) -> Result<(), Memory>
-    requires count { length values.now < 2 ^ 16 }
-    requires each { All (λ pair. length pair.1 < 2 ^ 16) values.now }
-    ensures bytes { OnOk result (out.new.items ≡ out.old.items ++ listed w16 id_text values.now) }
-    ensures valid { OnOk result (All IsIdText values.now) }
-{
-    put_u16(out, values.len() as u16)?;
-    put_each(out, values)
+impl Put for Items<(Uid, Items<u8>)> {
+    ghost bytes = { listed w16 id_text };
+
+    ghost Fits = { λ values. (length values < 2 ^ 16) × All (λ pair. length pair.1 < 2 ^ 16) values };
+
+    ghost Holds = { λ values. (length values < 2 ^ 16) × All IsIdText values };
+
+    fn put(&self, alloc: Global, out: &mut Vec<u8>) -> Result<(), Memory> {
+        put_u16(out, self.len() as u16)?;
+        put_each(alloc, out, self.as_slice())
+    }
 }
 
 fn id_text_len(pair: &(Uid, Items<u8>)) -> u64
