@@ -1,61 +1,17 @@
 -- What the notes beside a verdict say of its writes.
 use Rattle.std.proofs.Common.{◌≡◌, ◌∙◌, ℕ, Bool, true, false, cond, List, [], ◌∷◌, ◌++◌, ◌||◌, Option, Some, None, refl, sym, ap, map}
 use Rattle.std.specs.Option.{unwrap_or, option_or, option_map, option_map_or}
-use Rattle.std.specs.List.{list_any}
 use Rattle.std.specs.HashMap.{HashMap, get}
 use Rattle.std.specs.HashSet.{HashSet, contains}
 use Rattle.std.proofs.lemmas.List.Folds.{list_any-append}
 use Rattle.dh_changes.specs.declared.change.Write.{Write}
-use Rattle.dh_changes.specs.declared.tracker.Event.{Event}
-use Rattle.dh_changes.specs.declared.tracker.Enrollment.{Enrollment}
 use Rattle.dh_changes.specs.declared.tracker.Entity.{Entity}
 use Rattle.dh_changes.specs.declared.said.Said.{Said}
-use Rattle.dh_changes.specs.declared.said.Said.TheVariants as said
 use Rattle.dh_changes.specs.Said.{same_id, said_by, last_said, of_event, of_enrollment, of_entity}
 use Rattle.tracker_import.specs.declared.names.EnrollmentPlace.{EnrollmentPlace}
 use Rattle.tracker_import.specs.declared.places.EventPlace.{EventPlace}
 use Rattle.tracker_import.specs.Rules.{is_judged}
 use Rattle.tracker_import.specs.Known.{AreSaid, AreSeen, NotesEntity, NotesEnrollment, NotesEvent, whole_entity, enrollment_place, event_place}
-
--- ---- one write is noted
-
--- what is put at a key is what is said there
-put : {A B : Type 0} (f : A → B) (same : Bool) (value : A) (before : Option B)
-    → cond same (Some (f value)) before ≡ option_or (option_map f (cond same (Some value) None)) before
-put f true value before = refl
-put f false value before = refl
-
-pub noted-entity : {S : Type 0} (w : Write) (id : List ℕ) (found : Option Entity) (held : Option Entity) (old new : HashMap (List ℕ) (Option Entity) S)
-    → said_by w ≡ said.Entity id found → held ≡ whole_entity found
-    → ((q : List ℕ) → get same_id new q ≡ cond (same_id id q) (Some held) (get same_id old q))
-    → NotesEntity w old new
-noted-entity w id found held old new is same update = λ q.
-    update q
-    ∙ ap (λ h. cond (same_id id q) (Some h) (get same_id old q)) same
-    ∙ put whole_entity (same_id id q) found (get same_id old q)
-    ∙ ap (λ s. option_or (option_map whole_entity (of_entity q s)) (get same_id old q)) (sym is)
-
-pub noted-enrollment : {S : Type 0} (w : Write) (id : List ℕ) (found : Option Enrollment) (held : Option EnrollmentPlace)
-    (old new : HashMap (List ℕ) (Option EnrollmentPlace) S)
-    → said_by w ≡ said.Enrollment id found → held ≡ enrollment_place found
-    → ((q : List ℕ) → get same_id new q ≡ cond (same_id id q) (Some held) (get same_id old q))
-    → NotesEnrollment w old new
-noted-enrollment w id found held old new is same update = λ q.
-    update q
-    ∙ ap (λ h. cond (same_id id q) (Some h) (get same_id old q)) same
-    ∙ put enrollment_place (same_id id q) found (get same_id old q)
-    ∙ ap (λ s. option_or (option_map enrollment_place (of_enrollment q s)) (get same_id old q)) (sym is)
-
-pub noted-event : {S : Type 0} (w : Write) (id : List ℕ) (found : Option Event) (held : Option EventPlace)
-    (old new : HashMap (List ℕ) (Option EventPlace) S)
-    → said_by w ≡ said.Event id found → held ≡ event_place found
-    → ((q : List ℕ) → get same_id new q ≡ cond (same_id id q) (Some held) (get same_id old q))
-    → NotesEvent w old new
-noted-event w id found held old new is same update = λ q.
-    update q
-    ∙ ap (λ h. cond (same_id id q) (Some h) (get same_id old q)) same
-    ∙ put event_place (same_id id q) found (get same_id old q)
-    ∙ ap (λ s. option_or (option_map event_place (of_event q s)) (get same_id old q)) (sym is)
 
 -- ---- one write more
 

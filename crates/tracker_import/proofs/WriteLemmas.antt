@@ -29,9 +29,8 @@ use Rattle.tracker_import.specs.Known.{entity_now, enrollment_now, event_now}
 use Rattle.tracker_import.specs.Deletes.{live_entity, live_enrollment, live_event, delete_conflict, events_left, enrollments_left, enrollment_gone, ordered}
 use Rattle.tracker_import.specs.Deletes.{entity_gone, judged_delete}
 use Rattle.tracker_import.specs.Outcomes.{Sofar, none, counted, taken, is_whole, unwritten, finished}
-use Rattle.tracker_import.specs.Verdicts.{entity_delete, entity_write, entity_outcome, with_entity, enrollment_delete, enrollment_write, enrollment_outcome}
-use Rattle.tracker_import.specs.Verdicts.{with_enrollment, event_delete, event_write, event_outcome, with_event, with_entities, with_enrollments, with_events}
-use Rattle.tracker_import.specs.Verdicts.{with_all, verdict_of}
+use Rattle.tracker_import.specs.Verdicts.{entity_delete, entity_write, enrollment_delete, enrollment_write, event_delete, event_write, with_one, with_each}
+use Rattle.tracker_import.specs.Verdicts.{with_entities, with_enrollments, with_events, with_all, verdict_of}
 
 -- ---- what is taken away
 
@@ -86,58 +85,78 @@ unfolding taken
 taken-fits id what sofar all fits = counted-fits (length sofar.judged) id what sofar.verdict all fits
 
 module _ (facts : Facts) (r : Records) (who : Who) (chosen : ImportStrategy) where
-  entity_outcome-fits : (sofar : Sofar) (asked : BundleEntity) → Fits (entity_outcome facts r who chosen sofar asked)
-  unfolding entity_outcome entity_delete entity_write
-  entity_outcome-fits sofar asked =
-      either (is_delete_all chosen) (entity_delete facts r who chosen sofar (id_in asked.id)) (entity_write facts r who chosen sofar asked)
-      (delete-fits (delete_conflict facts r who chosen (is_repeated sofar.judged (id_in asked.id)) kind.TrackedEntityType (id_in asked.id)
-      (option_map live_entity (option_and_then (entity_now facts sofar.verdict.writes) (id_in asked.id))))
-      (entity_gone facts sofar.verdict.writes) (id_in asked.id) (entity_gone-fits facts sofar.verdict.writes))
-      (entity-fits facts r who chosen (option_and_then (entity_now facts sofar.verdict.writes) (id_in asked.id))
-      (is_repeated sofar.judged (id_in asked.id)) asked)
+  entity_delete-fits : (sofar : Sofar) (id : Option (List ℕ)) → Fits (entity_delete facts r who chosen sofar id)
+  unfolding entity_delete
+  entity_delete-fits sofar id =
+      delete-fits (delete_conflict facts r who chosen (is_repeated sofar.judged id) kind.TrackedEntityType id
+      (option_map live_entity (option_and_then (entity_now facts sofar.verdict.writes) id)))
+      (entity_gone facts sofar.verdict.writes) id (entity_gone-fits facts sofar.verdict.writes)
 
-  enrollment_outcome-fits : (sofar : Sofar) (asked : BundleEnrollment) → Fits (enrollment_outcome facts r who chosen sofar asked)
-  unfolding enrollment_outcome enrollment_delete enrollment_write
-  enrollment_outcome-fits sofar asked =
-      either (is_delete_all chosen) (enrollment_delete facts r who chosen sofar (id_in asked.id)) (enrollment_write facts r who chosen sofar asked)
-      (delete-fits (delete_conflict facts r who chosen (is_repeated sofar.judged (id_in asked.id)) kind.Program (id_in asked.id)
-      (option_map (live_enrollment facts sofar.verdict.writes) (option_and_then (enrollment_now facts sofar.verdict.writes) (id_in asked.id))))
-      (enrollment_gone facts sofar.verdict.writes) (id_in asked.id) (enrollment_gone-fits facts sofar.verdict.writes))
-      (enrollment-fits facts r who chosen (is_some (option_and_then (enrollment_now facts sofar.verdict.writes) (id_in asked.id)))
-      (is_repeated sofar.judged (id_in asked.id)) (option_and_then (entity_now facts sofar.verdict.writes) (id_in asked.entity)) asked)
+  entity_write-fits : (sofar : Sofar) (asked : BundleEntity) → Fits (entity_write facts r who chosen sofar asked)
+  unfolding entity_write
+  entity_write-fits sofar asked =
+      entity-fits facts r who chosen (option_and_then (entity_now facts sofar.verdict.writes) (id_in asked.id))
+      (is_repeated sofar.judged (id_in asked.id)) asked
 
-  event_outcome-fits : (sofar : Sofar) (asked : BundleEvent) → Fits (event_outcome facts r who chosen sofar asked)
-  unfolding event_outcome event_delete event_write
-  event_outcome-fits sofar asked =
-      either (is_delete_all chosen) (event_delete facts r who chosen sofar (id_in asked.id)) (event_write facts r who chosen sofar asked)
-      (delete-fits (delete_conflict facts r who chosen (is_repeated sofar.judged (id_in asked.id)) kind.Program (id_in asked.id)
-      (option_map (live_event facts sofar.verdict.writes) (option_and_then (event_now facts sofar.verdict.writes) (id_in asked.id))))
-      (λ own. write.EventDeleted own ∷ []) (id_in asked.id) (λ own. (tt, tt)))
-      (event-fits facts r who chosen (is_some (option_and_then (event_now facts sofar.verdict.writes) (id_in asked.id)))
-      (is_repeated sofar.judged (id_in asked.id)) (option_and_then (enrollment_now facts sofar.verdict.writes) (id_in asked.enrollment)) asked)
+  enrollment_delete-fits : (sofar : Sofar) (id : Option (List ℕ)) → Fits (enrollment_delete facts r who chosen sofar id)
+  unfolding enrollment_delete
+  enrollment_delete-fits sofar id =
+      delete-fits (delete_conflict facts r who chosen (is_repeated sofar.judged id) kind.Program id
+      (option_map (live_enrollment facts sofar.verdict.writes) (option_and_then (enrollment_now facts sofar.verdict.writes) id)))
+      (enrollment_gone facts sofar.verdict.writes) id (enrollment_gone-fits facts sofar.verdict.writes)
+
+  enrollment_write-fits : (sofar : Sofar) (asked : BundleEnrollment) → Fits (enrollment_write facts r who chosen sofar asked)
+  unfolding enrollment_write
+  enrollment_write-fits sofar asked =
+      enrollment-fits facts r who chosen (is_some (option_and_then (enrollment_now facts sofar.verdict.writes) (id_in asked.id)))
+      (is_repeated sofar.judged (id_in asked.id)) (option_and_then (entity_now facts sofar.verdict.writes) (id_in asked.entity)) asked
+
+  event_delete-fits : (sofar : Sofar) (id : Option (List ℕ)) → Fits (event_delete facts r who chosen sofar id)
+  unfolding event_delete
+  event_delete-fits sofar id =
+      delete-fits (delete_conflict facts r who chosen (is_repeated sofar.judged id) kind.Program id
+      (option_map (live_event facts sofar.verdict.writes) (option_and_then (event_now facts sofar.verdict.writes) id)))
+      (λ own. write.EventDeleted own ∷ []) id (λ own. (tt, tt))
+
+  event_write-fits : (sofar : Sofar) (asked : BundleEvent) → Fits (event_write facts r who chosen sofar asked)
+  unfolding event_write
+  event_write-fits sofar asked =
+      event-fits facts r who chosen (is_some (option_and_then (event_now facts sofar.verdict.writes) (id_in asked.id)))
+      (is_repeated sofar.judged (id_in asked.id)) (option_and_then (enrollment_now facts sofar.verdict.writes) (id_in asked.enrollment)) asked
 
   -- ---- all objects
 
+  with_one-fits : {A : Type 0} (own : A → Option (List ℕ)) (gone : Facts → Records → Who → ImportStrategy → Sofar → Option (List ℕ) → Judged)
+      (written : Facts → Records → Who → ImportStrategy → Sofar → A → Judged)
+      → ((sofar : Sofar) (id : Option (List ℕ)) → Fits (gone facts r who chosen sofar id))
+      → ((sofar : Sofar) (asked : A) → Fits (written facts r who chosen sofar asked))
+      → (asked : A) (sofar : Sofar) → AreFit sofar → AreFit (with_one own gone written facts r who chosen asked sofar)
+  unfolding with_one
+  with_one-fits own gone written gone-fits written-fits asked sofar all =
+      let out = gone facts r who chosen sofar (own asked) in
+      let in_ = written facts r who chosen sofar asked in
+      taken-fits (own asked) (cond (is_delete_all chosen) out in_) sofar all
+      (either (is_delete_all chosen) out in_ (gone-fits sofar (own asked)) (written-fits sofar asked))
+
+  with_each-fit : {A : Type 0} (step : A → Sofar → Sofar) → ((asked : A) (sofar : Sofar) → AreFit sofar → AreFit (step asked sofar))
+      → (list : List A) (sofar : Sofar) → AreFit sofar → AreFit (with_each step list sofar)
+  with_each-fit step fits [] sofar all = all
+  with_each-fit step fits (asked ∷ more) sofar all = with_each-fit step fits more (step asked sofar) (fits asked sofar all)
+
   with_entities-fit : (list : List BundleEntity) (sofar : Sofar) → AreFit sofar → AreFit (with_entities facts r who chosen list sofar)
-  unfolding with_entity
-  with_entities-fit [] sofar all = all
-  with_entities-fit (asked ∷ more) sofar all =
-      with_entities-fit more (with_entity facts r who chosen asked sofar)
-      (taken-fits (id_in asked.id) (entity_outcome facts r who chosen sofar asked) sofar all (entity_outcome-fits sofar asked))
+  with_entities-fit =
+      with_each-fit (with_one (λ (asked : BundleEntity). id_in asked.id) entity_delete entity_write facts r who chosen)
+      (with_one-fits (λ (asked : BundleEntity). id_in asked.id) entity_delete entity_write entity_delete-fits entity_write-fits)
 
   with_enrollments-fit : (list : List BundleEnrollment) (sofar : Sofar) → AreFit sofar → AreFit (with_enrollments facts r who chosen list sofar)
-  unfolding with_enrollment
-  with_enrollments-fit [] sofar all = all
-  with_enrollments-fit (asked ∷ more) sofar all =
-      with_enrollments-fit more (with_enrollment facts r who chosen asked sofar)
-      (taken-fits (id_in asked.id) (enrollment_outcome facts r who chosen sofar asked) sofar all (enrollment_outcome-fits sofar asked))
+  with_enrollments-fit =
+      with_each-fit (with_one (λ (asked : BundleEnrollment). id_in asked.id) enrollment_delete enrollment_write facts r who chosen)
+      (with_one-fits (λ (asked : BundleEnrollment). id_in asked.id) enrollment_delete enrollment_write enrollment_delete-fits enrollment_write-fits)
 
   with_events-fit : (list : List BundleEvent) (sofar : Sofar) → AreFit sofar → AreFit (with_events facts r who chosen list sofar)
-  unfolding with_event
-  with_events-fit [] sofar all = all
-  with_events-fit (asked ∷ more) sofar all =
-      with_events-fit more (with_event facts r who chosen asked sofar)
-      (taken-fits (id_in asked.id) (event_outcome facts r who chosen sofar asked) sofar all (event_outcome-fits sofar asked))
+  with_events-fit =
+      with_each-fit (with_one (λ (asked : BundleEvent). id_in asked.id) event_delete event_write facts r who chosen)
+      (with_one-fits (λ (asked : BundleEvent). id_in asked.id) event_delete event_write event_delete-fits event_write-fits)
 
 -- one way or the other
 or-other : (b : Bool) (x y : Sofar) → AreFit x → AreFit y → AreFit (cond b x y)

@@ -1,5 +1,5 @@
 -- What there is while a bundle is judged: what the last of the writes accepted so far says, else what the log says.
-use Rattle.std.specs.Prelude.{◌≡◌, ℕ, List, Option, map, option_map}
+use Rattle.std.specs.Prelude.{◌≡◌, ℕ, List, Option, Some, cond, map, option_map}
 use Rattle.std.specs.Option.{unwrap_or, option_or}
 use Rattle.std.specs.HashMap.{HashMap, get}
 use Rattle.std.specs.HashSet.{HashSet, contains}
@@ -42,6 +42,10 @@ pub record AreSaid {S T U : Type 0} (noted : HashMap (List ℕ) (Option Entity) 
   pub entities : (id : List ℕ) → get same_id noted id ≡ option_map whole_entity (last_said (of_entity id) (map said_by writes))
   pub enrollments : (id : List ℕ) → get same_id enrolled id ≡ option_map enrollment_place (last_said (of_enrollment id) (map said_by writes))
   pub events : (id : List ℕ) → get same_id told id ≡ option_map event_place (last_said (of_event id) (map said_by writes))
+
+-- the new map has this at an identifier, and else what the old one had
+abbrev pub Holds : {V S : Type 0} → List ℕ → V → HashMap (List ℕ) V S → HashMap (List ℕ) V S → Type 0
+Holds id found old new = (q : List ℕ) → get same_id new q ≡ cond (same_id id q) (Some found) (get same_id old q)
 
 -- the new map of entities has what a write says beside what the old one had; so for enrollments and events
 abbrev pub NotesEntity : {S : Type 0} → Write → HashMap (List ℕ) (Option Entity) S → HashMap (List ℕ) (Option Entity) S → Type 0

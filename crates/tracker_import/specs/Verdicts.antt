@@ -22,7 +22,7 @@ use Rattle.tracker_import.specs.Events.{judged_event}
 use Rattle.tracker_import.specs.Deletes.{live_entity, live_enrollment, live_event, delete_conflict, judged_delete, enrollment_gone, entity_gone}
 use Rattle.tracker_import.specs.Outcomes.{Sofar, none, taken, finished}
 
--- what an object of the bundle comes to: it is taken away under DELETE, and else written
+-- what an object of the bundle comes to that is to be taken away, and one that is to be written
 
 unfoldable pub entity_delete : Facts → Records → Who → ImportStrategy → Sofar → Option (List ℕ) → Judged
 entity_delete facts r who chosen sofar id = judged_delete (
@@ -35,13 +35,6 @@ entity_write facts r who chosen sofar asked =
     judged_entity facts r who chosen (option_and_then (entity_now facts sofar.verdict.writes) (id_in asked.id))
     (is_repeated sofar.judged (id_in asked.id)) asked
 
-unfoldable pub entity_outcome : Facts → Records → Who → ImportStrategy → Sofar → BundleEntity → Judged
-entity_outcome facts r who chosen sofar asked =
-    cond (is_delete_all chosen) (entity_delete facts r who chosen sofar (id_in asked.id)) (entity_write facts r who chosen sofar asked)
-
-unfoldable pub with_entity : Facts → Records → Who → ImportStrategy → BundleEntity → Sofar → Sofar
-with_entity facts r who chosen asked sofar = taken (id_in asked.id) (entity_outcome facts r who chosen sofar asked) sofar
-
 unfoldable pub enrollment_delete : Facts → Records → Who → ImportStrategy → Sofar → Option (List ℕ) → Judged
 enrollment_delete facts r who chosen sofar id = judged_delete (
     delete_conflict facts r who chosen (is_repeated sofar.judged id) kind.Program id
@@ -52,13 +45,6 @@ unfoldable pub enrollment_write : Facts → Records → Who → ImportStrategy �
 enrollment_write facts r who chosen sofar asked =
     judged_enrollment facts r who chosen (is_some (option_and_then (enrollment_now facts sofar.verdict.writes) (id_in asked.id)))
     (is_repeated sofar.judged (id_in asked.id)) (option_and_then (entity_now facts sofar.verdict.writes) (id_in asked.entity)) asked
-
-unfoldable pub enrollment_outcome : Facts → Records → Who → ImportStrategy → Sofar → BundleEnrollment → Judged
-enrollment_outcome facts r who chosen sofar asked =
-    cond (is_delete_all chosen) (enrollment_delete facts r who chosen sofar (id_in asked.id)) (enrollment_write facts r who chosen sofar asked)
-
-unfoldable pub with_enrollment : Facts → Records → Who → ImportStrategy → BundleEnrollment → Sofar → Sofar
-with_enrollment facts r who chosen asked sofar = taken (id_in asked.id) (enrollment_outcome facts r who chosen sofar asked) sofar
 
 unfoldable pub event_delete : Facts → Records → Who → ImportStrategy → Sofar → Option (List ℕ) → Judged
 event_delete facts r who chosen sofar id = judged_delete (
@@ -71,25 +57,26 @@ event_write facts r who chosen sofar asked =
     judged_event facts r who chosen (is_some (option_and_then (event_now facts sofar.verdict.writes) (id_in asked.id)))
     (is_repeated sofar.judged (id_in asked.id)) (option_and_then (enrollment_now facts sofar.verdict.writes) (id_in asked.enrollment)) asked
 
-unfoldable pub event_outcome : Facts → Records → Who → ImportStrategy → Sofar → BundleEvent → Judged
-event_outcome facts r who chosen sofar asked =
-    cond (is_delete_all chosen) (event_delete facts r who chosen sofar (id_in asked.id)) (event_write facts r who chosen sofar asked)
-
-unfoldable pub with_event : Facts → Records → Who → ImportStrategy → BundleEvent → Sofar → Sofar
-with_event facts r who chosen asked sofar = taken (id_in asked.id) (event_outcome facts r who chosen sofar asked) sofar
+-- one more of a kind of objects: taken away, by its identifier, under DELETE, and else written
+unfoldable pub with_one : {A : Type 0} → (A → Option (List ℕ)) → (Facts → Records → Who → ImportStrategy → Sofar → Option (List ℕ) → Judged)
+    → (Facts → Records → Who → ImportStrategy → Sofar → A → Judged)
+    → Facts → Records → Who → ImportStrategy → A → Sofar → Sofar
+with_one own gone written facts r who chosen asked sofar = taken (own asked) (
+    cond (is_delete_all chosen) (gone facts r who chosen sofar (own asked)) (written facts r who chosen sofar asked)) sofar
 
 -- objects of one kind, one after another
+abbrev pub with_each : {A : Type 0} → (A → Sofar → Sofar) → List A → Sofar → Sofar
+with_each step [] sofar = sofar
+with_each step (asked ∷ more) sofar = with_each step more (step asked sofar)
+
 abbrev pub with_entities : Facts → Records → Who → ImportStrategy → List BundleEntity → Sofar → Sofar
-with_entities facts r who chosen [] sofar = sofar
-with_entities facts r who chosen (asked ∷ more) sofar = with_entities facts r who chosen more (with_entity facts r who chosen asked sofar)
+with_entities facts r who chosen = with_each (with_one (λ (asked : BundleEntity). id_in asked.id) entity_delete entity_write facts r who chosen)
 
 abbrev pub with_enrollments : Facts → Records → Who → ImportStrategy → List BundleEnrollment → Sofar → Sofar
-with_enrollments facts r who chosen [] sofar = sofar
-with_enrollments facts r who chosen (asked ∷ more) sofar = with_enrollments facts r who chosen more (with_enrollment facts r who chosen asked sofar)
+with_enrollments facts r who chosen = with_each (with_one (λ (asked : BundleEnrollment). id_in asked.id) enrollment_delete enrollment_write facts r who chosen)
 
 abbrev pub with_events : Facts → Records → Who → ImportStrategy → List BundleEvent → Sofar → Sofar
-with_events facts r who chosen [] sofar = sofar
-with_events facts r who chosen (asked ∷ more) sofar = with_events facts r who chosen more (with_event facts r who chosen asked sofar)
+with_events facts r who chosen = with_each (with_one (λ (asked : BundleEvent). id_in asked.id) event_delete event_write facts r who chosen)
 
 -- all objects: entities, enrollments, events; under DELETE the other way round
 unfoldable pub with_all : Facts → Records → Who → Bundle → Sofar

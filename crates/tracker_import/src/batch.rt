@@ -4,7 +4,7 @@ ghost use Rattle.std.specs.Prelude.{◌≡◌, ◌+◌, ◌<◌, ◌^◌, ◌++�
 ghost use Rattle.std.specs.Option.{option_copied};
 ghost use Rattle.dh_changes.specs.World.{facts};
 ghost use Rattle.tracker_import.specs.Known as known;
-ghost use Rattle.tracker_import.specs.Known.{AreSaid, AreSeen, NotesEntity, NotesEnrollment, NotesEvent};
+ghost use Rattle.tracker_import.specs.Known.{AreSaid, AreSeen, Holds, NotesEntity, NotesEnrollment, NotesEvent};
 ghost use Rattle.tracker_import.specs.Batches.{IsBatch};
 ghost use Rattle.tracker_import.specs.Outcomes.{sofar_of, none, counted, taken, AreAtMost};
 ghost use Rattle.tracker_import.specs.Rules as rules;
@@ -162,6 +162,29 @@ fn copied_entity(alloc: Global, entity: &Entity) -> Result<Entity, Memory>
     })
 }
 
+// Notes what is there of an identifier.
+fn hold<T: Drop>(
+    held: &mut HashMap<Uid, Option<T>>,
+    id: Uid,
+    found: Option<T>,
+) -> Result<(), Memory>
+    ensures { OnOk result (Holds id found held.old held.new) }
+{
+    held.insert(id, found)?;
+    Ok(())
+}
+
+fn hold_entity(
+    alloc: Global,
+    held: &mut HashMap<Uid, Option<Entity>>,
+    entity: &Entity,
+) -> Result<(), Memory>
+    ensures { OnOk result (Holds entity.now.id (Some entity.now) held.old held.new) }
+{
+    let copy = copied_entity(alloc, entity)?;
+    hold(held, entity.id, Some(copy))
+}
+
 // Notes what a write says.
 fn note(alloc: Global, notes: &mut Notes, write: &Write) -> Result<(), Memory>
     ensures entity { OnOk result (NotesEntity write.now notes.old.entities notes.new.entities) }
@@ -169,40 +192,28 @@ fn note(alloc: Global, notes: &mut Notes, write: &Write) -> Result<(), Memory>
     ensures event { OnOk result (NotesEvent write.now notes.old.events notes.new.events) }
 {
     match write {
-        Write::ValueSet { .. } => {}
-        Write::ValueCleared { .. } => {}
+        Write::ValueSet { .. } => Ok(()),
+        Write::ValueCleared { .. } => Ok(()),
         Write::EventWritten(event) => {
             let event = event.get();
-            notes.events.insert(event.id, event_place(Some(event)))?;
+            hold(&mut notes.events, event.id, event_place(Some(event)))
         }
-        Write::EventDeleted(id) => {
-            notes.events.insert(*id, None)?;
-        }
+        Write::EventDeleted(id) => hold(&mut notes.events, *id, None),
         Write::EnrollmentWritten(enrollment) => {
             let enrollment = enrollment.get();
-            notes
-                .enrollments
-                .insert(enrollment.id, enrollment_place(Some(enrollment)))?;
+            let place = enrollment_place(Some(enrollment));
+            hold(&mut notes.enrollments, enrollment.id, place)
         }
-        Write::EnrollmentDeleted(id) => {
-            notes.enrollments.insert(*id, None)?;
-        }
-        Write::EntityWritten(entity) => {
-            let entity = entity.get();
-            let copy = copied_entity(alloc, entity)?;
-            notes.entities.insert(entity.id, Some(copy))?;
-        }
-        Write::EntityDeleted(id) => {
-            notes.entities.insert(*id, None)?;
-        }
-        Write::Approve(_) => {}
-        Write::Unapprove(_) => {}
-        Write::Accept(_) => {}
-        Write::Unaccept(_) => {}
-        Write::Complete { .. } => {}
-        Write::Uncomplete { .. } => {}
+        Write::EnrollmentDeleted(id) => hold(&mut notes.enrollments, *id, None),
+        Write::EntityWritten(entity) => hold_entity(alloc, &mut notes.entities, entity.get()),
+        Write::EntityDeleted(id) => hold(&mut notes.entities, *id, None),
+        Write::Approve(_) => Ok(()),
+        Write::Unapprove(_) => Ok(()),
+        Write::Accept(_) => Ok(()),
+        Write::Unaccept(_) => Ok(()),
+        Write::Complete { .. } => Ok(()),
+        Write::Uncomplete { .. } => Ok(()),
     }
-    Ok(())
 }
 
 // Accepts a write.

@@ -12,6 +12,7 @@ pub mod events;
 pub mod items;
 pub mod judged;
 pub mod names;
+mod object;
 pub mod pairs;
 pub mod places;
 pub mod rights;

@@ -11,6 +11,7 @@ ghost use Rattle.tracker_import.specs.Deletes as deletes;
 ghost use Rattle.tracker_import.specs.Known as known;
 ghost use Rattle.tracker_import.specs.Outcomes as outcomes;
 ghost use Rattle.tracker_import.specs.Outcomes.{sofar_of, AreAtMost};
+ghost use Rattle.tracker_import.specs.Rules.{id_in};
 ghost use Rattle.tracker_import.specs.Verdicts as verdicts;
 
 use crate::asking::Asking;
@@ -26,6 +27,7 @@ use crate::events::judge_event;
 use crate::items::id_in;
 use crate::judged::Judged;
 use crate::names::EnrollmentPlace;
+use crate::object::Object;
 use crate::places::{EventPlace, Live};
 use dh_base::items::Items;
 use dh_base::memory::Memory;
@@ -163,249 +165,168 @@ fn event_deleted(alloc: Global, id: &Option<Uid>) -> Result<Judged, Memory>
     }
 }
 
-// What an entity comes to that is to be taken away.
-#[tactic(auto, unfolding(crate::specs::Verdicts::entity_delete))]
-fn delete_entity(
-    alloc: Global,
-    asking: &Asking<'_>,
-    batch: &Batch,
-    id: &Option<Uid>,
-) -> Result<Judged, Memory>
-    requires who { IsKnown asking.now.meta.now asking.now.who }
-    requires held { IsBatch batch.now }
-    ensures { IfOk result (λ judged. judged ≡ verdicts.entity_delete (facts asking.now.world.now) asking.now.meta.now asking.now.who
-        asking.now.strategy (sofar_of batch.now.verdict batch.now.judged) id.now) }
-{
-    let live = live_entity_at(asking.world, batch, id);
-    let repeated = is_repeated(batch, id);
-    match delete_conflict(asking, repeated, Kind::TrackedEntityType, id, &live) {
-        Some(code) => Ok(Judged::Refused(code)),
-        None => entity_deleted(alloc, asking, batch, id),
+impl Object for BundleEntity {
+    ghost own = { λ asked. id_in asked.id };
+
+    ghost gone = { verdicts.entity_delete };
+
+    ghost written = { verdicts.entity_write };
+
+    fn id(&self) -> Option<Uid> {
+        id_in(&self.id)
+    }
+
+    #[tactic(auto, unfolding(crate::specs::Verdicts::entity_delete))]
+    fn delete(
+        alloc: Global,
+        asking: &Asking<'_>,
+        batch: &Batch,
+        id: &Option<Uid>,
+    ) -> Result<Judged, Memory> {
+        let live = live_entity_at(asking.world, batch, id);
+        let repeated = is_repeated(batch, id);
+        match delete_conflict(asking, repeated, Kind::TrackedEntityType, id, &live) {
+            Some(code) => Ok(Judged::Refused(code)),
+            None => entity_deleted(alloc, asking, batch, id),
+        }
+    }
+
+    #[tactic(auto, unfolding(crate::specs::Verdicts::entity_write))]
+    fn write(
+        &self,
+        alloc: Global,
+        asking: &Asking<'_>,
+        world: &World,
+        batch: &Batch,
+    ) -> Result<Judged, Memory> {
+        let id = id_in(&self.id);
+        let before = entity_of(world, batch, &id);
+        judge_entity(alloc, asking, before, is_repeated(batch, &id), self)
     }
 }
 
-// What an enrollment comes to that is to be taken away.
-#[tactic(auto, unfolding(crate::specs::Verdicts::enrollment_delete))]
-fn delete_enrollment(
-    alloc: Global,
-    asking: &Asking<'_>,
-    batch: &Batch,
-    id: &Option<Uid>,
-) -> Result<Judged, Memory>
-    requires who { IsKnown asking.now.meta.now asking.now.who }
-    requires held { IsBatch batch.now }
-    ensures { IfOk result (λ judged. judged ≡ verdicts.enrollment_delete (facts asking.now.world.now) asking.now.meta.now asking.now.who
-        asking.now.strategy (sofar_of batch.now.verdict batch.now.judged) id.now) }
-{
-    let before = enrollment_of(asking.world, batch, id);
-    let live = live_enrollment_of(asking.world, batch, &before);
-    let repeated = is_repeated(batch, id);
-    match delete_conflict(asking, repeated, Kind::Program, id, &live) {
-        Some(code) => Ok(Judged::Refused(code)),
-        None => enrollment_deleted(alloc, asking, batch, id),
+impl Object for BundleEnrollment {
+    ghost own = { λ asked. id_in asked.id };
+
+    ghost gone = { verdicts.enrollment_delete };
+
+    ghost written = { verdicts.enrollment_write };
+
+    fn id(&self) -> Option<Uid> {
+        id_in(&self.id)
+    }
+
+    #[tactic(auto, unfolding(crate::specs::Verdicts::enrollment_delete))]
+    fn delete(
+        alloc: Global,
+        asking: &Asking<'_>,
+        batch: &Batch,
+        id: &Option<Uid>,
+    ) -> Result<Judged, Memory> {
+        let before = enrollment_of(asking.world, batch, id);
+        let live = live_enrollment_of(asking.world, batch, &before);
+        let repeated = is_repeated(batch, id);
+        match delete_conflict(asking, repeated, Kind::Program, id, &live) {
+            Some(code) => Ok(Judged::Refused(code)),
+            None => enrollment_deleted(alloc, asking, batch, id),
+        }
+    }
+
+    #[tactic(auto, unfolding(crate::specs::Verdicts::enrollment_write))]
+    fn write(
+        &self,
+        alloc: Global,
+        asking: &Asking<'_>,
+        world: &World,
+        batch: &Batch,
+    ) -> Result<Judged, Memory> {
+        let id = id_in(&self.id);
+        let live = enrollment_of(world, batch, &id).is_some();
+        let repeated = is_repeated(batch, &id);
+        let parent = entity_of(world, batch, &id_in(&self.entity));
+        judge_enrollment(alloc, asking, Standing { live, repeated }, parent, self)
     }
 }
 
-// What an event comes to that is to be taken away.
-#[tactic(auto, unfolding(crate::specs::Verdicts::event_delete))]
-fn delete_event(
-    alloc: Global,
-    asking: &Asking<'_>,
-    batch: &Batch,
-    id: &Option<Uid>,
-) -> Result<Judged, Memory>
-    requires who { IsKnown asking.now.meta.now asking.now.who }
-    requires held { IsBatch batch.now }
-    ensures { IfOk result (λ judged. judged ≡ verdicts.event_delete (facts asking.now.world.now) asking.now.meta.now asking.now.who
-        asking.now.strategy (sofar_of batch.now.verdict batch.now.judged) id.now) }
-{
-    let before = event_of(asking.world, batch, id);
-    let live = live_event_of(asking.world, batch, &before);
-    let repeated = is_repeated(batch, id);
-    match delete_conflict(asking, repeated, Kind::Program, id, &live) {
-        Some(code) => Ok(Judged::Refused(code)),
-        None => event_deleted(alloc, id),
+impl Object for BundleEvent {
+    ghost own = { λ asked. id_in asked.id };
+
+    ghost gone = { verdicts.event_delete };
+
+    ghost written = { verdicts.event_write };
+
+    fn id(&self) -> Option<Uid> {
+        id_in(&self.id)
+    }
+
+    #[tactic(auto, unfolding(crate::specs::Verdicts::event_delete))]
+    fn delete(
+        alloc: Global,
+        asking: &Asking<'_>,
+        batch: &Batch,
+        id: &Option<Uid>,
+    ) -> Result<Judged, Memory> {
+        let before = event_of(asking.world, batch, id);
+        let live = live_event_of(asking.world, batch, &before);
+        let repeated = is_repeated(batch, id);
+        match delete_conflict(asking, repeated, Kind::Program, id, &live) {
+            Some(code) => Ok(Judged::Refused(code)),
+            None => event_deleted(alloc, id),
+        }
+    }
+
+    #[tactic(auto, unfolding(crate::specs::Verdicts::event_write))]
+    fn write(
+        &self,
+        alloc: Global,
+        asking: &Asking<'_>,
+        world: &World,
+        batch: &Batch,
+    ) -> Result<Judged, Memory> {
+        let id = id_in(&self.id);
+        let live = event_of(world, batch, &id).is_some();
+        let repeated = is_repeated(batch, &id);
+        let parent = enrollment_of(world, batch, &id_in(&self.enrollment));
+        judge_event(alloc, asking, Standing { live, repeated }, parent, self)
     }
 }
 
-// What an entity comes to that is to be written.
-#[tactic(auto, unfolding(crate::specs::Verdicts::entity_write))]
-fn write_entity(
-    alloc: Global,
-    asking: &Asking<'_>,
-    world: &World,
-    batch: &Batch,
-    asked: &BundleEntity,
-) -> Result<Judged, Memory>
-    requires who { IsKnown asking.now.meta.now asking.now.who }
-    requires same { world.now ≡ asking.now.world.now }
-    requires held { IsBatch batch.now }
-    ensures { IfOk result (λ judged. judged ≡ verdicts.entity_write (facts asking.now.world.now) asking.now.meta.now asking.now.who
-        asking.now.strategy (sofar_of batch.now.verdict batch.now.judged) asked.now) }
-{
-    let id = id_in(&asked.id);
-    let before = entity_of(world, batch, &id);
-    judge_entity(alloc, asking, before, is_repeated(batch, &id), asked)
-}
-
-// What an enrollment comes to that is to be written.
-#[tactic(auto, unfolding(crate::specs::Verdicts::enrollment_write))]
-fn write_enrollment(
-    alloc: Global,
-    asking: &Asking<'_>,
-    world: &World,
-    batch: &Batch,
-    asked: &BundleEnrollment,
-) -> Result<Judged, Memory>
-    requires who { IsKnown asking.now.meta.now asking.now.who }
-    requires same { world.now ≡ asking.now.world.now }
-    requires held { IsBatch batch.now }
-    ensures { IfOk result (λ judged. judged ≡ verdicts.enrollment_write (facts asking.now.world.now) asking.now.meta.now asking.now.who
-        asking.now.strategy (sofar_of batch.now.verdict batch.now.judged) asked.now) }
-{
-    let id = id_in(&asked.id);
-    let live = enrollment_of(world, batch, &id).is_some();
-    let repeated = is_repeated(batch, &id);
-    let parent = entity_of(world, batch, &id_in(&asked.entity));
-    judge_enrollment(alloc, asking, Standing { live, repeated }, parent, asked)
-}
-
-// What an event comes to that is to be written.
-#[tactic(auto, unfolding(crate::specs::Verdicts::event_write))]
-fn write_event(
-    alloc: Global,
-    asking: &Asking<'_>,
-    batch: &Batch,
-    asked: &BundleEvent,
-) -> Result<Judged, Memory>
-    requires who { IsKnown asking.now.meta.now asking.now.who }
-    requires held { IsBatch batch.now }
-    ensures { IfOk result (λ judged. judged ≡ verdicts.event_write (facts asking.now.world.now) asking.now.meta.now asking.now.who
-        asking.now.strategy (sofar_of batch.now.verdict batch.now.judged) asked.now) }
-{
-    let id = id_in(&asked.id);
-    let live = event_of(asking.world, batch, &id).is_some();
-    let repeated = is_repeated(batch, &id);
-    let parent = enrollment_of(asking.world, batch, &id_in(&asked.enrollment));
-    judge_event(alloc, asking, Standing { live, repeated }, parent, asked)
-}
-
-#[tactic(auto, unfolding(crate::specs::Verdicts::with_entity, crate::specs::Verdicts::entity_outcome))]
-fn with_entity(
+#[tactic(auto, unfolding(crate::specs::Verdicts::with_one))]
+fn with_one<T: Object>(
     alloc: Global,
     asking: &Asking<'_>,
     batch: &mut Batch,
-    asked: &BundleEntity,
+    asked: &T,
 ) -> Result<(), Memory>
     requires who { IsKnown asking.now.meta.now asking.now.who }
     requires held { IsBatch batch.old }
-    ensures sofar { OnOk result (sofar_of batch.new.verdict batch.new.judged ≡ verdicts.with_entity (facts asking.now.world.now) asking.now.meta.now
-        asking.now.who asking.now.strategy asked.now (sofar_of batch.old.verdict batch.old.judged)) }
+    ensures sofar { OnOk result (sofar_of batch.new.verdict batch.new.judged ≡ verdicts.with_one T.own T.gone T.written (facts asking.now.world.now)
+        asking.now.meta.now asking.now.who asking.now.strategy asked.now (sofar_of batch.old.verdict batch.old.judged)) }
     ensures held { OnOk result (IsBatch batch.new) }
 {
-    let id = id_in(&asked.id);
+    let id = asked.id();
     let judged = if is_delete_all(asking.strategy) {
-        delete_entity(alloc, asking, batch, &id)?
+        T::delete(alloc, asking, batch, &id)?
     } else {
-        write_entity(alloc, asking, asking.world, batch, asked)?
+        asked.write(alloc, asking, asking.world, batch)?
     };
     take_in(alloc, batch, &id, judged)
 }
 
-#[tactic(auto, unfolding(crate::specs::Verdicts::with_enrollment, crate::specs::Verdicts::enrollment_outcome))]
-fn with_enrollment(
+fn with_each<T: Object>(
     alloc: Global,
     asking: &Asking<'_>,
     batch: &mut Batch,
-    asked: &BundleEnrollment,
+    list: &[T],
 ) -> Result<(), Memory>
     requires who { IsKnown asking.now.meta.now asking.now.who }
     requires held { IsBatch batch.old }
-    ensures sofar { OnOk result (sofar_of batch.new.verdict batch.new.judged ≡ verdicts.with_enrollment (facts asking.now.world.now) asking.now.meta.now
-        asking.now.who asking.now.strategy asked.now (sofar_of batch.old.verdict batch.old.judged)) }
-    ensures held { OnOk result (IsBatch batch.new) }
-{
-    let id = id_in(&asked.id);
-    let judged = if is_delete_all(asking.strategy) {
-        delete_enrollment(alloc, asking, batch, &id)?
-    } else {
-        write_enrollment(alloc, asking, asking.world, batch, asked)?
-    };
-    take_in(alloc, batch, &id, judged)
-}
-
-#[tactic(auto, unfolding(crate::specs::Verdicts::with_event, crate::specs::Verdicts::event_outcome))]
-fn with_event(
-    alloc: Global,
-    asking: &Asking<'_>,
-    batch: &mut Batch,
-    asked: &BundleEvent,
-) -> Result<(), Memory>
-    requires who { IsKnown asking.now.meta.now asking.now.who }
-    requires held { IsBatch batch.old }
-    ensures sofar { OnOk result (sofar_of batch.new.verdict batch.new.judged ≡ verdicts.with_event (facts asking.now.world.now) asking.now.meta.now
-        asking.now.who asking.now.strategy asked.now (sofar_of batch.old.verdict batch.old.judged)) }
-    ensures held { OnOk result (IsBatch batch.new) }
-{
-    let id = id_in(&asked.id);
-    let judged = if is_delete_all(asking.strategy) {
-        delete_event(alloc, asking, batch, &id)?
-    } else {
-        write_event(alloc, asking, batch, asked)?
-    };
-    take_in(alloc, batch, &id, judged)
-}
-
-fn with_entities(
-    alloc: Global,
-    asking: &Asking<'_>,
-    batch: &mut Batch,
-    list: &[BundleEntity],
-) -> Result<(), Memory>
-    requires who { IsKnown asking.now.meta.now asking.now.who }
-    requires held { IsBatch batch.old }
-    ensures sofar { OnOk result (sofar_of batch.new.verdict batch.new.judged ≡ verdicts.with_entities (facts asking.now.world.now) asking.now.meta.now
-        asking.now.who asking.now.strategy list.now (sofar_of batch.old.verdict batch.old.judged)) }
+    ensures sofar { OnOk result (sofar_of batch.new.verdict batch.new.judged ≡ verdicts.with_each (verdicts.with_one T.own T.gone T.written
+        (facts asking.now.world.now) asking.now.meta.now asking.now.who asking.now.strategy) list.now (sofar_of batch.old.verdict batch.old.judged)) }
     ensures held { OnOk result (IsBatch batch.new) }
 {
     for asked in list {
-        with_entity(alloc, asking, batch, asked)?;
-    }
-    Ok(())
-}
-
-fn with_enrollments(
-    alloc: Global,
-    asking: &Asking<'_>,
-    batch: &mut Batch,
-    list: &[BundleEnrollment],
-) -> Result<(), Memory>
-    requires who { IsKnown asking.now.meta.now asking.now.who }
-    requires held { IsBatch batch.old }
-    ensures sofar { OnOk result (sofar_of batch.new.verdict batch.new.judged ≡ verdicts.with_enrollments (facts asking.now.world.now) asking.now.meta.now
-        asking.now.who asking.now.strategy list.now (sofar_of batch.old.verdict batch.old.judged)) }
-    ensures held { OnOk result (IsBatch batch.new) }
-{
-    for asked in list {
-        with_enrollment(alloc, asking, batch, asked)?;
-    }
-    Ok(())
-}
-
-fn with_events(
-    alloc: Global,
-    asking: &Asking<'_>,
-    batch: &mut Batch,
-    list: &[BundleEvent],
-) -> Result<(), Memory>
-    requires who { IsKnown asking.now.meta.now asking.now.who }
-    requires held { IsBatch batch.old }
-    ensures sofar { OnOk result (sofar_of batch.new.verdict batch.new.judged ≡ verdicts.with_events (facts asking.now.world.now) asking.now.meta.now
-        asking.now.who asking.now.strategy list.now (sofar_of batch.old.verdict batch.old.judged)) }
-    ensures held { OnOk result (IsBatch batch.new) }
-{
-    for asked in list {
-        with_event(alloc, asking, batch, asked)?;
+        with_one(alloc, asking, batch, asked)?;
     }
     Ok(())
 }
@@ -426,13 +347,13 @@ fn with_all(
     ensures held { OnOk result (IsBatch batch.new) }
 {
     if is_delete_all(asking.strategy) {
-        with_events(alloc, asking, batch, bundle.events.as_slice())?;
-        with_enrollments(alloc, asking, batch, bundle.enrollments.as_slice())?;
-        with_entities(alloc, asking, batch, bundle.entities.as_slice())
+        with_each(alloc, asking, batch, bundle.events.as_slice())?;
+        with_each(alloc, asking, batch, bundle.enrollments.as_slice())?;
+        with_each(alloc, asking, batch, bundle.entities.as_slice())
     } else {
-        with_entities(alloc, asking, batch, bundle.entities.as_slice())?;
-        with_enrollments(alloc, asking, batch, bundle.enrollments.as_slice())?;
-        with_events(alloc, asking, batch, bundle.events.as_slice())
+        with_each(alloc, asking, batch, bundle.entities.as_slice())?;
+        with_each(alloc, asking, batch, bundle.enrollments.as_slice())?;
+        with_each(alloc, asking, batch, bundle.events.as_slice())
     }
 }
 
@@ -475,32 +396,10 @@ fn finished(alloc: Global, atomic: bool, batch: Batch) -> Verdict
     verdict
 }
 
-#[tactic(auto, unfolding(crate::specs::Verdicts::verdict_of))]
-fn judged_bundle(
-    alloc: Global,
-    world: &World,
-    meta: &Metadata,
-    who: Who,
-    bundle: &Bundle,
-) -> Result<Verdict, Memory>
-    requires { IsKnown meta.now who }
-    ensures value { IfOk result (λ verdict. verdict ≡ verdicts.verdict_of (facts world.now) meta.now who bundle.now) }
-    ensures total { IfOk result (λ verdict. outcomes.total_of verdict < 2 ^ 64) }
-{
-    let asking = Asking {
-        world,
-        meta,
-        who,
-        strategy: bundle.params.strategy,
-    };
-    let mut batch = empty_batch(alloc);
-    with_all(alloc, &asking, &mut batch, bundle)?;
-    Ok(finished(alloc, bundle.params.atomic, batch))
-}
-
 /// The verdict on a tracker bundle. Each object is judged by what holds after the log and the writes accepted before it
 /// in the bundle. A user is named by a number of the metadata. `imported` counts the objects created. Each write fits the
 /// bytes of a change.
+#[tactic(auto, unfolding(crate::specs::Verdicts::verdict_of))]
 pub fn verdict(
     alloc: Global,
     world: &World,
@@ -513,5 +412,13 @@ pub fn verdict(
     ensures total { IfOk result (λ verdict. outcomes.total_of verdict < 2 ^ 64) }
     ensures fits { IfOk result (λ verdict. All WriteFits verdict.writes) }
 {
-    judged_bundle(alloc, world, meta, who, bundle)
+    let asking = Asking {
+        world,
+        meta,
+        who,
+        strategy: bundle.params.strategy,
+    };
+    let mut batch = empty_batch(alloc);
+    with_all(alloc, &asking, &mut batch, bundle)?;
+    Ok(finished(alloc, bundle.params.atomic, batch))
 }
