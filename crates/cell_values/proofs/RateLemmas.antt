@@ -3,7 +3,6 @@ use Rattle.std.proofs.Common.{◌≡◌, ◌∙◌, ℕ, suc, ◌+◌, ◌*◌, 
 use Rattle.std.proofs.Common.{Option, Some, None, slice_get, Ordering, Less, Equal, Greater}
 use Rattle.std.specs.Prelude.{IsPermutation, nat_eq, option_and_then}
 use Rattle.std.specs.Ordering.{is_eq, ordering_reverse}
-use Rattle.std.specs.Cmp.{IsTotalOrder}
 use Rattle.std.proofs.lemmas.Bool.{and_parts, eqb-true}
 use Rattle.dh_periods.specs.Keys.{same_period}
 use Rattle.dh_periods.proofs.KeyLemmas.{same_period-Decides}
@@ -19,13 +18,9 @@ use Rattle.table_rows.specs.Groups.{each_once}
 use Rattle.table_rows.proofs.ShuffleLemmas.{Tells, closed-permutation, closed-filter, closed-map, closed-once}
 use Rattle.cell_values.specs.declared.reports.Report.{Report}
 use Rattle.cell_values.specs.Reporting.{report_of, same_report, is_counted, is_report_in, reports_of, reported, units_due, periods_due, rate_with, rate_of}
-use Rattle.cell_values.specs.contracts.reports.ReportOrd.TheImpl.Laws as report
-use Rattle.cell_values.proofs.ReportLemmas.{report_cmp}
+use Rattle.cell_values.proofs.ReportLemmas.{report_cmp, report_total, report_ties}
 
 -- ---- reports told apart
-
-report_total : IsTotalOrder report_cmp
-report_total = report.total-law
 
 equal_turned : (o : Ordering) → is_eq (ordering_reverse o) ≡ is_eq o
 equal_turned Less = refl
@@ -34,7 +29,7 @@ equal_turned Greater = refl
 
 same_turned : (a b : Report) → same_report a b ≡ same_report b a
 same_turned a b =
-    report.matches_eq-law a b ∙ ap is_eq (report_total.antisymm a b) ∙ equal_turned (report_cmp b a) ∙ sym (report.matches_eq-law b a)
+    report_ties a b ∙ ap is_eq (report_total.antisymm a b) ∙ equal_turned (report_cmp b a) ∙ sym (report_ties b a)
 
 same_parts : (a b : Report) → a.period ≡ b.period → a.order ≡ b.order → a ≡ b
 same_parts a b p o =

@@ -1,9 +1,9 @@
 -- Of registrations in their order those of one report stand side by side.
-use Rattle.std.proofs.Common.{◌≡◌, ◌∙◌, ℕ, ◌+◌, ◌-◌, ◌<◌, Bool, true, false, not, cond, ◌||◌, List, [], ◌∷◌, ◌++◌, length, map, take, get_or, Option, Some}
+use Rattle.std.proofs.Common.{◌≡◌, ◌∙◌, ℕ, ◌+◌, ◌-◌, ◌<◌, Bool, true, false, not, cond, ◌&&◌, ◌||◌, List, [], ◌∷◌, ◌++◌, length, map, take, get_or, Option, Some}
 use Rattle.std.proofs.Common.{None, inl, inr, refl, sym, ap, subst, arith, length-append, Ordering, Less, Equal, Greater}
 use Rattle.std.specs.Prelude.{All, Contains, nat_eq, slice_get}
 use Rattle.std.specs.List.{filter, list_any}
-use Rattle.std.specs.Cmp.{IsTotalOrder}
+use Rattle.std.specs.Cmp.{IsTotalOrder, unsigned_ties}
 use Rattle.std.specs.Ordering.{is_gt, is_eq, ordering_then, ordering_reverse, nat_cmp}
 use Rattle.std.proofs.Math.Seq.{get_or-append_seam}
 use Rattle.std.proofs.lemmas.Bool.{cases_Bool, false≢true, and_parts, eqb-true}
@@ -21,7 +21,6 @@ use Rattle.table_rows.specs.Groups.{each_once}
 use Rattle.table_rows.specs.Order.{period_cmp}
 use Rattle.table_rows.specs.Store.{rises}
 use Rattle.table_rows.proofs.RiseLemmas.{sorted_from_rises, sorted-far}
-use Rattle.cell_values.specs.contracts.reports.ReportOrd.TheImpl.Laws as report
 use Rattle.cell_values.specs.declared.reports.Report.{Report}
 use Rattle.cell_values.specs.Reporting.{report_of, same_report}
 use Rattle.cell_values.specs.Prepared.{differs_from, with_report}
@@ -31,11 +30,19 @@ use Rattle.cell_values.specs.Prepared.{differs_from, with_report}
 abbrev pub report_cmp : Report → Report → Ordering
 report_cmp a b = ordering_then (period_cmp a.period b.period) (nat_cmp a.order b.order)
 
-report_total : IsTotalOrder report_cmp
-report_total = report.total-law
+pub report_total : IsTotalOrder report_cmp
+report_total = then_total (on_total (λ (r : Report). r.period) period.total-law) (on_total (λ (r : Report). r.order) nat_cmp_total)
 
-report_ties : (a b : Report) → same_report a b ≡ is_eq (report_cmp a b)
-report_ties a b = report.matches_eq-law a b
+both_equal : (a b : Ordering) → is_eq (ordering_then a b) ≡ (is_eq a && is_eq b)
+both_equal Less b = refl
+both_equal Equal b = refl
+both_equal Greater b = refl
+
+pub report_ties : (a b : Report) → same_report a b ≡ is_eq (report_cmp a b)
+report_ties a b =
+    ap (λ p. p && nat_eq a.order b.order) (period.matches_eq-law a.period b.period)
+    ∙ ap (λ o. is_eq (period_cmp a.period b.period) && o) (unsigned_ties a.order b.order)
+    ∙ sym (both_equal (period_cmp a.period b.period) (nat_cmp a.order b.order))
 
 pub reg_total : IsTotalOrder reg_cmp
 reg_total =

@@ -19,11 +19,11 @@ use Rattle.table_rows.specs.Cells.{Part, part_sum, gathered}
 use Rattle.table_rows.specs.Rows.{meets, wanted_rows}
 use Rattle.table_rows.specs.Sums.{sum_over}
 use Rattle.table_rows.specs.declared.sample.Sample.{Sample}
+use Rattle.table_rows.specs.declared.sample.Series.{Series}
 use Rattle.table_rows.specs.RowSamples.{sample_of}
 use Rattle.table_rows.specs.Samples.{days_of, total, sample_cmp}
 use Rattle.table_rows.specs.Values.{mean, unless_none, value_by, value_of_sum}
 use Rattle.cell_values.specs.Seen.{sees_attribute}
-use Rattle.cell_values.specs.declared.aggregated.Key.{Key}
 use Rattle.cell_values.specs.Cells.{is_named, is_in_some}
 
 -- the group is of the combinations that are named, lies in some of the periods, and the user may read its values
@@ -63,8 +63,8 @@ abbrev pub ranged_rows : List Row → Need → List (ℕ × ℕ) → Group → L
 ranged_rows rows need ranges group = gathered (range_rows rows need group) ranges
 
 -- what samples are ordered by
-abbrev pub key_of : Sample → Key
-key_of sample = record { series = sample.series; period = sample.period }
+abbrev pub key_of : Sample → Series × PeriodName
+key_of sample = (sample.series, sample.period)
 
 -- a series and a period name a sample once
 abbrev pub HaveOwnKeys : List Sample → Type 0

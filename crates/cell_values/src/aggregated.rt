@@ -10,20 +10,11 @@ use dh_base::plain::AggType;
 use dh_periods::Period;
 use table_rows::{Sample, Series, aggregate};
 
-/// What samples are ordered by, field by field.
-#[derive(Clone, Copy, PartialEq, Eq, PartialOrd, Ord)]
-pub(crate) struct Key {
-    series: Series,
-    period: Period,
-}
-
-fn key_of(sample: &Sample) -> Key
+/// What samples are ordered by, the first before the second.
+fn key_of(sample: &Sample) -> (Series, Period)
     ensures { result ≡ key_of sample.now }
 {
-    Key {
-        series: sample.series,
-        period: sample.period,
-    }
+    (sample.series, sample.period)
 }
 
 /// The value of the samples by the aggregation type. A series and a period name a sample once, so

@@ -34,10 +34,19 @@ pub struct Operand {
 }
 
 /// The periods of a cell, with their days counted. Contracts see the list of periods.
-#[derive(Drop)]
 pub struct CellPeriods {
     periods: Items<Period>,
     days: u32,
+}
+
+// By hand, so that it is proved here alone and not in each crate above.
+impl Drop for CellPeriods {
+    fn drop(self) {
+        let CellPeriods {
+            periods: _,
+            days: _,
+        } = self;
+    }
 }
 
 impl Model for CellPeriods {
@@ -89,12 +98,23 @@ impl CellPeriods {
 
 /// The units of a cell, with the orders of the units and of all under them: all, and those that
 /// the user views. With `alone` a unit has only itself under it.
-#[derive(Drop)]
 pub struct CellUnits {
     pub units: Items<u32>,
     pub alone: bool,
     pub asked: ViewRanges,
     pub seen: ViewRanges,
+}
+
+// By hand, so that it is proved here alone and not in each crate above.
+impl Drop for CellUnits {
+    fn drop(self) {
+        let CellUnits {
+            units: _,
+            alone: _,
+            asked: _,
+            seen: _,
+        } = self;
+    }
 }
 
 impl CellUnits {

@@ -16,12 +16,21 @@ use dh_periods::Period;
 use std::alloc::Global;
 
 /// What of the reports of a data set is due in some periods.
-#[derive(Drop)]
 pub struct Due {
     /// How many periods of the data set's type lie in them.
     pub periods: u32,
     /// The orders of the reports for these that were registered, ascending.
     pub orders: Items<u32>,
+}
+
+// By hand, so that it is proved here alone and not in each crate above.
+impl Drop for Due {
+    fn drop(self) {
+        let Due {
+            periods: _,
+            orders: _,
+        } = self;
+    }
 }
 
 /// The orders of the reports whose period lies in some of these.

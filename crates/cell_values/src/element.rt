@@ -62,13 +62,24 @@ fn value_in<S: RowStore>(
 }
 
 /// What is worked out once for an operand, before its cells.
-#[derive(Drop)]
 pub struct ElementPlan {
     pub operand: Operand,
     pub kind: AggType,
     pub need: Need,
     /// Its groups that the user may read, in order.
     pub groups: Items<Group>,
+}
+
+// By hand, so that it is proved here alone and not in each crate above.
+impl Drop for ElementPlan {
+    fn drop(self) {
+        let ElementPlan {
+            operand: _,
+            kind: _,
+            need: _,
+            groups: _,
+        } = self;
+    }
 }
 
 /// The plan of an operand.

@@ -37,10 +37,16 @@ pub enum Way {
 }
 
 /// An item, and what is worked out once before its cells.
-#[derive(Drop)]
 pub struct ItemPlan {
     pub item: Item,
     pub way: Way,
+}
+
+// By hand, so that it is proved here alone and not in each crate above.
+impl Drop for ItemPlan {
+    fn drop(self) {
+        let ItemPlan { item: _, way: _ } = self;
+    }
 }
 
 fn named_combo(meta: &Metadata, id: &Option<Uid>) -> Option<Option<u32>>

@@ -27,10 +27,19 @@ pub struct RateAsked {
 
 /// What is worked out once for a rate, before its cells: its reports, from the registrations that
 /// the user sees.
-#[derive(Drop)]
 pub struct RatePlan {
     pub asked: RateAsked,
     pub reports: Reports,
+}
+
+// By hand, so that it is proved here alone and not in each crate above.
+impl Drop for RatePlan {
+    fn drop(self) {
+        let RatePlan {
+            asked: _,
+            reports: _,
+        } = self;
+    }
 }
 
 /// The registrations that the user sees.

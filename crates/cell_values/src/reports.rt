@@ -23,7 +23,7 @@ use std::alloc::Global;
 use table_rows::RegRow;
 
 /// A unit, by its order in the tree, and a period for which it reported.
-#[derive(Clone, Copy, PartialEq, Eq, PartialOrd, Ord)]
+#[derive(Clone, Copy)]
 pub struct Report {
     pub period: Period,
     pub order: u32,

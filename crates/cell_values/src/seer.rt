@@ -20,10 +20,16 @@ use std::marker::Model;
 use table_rows::{EventRow, RegRow};
 
 /// A user who asks. It is made of metadata, and asked with the same metadata.
-#[derive(Drop)]
 pub struct Seer {
     user: u32,
     views: ViewRanges,
+}
+
+// By hand, so that it is proved here alone and not in each crate above.
+impl Drop for Seer {
+    fn drop(self) {
+        let Seer { user: _, views: _ } = self;
+    }
 }
 
 impl Model for Seer {

@@ -1,14 +1,18 @@
 -- One step of the loops over subjects, samples and identifiers.
 use Rattle.std.proofs.Common.{◌≡◌, ◌∙◌, ◌<◌, ◌≤◌, ◌+◌, ℕ, suc, Bool, true, false, cond, List, [], ◌∷◌, ◌++◌, map, take, drop, get_or, length, refl, sym, ap, add-one}
+use Rattle.std.proofs.Common.{◌&&◌, subst}
 use Rattle.std.proofs.Common.{drop-cons, append_assoc, append-nil, arith}
 use Rattle.std.proofs.Common.{Option, Some, None}
-use Rattle.std.proofs.lemmas.List.{drop_all, map-append, take_more}
-use Rattle.std.proofs.lemmas.List.Elements.{filter_more}
-use Rattle.std.specs.List.{filter}
+use Rattle.std.proofs.lemmas.List.{drop_all, length-map, length-take-le, map-append, take_more}
+use Rattle.std.proofs.lemmas.List.Elements.{filter_more, filter-append}
+use Rattle.std.proofs.lemmas.List.Folds.{list_all-append}
+use Rattle.std.proofs.lemmas.Bool.{and_from}
+use Rattle.std.specs.List.{filter, list_all}
 use Rattle.std.specs.Prelude.{option_and_then, option_map, if◌then◌else◌}
 use Rattle.std.specs.Option.{unwrap_or}
 use Rattle.dh_base.specs.Fractions.{Fraction, add_of}
 use Rattle.dh_metadata.specs.Places.{is_one_of}
+use Rattle.program_cells.specs.Places.{ArePlaces}
 use Rattle.program_cells.specs.Value.{if_passing, collected, sum_from, best_from, better_if_any, unless_fault, different_after}
 
 -- the rest of a list at a place
@@ -61,6 +65,41 @@ lent_no_more made p xs found i x within at before out =
     ∙ sym (append-nil (filter p (take i xs)))
     ∙ ap (λ b. filter p (take i xs) ++ cond b (x ∷ []) []) (sym out)
     ∙ sym (filter_more p xs i x within ∙ ap (λ y. filter p (take i xs) ++ cond (p y) (y ∷ []) []) (sym at))
+
+one_kept : {X Y : Type 0} (view : X → Y) (p : Y → Bool) (x : X) (keeps : Bool) → keeps ≡ p (view x)
+    → map view (cond keeps (x ∷ []) []) ≡ filter p (view x ∷ [])
+one_kept view p x true same = ap (λ b. cond b (view x ∷ []) []) same
+one_kept view p x false same = ap (λ b. cond b (view x ∷ []) []) same
+
+-- one lent member more, kept if what it is passes
+pub kept_more : {X Y : Type 0} (view : X → Y) (p : Y → Bool) (xs found more : List X) (i : ℕ) (x : X) (keeps : Bool) → i < length xs → x ≡ get_or xs i x
+    → map view found ≡ filter p (map view (take i xs)) → more ≡ found ++ cond keeps (x ∷ []) [] → keeps ≡ p (view x)
+    → map view more ≡ filter p (map view (take (i + 1) xs))
+kept_more view p xs found more i x keeps within at before is same =
+    ap (map view) is
+    ∙ map-append view found (cond keeps (x ∷ []) [])
+    ∙ ap (λ all. all ++ map view (cond keeps (x ∷ []) [])) before
+    ∙ ap (λ all. filter p (map view (take i xs)) ++ all) (one_kept view p x keeps same)
+    ∙ sym (ap (filter p) (ap (map view) (first_at xs i x within at) ∙ map-append view (take i xs) (x ∷ []))
+    ∙ filter-append p (map view (take i xs)) (view x ∷ []))
+
+-- one lent member more passes, as those before it
+pub all_more : {X Y : Type 0} (view : X → Y) (p : Y → Bool) (xs : List X) (i : ℕ) (x : X) → i < length xs → x ≡ get_or xs i x
+    → list_all p (map view (take i xs)) ≡ true → p (view x) ≡ true → list_all p (map view (take (i + 1) xs)) ≡ true
+all_more view p xs i x within at before here =
+    ap (list_all p) (ap (map view) (first_at xs i x within at) ∙ map-append view (take i xs) (x ∷ []))
+    ∙ list_all-append p (map view (take i xs)) (view x ∷ [])
+    ∙ and_from (list_all p (map view (take i xs))) (p (view x) && true) before (and_from (p (view x)) true here refl)
+
+-- one lent member more has its place
+pub placed_more : {X Y : Type 0} (number : Y → ℕ) (view : X → Y) (xs : List X) (i : ℕ) (x : X) (old new : List (List ℕ)) → i < length xs → x ≡ get_or xs i x
+    → ArePlaces number (map view (take i xs)) old
+    → ((before : List Y) → i ≡ length before → ArePlaces number before old → ArePlaces number (before ++ view x ∷ []) new)
+    → ArePlaces number (map view (take (i + 1) xs)) new
+placed_more number view xs i x old new within at are put =
+    let before = map view (take i xs) in
+    let many : i ≡ length before = sym (length-map (take i xs) view ∙ length-take-le i xs (omega arith)) in
+    subst (λ list. ArePlaces number list new) (sym (ap (map view) (first_at xs i x within at) ∙ map-append view (take i xs) (x ∷ []))) (put before many are)
 
 -- ---- subjects
 

@@ -1,5 +1,5 @@
 -- What is kept of the events of a store for the cells of a program indicator.
-use Rattle.std.specs.Prelude.{◌≡◌, ℕ, Bool, ◌&&◌, nat_eq, List, map, Option, Some, None, slice_get}
+use Rattle.std.specs.Prelude.{◌≡◌, ℕ, ℤ, Bool, ◌&&◌, nat_eq, List, map, Option, Some, None, slice_get}
 use Rattle.std.specs.List.{filter}
 use Rattle.std.specs.List.Sorted.{IsStrictlySortedBy}
 use Rattle.dh_periods.specs.declared.name.PeriodName.{PeriodName}
@@ -15,7 +15,6 @@ use Rattle.program_cells.specs.Code.{measure_in, IsCodeOf}
 use Rattle.program_cells.specs.declared.measure.Measure.TheVariants as measure
 use Rattle.program_cells.specs.Enrollments.{is_enrolled_in, first_is, enrollments}
 use Rattle.program_cells.specs.Order.{whole_cmp}
-use Rattle.program_cells.specs.declared.grouping.EnrolledKey.{EnrolledKey}
 use Rattle.program_cells.specs.declared.plan.ProgramPlan.{ProgramPlan}
 use Rattle.program_cells.specs.declared.plan.Subjects.{Subjects}
 use Rattle.program_cells.specs.declared.plan.Subjects.TheVariants as subjects
@@ -82,5 +81,5 @@ subjects_in ranges (subjects.Samples found) = map alone (filter (is_placed_in ra
 subjects_in ranges (subjects.Enrollments kept) = filter (first_is (is_placed_in ranges)) (map (λ subject. subject.now) kept.items)
 
 -- what events are ordered by, where those of one enrollment are to stand together
-abbrev pub enrolled_key : EventRow → EnrolledKey
-enrolled_key event = record { enrolled = event.enrolled; enrollment = event.enrollment; day = event.day; id = event.id }
+abbrev pub enrolled_key : EventRow → Option ℤ × (Option (List ℕ) × (ℤ × List ℕ))
+enrolled_key event = (event.enrolled, (event.enrollment, (event.day, event.id)))

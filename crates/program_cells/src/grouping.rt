@@ -12,24 +12,13 @@ use dh_base::uid::Uid;
 use std::alloc::Global;
 use table_rows::EventRow;
 
-/// What events are ordered by, field by field, where those of one enrollment are to stand together.
-#[derive(Clone, Copy, PartialEq, Eq, PartialOrd, Ord)]
-struct EnrolledKey {
-    enrolled: Option<i32>,
-    enrollment: Option<Uid>,
-    day: i32,
-    id: Uid,
-}
+/// What events are ordered by where those of one enrollment are to stand together: by the first, and then by what comes after it.
+type EnrolledKey = (Option<i32>, (Option<Uid>, (i32, Uid)));
 
 fn key_of(event: &EventRow) -> EnrolledKey
     ensures { result ≡ enrolled_key event.now }
 {
-    EnrolledKey {
-        enrolled: event.enrolled,
-        enrollment: event.enrollment,
-        day: event.day,
-        id: event.id,
-    }
+    (event.enrolled, (event.enrollment, (event.day, event.id)))
 }
 
 /// The events by the day of the enrollment, the enrollment, and then by day and identifier, by which they stand now.

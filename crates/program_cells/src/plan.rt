@@ -37,7 +37,6 @@ use std::alloc::Global;
 use table_rows::{EventRow, RowStore};
 
 /// What is made of a program indicator once a query.
-#[derive(Drop)]
 pub struct ProgramPlan {
     pub code: PiCode,
     /// Whether its subjects are events or enrollments.
@@ -46,8 +45,18 @@ pub struct ProgramPlan {
     pub enrollments: Items<Items<EventRow>>,
 }
 
+// By hand, so that it is proved here alone and not in each crate above.
+impl Drop for ProgramPlan {
+    fn drop(self) {
+        let ProgramPlan {
+            code: _,
+            over: _,
+            enrollments: _,
+        } = self;
+    }
+}
+
 /// The subjects of a program indicator in some periods, for the cells of all units.
-#[derive(Drop)]
 pub enum Subjects<'a> {
     /// Each event alone, by day and identifier.
     Events(PlacedEvents<'a>),
@@ -55,6 +64,17 @@ pub enum Subjects<'a> {
     Samples(SampledEvents<'a>),
     /// The events of each enrollment, by the day on which it began and its identifier.
     Enrollments(Vec<&'a [EventRow]>),
+}
+
+// By hand, so that it is proved here alone and not in each crate above.
+impl<'a> Drop for Subjects<'a> {
+    fn drop(self) {
+        match self {
+            Subjects::Events(_) => {}
+            Subjects::Samples(_) => {}
+            Subjects::Enrollments(_) => {}
+        }
+    }
 }
 
 fn enrollments_for<S: RowStore>(

@@ -12,6 +12,7 @@ ghost use Rattle.program_cells.specs.Places.{ArePlaces, order_of};
 
 use crate::days::{days_of, is_on_some};
 use crate::placed::{PlacedEvents, lists_for, put};
+use crate::under::push_if;
 use cell_values::{CellPeriods, Seer, Source};
 use dh_base::items::Items;
 use dh_base::memory::Memory;
@@ -88,10 +89,11 @@ fn places_if_seen(
 {
     let mut places = lists_for(alloc, events.len(), meta.count(Kind::OrganisationUnit))?;
     for at in 0..events.len() {
-        if !is_seen_during(meta, seer, program, periods, events[at]) {
+        let event = events[at];
+        if !is_seen_during(meta, seer, program, periods, event) {
             return Ok(None);
         }
-        put(&mut places, events[at], at)?;
+        put(&mut places, event, at)?;
     }
     Ok(Some(places))
 }
@@ -111,9 +113,8 @@ fn picked<'a>(
 {
     let mut kept: Vec<&'a EventRow> = Vec::new(alloc);
     for event in events {
-        if is_seen_during(meta, seer, program, periods, event) {
-            kept.push(*event)?;
-        }
+        let keeps = is_seen_during(meta, seer, program, periods, event);
+        push_if(&mut kept, *event, keeps)?;
     }
     Ok(kept)
 }

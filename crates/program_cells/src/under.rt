@@ -1,5 +1,5 @@
 //! The subjects of some units.
-ghost use Rattle.std.specs.Prelude.{◌≡◌, ◌++◌, ◌∷◌, [], if◌then◌else◌, map, IfOk, OnOk};
+ghost use Rattle.std.specs.Prelude.{◌≡◌, ◌++◌, ◌∷◌, [], cond, if◌then◌else◌, map, IfOk, OnOk};
 ghost use Rattle.std.specs.List.{filter};
 ghost use Rattle.dh_sharing.specs.Ranges.{is_within};
 ghost use Rattle.program_cells.specs.Cells.{alone};
@@ -12,6 +12,16 @@ use dh_sharing::ranges::ViewRanges;
 use std::alloc::Global;
 use std::slice::from_ref;
 use table_rows::EventRow;
+
+/// Puts an item at the end, if it is to be kept.
+pub(crate) fn push_if<T: Copy>(kept: &mut Vec<T>, item: T, keeps: bool) -> Result<(), Memory>
+    ensures { OnOk result (kept.new.items ≡ kept.old.items ++ cond keeps (item ∷ []) []) }
+{
+    if keeps {
+        kept.push(item)?;
+    }
+    Ok(())
+}
 
 /// The events whose units lie in the ranges, each alone.
 pub(crate) fn events_in<'a>(
@@ -79,11 +89,9 @@ pub(crate) fn enrollments_in<'a>(
     ensures { IfOk result (λ kept. map (λ subject. subject.now) kept.items
         ≡ filter (first_is (is_placed_in ranges.now)) (map (λ subject. subject.now) enrollments.now)) }
 {
-    let mut kept = Vec::new(alloc);
+    let mut kept: Vec<&'a [EventRow]> = Vec::new(alloc);
     for enrollment in enrollments {
-        if lies_in(ranges, enrollment) {
-            kept.push(*enrollment)?;
-        }
+        push_if(&mut kept, *enrollment, lies_in(ranges, enrollment))?;
     }
     Ok(kept)
 }

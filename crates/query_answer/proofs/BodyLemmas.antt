@@ -3,7 +3,7 @@ use Rattle.std.proofs.Common.{◌≡◌, ℕ, ◌+◌, ◌-◌, true, false, Lis
 use Rattle.std.proofs.Common.{append_assoc, arith, length-append, codes}
 use Rattle.std.proofs.lemmas.List.{length-map}
 use Rattle.std.proofs.Math.Seq.{take-append_seam}
-use Rattle.serde_json.specs.Data.{Data, number, unsigned, string, array, object, Members, member, no_members}
+use Rattle.serde_json.specs.Data.{Data, number, unsigned, string, array, object, Members, member, no_members, put}
 use Rattle.serde_json.specs.View.{items_of}
 use Rattle.serde_json.specs.Written.{compact_text, members_text}
 use Rattle.dh_metadata.specs.declared.held.Records.{Records}
@@ -88,6 +88,14 @@ first_before : (heads : List Data) (width : ℕ) (told : Data) (height : ℕ) �
     (member (codes "headers") (array (items_of heads)) (member (codes "height") (number (unsigned height)) (member (codes "metaData") told no_members)))
 unfolding members_before
 first_before heads width told height = refl
+
+-- the members before the rows, put one after the other
+pub before_put : (heads : List Data) (width : ℕ) (told : Data) (height : ℕ)
+    → put (codes "height") (number (unsigned height))
+    (put (codes "headerWidth") (number (unsigned width)) (put (codes "headers") (array (items_of heads)) (put (codes "metaData") told no_members)))
+    ≡ members_before heads width told height
+unfolding members_before
+before_put heads width told height = refl
 
 body_parts : (heads : List Data) (told : Data) (rows : List Data) → body_with heads told rows
     ≡ object (joined (members_before heads (length heads) told (length rows))

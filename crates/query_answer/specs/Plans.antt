@@ -18,6 +18,7 @@ use Rattle.query_answer.specs.declared.plans.IndicatorPlan.{IndicatorPlan}
 use Rattle.query_answer.specs.declared.plans.Plan.{Plan}
 use Rattle.query_answer.specs.declared.plans.Plan.TheVariants as plan
 use Rattle.query_answer.specs.declared.plans.PlanGroups.{PlanGroups}
+use Rattle.query_answer.specs.declared.plans.PlanGroups.TheVariants as groups
 
 -- the plan of an indicator: its two sides in the form that is evaluated, and the plans of the items of each
 pub record IsIndicatorPlan (r : Records) (user : ℕ) (held : Contents) (indicator : Indicator) (made : IndicatorPlan) : Type 0 where
@@ -38,10 +39,17 @@ IsPlan r user held dx (plan.Rate made) =
     (dx.kind ≡ dx_kind.Rate made.asked.which) × (IsRatePlan r user held.regs made × (made.asked.set ≡ dx.number))
 IsPlan r user held dx (plan.Program made) = (dx.kind ≡ dx_kind.ProgramIndicator) × IsProgramPlan r user held.events dx.number made
 
+-- the plan that groups are of
+abbrev pub plan_in : PlanGroups → Plan
+plan_in (groups.Element made own) = plan.Element made.now
+plan_in (groups.Indicator made over under) = plan.Indicator made.now
+plan_in (groups.Rate made due) = plan.Rate made.now
+plan_in (groups.Program made subjects) = plan.Program made.now
+
 -- what is made of it once for some periods: its groups inside them, what is due in them, or the subjects of a program indicator
-abbrev pub ArePlanGroups : Records → ℕ → Contents → List PeriodName → Plan → PlanGroups → Type 0
-ArePlanGroups r user held periods (plan.Element made) groups = groups.own ≡ inside periods made.groups
-ArePlanGroups r user held periods (plan.Indicator made) groups =
-    (groups.over ≡ map (groups_inside periods) made.over) × (groups.under ≡ map (groups_inside periods) made.under)
-ArePlanGroups r user held periods (plan.Rate made) groups = IsDue periods made.reports groups.due
-ArePlanGroups r user held periods (plan.Program made) groups = AreSubjects r user held.events periods made groups.subjects
+abbrev pub ArePlanGroups : Records → ℕ → Contents → List PeriodName → PlanGroups → Type 0
+ArePlanGroups r user held periods (groups.Element made own) = own ≡ inside periods made.now.groups
+ArePlanGroups r user held periods (groups.Indicator made over under) =
+    (over ≡ map (groups_inside periods) made.now.over) × (under ≡ map (groups_inside periods) made.now.under)
+ArePlanGroups r user held periods (groups.Rate made due) = IsDue periods made.now.reports due
+ArePlanGroups r user held periods (groups.Program made subjects) = AreSubjects r user held.events periods made.now subjects

@@ -18,11 +18,11 @@ ghost use Rattle.cell_values.specs.Plans.{IsElementPlan, inside, groups_inside};
 ghost use Rattle.query_answer.specs.Asked.{can_answer_dx};
 ghost use Rattle.query_answer.specs.Cells.{of_option, of_program, indicator_cell, cell_value, places_of, decimals_of, value_text};
 ghost use Rattle.query_answer.specs.Parts.{IsUnitPart};
-ghost use Rattle.query_answer.specs.Plans.{IsIndicatorPlan, IsPlan, ArePlanGroups};
+ghost use Rattle.query_answer.specs.Plans.{IsIndicatorPlan, IsPlan, plan_in, ArePlanGroups};
 
 use crate::arithmetic::CellValue;
 use crate::parts::UnitPart;
-use crate::plans::{IndicatorPlan, Plan, PlanGroups};
+use crate::plans::{IndicatorPlan, PlanGroups};
 use crate::sides::indicator_value;
 use cell_values::{
     CellPeriods, CellUnits, Due, ElementPlan, RatePlan, Source, item_values, planned_rate,
@@ -92,15 +92,16 @@ fn indicator_cell<S: RowStore>(
     source: &Source<'_, S>,
     indicator: &Indicator,
     plan: &IndicatorPlan,
-    groups: &PlanGroups<'_>,
+    over: &[Items<Group>],
+    under: &[Items<Group>],
     periods: &CellPeriods,
     unit: &UnitPart,
 ) -> Result<CellValue, Memory>
     requires plan { IsIndicatorPlan source.now.meta.now source.now.seer.now.user
         (contents_of (S.rows source.now.store.now) (S.events source.now.store.now) (S.regs source.now.store.now))
         indicator.now plan.now }
-    requires over { groups.now.over ≡ map (groups_inside periods.now) plan.now.over }
-    requires under { groups.now.under ≡ map (groups_inside periods.now) plan.now.under }
+    requires over { over.now ≡ map (groups_inside periods.now) plan.now.over }
+    requires under { under.now ≡ map (groups_inside periods.now) plan.now.under }
     requires unit { IsUnitPart source.now.meta.now source.now.seer.now.user unit.now }
     ensures { IfOk result (λ cell. cell ≡ indicator_cell source.now.meta.now
         (seen_of source.now.meta.now source.now.seer.now.user
@@ -108,28 +109,14 @@ fn indicator_cell<S: RowStore>(
         indicator.now periods.now unit.now.units.units) }
 {
     let units = &unit.units;
-    let over = item_values(
-        alloc,
-        source,
-        plan.over.as_slice(),
-        groups.over.as_slice(),
-        periods,
-        units,
-    )?;
-    let under = item_values(
-        alloc,
-        source,
-        plan.under.as_slice(),
-        groups.under.as_slice(),
-        periods,
-        units,
-    )?;
+    let numerator = item_values(alloc, source, plan.over.as_slice(), over, periods, units)?;
+    let denominator = item_values(alloc, source, plan.under.as_slice(), under, periods, units)?;
     indicator_value(
         alloc,
         &plan.sides,
         periods.days(),
-        over.as_slice(),
-        under.as_slice(),
+        numerator.as_slice(),
+        denominator.as_slice(),
     )
 }
 
@@ -164,36 +151,32 @@ pub fn cell_value<S: RowStore>(
     alloc: Global,
     source: &Source<'_, S>,
     dx: &Dx,
-    plan: &Plan,
     groups: &PlanGroups<'_>,
     periods: &CellPeriods,
     unit: &UnitPart,
 ) -> Result<CellValue, Memory>
     requires dx { can_answer_dx source.now.meta.now dx.now ≡ true }
     requires plan { IsPlan source.now.meta.now source.now.seer.now.user
-        (contents_of (S.rows source.now.store.now) (S.events source.now.store.now) (S.regs source.now.store.now)) dx.now plan.now }
+        (contents_of (S.rows source.now.store.now) (S.events source.now.store.now) (S.regs source.now.store.now)) dx.now (plan_in groups.now) }
     requires groups { ArePlanGroups source.now.meta.now source.now.seer.now.user
-        (contents_of (S.rows source.now.store.now) (S.events source.now.store.now) (S.regs source.now.store.now)) periods.now plan.now groups.now }
+        (contents_of (S.rows source.now.store.now) (S.events source.now.store.now) (S.regs source.now.store.now)) periods.now groups.now }
     requires unit { IsUnitPart source.now.meta.now source.now.seer.now.user unit.now }
     ensures { IfOk result (λ cell. cell ≡ cell_value source.now.meta.now
         (seen_of source.now.meta.now source.now.seer.now.user
         (contents_of (S.rows source.now.store.now) (S.events source.now.store.now) (S.regs source.now.store.now))) dx.now periods.now unit.now.units.units) }
 {
-    match plan {
-        Plan::Element(plan) => element_cell(
-            alloc,
-            source,
-            plan,
-            groups.own.as_slice(),
-            periods,
-            &unit.units,
-        ),
-        Plan::Indicator(plan) => {
-            let indicator = source.meta.indicator(dx.number);
-            indicator_cell(alloc, source, indicator, plan, groups, periods, unit)
+    match groups {
+        PlanGroups::Element(plan, own) => {
+            element_cell(alloc, source, plan, own.as_slice(), periods, &unit.units)
         }
-        Plan::Rate(plan) => rate_cell(alloc, source, plan, &groups.due, &unit.units),
-        Plan::Program(plan) => program_cell(alloc, plan, &groups.subjects, unit),
+        PlanGroups::Indicator(plan, over, under) => {
+            let indicator = source.meta.indicator(dx.number);
+            let over = over.as_slice();
+            let under = under.as_slice();
+            indicator_cell(alloc, source, indicator, plan, over, under, periods, unit)
+        }
+        PlanGroups::Rate(plan, due) => rate_cell(alloc, source, plan, due, &unit.units),
+        PlanGroups::Program(plan, subjects) => program_cell(alloc, plan, subjects, unit),
     }
 }
 

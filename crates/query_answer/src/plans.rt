@@ -6,7 +6,7 @@ ghost use Rattle.cell_values.specs.Held.{IsSeer};
 ghost use Rattle.cell_values.specs.Seen.{contents_of};
 ghost use Rattle.query_lang.specs.declared.plain.DxKind.TheVariants as dx_kind;
 ghost use Rattle.query_answer.specs.Asked.{can_answer_dx};
-ghost use Rattle.query_answer.specs.Plans.{IsIndicatorPlan, IsPlan, ArePlanGroups};
+ghost use Rattle.query_answer.specs.Plans.{IsIndicatorPlan, IsPlan, plan_in, ArePlanGroups};
 
 use crate::sides::{Sides, sides_of};
 use cell_values::{
@@ -17,7 +17,7 @@ use dh_base::items::Items;
 use dh_base::memory::Memory;
 use dh_base::plain::Rate;
 use dh_metadata::records::Indicator;
-use program_cells::{PlacedEvents, ProgramPlan, Subjects, program_plan, subjects_during};
+use program_cells::{ProgramPlan, Subjects, program_plan, subjects_during};
 use query_lang::{Dx, DxKind};
 use std::alloc::Global;
 use table_rows::{Group, RowStore};
@@ -39,16 +39,17 @@ pub enum Plan {
     Program(ProgramPlan),
 }
 
-/// What is made of a plan once for some periods: the groups of its element, or those of each planned
-/// item, inside them, what is due in them, or the subjects of a program indicator that the user sees.
-/// What isn't the plan's is empty.
+/// What is made of a plan once for some periods, beside the plan.
 #[derive(Drop)]
-pub struct PlanGroups<'a> {
-    pub own: Items<Group>,
-    pub over: Items<Items<Group>>,
-    pub under: Items<Items<Group>>,
-    pub due: Due,
-    pub subjects: Subjects<'a>,
+pub enum PlanGroups<'a> {
+    /// The groups of an element inside them.
+    Element(&'a ElementPlan, Items<Group>),
+    /// The groups of each planned item of an indicator inside them.
+    Indicator(&'a IndicatorPlan, Items<Items<Group>>, Items<Items<Group>>),
+    /// What is due in them.
+    Rate(&'a RatePlan, Due),
+    /// The subjects of a program indicator that the user sees.
+    Program(&'a ProgramPlan, Subjects<'a>),
 }
 
 fn indicator_plan<S: RowStore>(
@@ -137,17 +138,6 @@ pub fn plan_of<S: RowStore>(alloc: Global, source: &Source<'_, S>, dx: &Dx) -> R
     }
 }
 
-fn nothing_due(alloc: Global) -> Due {
-    Due {
-        periods: 0,
-        orders: Items::new(alloc),
-    }
-}
-
-fn no_subjects<'a>(alloc: Global) -> Subjects<'a> {
-    Subjects::Events(PlacedEvents::none(alloc))
-}
-
 /// What is made of a plan once for some periods. In how many units the cells lie decides no more than the way.
 pub fn plan_groups<'a, S: RowStore>(
     alloc: Global,
@@ -157,50 +147,27 @@ pub fn plan_groups<'a, S: RowStore>(
     units: usize,
 ) -> Result<PlanGroups<'a>, Memory>
     requires seer { IsSeer source.now.meta.now source.now.seer.now }
-    ensures { IfOk result (λ groups. ArePlanGroups source.now.meta.now source.now.seer.now.user
-        (contents_of (S.rows source.now.store.now) (S.events source.now.store.now) (S.regs source.now.store.now)) periods.now plan.now groups) }
+    ensures plan { IfOk result (λ groups. plan_in groups ≡ plan.now) }
+    ensures groups { IfOk result (λ groups. ArePlanGroups source.now.meta.now source.now.seer.now.user
+        (contents_of (S.rows source.now.store.now) (S.events source.now.store.now) (S.regs source.now.store.now)) periods.now groups) }
 {
     match plan {
         Plan::Element(plan) => {
             let own = element_groups(alloc, plan, periods)?;
-            Ok(PlanGroups {
-                own,
-                over: Items::new(alloc),
-                under: Items::new(alloc),
-                due: nothing_due(alloc),
-                subjects: no_subjects(alloc),
-            })
+            Ok(PlanGroups::Element(plan, own))
         }
         Plan::Indicator(plan) => {
             let over = item_groups(alloc, plan.over.as_slice(), periods)?;
             let under = item_groups(alloc, plan.under.as_slice(), periods)?;
-            Ok(PlanGroups {
-                own: Items::new(alloc),
-                over,
-                under,
-                due: nothing_due(alloc),
-                subjects: no_subjects(alloc),
-            })
+            Ok(PlanGroups::Indicator(plan, over, under))
         }
         Plan::Rate(plan) => {
             let due = rate_due(alloc, plan, periods)?;
-            Ok(PlanGroups {
-                own: Items::new(alloc),
-                over: Items::new(alloc),
-                under: Items::new(alloc),
-                due,
-                subjects: no_subjects(alloc),
-            })
+            Ok(PlanGroups::Rate(plan, due))
         }
         Plan::Program(plan) => {
             let subjects = subjects_during(alloc, source, plan, periods, units)?;
-            Ok(PlanGroups {
-                own: Items::new(alloc),
-                over: Items::new(alloc),
-                under: Items::new(alloc),
-                due: nothing_due(alloc),
-                subjects,
-            })
+            Ok(PlanGroups::Program(plan, subjects))
         }
     }
 }

@@ -7,7 +7,7 @@ ghost use Rattle.cell_values.specs.Held.{IsSeer};
 ghost use Rattle.cell_values.specs.Seen.{seen_of, contents_of};
 ghost use Rattle.query_answer.specs.Asked.{CanAnswer, can_answer_dx};
 ghost use Rattle.query_answer.specs.Parts.{period_slot, unit_slot, IsUnitPart, AreParts};
-ghost use Rattle.query_answer.specs.Plans.{IsPlan, ArePlanGroups};
+ghost use Rattle.query_answer.specs.Plans.{IsPlan, plan_in, ArePlanGroups};
 ghost use Rattle.query_answer.specs.Rows.{period_slots, unit_slots, unit_is_wide, unit_rows, period_is_wide, period_rows, dx_is_wide, dx_rows, rows_from};
 
 use crate::arithmetic::CellValue;
@@ -84,10 +84,10 @@ fn write_cell<S: RowStore>(
     requires dx { can_answer_dx asking.now.source.now.meta.now item.now.dx.now ≡ true }
     requires plan { IsPlan asking.now.source.now.meta.now asking.now.source.now.seer.now.user
         (contents_of (S.rows asking.now.source.now.store.now) (S.events asking.now.source.now.store.now)
-        (S.regs asking.now.source.now.store.now)) item.now.dx.now item.now.plan.now }
+        (S.regs asking.now.source.now.store.now)) item.now.dx.now (plan_in period.now.groups.now) }
     requires groups { ArePlanGroups asking.now.source.now.meta.now asking.now.source.now.seer.now.user
         (contents_of (S.rows asking.now.source.now.store.now) (S.events asking.now.source.now.store.now)
-        (S.regs asking.now.source.now.store.now)) period.now.part.now.periods item.now.plan.now period.now.groups.now }
+        (S.regs asking.now.source.now.store.now)) period.now.part.now.periods period.now.groups.now }
     requires unit { IsUnitPart asking.now.source.now.meta.now asking.now.source.now.seer.now.user unit.now }
     ensures wide { IfOk result (λ wide. wide ≡ unit_is_wide asking.now.source.now.meta.now
         (seen_of asking.now.source.now.meta.now asking.now.source.now.seer.now.user
@@ -105,7 +105,6 @@ fn write_cell<S: RowStore>(
         alloc,
         asking.source,
         item.dx,
-        item.plan,
         period.groups,
         &part.periods,
         unit,
@@ -138,10 +137,10 @@ fn write_units<S: RowStore>(
     requires dx { can_answer_dx asking.now.source.now.meta.now item.now.dx.now ≡ true }
     requires plan { IsPlan asking.now.source.now.meta.now asking.now.source.now.seer.now.user
         (contents_of (S.rows asking.now.source.now.store.now) (S.events asking.now.source.now.store.now)
-        (S.regs asking.now.source.now.store.now)) item.now.dx.now item.now.plan.now }
+        (S.regs asking.now.source.now.store.now)) item.now.dx.now (plan_in period.now.groups.now) }
     requires groups { ArePlanGroups asking.now.source.now.meta.now asking.now.source.now.seer.now.user
         (contents_of (S.rows asking.now.source.now.store.now) (S.events asking.now.source.now.store.now)
-        (S.regs asking.now.source.now.store.now)) period.now.part.now.periods item.now.plan.now period.now.groups.now }
+        (S.regs asking.now.source.now.store.now)) period.now.part.now.periods period.now.groups.now }
     requires parts { AreParts asking.now.source.now.meta.now asking.now.source.now.seer.now.user asking.now.query.now
         asking.now.periods.now asking.now.units.now }
     ensures wide { IfOk result (λ wide. wide ≡ period_is_wide asking.now.source.now.meta.now

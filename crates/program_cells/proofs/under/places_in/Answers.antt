@@ -1,5 +1,7 @@
-use Rattle.std.proofs.Common.{◌<◌, length, rules}
+use Rattle.std.proofs.Common.{◌<◌, ◌∙◌, ap, length, map, rules}
+use Rattle.std.proofs.lemmas.List.{take_all}
 use Rattle.program_cells.specs.Kept.{is_placed_in}
+use Rattle.program_cells.specs.Places.{places_from}
 use Rattle.program_cells.proofs.PlaceLemmas.{place-step}
 use Rattle.program_cells.proofs.under.places_in.Goals as goal
 
@@ -8,3 +10,9 @@ loop-at-preserved c =
     let within : c.loop-at.at < length c.args.events.now = search rules in
     place-step (λ event. event.now) (is_placed_in c.args.ranges.now) c.args.events.now c.loop-at.at c.index-events-at.result c.loop-at.own.items
     c.put_place.new.own.items within c.index-events-at.is c.loop-at.invariant c.in_ok-put_place.ensures
+
+pub returns : goal.returns
+returns c =
+    c.loop-at.invariant
+    ∙ ap (λ events. places_from 0 (is_placed_in c.args.ranges.now) (map (λ event. event.now) events))
+    (take_all c.loop-at.at c.args.events.now c.loop-at-test.false)

@@ -3,7 +3,7 @@ use Rattle.table_rows.specs.Store.{Contents}
 use Rattle.table_rows.specs.Events.{regs_of}
 use Rattle.cell_values.proofs.ReportingLemmas.{prepared}
 use Rattle.cell_values.specs.Seen.{seen_regs, seen_of, contents_of}
-use Rattle.query_answer.specs.Plans.{IsPlan, ArePlanGroups}
+use Rattle.query_answer.specs.Plans.{IsPlan, plan_in, ArePlanGroups}
 use Rattle.query_answer.proofs.AskedLemmas.{indicator_there}
 use Rattle.query_answer.proofs.PlanLemmas.{element-cell, indicator-cell, rate-cell, program-cell}
 use Rattle.query_answer.proofs.cells.cell_value.Goals as goal
@@ -12,7 +12,7 @@ pub element_cell-requires-clause-plan : goal.element_cell-requires-clause-plan
 element_cell-requires-clause-plan g c =
     let s = c.args.source.now.store.now in
     let held : Contents = contents_of (g.S.RowStore.rows s) (g.S.RowStore.events s) (g.S.RowStore.regs s) in
-    (subst (IsPlan c.args.source.now.meta.now c.args.source.now.seer.now.user held c.args.dx.now) c.in-Element.is c.requires.plan).1.0
+    (subst (λ g. IsPlan c.args.source.now.meta.now c.args.source.now.seer.now.user held c.args.dx.now (plan_in g)) c.in-Element.is c.requires.plan).1.0
 
 pub returns-in-Element : goal.returns-in-Element
 returns-in-Element g c =
@@ -21,9 +21,9 @@ returns-in-Element g c =
     let r = c.args.source.now.meta.now in
     let user = c.args.source.now.seer.now.user in
     let units = c.args.unit.now.units in
-    let is = subst (IsPlan r user held c.args.dx.now) c.in-Element.is c.requires.plan in
+    let is = subst (λ g. IsPlan r user held c.args.dx.now (plan_in g)) c.in-Element.is c.requires.plan in
     subst (λ v. IfOk c.element_cell.result (λ cell. cell ≡ v))
-    (element-cell r user held c.args.dx.now c.in-Element.plan.operand c.args.periods.now units.units units.alone is.0 is.1.1 c.requires.unit.alone)
+    (element-cell r user held c.args.dx.now c.in-Element.plan.now.operand c.args.periods.now units.units units.alone is.0 is.1.1 c.requires.unit.alone)
     c.element_cell.ensures
 
 pub indicator-indicator-requires : goal.indicator-indicator-requires
@@ -31,13 +31,13 @@ indicator-indicator-requires g c =
     let s = c.args.source.now.store.now in
     let held : Contents = contents_of (g.S.RowStore.rows s) (g.S.RowStore.events s) (g.S.RowStore.regs s) in
     indicator_there c.args.source.now.meta.now c.args.dx.now c.requires.dx
-    (subst (IsPlan c.args.source.now.meta.now c.args.source.now.seer.now.user held c.args.dx.now) c.in-Indicator.is c.requires.plan).0
+    (subst (λ g. IsPlan c.args.source.now.meta.now c.args.source.now.seer.now.user held c.args.dx.now (plan_in g)) c.in-Indicator.is c.requires.plan).0
 
 pub indicator_cell-requires-clause-plan : goal.indicator_cell-requires-clause-plan
 indicator_cell-requires-clause-plan g c =
     let s = c.args.source.now.store.now in
     let held : Contents = contents_of (g.S.RowStore.rows s) (g.S.RowStore.events s) (g.S.RowStore.regs s) in
-    (subst (IsPlan c.args.source.now.meta.now c.args.source.now.seer.now.user held c.args.dx.now) c.in-Indicator.is c.requires.plan).1
+    (subst (λ g. IsPlan c.args.source.now.meta.now c.args.source.now.seer.now.user held c.args.dx.now (plan_in g)) c.in-Indicator.is c.requires.plan).1
     c.indicator-indicator.result.now c.indicator-indicator.ensures.value
 
 pub returns-in-Indicator : goal.returns-in-Indicator
@@ -47,7 +47,7 @@ returns-in-Indicator g c =
     let r = c.args.source.now.meta.now in
     let user = c.args.source.now.seer.now.user in
     let units = c.args.unit.now.units in
-    let is = subst (IsPlan r user held c.args.dx.now) c.in-Indicator.is c.requires.plan in
+    let is = subst (λ g. IsPlan r user held c.args.dx.now (plan_in g)) c.in-Indicator.is c.requires.plan in
     subst (λ v. IfOk c.indicator_cell.result (λ cell. cell ≡ v))
     (indicator-cell r (seen_of r user held) c.args.dx.now c.indicator-indicator.result.now c.args.periods.now units.units is.0
     c.indicator-indicator.ensures.value)
@@ -57,7 +57,7 @@ pub rate_cell-requires-clause-plan : goal.rate_cell-requires-clause-plan
 rate_cell-requires-clause-plan g c =
     let s = c.args.source.now.store.now in
     let held : Contents = contents_of (g.S.RowStore.rows s) (g.S.RowStore.events s) (g.S.RowStore.regs s) in
-    (subst (IsPlan c.args.source.now.meta.now c.args.source.now.seer.now.user held c.args.dx.now) c.in-Rate.is c.requires.plan).1.0
+    (subst (λ g. IsPlan c.args.source.now.meta.now c.args.source.now.seer.now.user held c.args.dx.now (plan_in g)) c.in-Rate.is c.requires.plan).1.0
 
 pub rate_cell-requires-clause-due : goal.rate_cell-requires-clause-due
 rate_cell-requires-clause-due g c =
@@ -65,10 +65,10 @@ rate_cell-requires-clause-due g c =
     let r = c.args.source.now.meta.now in
     let user = c.args.source.now.seer.now.user in
     let held : Contents = contents_of (g.S.RowStore.rows s) (g.S.RowStore.events s) (g.S.RowStore.regs s) in
-    let plan = c.in-Rate.plan in
-    let is = subst (IsPlan r user held c.args.dx.now) c.in-Rate.is c.requires.plan in
-    let due = subst (λ p. ArePlanGroups r user held c.args.periods.now p c.args.groups.now) c.in-Rate.is c.requires.groups in
-    prepared r plan.asked.which plan.asked.set (seen_regs r user (regs_of plan.asked.set held.regs)) c.args.periods.now plan.reports c.args.groups.now.due
+    let plan = c.in-Rate.plan.now in
+    let is = subst (λ g. IsPlan r user held c.args.dx.now (plan_in g)) c.in-Rate.is c.requires.plan in
+    let due = subst (ArePlanGroups r user held c.args.periods.now) c.in-Rate.is c.requires.groups in
+    prepared r plan.asked.which plan.asked.set (seen_regs r user (regs_of plan.asked.set held.regs)) c.args.periods.now plan.reports c.in-Rate.due
     is.1.0 due
 
 pub returns-in-Rate : goal.returns-in-Rate
@@ -78,9 +78,9 @@ returns-in-Rate g c =
     let r = c.args.source.now.meta.now in
     let user = c.args.source.now.seer.now.user in
     let units = c.args.unit.now.units in
-    let plan = c.in-Rate.plan in
-    let is = subst (IsPlan r user held c.args.dx.now) c.in-Rate.is c.requires.plan in
-    let due = subst (λ p. ArePlanGroups r user held c.args.periods.now p c.args.groups.now) c.in-Rate.is c.requires.groups in
+    let plan = c.in-Rate.plan.now in
+    let is = subst (λ g. IsPlan r user held c.args.dx.now (plan_in g)) c.in-Rate.is c.requires.plan in
+    let due = subst (ArePlanGroups r user held c.args.periods.now) c.in-Rate.is c.requires.groups in
     subst (λ v. IfOk c.rate_cell.result (λ cell. cell ≡ v))
     (rate-cell r user held c.args.dx.now plan.asked c.args.periods.now units.units units.alone is.0 is.1.1 c.requires.unit.alone)
     (c.rate_cell.ensures c.args.periods.now due)
@@ -92,8 +92,7 @@ returns-in-Program g c =
     let user = c.args.source.now.seer.now.user in
     let held : Contents = contents_of (g.S.RowStore.rows s) (g.S.RowStore.events s) (g.S.RowStore.regs s) in
     let dx = c.args.dx.now in
-    let plan = c.in-Program.plan in
-    let is = subst (IsPlan r user held dx) c.in-Program.is c.requires.plan in
-    let subjects = subst (λ p. ArePlanGroups r user held c.args.periods.now p c.args.groups.now) c.in-Program.is c.requires.groups in
+    let is = subst (λ g. IsPlan r user held dx (plan_in g)) c.in-Program.is c.requires.plan in
+    let subjects = subst (ArePlanGroups r user held c.args.periods.now) c.in-Program.is c.requires.groups in
     subst (λ v. IfOk c.program_cell.result (λ cell. cell ≡ v)) (program-cell r user held dx c.args.periods.now c.args.unit.now.units.units is.0)
     (c.program_cell.ensures r user dx.number c.args.periods.now held.events is.1 subjects c.requires.unit)

@@ -1,7 +1,8 @@
-use Rattle.std.proofs.Common.{◌∙◌, ℕ, List, ap}
+use Rattle.std.proofs.Common.{◌∙◌, ℕ, List, sym, ap}
+use Rattle.std.proofs.lemmas.List.{drop_all, take_all}
 use Rattle.serde_json.specs.View.{members_view}
 use Rattle.query_lang.specs.declared.plain.Dx.{Dx}
-use Rattle.query_answer.specs.Names.{dx_name}
+use Rattle.query_answer.specs.Names.{dx_name, dx_named, ids_of, put_names}
 use Rattle.query_answer.proofs.NameLemmas.{ids-more, names-more}
 use Rattle.query_answer.proofs.names.add_dx.Goals as goal
 
@@ -19,3 +20,13 @@ loop-each-preserved c =
           c.as_slice-text.result.now c.name_of_dx.result.now
           c.loop-each-test.true id name c.loop-each.invariant.names c.in_ok-add_name.ensures;
     }
+
+pub returns-clause-ids : goal.returns-clause-ids
+returns-clause-ids c =
+    c.loop-each.invariant.ids ∙ ap (λ items. ids_of (dx_named c.args.meta.now items)) (take_all c.loop-each.each-index c.args.dx.now c.loop-each-test.false)
+
+pub returns-clause-names : goal.returns-clause-names
+returns-clause-names c =
+    ap (λ items. put_names (dx_named c.args.meta.now items) (members_view c.loop-each.items.entries))
+    (sym (drop_all c.loop-each.each-index c.args.dx.now c.loop-each-test.false))
+    ∙ c.loop-each.invariant.names

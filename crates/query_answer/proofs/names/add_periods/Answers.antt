@@ -1,7 +1,9 @@
-use Rattle.std.proofs.Common.{◌≡◌, ◌∙◌, List, ℕ, get_or, ap}
+use Rattle.std.proofs.Common.{◌≡◌, ◌∙◌, List, ℕ, get_or, sym, ap}
+use Rattle.std.proofs.lemmas.List.{drop_all, take_all}
 use Rattle.serde_json.specs.View.{members_view}
 use Rattle.dh_periods.specs.declared.name.PeriodName.{PeriodName}
 use Rattle.dh_periods.specs.Texts.{period_text}
+use Rattle.query_answer.specs.Names.{period_named, ids_of, put_names}
 use Rattle.query_answer.proofs.NameLemmas.{ids-more, names-more}
 use Rattle.query_answer.proofs.names.add_periods.Goals as goal
 
@@ -20,3 +22,13 @@ loop-each-preserved c =
           c.loop-each-test.true (c.as_slice.ensures.value ∙ text) (c.as_slice-in-loop-each.ensures.value ∙ text) c.loop-each.invariant.names
           c.in_ok-add_name.ensures;
     }
+
+pub returns-clause-ids : goal.returns-clause-ids
+returns-clause-ids c =
+    c.loop-each.invariant.ids ∙ ap (λ items. ids_of (period_named items)) (take_all c.loop-each.each-index c.args.periods.now c.loop-each-test.false)
+
+pub returns-clause-names : goal.returns-clause-names
+returns-clause-names c =
+    ap (λ items. put_names (period_named items) (members_view c.loop-each.items.entries))
+    (sym (drop_all c.loop-each.each-index c.args.periods.now c.loop-each-test.false))
+    ∙ c.loop-each.invariant.names
