@@ -1,6 +1,6 @@
 //! Tests of calls of the libraries: that they succeed where there is memory enough, worked examples of what no clause
-//! says, and reads, writes and a store that fail at a stated call or place. Rows of cases that were worked out elsewhere
-//! stand in `table_tests`.
+//! says, and reads, writes and a store that fail at a stated call or place; a server over links in memory: what other
+//! links are told while an update is being built. Rows of cases that were worked out elsewhere stand in `table_tests`.
 #![tactic(auto)]
 
 #[cfg(test)]
@@ -17,6 +17,8 @@ mod log;
 mod outside;
 #[cfg(test)]
 mod rows;
+#[cfg(test)]
+mod server;
 #[cfg(test)]
 mod sessions;
 #[cfg(test)]
