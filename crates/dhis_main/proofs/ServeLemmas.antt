@@ -10,6 +10,7 @@ use Rattle.net_doors.specs.Doors as doors
 use Rattle.net_doors.specs.Serving.{EndsBy}
 use Rattle.net_doors.specs.declared.ending.Ending.{Ending}
 use Rattle.net_doors.specs.declared.ending.Ending.TheVariants as ending
+use Rattle.shared_engine.specs.Entries.{Entry}
 use Rattle.shared_engine.specs.Histories.{Made}
 use Rattle.shared_server.specs.OverFile.{Completes, Refuses, ServesMeta, ServesOver}
 use Rattle.shared_server.specs.declared.over_file.ServeEnd.{ServeEnd}
@@ -33,14 +34,16 @@ ends-well ending.Enough before after most count well ends = inl ends
 ends-well ending.Closed before after most count well ends = inr ends
 ends-well ending.ListenFault before after most count well ends = absurd (well refl)
 
-serves-all : {N : Type 0} (U : N → Type 0) (A : Made → N → N → Type 0) (before after : doors.Shown N) (meta : Records) (most count : ℕ)
+serves-all : {N : Type 0} (U : N → Type 0) (A : Made → List Entry → N → N → Type 0) (before after : doors.Shown N) (meta : Records) (most count : ℕ)
     → Completes U A before after meta most count → ServesAll U A before after meta most count
-serves-all U A before after meta most count was = let served = was.serves.links.links in record {
+serves-all U A before after meta most count was = let served = was.serves.served.links.links in record {
   accepted = served.accepted;
   few = served.bound;
-  ends = ends-well was.how before after most count was.complete was.serves.links.ends;
+  ends = ends-well was.how before after most count was.complete was.serves.served.links.ends;
   made = was.serves.made;
   made_for = was.serves.made_for;
+  whole = was.serves.served.whole;
+  legal = was.serves.served.legal;
   back = served.back;
   many = let c = served.counted in omega arith;
   told = served.told;
@@ -49,7 +52,7 @@ serves-all U A before after meta most count was = let served = was.serves.links.
 
 -- ---- what a server came to, as a status
 
-over-meta : {N : Type 0} (U : N → Type 0) (A : Made → N → N → Type 0) (most : ℕ) (name : List ℕ) (files : Folder) (output : Side)
+over-meta : {N : Type 0} (U : N → Type 0) (A : Made → List Entry → N → N → Type 0) (most : ℕ) (name : List ℕ) (files : Folder) (output : Side)
     (before after : doors.Shown N) (bytes : List ℕ) (meta : Records) (how : ServeEnd) → IfSome (files.file name) (λ all. bytes ≡ all)
     → IsMetadata bytes (Ok meta) → (how ≡ end.Unwritten → Rose output.faults output.faults_after)
     → ServesMeta U A before after most meta output.before output.after how → ServeRuns U A most name files output before after (status_by how)
@@ -63,7 +66,7 @@ over-meta U A most name files output before after bytes meta end.Memory told is 
 over-meta U A most name files output before after bytes meta end.Memory told is rose (kept, inr all) =
     (kept, inr (bytes, told, (meta, is, (all.0, serves-all U A before after meta most all.0 all.1))))
 
-refused : {N : Type 0} (U : N → Type 0) (A : Made → N → N → Type 0) (most : ℕ) (name : List ℕ) (files : Folder) (output : Side)
+refused : {N : Type 0} (U : N → Type 0) (A : Made → List Entry → N → N → Type 0) (most : ℕ) (name : List ℕ) (files : Folder) (output : Side)
     (before after : doors.Shown N) (bytes : List ℕ) (found : MetaFault) (how : ServeEnd) → IfSome (files.file name) (λ all. bytes ≡ all)
     → IsMetadata bytes (Err found) → (how ≡ end.Unwritten → Rose output.faults output.faults_after)
     → Refuses found output.before output.after how → after ≡ before → ServeRuns U A most name files output before after (status_by how)
@@ -73,7 +76,7 @@ refused U A most name files output before after bytes found (end.Served count) t
 refused U A most name files output before after bytes found end.ListenFault told is rose came same = absurd came
 refused U A most name files output before after bytes found end.Memory told is rose came same = (came, inl same)
 
-by-over : {N : Type 0} (U : N → Type 0) (A : Made → N → N → Type 0) (most : ℕ) (name : List ℕ) (files : Folder) (output : Side)
+by-over : {N : Type 0} (U : N → Type 0) (A : Made → List Entry → N → N → Type 0) (most : ℕ) (name : List ℕ) (files : Folder) (output : Side)
     (before after : doors.Shown N) (bytes : List ℕ) (how : ServeEnd) → IfSome (files.file name) (λ all. bytes ≡ all)
     → (how ≡ end.Unwritten → Rose output.faults output.faults_after) → ServesOver U A before after most bytes output.before output.after how
     → ServeRuns U A most name files output before after (status_by how)
@@ -83,7 +86,7 @@ by-over U A most name files output before after bytes how told rose (inr came) =
     over-meta U A most name files output before after bytes came.0 how told came.1 rose came.2
 
 -- a server over the bytes of the file
-pub served : {N : Type 0} (U : N → Type 0) (A : Made → N → N → Type 0) (most : ℕ) (name : List ℕ) (files : Folder) (output : Side)
+pub served : {N : Type 0} (U : N → Type 0) (A : Made → List Entry → N → N → Type 0) (most : ℕ) (name : List ℕ) (files : Folder) (output : Side)
     (before after : doors.Shown N) (bytes : List ℕ) (how : ServeEnd) (result : Status) → result ≡ status_by how
     → IfSome (files.file name) (λ all. bytes ≡ all) → (how ≡ end.Unwritten → Rose output.faults output.faults_after)
     → ServesOver U A before after most bytes output.before output.after how → ServeRuns U A most name files output before after result
@@ -91,7 +94,7 @@ served U A most name files output before after bytes how result is told rose ove
     subst (ServeRuns U A most name files output before after) (sym is) (by-over U A most name files output before after bytes how told rose over)
 
 -- metadata that are refused before the listener is called
-pub refused_by : {N : Type 0} (U : N → Type 0) (A : Made → N → N → Type 0) (most : ℕ) (name : List ℕ) (files : Folder) (output : Side)
+pub refused_by : {N : Type 0} (U : N → Type 0) (A : Made → List Entry → N → N → Type 0) (most : ℕ) (name : List ℕ) (files : Folder) (output : Side)
     (shown : doors.Shown N) (bytes : List ℕ) (found : MetaFault) (how : ServeEnd) (result : Status) → result ≡ status_by how
     → IfSome (files.file name) (λ all. bytes ≡ all) → IsMetadata bytes (Err found)
     → (how ≡ end.Unwritten → Rose output.faults output.faults_after) → Refuses found output.before output.after how
@@ -101,10 +104,10 @@ refused_by U A most name files output shown bytes found how result is told at ro
 
 -- ---- by what the words ask for
 
-pub by_serving : {N : Type 0} (U : N → Type 0) (A : Made → N → N → Type 0) (asked : Option (ℕ × ℕ)) (numbers : ℕ × ℕ) (most : ℕ) (words : List (List ℕ))
-    (name : List ℕ) (shows : ℤ → Type 0) (shown : Shown) (before after : doors.Shown N) (result : Status) → asked ≡ Some numbers → most ≡ numbers.1
-    → word_at words 1 ≡ name → shown.input.after ≡ shown.input.before → ServeRuns U A most name shown.files shown.output before after result
-    → RunsBy U A asked words shows shown before after result
+pub by_serving : {N : Type 0} (U : N → Type 0) (A : Made → List Entry → N → N → Type 0) (asked : Option (ℕ × ℕ)) (numbers : ℕ × ℕ) (most : ℕ)
+    (words : List (List ℕ)) (name : List ℕ) (shows : ℤ → Type 0) (shown : Shown) (before after : doors.Shown N) (result : Status) → asked ≡ Some numbers
+    → most ≡ numbers.1 → word_at words 1 ≡ name → shown.input.after ≡ shown.input.before
+    → ServeRuns U A most name shown.files shown.output before after result → RunsBy U A asked words shows shown before after result
 by_serving U A asked numbers most words name shows shown before after result is many second same run =
     subst (λ o. RunsBy U A o words shows shown before after result) (sym is) (
       same,
@@ -116,7 +119,7 @@ pub unasked : (asked : Option (ℕ × ℕ)) (numbers : ℕ × ℕ) (words : List
     → asked ≡ Some numbers → AnswersBy asked words shows shown result
 unasked asked numbers words shows shown result is = subst (λ o. AnswersBy o words shows shown result) (sym is) tt
 
-pub by_other : {N : Type 0} (U : N → Type 0) (A : Made → N → N → Type 0) (asked : Option (ℕ × ℕ)) (words : List (List ℕ)) (shows : ℤ → Type 0)
+pub by_other : {N : Type 0} (U : N → Type 0) (A : Made → List Entry → N → N → Type 0) (asked : Option (ℕ × ℕ)) (words : List (List ℕ)) (shows : ℤ → Type 0)
     (shown : Shown) (kept : doors.Shown N) (result : Status) → asked ≡ None → Runs words shows shown result
     → RunsBy U A asked words shows shown kept kept result
 by_other U A asked words shows shown kept result is run =
@@ -137,7 +140,7 @@ asked-well command.Session numbers is = absurd (cc)
 asked-well (command.Generate count) numbers is = absurd (cc)
 asked-well (command.Bad place) numbers is = absurd (cc)
 
-pub serves_words : {N : Type 0} (U : N → Type 0) (A : Made → N → N → Type 0) (most : ℕ) (name : List ℕ) (files : Folder) (output : Side)
+pub serves_words : {N : Type 0} (U : N → Type 0) (A : Made → List Entry → N → N → Type 0) (most : ℕ) (name : List ℕ) (files : Folder) (output : Side)
     (before after : doors.Shown N) (c : Command) (numbers : ℕ × ℕ) (result : Status) → serving_of c ≡ Some numbers
     → ServeRuns U A most name files output before after result → RefusesWords c result
 serves_words U A most name files output before after c numbers (status.Done outcome.Ok) is run = sym (asked-well c numbers is)

@@ -9,7 +9,8 @@ use Rattle.net_doors.specs.Doors as doors
 use Rattle.net_doors.specs.declared.ending.Ending.TheVariants as ending
 use Rattle.request_replies.specs.OverFile.{IsRefused}
 use Rattle.request_session.specs.Session.{AppendsFront}
-use Rattle.shared_engine.specs.Histories.{Made}
+use Rattle.shared_engine.specs.Entries.{Entry}
+use Rattle.shared_engine.specs.Histories.{Made, IsLegal}
 use Rattle.shared_server.specs.Links.{IsMadeFor, Serves}
 use Rattle.shared_server.specs.OverFile.{served_line, IsIdle}
 use Rattle.shared_server.specs.declared.over_file.ServeEnd.{ServeEnd}
@@ -20,18 +21,21 @@ use Rattle.dhis_main.specs.declared.status.Status.{Status}
 use Rattle.dhis_main.specs.declared.status.Status.TheVariants as status
 
 -- The listener accepted so many links more: as many as are wanted, or it is closed. Where it tells the links given back, so many were given
--- back, in order; each of them had come with nothing read or written, and was answered, over one system made for the metadata.
-pub record ServesAll {N : Type 0} (Untouched : N → Type 0) (Answered : Made → N → N → Type 0) (before after : doors.Shown N)
+-- back, in order; each of them had come with nothing read or written, and was answered, over one system made for the metadata, which has
+-- one legal history, of which all that their callers know are beginnings.
+pub record ServesAll {N : Type 0} (Untouched : N → Type 0) (Answered : Made → List Entry → N → N → Type 0) (before after : doors.Shown N)
     (meta : Records) (most count : ℕ) : Type 0 where
   pub accepted : after.accepted ≡ before.accepted + count
   pub few : count ≤ most
   pub ends : (count ≡ most) ⊎ (after.closed ≡ true)
   pub made : Made
   pub made_for : IsMadeFor meta made
+  pub whole : List Entry
+  pub legal : IsLegal made whole
   pub back : List N
   pub many : length back ≡ count
   pub told : after.back ≡ option_map (λ links. links ++ back) before.back
-  pub answered : All (λ link. (came : N) × Untouched came × Answered made came link) back
+  pub answered : All (λ link. (came : N) × Untouched came × Answered made whole came link) back
 
 -- how a server ended, as the program's status
 abbrev pub status_by : ServeEnd → Status
@@ -53,7 +57,7 @@ OverMetadata Holds bytes = (meta : Records) × IsMetadata bytes (Ok meta) × Hol
 -- neither was it where reading the file failed. Listening or accepting failed only where the listener counted a fault; then nothing was
 -- written, and no link was accepted or all that were are answered. Writing failed only where the output counted a fault. If memory ran
 -- out the listener wasn't called, or all links were served, and nothing was written.
-abbrev pub ServeRuns : {N : Type 0} → (N → Type 0) → (Made → N → N → Type 0) → ℕ → List ℕ → Folder → Side → doors.Shown N → doors.Shown N → Status
+abbrev pub ServeRuns : {N : Type 0} → (N → Type 0) → (Made → List Entry → N → N → Type 0) → ℕ → List ℕ → Folder → Side → doors.Shown N → doors.Shown N → Status
     → Type 0
 ServeRuns Untouched Answered most name files output before after (status.Done outcome.Ok) =
     OverFile (files.file name) (OverMetadata (λ meta. (count : ℕ) × ServesAll Untouched Answered before after meta most count

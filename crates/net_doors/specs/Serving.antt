@@ -10,6 +10,10 @@ use Rattle.net_doors.specs.declared.ending.Ending.TheVariants as ending
 abbrev pub IsServed : {N : Type 0} → (N → Type 0) → (N → N → Type 0) → N → Type 0
 IsServed {N} Untouched Serves link = (came : N) × Untouched came × Serves came link
 
+-- what serves links left this beside the link, and it is known
+abbrev pub Leaves : {N P : Type 0} → (N → N × P → Type 0) → (P → Type 0) → N → N → Type 0
+Leaves {N} {P} Serves Known came link = (left : P) × Serves came (link, left) × Known left
+
 -- so many links were accepted, at most as many as are wanted. Some are with the workers, and all others were given back, in order, each
 -- of them served
 pub record Serving {N : Type 0} (Untouched : N → Type 0) (Serves : N → N → Type 0) (began now : Shown N) (most count out : ℕ) : Type 0 where

@@ -1,27 +1,28 @@
-//! What lies under the lock: the listener, how many links it has accepted, and how accepting ended.
+//! What lies under the lock: the listener, what is kept of its links, how many it has accepted, and how accepting ended.
 ghost use Rattle.std.specs.Prelude.{◌≡◌, ◌≤◌, ℕ, Option, None, IfSome, IsSome, is_some, length, option_to_list};
 ghost use Rattle.net_doors.specs.Doors.{IsUntouched};
-ghost use Rattle.net_doors.specs.Serving.{Serving, EndsBy, IsServed, HasServed};
+ghost use Rattle.net_doors.specs.Serving.{Serving, EndsBy, HasServed, Leaves};
 ghost use Rattle.net_doors.specs.declared.ending.Ending.{Ending};
 
 use crate::ending::{Ending, Served};
 use crate::names::Opening;
-use crate::{End, Listener};
+use crate::{End, Keeping, Listener};
 use std::marker::{Model, PhantomData};
 use std::sync::ledger::{Book, Share};
 
 /// The listener of one call. Contracts see how accepting ended, if it has, and its type that the links are served.
 #[derive(Drop)]
-pub(crate) struct Door<N: End, L: Listener<N>, J: Opening<N>> {
+pub(crate) struct Door<N: End, P, L: Listener<N>, W: Keeping<P>, J: Opening<N, P>> {
     listener: L,
+    kept: W,
     most: u64,
     links: u64,
     ending: Option<Ending>,
     book: Book<J>,
-    of: PhantomData<N>,
+    of: PhantomData<(N, P)>,
 }
 
-impl<N: End, L: Listener<N>, J: Opening<N>> Model for Door<N, L, J> {
+impl<N: End, P, L: Listener<N>, W: Keeping<P>, J: Opening<N, P>> Model for Door<N, P, L, W, J> {
     ghost Value = { Option Ending };
 
     ghost view = { λ d. d.ending };
@@ -29,19 +30,21 @@ impl<N: End, L: Listener<N>, J: Opening<N>> Model for Door<N, L, J> {
     ghost invariant = { λ d.
         (d.most ≡ J.most)
         × IfSome J.began.back (λ links. length links ≤ J.began.accepted)
-        × Serving (λ link. IsUntouched (N.source_talk link) (N.source_faults link)) J.serves J.began (L.shows d.listener) d.most d.links d.book.total
+        × Serving (λ link. IsUntouched (N.source_talk link) (N.source_faults link)) (Leaves J.serves (W.knows d.kept)) J.began (L.shows d.listener)
+        d.most d.links d.book.total
         × IfSome d.ending (λ how. EndsBy how J.began (L.shows d.listener) d.most d.links) };
 }
 
-impl<N: End, L: Listener<N>, J: Opening<N>> Door<N, L, J> {
+impl<N: End, P, L: Listener<N>, W: Keeping<P>, J: Opening<N, P>> Door<N, P, L, W, J> {
     /// Accepting begins.
-    pub(crate) fn new(listener: L, most: u64, book: Book<J>) -> Self
+    pub(crate) fn new(listener: L, kept: W, most: u64, book: Book<J>) -> Self
         requires began { J.began ≡ L.shows listener }
         requires most { J.most ≡ most }
         requires none { book.total ≡ 0 }
     {
         Door {
             listener,
+            kept,
             most,
             links: 0,
             ending: None,
@@ -82,16 +85,17 @@ impl<N: End, L: Listener<N>, J: Opening<N>> Door<N, L, J> {
         }
     }
 
-    /// Takes back a link that was served.
-    pub(crate) fn give_back(&mut self, share: &mut Share<J>, link: N)
+    /// Takes back a link that was served, and keeps what this left beside it.
+    pub(crate) fn give_back(&mut self, share: &mut Share<J>, link: N, left: P)
         requires parts { share.old.parts ≡ 1 }
         requires one { share.old.amount ≡ 1 }
-        requires served { IsServed (λ link. IsUntouched (N.source_talk link) (N.source_faults link)) J.serves link }
+        requires served { (came : N) × IsUntouched (N.source_talk came) (N.source_faults came) × J.serves came (link, left) }
         ensures parts { share.new.parts ≡ 1 }
         ensures none { share.new.amount ≡ 0 }
     {
         self.book.audit(share);
         self.book.sub(share, 1);
+        self.kept.keep(left);
         self.listener.give_back(link);
     }
 
@@ -103,17 +107,18 @@ impl<N: End, L: Listener<N>, J: Opening<N>> Door<N, L, J> {
     }
 
     /// What came of it, once no worker has a link.
-    pub(crate) fn finish(mut self, share: Share<J>) -> Served<L>
+    pub(crate) fn finish(mut self, share: Share<J>) -> Served<L, W>
         requires over { IsSome self }
         requires all { share.parts ≡ J.parts }
         requires none { share.amount ≡ 0 }
-        ensures { HasServed (λ link. IsUntouched (N.source_talk link) (N.source_faults link)) J.serves J.began
+        ensures { HasServed (λ link. IsUntouched (N.source_talk link) (N.source_faults link)) (Leaves J.serves (W.knows result.kept)) J.began
             (L.shows result.listener) J.most result.links result.ending }
     {
         let mut share = share;
         self.book.audit(&mut share);
         let Door {
             listener,
+            kept,
             most: _,
             links,
             ending,
@@ -122,6 +127,7 @@ impl<N: End, L: Listener<N>, J: Opening<N>> Door<N, L, J> {
         } = self;
         Served {
             listener,
+            kept,
             links,
             ending: ending.unwrap(),
         }

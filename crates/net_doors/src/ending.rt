@@ -11,11 +11,13 @@ pub enum Ending {
     ListenFault,
 }
 
-/// The listener, how many links it accepted in the call, and how that ended.
+/// The listener, what was kept of all links, how many of them it accepted in the call, and how that ended.
 #[derive(Drop)]
-pub struct Served<L> {
+pub struct Served<L, W> {
     /// The listener, with each of the links given back.
     pub listener: L,
+    /// What was kept of what serving each of them left.
+    pub kept: W,
     /// How many links were accepted.
     pub links: u64,
     /// How accepting ended.

@@ -21,6 +21,17 @@ pub use memory::MemDoor;
 pub use sockets::{TcpDoor, TcpEnd};
 pub use workers::serve_all;
 
+/// What is kept of what serving each link leaves beside it. It is used by one worker at a time.
+pub trait Keeping<P> {
+    /// It knows this of what was left.
+    ghost knows: { Self → P → Type 0 };
+
+    /// Keeps what was left by one link more. What was known of others still is.
+    fn keep(&mut self, left: P)
+        ensures known { knows self.new left }
+        ensures others { (other : P) → knows self.old other → knows self.new other };
+}
+
 /// A link that a listener gives.
 pub trait End: Link {
     /// The last call on a link: the peer learns that nothing more comes. What the link tells stays as it is. This takes no memory.

@@ -5,16 +5,16 @@ ghost use Rattle.net_doors.specs.Doors.{Shown};
 use std::marker::Brand;
 use std::sync::ledger::Ledger;
 
-/// Names one call: what the listener showed when it began, how links are served, and how many are wanted.
-pub trait Opening<N>: Ledger {
+/// Names one call: what the listener showed when it began, how links are served and what is left beside them, and how many are wanted.
+pub trait Opening<N, P>: Ledger {
     ghost began: { Shown N };
 
-    ghost serves: { N → N → Type 0 };
+    ghost serves: { N → N × P → Type 0 };
 
     ghost most: { ℕ };
 }
 
-impl<N> Opening<N> for Brand {
+impl<N, P> Opening<N, P> for Brand {
     ghost began = { record { accepted = 0; closed = false; back = None; faults = 0 } };
 
     ghost serves = { λ _ _. ⊤ };

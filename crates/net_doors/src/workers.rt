@@ -2,21 +2,21 @@
 ghost use denote.Param.Send.{IsSend, IsSync};
 ghost use Rattle.std.specs.Prelude.{◌≡◌, ◌<◌, ℕ, length, IfSome, option_to_list};
 ghost use Rattle.net_doors.specs.Doors.{IsUntouched};
-ghost use Rattle.net_doors.specs.Serving.{IsServed, HasServed};
+ghost use Rattle.net_doors.specs.Serving.{HasServed, Leaves};
 
 use crate::door::Door;
 use crate::ending::Served;
 use crate::names::Opening;
-use crate::{End, Listener};
+use crate::{End, Keeping, Listener};
 use std::marker::Brand;
 use std::sync::ledger::{Blank, Ledger, Share};
 use std::sync::{Mutex, Wait};
 use std::thread::{Threads, join};
 
 // Accepts a link under the lock.
-fn accept_one<N: End, L: Listener<N>, J: Opening<N>, R: Wait>(
+fn accept_one<N: End, P, L: Listener<N>, W: Keeping<P>, J: Opening<N, P>, R: Wait>(
     rt: &R,
-    door: &Mutex<Door<N, L, J>>,
+    door: &Mutex<Door<N, P, L, W, J>>,
     share: &mut Share<J>,
 ) -> Option<N>
     requires parts { share.old.parts ≡ 1 }
@@ -28,42 +28,43 @@ fn accept_one<N: End, L: Listener<N>, J: Opening<N>, R: Wait>(
     door.lock(rt).next(share)
 }
 
-// Gives a link back under the lock.
-fn return_one<N: End, L: Listener<N>, J: Opening<N>, R: Wait>(
+// Gives a link back under the lock, with what serving it left.
+fn return_one<N: End, P, L: Listener<N>, W: Keeping<P>, J: Opening<N, P>, R: Wait>(
     rt: &R,
-    door: &Mutex<Door<N, L, J>>,
+    door: &Mutex<Door<N, P, L, W, J>>,
     share: &mut Share<J>,
     link: N,
+    left: P,
 )
     requires parts { share.old.parts ≡ 1 }
     requires one { share.old.amount ≡ 1 }
-    requires served { IsServed (λ link. IsUntouched (N.source_talk link) (N.source_faults link)) J.serves link }
+    requires served { (came : N) × IsUntouched (N.source_talk came) (N.source_faults came) × J.serves came (link, left) }
     ensures parts { share.new.parts ≡ 1 }
     ensures none { share.new.amount ≡ 0 }
 {
-    door.lock(rt).give_back(share, link)
+    door.lock(rt).give_back(share, link, left)
 }
 
 // Serves a link and closes it.
-fn serve_one<N: End, F: Fn(N) -> N>(serve: &F, link: N) -> N
+fn serve_one<N: End, P, F: Fn(N) -> (N, P)>(serve: &F, link: N) -> (N, P)
     requires accepts { (link : N) → IsUntouched (N.source_talk link) (N.source_faults link) → F.pre serve.now link }
     requires untouched { IsUntouched (N.source_talk link) (N.source_faults link) }
-    ensures { IsServed (λ link. IsUntouched (N.source_talk link) (N.source_faults link)) (λ came link. F.post serve.now came link) result }
+    ensures { F.post serve.now link result }
 {
-    let mut link = serve(link);
+    let (mut link, left) = serve(link);
     link.close();
-    link
+    (link, left)
 }
 
 // Accepts, serves and gives back one link. It answers false when accepting has ended.
-fn turn<N: End, L: Listener<N>, F: Fn(N) -> N, J: Opening<N>, R: Wait>(
+fn turn<N: End, P, L: Listener<N>, W: Keeping<P>, F: Fn(N) -> (N, P), J: Opening<N, P>, R: Wait>(
     rt: &R,
-    door: &Mutex<Door<N, L, J>>,
+    door: &Mutex<Door<N, P, L, W, J>>,
     serve: &F,
     share: &mut Share<J>,
 ) -> bool
     requires accepts { (link : N) → IsUntouched (N.source_talk link) (N.source_faults link) → F.pre serve.now link }
-    requires serves { (came link : N) → F.post serve.now came link → J.serves came link }
+    requires serves { (came : N) (served : N × P) → F.post serve.now came served → J.serves came served }
     requires parts { share.old.parts ≡ 1 }
     requires none { share.old.amount ≡ 0 }
     ensures parts { share.new.parts ≡ 1 }
@@ -72,20 +73,20 @@ fn turn<N: End, L: Listener<N>, F: Fn(N) -> N, J: Opening<N>, R: Wait>(
     let Some(link) = accept_one(rt, door, share) else {
         return false;
     };
-    let link = serve_one(serve, link);
-    return_one(rt, door, share, link);
+    let (link, left) = serve_one(serve, link);
+    return_one(rt, door, share, link, left);
     true
 }
 
 // One worker: turns until accepting has ended.
-fn work<N: End, L: Listener<N>, F: Fn(N) -> N, J: Opening<N>, R: Wait>(
+fn work<N: End, P, L: Listener<N>, W: Keeping<P>, F: Fn(N) -> (N, P), J: Opening<N, P>, R: Wait>(
     rt: &R,
-    door: &Mutex<Door<N, L, J>>,
+    door: &Mutex<Door<N, P, L, W, J>>,
     serve: &F,
     share: Share<J>,
 ) -> Share<J>
     requires accepts { (link : N) → IsUntouched (N.source_talk link) (N.source_faults link) → F.pre serve.now link }
-    requires serves { (came link : N) → F.post serve.now came link → J.serves came link }
+    requires serves { (came : N) (served : N × P) → F.post serve.now came served → J.serves came served }
     requires parts { share.parts ≡ 1 }
     requires none { share.amount ≡ 0 }
     ensures parts { result.parts ≡ 1 }
@@ -103,13 +104,15 @@ fn work<N: End, L: Listener<N>, F: Fn(N) -> N, J: Opening<N>, R: Wait>(
 // So many workers at the same time.
 fn crew<
     N: End + Send,
+    P: Send,
     L: Listener<N> + Send,
-    F: Fn(N) -> N + Sync,
-    J: Opening<N> + Send + Sync,
+    W: Keeping<P> + Send,
+    F: Fn(N) -> (N, P) + Sync,
+    J: Opening<N, P> + Send + Sync,
     R: Threads + Wait + Sync,
->(rt: &R, door: &Mutex<Door<N, L, J>>, serve: &F, share: Share<J>, workers: u32) -> Share<J>
+>(rt: &R, door: &Mutex<Door<N, P, L, W, J>>, serve: &F, share: Share<J>, workers: u32) -> Share<J>
     requires accepts { (link : N) → IsUntouched (N.source_talk link) (N.source_faults link) → F.pre serve.now link }
-    requires serves { (came link : N) → F.post serve.now came link → J.serves came link }
+    requires serves { (came : N) (served : N × P) → F.post serve.now came served → J.serves came served }
     requires some { 0 < workers }
     requires parts { share.parts ≡ workers }
     requires none { share.amount ≡ 0 }
@@ -125,16 +128,16 @@ fn crew<
     let (mut mine, rest) = join(
         rt,
         || -> Share<J>
-            requires { IsSync R.row × IsSync F.row × IsSend N.row × IsSend L.row × IsSend J.row × IsSync J.row
+            requires { IsSync R.row × IsSync F.row × IsSend N.row × IsSend P.row × IsSend L.row × IsSend W.row × IsSend J.row × IsSync J.row
                 × ((link : N) → IsUntouched (N.source_talk link) (N.source_faults link) → F.pre serve.now link)
-                × ((came link : N) → F.post serve.now came link → J.serves came link)
+                × ((came : N) (served : N × P) → F.post serve.now came served → J.serves came served)
                 × (mine.parts ≡ 1) × (mine.amount ≡ 0) }
             ensures { (result.parts ≡ 1) × (result.amount ≡ 0) }
         { work(rt, door, serve, mine) },
         || -> Share<J>
-            requires { IsSync R.row × IsSync F.row × IsSend N.row × IsSend L.row × IsSend J.row × IsSync J.row
+            requires { IsSync R.row × IsSync F.row × IsSend N.row × IsSend P.row × IsSend L.row × IsSend W.row × IsSend J.row × IsSync J.row
                 × ((link : N) → IsUntouched (N.source_talk link) (N.source_faults link) → F.pre serve.now link)
-                × ((came link : N) → F.post serve.now came link → J.serves came link)
+                × ((came : N) (served : N × P) → F.post serve.now came served → J.serves came served)
                 × (0 < others) × (share.parts ≡ others) × (share.amount ≡ 0) }
             ensures { (result.parts ≡ others) × (result.amount ≡ 0) }
         { crew(rt, door, serve, share, others) },
@@ -146,19 +149,21 @@ fn crew<
 // Workers go on until accepting has ended.
 fn round<
     N: End + Send,
+    P: Send,
     L: Listener<N> + Send,
-    F: Fn(N) -> N + Sync,
-    J: Opening<N> + Send + Sync,
+    W: Keeping<P> + Send,
+    F: Fn(N) -> (N, P) + Sync,
+    J: Opening<N, P> + Send + Sync,
     R: Threads + Wait + Sync,
 >(
     rt: &R,
-    door: Door<N, L, J>,
+    door: Door<N, P, L, W, J>,
     serve: &F,
     share: Share<J>,
     workers: u32,
-) -> (Door<N, L, J>, Share<J>)
+) -> (Door<N, P, L, W, J>, Share<J>)
     requires accepts { (link : N) → IsUntouched (N.source_talk link) (N.source_faults link) → F.pre serve.now link }
-    requires serves { (came link : N) → F.post serve.now came link → J.serves came link }
+    requires serves { (came : N) (served : N × P) → F.post serve.now came served → J.serves came served }
     requires some { 0 < workers }
     requires parts { share.parts ≡ workers }
     requires none { share.amount ≡ 0 }
@@ -173,23 +178,33 @@ fn round<
 // The same with the name of the call.
 fn serve_as<
     N: End + Send,
+    P: Send,
     L: Listener<N> + Send,
-    F: Fn(N) -> N + Sync,
-    J: Opening<N> + Send + Sync,
+    W: Keeping<P> + Send,
+    F: Fn(N) -> (N, P) + Sync,
+    J: Opening<N, P> + Send + Sync,
     R: Threads + Wait + Sync,
->(rt: &R, listener: L, serve: &F, workers: u32, connections: u64, blank: Blank) -> Served<L>
+>(
+    rt: &R,
+    listener: L,
+    kept: W,
+    serve: &F,
+    workers: u32,
+    connections: u64,
+    blank: Blank,
+) -> Served<L, W>
     requires some { 0 < workers }
     requires name { blank.name ≡ J.name }
     requires parts { (blank.parts ≡ J.parts) × (blank.parts ≡ workers) }
     requires began { J.began ≡ L.shows listener }
     requires most { J.most ≡ connections }
     requires accepts { (link : N) → IsUntouched (N.source_talk link) (N.source_faults link) → F.pre serve.now link }
-    requires serves { (came link : N) → F.post serve.now came link → J.serves came link }
-    ensures { HasServed (λ link. IsUntouched (N.source_talk link) (N.source_faults link)) J.serves J.began
+    requires serves { (came : N) (served : N × P) → F.post serve.now came served → J.serves came served }
+    ensures { HasServed (λ link. IsUntouched (N.source_talk link) (N.source_faults link)) (Leaves J.serves (W.knows result.kept)) J.began
         (L.shows result.listener) J.most result.links result.ending }
 {
     let (book, share) = blank.open::<J>();
-    let mut door = Door::new(listener, connections, book);
+    let mut door = Door::new(listener, kept, connections, book);
     let mut share = share;
     for _ in rt.forever() {
         let (next_door, next_share) = round(rt, door, serve, share, workers);
@@ -203,23 +218,27 @@ fn serve_as<
 }
 
 /// Serves the links of a listener by so many workers, until so many connections were accepted, the listener is closed, or an accept
-/// failed. Each link that was accepted is served by a call of `serve`, closed and given back, whatever became of the others. Of its own
-/// this takes no memory. `serve` has to take each link that comes with nothing read or written, and says by its own contract how it
-/// leaves it.
+/// failed. Each link that was accepted is served by a call of `serve`, closed and given back, whatever became of the others; what serving
+/// it left beside it goes to `kept`, which knows it from then on. Of its own this takes no memory. `serve` has to take each link that comes
+/// with nothing read or written, and says by its own contract how it leaves it.
 pub fn serve_all<
     N: End + Send,
+    P: Send,
     L: Listener<N> + Send,
-    F: Fn(N) -> N + Sync,
+    W: Keeping<P> + Send,
+    F: Fn(N) -> (N, P) + Sync,
     R: Threads + Wait + Sync,
->(rt: &R, listener: L, serve: &F, workers: u32, connections: u64) -> Served<L>
+>(rt: &R, listener: L, kept: W, serve: &F, workers: u32, connections: u64) -> Served<L, W>
     requires some { 0 < workers }
     requires accepts { (link : N) → IsUntouched (N.source_talk link) (N.source_faults link) → F.pre serve.now link }
-    ensures { HasServed (λ link. IsUntouched (N.source_talk link) (N.source_faults link)) (λ came link. F.post serve.now came link) (L.shows listener)
-        (L.shows result.listener) connections result.links result.ending }
+    ensures { HasServed (λ link. IsUntouched (N.source_talk link) (N.source_faults link))
+        (Leaves (λ came served. F.post serve.now came served) (W.knows result.kept)) (L.shows listener) (L.shows result.listener) connections
+        result.links result.ending }
 {
-    serve_as::<N, L, F, Brand, R>(
+    serve_as::<N, P, L, W, F, Brand, R>(
         rt,
         listener,
+        kept,
         serve,
         workers,
         connections,

@@ -1,6 +1,7 @@
 //! What lies under the lock: the engine, and the seat that knows the whole history. Each call takes its caller in, makes one step of
 //! the machine, adds its entry, and gives the caller its token back.
 ghost use Rattle.std.specs.Prelude.{◌≡◌, ◌∷◌, ℕ, [], IfOk, map, take};
+ghost use mathlib.Core.List.{IsPrefix};
 ghost use Rattle.shared_engine.specs.Views.{own};
 ghost use Rattle.std.specs.Arc.{arc_value};
 ghost use Rattle.value_import.specs.Outcomes.{IsKnown};
@@ -57,6 +58,26 @@ impl<J: Naming, K: Keeper> Locked<J, K> {
         ensures told { result.told ≡ (stand_of J.made result.list).machine.published }
     {
         self.seat.new_pass(words)
+    }
+
+    /// Takes a token back for good. The caller of the other one then knows the whole history, which begins with all that either knew.
+    pub(crate) fn gather(
+        &mut self,
+        words: &HistoryTable<Item>,
+        whole: Token<Item>,
+        token: Token<Item>,
+    ) -> Token<Item>
+        requires words { words.now ≡ J.made.table }
+        requires tables { (whole.table ≡ J.made.table) × (token.table ≡ J.made.table) }
+        ensures table { result.table ≡ J.made.table }
+        ensures front { IsPrefix whole.list result.list }
+        ensures other { IsPrefix token.list result.list }
+        ensures legal { IsLegal J.made result.list }
+    {
+        self.seat.take_in(words, token);
+        drop(self.seat.give_back(words));
+        self.seat.take_in(words, whole);
+        self.seat.give_back(words)
     }
 
     /// A change of the machine, by the caller of a token.

@@ -1,5 +1,6 @@
 //! The lock, the words beside it, and the passes of its callers.
 ghost use Rattle.std.specs.Prelude.{◌≡◌, ◌≤◌, ◌∷◌, [], ℕ, List, IfOk, map, take};
+ghost use mathlib.Core.List.{IsPrefix};
 ghost use Rattle.std.specs.Arc.{arc_value};
 ghost use Rattle.value_import.specs.Outcomes.{IsKnown};
 ghost use Rattle.table_rows.specs.Store.{contents_in};
@@ -181,6 +182,20 @@ impl<J: Naming, K: Keeper> Shared<J, K> {
         let published = self.words.published(&mut token);
         pass.token = Some(token);
         published
+    }
+
+    /// Takes a pass back for good. The caller of the other one then knows the whole history, which begins with all that either knew.
+    pub fn gather<R: Wait>(&self, rt: &R, whole: &mut Pass<J>, pass: Pass<J>)
+        ensures front { IsPrefix whole.old.list whole.new.list }
+        ensures other { IsPrefix pass.list whole.new.list }
+        ensures legal { IsLegal J.made whole.new.list }
+    {
+        let Pass { token, of: _ } = pass;
+        let (Some(token), Some(kept)) = (token, whole.token.take()) else {
+            unreachable!()
+        };
+        let mut locked = self.lock.lock(rt);
+        whole.token = Some(locked.gather(&self.words, kept, token));
     }
 
     /// Changes the log as the request says.

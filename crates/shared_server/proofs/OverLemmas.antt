@@ -12,10 +12,11 @@ use Rattle.meta_reader.specs.Read.{IsMetadata}
 use Rattle.meta_reader.proofs.OneMetadata.{some-metadata}
 use Rattle.meta_reader.specs.declared.fault.MetaFault.{MetaFault}
 use Rattle.net_doors.specs.Doors.{Shown}
-use Rattle.net_doors.specs.Serving.{Serving, EndsBy, HasServed}
+use Rattle.net_doors.specs.Serving.{Serving, EndsBy}
 use Rattle.net_doors.specs.declared.ending.Ending.{Ending}
 use Rattle.net_doors.specs.declared.ending.Ending.TheVariants as ending
 use Rattle.request_session.specs.Session.{AppendsFront}
+use Rattle.shared_engine.specs.Entries.{Entry}
 use Rattle.shared_engine.specs.Histories.{Made}
 use Rattle.shared_server.specs.Links.{Serves}
 use Rattle.shared_server.specs.OverFile.{served_line, Completes, Finishes, ServesMeta, ServesOver, ServesTold, Tells}
@@ -59,19 +60,23 @@ serving_from U A before mid after most count out accepted back least was = recor
   faults = omega (arith, least, was.faults);
 }
 
-serves_from : {N : Type 0} (U : N → Type 0) (A : Made → N → N → Type 0) (before mid after : Shown N) (meta : Records) (most count : ℕ) (how : Ending)
-    → mid.accepted ≡ before.accepted → mid.back ≡ before.back → before.faults ≤ mid.faults → Serves U A mid after meta most count how
+serves_from : {N : Type 0} (U : N → Type 0) (A : Made → List Entry → N → N → Type 0) (before mid after : Shown N) (meta : Records) (most count : ℕ)
+    (how : Ending) → mid.accepted ≡ before.accepted → mid.back ≡ before.back → before.faults ≤ mid.faults → Serves U A mid after meta most count how
     → Serves U A before after meta most count how
 serves_from U A before mid after meta most count how accepted back least was = record {
   made = was.made;
   made_for = was.made_for;
-  links = record {
-    links = serving_from U (A was.made) before mid after most count 0 accepted back least was.links.links;
-    ends = ends_from how before mid after most count least was.links.ends;
+  served = record {
+    whole = was.served.whole;
+    legal = was.served.legal;
+    links = record {
+      links = serving_from U (A was.made was.served.whole) before mid after most count 0 accepted back least was.served.links.links;
+      ends = ends_from how before mid after most count least was.served.links.ends;
+    };
   };
 }
 
-tells : {N : Type 0} (U : N → Type 0) (A : Made → N → N → Type 0) (before after : Shown N) (meta : Records) (most count : ℕ)
+tells : {N : Type 0} (U : N → Type 0) (A : Made → List Entry → N → N → Type 0) (before after : Shown N) (meta : Records) (most count : ℕ)
     (written written' : Option (List ℕ)) (result : ServeEnd) → Completes U A before after meta most count → Tells count written written' result
     → ServesMeta U A before after most meta written written' result
 tells U A before after meta most count written written' end.Refused was told = absurd told
@@ -81,7 +86,7 @@ tells U A before after meta most count written written' (end.Served links) was t
 tells U A before after meta most count written written' end.ListenFault was told = absurd told
 tells U A before after meta most count written written' end.Memory was told = (told, inr (count, was))
 
-finishes : {N : Type 0} (U : N → Type 0) (A : Made → N → N → Type 0) (before after : Shown N) (meta : Records) (most count : ℕ) (how : Ending)
+finishes : {N : Type 0} (U : N → Type 0) (A : Made → List Entry → N → N → Type 0) (before after : Shown N) (meta : Records) (most count : ℕ) (how : Ending)
     (written written' : Option (List ℕ)) (result : ServeEnd) → Serves U A before after meta most count how → Finishes how count written written' result
     → ServesMeta U A before after most meta written written' result
 finishes U A before after meta most count ending.Enough written written' result was told =
@@ -89,10 +94,10 @@ finishes U A before after meta most count ending.Enough written written' result 
 finishes U A before after meta most count ending.Closed written written' result was told =
     tells U A before after meta most count written written' result (record { how = ending.Closed; complete = λ is. absurd (cc); serves = was }) told
 finishes U A before after meta most count ending.ListenFault written written' result was told =
-    subst (ServesMeta U A before after most meta written written') (sym told.0) (was.links.ends, told.1, inr (count, was))
+    subst (ServesMeta U A before after most meta written written') (sym told.0) (was.served.links.ends, told.1, inr (count, was))
 
 -- links were served once the listener listened
-pub listened : {N : Type 0} (U : N → Type 0) (A : Made → N → N → Type 0) (before mid after : Shown N) (most : ℕ) (meta : Records)
+pub listened : {N : Type 0} (U : N → Type 0) (A : Made → List Entry → N → N → Type 0) (before mid after : Shown N) (most : ℕ) (meta : Records)
     (written written' : Option (List ℕ)) (result : ServeEnd) → mid.accepted ≡ before.accepted → mid.back ≡ before.back → before.faults ≤ mid.faults
     → ServesTold U A mid after most meta written written' result → ServesMeta U A before after most meta written written' result
 listened U A before mid after most meta written written' result accepted back least was =
@@ -101,11 +106,11 @@ listened U A before mid after most meta written written' result accepted back le
 
 -- ---- out of memory while the file was read
 
-unread-by : {N : Type 0} (U : N → Type 0) (A : Made → N → N → Type 0) (shown : Shown N) (most : ℕ) (bytes : List ℕ) (written : Option (List ℕ))
+unread-by : {N : Type 0} (U : N → Type 0) (A : Made → List Entry → N → N → Type 0) (shown : Shown N) (most : ℕ) (bytes : List ℕ) (written : Option (List ℕ))
     (found : Result Records MetaFault) → IsMetadata bytes found → ServesOver U A shown shown most bytes written written end.Memory
 unread-by U A shown most bytes written (Ok meta) is = inr (meta, is, (kept written, inl refl))
 unread-by U A shown most bytes written (Err found) is = inl (found, is, kept written, refl)
 
-pub unread : {N : Type 0} (U : N → Type 0) (A : Made → N → N → Type 0) (shown : Shown N) (most : ℕ) (bytes : List ℕ) (written : Option (List ℕ))
+pub unread : {N : Type 0} (U : N → Type 0) (A : Made → List Entry → N → N → Type 0) (shown : Shown N) (most : ℕ) (bytes : List ℕ) (written : Option (List ℕ))
     → ServesOver U A shown shown most bytes written written end.Memory
 unread U A shown most bytes written = let file = some-metadata bytes in unread-by U A shown most bytes written file.0 file.1

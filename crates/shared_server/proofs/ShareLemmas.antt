@@ -2,7 +2,11 @@
 -- metadata is too much for one search.
 use denote.RattleType.{RattleType}
 use denote.Param.Send.{sendable, IsSync, IsSend, recorded_sync, recorded_send, struct_sync, struct_send, view_sync, view_send}
+use denote.Ref.{NamedLft}
 use denote.Struct.Declared.{shape}
+use denote.Struct.Field.{shr_ref_field}
+use denote.Struct.Tuple.{TupleAt}
+use Rattle.std.proofs.Common.{ℕ, List, [], ◌∷◌}
 use Rattle.std.proofs.Crossing.{crosses}
 use Rattle.dh_outside.specs.declared.keeper.Keeper as keeper
 use Rattle.shared_engine.specs.declared.names.Naming as naming
@@ -21,6 +25,8 @@ use Rattle.change_log.proofs.log.ChangeLog.TheSendSync as change_log
 use Rattle.shared_engine.proofs.table.HistoryTable.TheSendSync as history_table
 use Rattle.shared_engine.proofs.table.LockSeat.TheSendSync as lock_seat
 use Rattle.shared_engine.proofs.ShareLemmas.{metadata_sync, metadata_send}
+use Rattle.shared_server.specs.contracts.setup.Setup as setup
+use Rattle.shared_server.proofs.setup.Setup.TheSendSync as of_setup
 
 -- the tables that are shown, and the updates that are begun
 
@@ -82,3 +88,9 @@ shared_sync J K j k send =
         (search (locked_send J K j k send, crosses, sendable) depth 60 fits 20000, tt),
       ),
     )))
+
+-- what the closure that answers links holds: the setup, and the engine that is shared
+pub captures_sync : (name : List ℕ) (a b d : NamedLft) (J K R C G : RattleType) (j : naming.Ghosts J.Denot) (k : keeper.Ghosts K.Denot) → IsSend K
+    → IsSync R → IsSync C → IsSync G
+    → IsSync (TupleAt name ((shr_ref_field a (setup.the_row b R C G) tt).row ∷ (shr_ref_field d (shared.the_row J K j k) tt).row ∷ []))
+captures_sync name a b d J K R C G j k send r s g = search (shared_sync, of_setup.the_sync, sendable) depth 20 fits 20000

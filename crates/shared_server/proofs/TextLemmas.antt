@@ -1,5 +1,5 @@
 -- The body of a reply to an update is short.
-use Rattle.std.proofs.Common.{◌≡◌, refl, ℕ, ◌<◌, ◌≤◌, ◌+◌, ◌^◌, ◌++◌, List, subst, arith, length, length-append}
+use Rattle.std.proofs.Common.{◌≡◌, refl, ℕ, ◌<◌, ◌≤◌, ◌^◌, ◌++◌, List, subst, arith, length, length-append}
 use Rattle.std.specs.Prelude.{decimal}
 use Rattle.std.proofs.lemmas.Fmt.{length-decimal-le}
 use Rattle.dh_base.specs.declared.plain.CutKind.{CutKind}

@@ -1,5 +1,5 @@
 -- What a server over the bytes of a metadata file may come to.
-use Rattle.std.specs.Prelude.{◌≡◌, ◌≢◌, ◌≤◌, ◌⊎◌, ℕ, List, [], ◌∷◌, ◌++◌, Option, Ok, Err, codes, ⊤}
+use Rattle.std.specs.Prelude.{◌≡◌, ◌≢◌, ◌⊎◌, ℕ, List, [], ◌∷◌, ◌++◌, Option, Ok, Err, codes}
 use Rattle.std.specs.Fmt.{decimal}
 use Rattle.std.specs.Io.KnownBytes.{Appends, Keeps}
 use Rattle.dh_outside.specs.Faults.{Rose}
@@ -11,6 +11,7 @@ use Rattle.net_doors.specs.declared.ending.Ending.{Ending}
 use Rattle.net_doors.specs.declared.ending.Ending.TheVariants as ending
 use Rattle.request_replies.specs.OverFile.{refusal_line}
 use Rattle.request_session.specs.Session.{AppendsFront}
+use Rattle.shared_engine.specs.Entries.{Entry}
 use Rattle.shared_engine.specs.Histories.{Made}
 use Rattle.shared_server.specs.Links.{Serves}
 use Rattle.shared_server.specs.declared.over_file.ServeEnd.{ServeEnd}
@@ -43,15 +44,15 @@ Refuses found written written' end.ListenFault = ⊥
 Refuses found written written' end.Memory = Keeps written written'
 
 -- links were served until as many were accepted as are wanted, or the listener was closed
-pub record Completes {N : Type 0} (Untouched : N → Type 0) (Answered : Made → N → N → Type 0) (before after : Shown N) (meta : Records)
+pub record Completes {N : Type 0} (Untouched : N → Type 0) (Answered : Made → List Entry → N → N → Type 0) (before after : Shown N) (meta : Records)
     (most count : ℕ) : Type 0 where
   pub how : Ending
   pub complete : how ≢ ending.ListenFault
   pub serves : Serves Untouched Answered before after meta most count how
 
 -- so many links were served, however accepting ended, and this is told
-abbrev pub ServesTold : {N : Type 0} → (N → Type 0) → (Made → N → N → Type 0) → Shown N → Shown N → ℕ → Records → Option (List ℕ) → Option (List ℕ) → ServeEnd
-    → Type 0
+abbrev pub ServesTold : {N : Type 0} → (N → Type 0) → (Made → List Entry → N → N → Type 0) → Shown N → Shown N → ℕ → Records → Option (List ℕ)
+    → Option (List ℕ) → ServeEnd → Type 0
 ServesTold Untouched Answered before after most meta written written' how =
     (count : ℕ) × (ending : Ending) × Serves Untouched Answered before after meta most count ending × Finishes ending count written written' how
 
@@ -64,8 +65,8 @@ pub record IsIdle {N : Type 0} (before after : Shown N) : Type 0 where
 -- A server over metadata that served so many links writes how many. It fails to listen or to accept only where the listener counted a
 -- fault: then no link was accepted, or all that were are answered and given back. If memory runs out the listener wasn't called, or all
 -- links were served; then nothing is written.
-abbrev pub ServesMeta : {N : Type 0} → (N → Type 0) → (Made → N → N → Type 0) → Shown N → Shown N → ℕ → Records → Option (List ℕ) → Option (List ℕ) → ServeEnd
-    → Type 0
+abbrev pub ServesMeta : {N : Type 0} → (N → Type 0) → (Made → List Entry → N → N → Type 0) → Shown N → Shown N → ℕ → Records → Option (List ℕ)
+    → Option (List ℕ) → ServeEnd → Type 0
 ServesMeta Untouched Answered before after most meta written written' end.Refused = ⊥
 ServesMeta Untouched Answered before after most meta written written' end.Unwritten =
     (count : ℕ) × Completes Untouched Answered before after meta most count × AppendsFront written written' (served_line count)
@@ -78,8 +79,8 @@ ServesMeta Untouched Answered before after most meta written written' end.Memory
     Keeps written written' × ((after ≡ before) ⊎ ((count : ℕ) × Completes Untouched Answered before after meta most count))
 
 -- the same over the bytes of a metadata file; if they are refused, the listener isn't called
-abbrev pub ServesOver : {N : Type 0} → (N → Type 0) → (Made → N → N → Type 0) → Shown N → Shown N → ℕ → List ℕ → Option (List ℕ) → Option (List ℕ) → ServeEnd
-    → Type 0
+abbrev pub ServesOver : {N : Type 0} → (N → Type 0) → (Made → List Entry → N → N → Type 0) → Shown N → Shown N → ℕ → List ℕ → Option (List ℕ)
+    → Option (List ℕ) → ServeEnd → Type 0
 ServesOver Untouched Answered before after most bytes written written' how =
     ((found : MetaFault) × IsMetadata bytes (Err found) × Refuses found written written' how × (after ≡ before))
     ⊎ ((meta : Records) × IsMetadata bytes (Ok meta) × ServesMeta Untouched Answered before after most meta written written' how)

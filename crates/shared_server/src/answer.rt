@@ -1,16 +1,16 @@
 //! The answers to one link.
-ghost use Rattle.shared_server.specs.Links.{Answered};
+ghost use Rattle.shared_server.specs.Links.{AnsweredTo};
 
 use crate::serving::serve_connection;
 use crate::setup::Setup;
 use crate::system::System;
 use dh_outside::{Clock, Keeper};
 use net_doors::End;
-use shared_engine::{Gate, Naming, Shared};
+use shared_engine::{Gate, Naming, Pass, Shared};
 use std::sync::Wait;
 use std::thread::Threads;
 
-/// Answers the requests of a link, for a new caller of the shared engine.
+/// Answers the requests of a link, for a new caller of the shared engine, whose pass is left.
 pub(crate) fn answer_link<
     J: Naming,
     K: Keeper + Send,
@@ -18,8 +18,8 @@ pub(crate) fn answer_link<
     C: Clock,
     G: Gate + Sync,
     N: End,
->(setup: &Setup<'_, R, C, G>, shared: &Shared<J, K>, link: N) -> N
-    ensures { Answered (C.shows setup.now.clock.now) N.left N.written N.source_talk N.source_faults J.made link result }
+>(setup: &Setup<'_, R, C, G>, shared: &Shared<J, K>, link: N) -> (N, Pass<J>)
+    ensures { AnsweredTo (C.shows setup.now.clock.now) N.left N.written N.source_talk N.source_faults J.made result.1 link result.0 }
 {
     let mut link = link;
     let mut pass = shared.pass(setup.rt);
@@ -31,5 +31,5 @@ pub(crate) fn answer_link<
         gate: setup.gate,
     };
     serve_connection(system, &mut pass, setup.clock, &mut link);
-    link
+    (link, pass)
 }

@@ -14,6 +14,7 @@ mod setup;
 mod system;
 mod update;
 mod updating;
+mod whole;
 mod workers;
 
 pub use over_file::{Finished, ServeEnd, refuse_long, serve_over};

@@ -122,6 +122,7 @@ fn serve_and_tell<
 {
     let Served {
         listener,
+        kept: (),
         links,
         ending,
     } = serve_opened(setup, opened, listener);

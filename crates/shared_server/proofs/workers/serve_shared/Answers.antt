@@ -1,7 +1,10 @@
-use denote.Param.Send.{sendable}
-use Rattle.shared_server.proofs.ShareLemmas.{shared_sync}
-use Rattle.shared_server.proofs.setup.Setup.TheSendSync as setup
+use Rattle.std.proofs.Common.{subst}
+use Rattle.shared_engine.specs.Histories.{IsLegal}
 use Rattle.shared_server.proofs.workers.serve_shared.Goals as goal
 
-pub serve_all-requires-sync-F : goal.serve_all-requires-sync-F
-serve_all-requires-sync-F g c κs within = search (shared_sync, setup.the_sync, sendable) depth 9 fits 20000
+pub returns : goal.returns
+returns g c = record {
+  whole = c.serve_links-listener.result.kept;
+  legal = subst (IsLegal g.J.Naming.made) c.serve_links.view_is c.serve_links.invariant;
+  links = c.serve_links-listener.ensures;
+}
