@@ -6,6 +6,7 @@ use Rattle.dh_outside.specs.Faults.{Rose}
 use Rattle.net_doors.specs.Doors as doors
 use Rattle.shared_engine.specs.Entries.{Entry}
 use Rattle.shared_engine.specs.Histories.{Made}
+use Rattle.shared_engine.specs.Views.{TokenView}
 use Rattle.dhis_main.specs.Words.{command_of, serving_of}
 use Rattle.dhis_main.specs.Shown.{Side, Shown, WritesFront}
 use Rattle.dhis_main.specs.Outcome.{word_at, help_reply, version_reply, usage_reply, IsQueryReplyNow, IsReportNow, IsCommandReply}
@@ -126,14 +127,14 @@ RefusesWords command status.ListenFault = is_bad command ≡ false
 -- ---- all commands
 
 -- what a run may do beside a listener, which only a server calls
-abbrev pub RunsBy : {N : Type 0} → (N → Type 0) → (Made → List Entry → N → N → Type 0) → Option (ℕ × ℕ) → List (List ℕ) → (ℤ → Type 0) → Shown
+abbrev pub RunsBy : {N : Type 0} → (N → Type 0) → (Made → TokenView Entry → N → N → Type 0) → Option (ℕ × ℕ) → List (List ℕ) → (ℤ → Type 0) → Shown
     → doors.Shown N → doors.Shown N → Status → Type 0
 RunsBy Untouched Answered (Some numbers) words shows shown before after result =
     (shown.input.after ≡ shown.input.before)
     × ServeRuns Untouched Answered numbers.1 (word_at words 1) shown.files shown.output before after result
 RunsBy Untouched Answered None words shows shown before after result = Runs words shows shown result × (after ≡ before)
 
-abbrev pub RunsBeside : {N : Type 0} → (N → Type 0) → (Made → List Entry → N → N → Type 0) → List (List ℕ) → (ℤ → Type 0) → Shown → doors.Shown N
+abbrev pub RunsBeside : {N : Type 0} → (N → Type 0) → (Made → TokenView Entry → N → N → Type 0) → List (List ℕ) → (ℤ → Type 0) → Shown → doors.Shown N
     → doors.Shown N → Status → Type 0
 RunsBeside Untouched Answered words shows shown before after result =
     RunsBy Untouched Answered (serving_of (command_of words)) words shows shown before after result

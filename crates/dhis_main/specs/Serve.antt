@@ -1,5 +1,6 @@
 -- What a run of `serve` may do.
-use Rattle.std.specs.Prelude.{◌≡◌, ◌≤◌, ◌+◌, ◌++◌, ◌⊎◌, ℕ, List, Option, Ok, IfSome, length, All, true}
+use Rattle.std.specs.Prelude.{◌≡◌, ◌≤◌, ◌+◌, ◌++◌, ◌⊎◌, ℕ, List, Option, Ok, IfSome, length, true}
+use Rattle.std.specs.List.{AllZip}
 use Rattle.std.specs.Option.{option_map}
 use Rattle.std.specs.Io.KnownBytes.{Appends, Keeps}
 use Rattle.dh_outside.specs.Faults.{Rose}
@@ -11,7 +12,9 @@ use Rattle.request_replies.specs.OverFile.{IsRefused}
 use Rattle.request_session.specs.Session.{AppendsFront}
 use Rattle.shared_engine.specs.Entries.{Entry}
 use Rattle.shared_engine.specs.Histories.{Made, IsLegal}
-use Rattle.shared_server.specs.Links.{IsMadeFor, Serves}
+use Rattle.shared_engine.specs.Views.{TokenView}
+use Rattle.shared_server.specs.Links.{Answers, IsHistoryOf, IsMadeFor, Serves}
+use Rattle.shared_server.specs.Unseen.{UnseenStays}
 use Rattle.shared_server.specs.OverFile.{served_line, IsIdle}
 use Rattle.shared_server.specs.declared.over_file.ServeEnd.{ServeEnd}
 use Rattle.shared_server.specs.declared.over_file.ServeEnd.TheVariants as end
@@ -21,9 +24,10 @@ use Rattle.dhis_main.specs.declared.status.Status.{Status}
 use Rattle.dhis_main.specs.declared.status.Status.TheVariants as status
 
 -- The listener accepted so many links more: as many as are wanted, or it is closed. Where it tells the links given back, so many were given
--- back, in order; each of them had come with nothing read or written, and was answered, over one system made for the metadata, which has
--- one legal history, of which all that their callers know are beginnings.
-pub record ServesAll {N : Type 0} (Untouched : N → Type 0) (Answered : Made → List Entry → N → N → Type 0) (before after : doors.Shown N)
+-- back, in order; each of them had come with nothing read or written, and was answered, over one system made for the metadata. This has one
+-- legal history, which is that of the links' callers and of nobody else. What a user doesn't see of the published changes changes no reply to
+-- the user's queries and checks.
+pub record ServesAll {N : Type 0} (Untouched : N → Type 0) (Answered : Made → TokenView Entry → N → N → Type 0) (before after : doors.Shown N)
     (meta : Records) (most count : ℕ) : Type 0 where
   pub accepted : after.accepted ≡ before.accepted + count
   pub few : count ≤ most
@@ -35,7 +39,10 @@ pub record ServesAll {N : Type 0} (Untouched : N → Type 0) (Answered : Made �
   pub back : List N
   pub many : length back ≡ count
   pub told : after.back ≡ option_map (λ links. links ++ back) before.back
-  pub answered : All (λ link. (came : N) × Untouched came × Answered made whole came link) back
+  pub callers : List (TokenView Entry)
+  pub answered : AllZip (Answers Untouched (Answered made)) back callers
+  pub theirs : IsHistoryOf callers whole
+  pub unseen : UnseenStays made
 
 -- how a server ended, as the program's status
 abbrev pub status_by : ServeEnd → Status
@@ -57,8 +64,8 @@ OverMetadata Holds bytes = (meta : Records) × IsMetadata bytes (Ok meta) × Hol
 -- neither was it where reading the file failed. Listening or accepting failed only where the listener counted a fault; then nothing was
 -- written, and no link was accepted or all that were are answered. Writing failed only where the output counted a fault. If memory ran
 -- out the listener wasn't called, or all links were served, and nothing was written.
-abbrev pub ServeRuns : {N : Type 0} → (N → Type 0) → (Made → List Entry → N → N → Type 0) → ℕ → List ℕ → Folder → Side → doors.Shown N → doors.Shown N → Status
-    → Type 0
+abbrev pub ServeRuns : {N : Type 0} → (N → Type 0) → (Made → TokenView Entry → N → N → Type 0) → ℕ → List ℕ → Folder → Side → doors.Shown N → doors.Shown N
+    → Status → Type 0
 ServeRuns Untouched Answered most name files output before after (status.Done outcome.Ok) =
     OverFile (files.file name) (OverMetadata (λ meta. (count : ℕ) × ServesAll Untouched Answered before after meta most count
     × Appends output.before output.after (served_line count)))

@@ -1,20 +1,20 @@
-//! What lies under the lock: the listener, what is kept of its links, how many it has accepted, and how accepting ended.
-ghost use Rattle.std.specs.Prelude.{◌≡◌, ◌≤◌, ℕ, Option, None, IfSome, IsSome, is_some, length, option_to_list};
+//! What lies under the lock: the listener, the lender, how many links were accepted, and how accepting ended.
+ghost use Rattle.std.specs.Prelude.{◌≡◌, ◌≤◌, ℕ, List, [], Option, None, IfSome, IsSome, is_some, length, option_to_list};
 ghost use Rattle.net_doors.specs.Doors.{IsUntouched};
-ghost use Rattle.net_doors.specs.Serving.{Serving, EndsBy, HasServed, Leaves};
+ghost use Rattle.net_doors.specs.Serving.{Serving, EndsBy, HasServed, IsServed};
 ghost use Rattle.net_doors.specs.declared.ending.Ending.{Ending};
 
 use crate::ending::{Ending, Served};
 use crate::names::Opening;
-use crate::{End, Keeping, Listener};
+use crate::{End, Lender, Listener};
 use std::marker::{Model, PhantomData};
 use std::sync::ledger::{Book, Share};
 
 /// The listener of one call. Contracts see how accepting ended, if it has, and its type that the links are served.
 #[derive(Drop)]
-pub(crate) struct Door<N: End, P, L: Listener<N>, W: Keeping<P>, J: Opening<N, P>> {
+pub(crate) struct Door<N: End, P, L: Listener<N>, W: Lender<P>, J: Opening<N, P>> {
     listener: L,
-    kept: W,
+    lender: W,
     most: u64,
     links: u64,
     ending: Option<Ending>,
@@ -22,7 +22,7 @@ pub(crate) struct Door<N: End, P, L: Listener<N>, W: Keeping<P>, J: Opening<N, P
     of: PhantomData<(N, P)>,
 }
 
-impl<N: End, P, L: Listener<N>, W: Keeping<P>, J: Opening<N, P>> Model for Door<N, P, L, W, J> {
+impl<N: End, P, L: Listener<N>, W: Lender<P>, J: Opening<N, P>> Model for Door<N, P, L, W, J> {
     ghost Value = { Option Ending };
 
     ghost view = { λ d. d.ending };
@@ -30,21 +30,23 @@ impl<N: End, P, L: Listener<N>, W: Keeping<P>, J: Opening<N, P>> Model for Door<
     ghost invariant = { λ d.
         (d.most ≡ J.most)
         × IfSome J.began.back (λ links. length links ≤ J.began.accepted)
-        × Serving (λ link. IsUntouched (N.source_talk link) (N.source_faults link)) (Leaves J.serves (W.knows d.kept)) J.began (L.shows d.listener)
-        d.most d.links d.book.total
+        × ((lefts : List P) × W.holds d.lender d.links lefts
+        × Serving (IsServed (λ link. IsUntouched (N.source_talk link) (N.source_faults link)) W.starts J.serves) J.began (L.shows d.listener)
+        d.most d.links d.book.total lefts)
         × IfSome d.ending (λ how. EndsBy how J.began (L.shows d.listener) d.most d.links) };
 }
 
-impl<N: End, P, L: Listener<N>, W: Keeping<P>, J: Opening<N, P>> Door<N, P, L, W, J> {
+impl<N: End, P, L: Listener<N>, W: Lender<P>, J: Opening<N, P>> Door<N, P, L, W, J> {
     /// Accepting begins.
-    pub(crate) fn new(listener: L, kept: W, most: u64, book: Book<J>) -> Self
+    pub(crate) fn new(listener: L, lender: W, most: u64, book: Book<J>) -> Self
         requires began { J.began ≡ L.shows listener }
         requires most { J.most ≡ most }
         requires none { book.total ≡ 0 }
+        requires holds { W.holds lender 0 [] }
     {
         Door {
             listener,
-            kept,
+            lender,
             most,
             links: 0,
             ending: None,
@@ -53,13 +55,14 @@ impl<N: End, P, L: Listener<N>, W: Keeping<P>, J: Opening<N, P>> Door<N, P, L, W
         }
     }
 
-    /// Accepts one more link, unless accepting has ended or ends. Who has the link has it on his share.
-    pub(crate) fn next(&mut self, share: &mut Share<J>) -> Option<N>
+    /// Accepts one more link, unless accepting has ended or ends, and hands out what it is served with. Who has the link has it on his share.
+    pub(crate) fn next(&mut self, share: &mut Share<J>) -> Option<(N, P)>
         requires parts { share.old.parts ≡ 1 }
         requires none { share.old.amount ≡ 0 }
         ensures parts { share.new.parts ≡ 1 }
         ensures amount { share.new.amount ≡ length (option_to_list result) }
-        ensures untouched { IfSome result (λ link. IsUntouched (N.source_talk link) (N.source_faults link)) }
+        ensures untouched { IfSome result (λ next. IsUntouched (N.source_talk next.0) (N.source_faults next.0)) }
+        ensures starts { IfSome result (λ next. W.starts next.1) }
     {
         if self.ending.is_some() {
             return None;
@@ -72,7 +75,7 @@ impl<N: End, P, L: Listener<N>, W: Keeping<P>, J: Opening<N, P>> Door<N, P, L, W
             Ok(Some(link)) => {
                 self.links += 1;
                 self.book.add(share, 1);
-                Some(link)
+                Some((link, self.lender.hand_out()))
             }
             Ok(None) => {
                 self.ending = Some(Ending::Closed);
@@ -85,17 +88,17 @@ impl<N: End, P, L: Listener<N>, W: Keeping<P>, J: Opening<N, P>> Door<N, P, L, W
         }
     }
 
-    /// Takes back a link that was served, and keeps what this left beside it.
+    /// Takes back a link that was served, and what this left beside it.
     pub(crate) fn give_back(&mut self, share: &mut Share<J>, link: N, left: P)
         requires parts { share.old.parts ≡ 1 }
         requires one { share.old.amount ≡ 1 }
-        requires served { (came : N) × IsUntouched (N.source_talk came) (N.source_faults came) × J.serves came (link, left) }
+        requires served { IsServed (λ came. IsUntouched (N.source_talk came) (N.source_faults came)) W.starts J.serves link left }
         ensures parts { share.new.parts ≡ 1 }
         ensures none { share.new.amount ≡ 0 }
     {
         self.book.audit(share);
         self.book.sub(share, 1);
-        self.kept.keep(left);
+        self.lender.take_back(left);
         self.listener.give_back(link);
     }
 
@@ -111,14 +114,15 @@ impl<N: End, P, L: Listener<N>, W: Keeping<P>, J: Opening<N, P>> Door<N, P, L, W
         requires over { IsSome self }
         requires all { share.parts ≡ J.parts }
         requires none { share.amount ≡ 0 }
-        ensures { HasServed (λ link. IsUntouched (N.source_talk link) (N.source_faults link)) (Leaves J.serves (W.knows result.kept)) J.began
-            (L.shows result.listener) J.most result.links result.ending }
+        ensures { (lefts : List P) × W.holds result.lender result.links lefts
+            × HasServed (IsServed (λ link. IsUntouched (N.source_talk link) (N.source_faults link)) W.starts J.serves) J.began
+            (L.shows result.listener) J.most result.links result.ending lefts }
     {
         let mut share = share;
         self.book.audit(&mut share);
         let Door {
             listener,
-            kept,
+            lender,
             most: _,
             links,
             ending,
@@ -127,7 +131,7 @@ impl<N: End, P, L: Listener<N>, W: Keeping<P>, J: Opening<N, P>> Door<N, P, L, W
         } = self;
         Served {
             listener,
-            kept,
+            lender,
             links,
             ending: ending.unwrap(),
         }

@@ -11,13 +11,13 @@ pub enum Ending {
     ListenFault,
 }
 
-/// The listener, what was kept of all links, how many of them it accepted in the call, and how that ended.
+/// The listener, the lender, how many links were accepted in the call, and how that ended.
 #[derive(Drop)]
 pub struct Served<L, W> {
     /// The listener, with each of the links given back.
     pub listener: L,
-    /// What was kept of what serving each of them left.
-    pub kept: W,
+    /// The lender, which took back what serving each of them left.
+    pub lender: W,
     /// How many links were accepted.
     pub links: u64,
     /// How accepting ended.

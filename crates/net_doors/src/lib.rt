@@ -11,7 +11,7 @@ mod names;
 mod sockets;
 mod workers;
 
-ghost use Rattle.std.specs.Prelude.{◌≡◌, ◌≤◌, ◌<◌, length, IfOk, IfSome, OnErr};
+ghost use Rattle.std.specs.Prelude.{◌≡◌, ◌≤◌, ◌<◌, ◌+◌, ◌++◌, ◌∷◌, ℕ, List, [], length, IfOk, IfSome, OnErr};
 ghost use Rattle.dh_outside.specs.Faults.{Rose};
 ghost use Rattle.net_doors.specs.Doors.{Shown, Accepts, IsUntouched, with_back};
 
@@ -21,15 +21,22 @@ pub use memory::MemDoor;
 pub use sockets::{TcpDoor, TcpEnd};
 pub use workers::serve_all;
 
-/// What is kept of what serving each link leaves beside it. It is used by one worker at a time.
-pub trait Keeping<P> {
-    /// It knows this of what was left.
-    ghost knows: { Self → P → Type 0 };
+/// Stands at the door: hands out what each link is served with, and takes back what serving it left. It is used by one worker at a time.
+pub trait Lender<P> {
+    /// So many were handed out, and these came back, in order.
+    ghost holds: { Self → ℕ → List P → Type 0 };
 
-    /// Keeps what was left by one link more. What was known of others still is.
-    fn keep(&mut self, left: P)
-        ensures known { knows self.new left }
-        ensures others { (other : P) → knows self.old other → knows self.new other };
+    /// What is handed out begins so.
+    ghost starts: { P → Type 0 };
+
+    /// Hands out one more, for a link that was accepted.
+    fn hand_out(&mut self) -> P
+        ensures starts { starts result }
+        ensures holds { (given : ℕ) (back : List P) → holds self.old given back → holds self.new (given + 1) back };
+
+    /// Takes back what serving a link left.
+    fn take_back(&mut self, left: P)
+        ensures { (given : ℕ) (back : List P) → holds self.old given back → holds self.new given (back ++ left ∷ []) };
 }
 
 /// A link that a listener gives.

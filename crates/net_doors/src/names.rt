@@ -5,11 +5,11 @@ ghost use Rattle.net_doors.specs.Doors.{Shown};
 use std::marker::Brand;
 use std::sync::ledger::Ledger;
 
-/// Names one call: what the listener showed when it began, how links are served and what is left beside them, and how many are wanted.
+/// Names one call: what the listener showed when it began, how links are served with what was handed out, and how many are wanted.
 pub trait Opening<N, P>: Ledger {
     ghost began: { Shown N };
 
-    ghost serves: { N → N × P → Type 0 };
+    ghost serves: { N → P → N × P → Type 0 };
 
     ghost most: { ℕ };
 }
@@ -17,7 +17,7 @@ pub trait Opening<N, P>: Ledger {
 impl<N, P> Opening<N, P> for Brand {
     ghost began = { record { accepted = 0; closed = false; back = None; faults = 0 } };
 
-    ghost serves = { λ _ _. ⊤ };
+    ghost serves = { λ _ _ _. ⊤ };
 
     ghost most = { 0 };
 }

@@ -1,35 +1,36 @@
 //! The workers: each accepts a link under the lock, serves it outside, closes it, and gives it back under the lock.
 ghost use denote.Param.Send.{IsSend, IsSync};
-ghost use Rattle.std.specs.Prelude.{◌≡◌, ◌<◌, ℕ, length, IfSome, option_to_list};
+ghost use Rattle.std.specs.Prelude.{◌≡◌, ◌<◌, ℕ, List, [], length, IfSome, option_to_list};
 ghost use Rattle.net_doors.specs.Doors.{IsUntouched};
-ghost use Rattle.net_doors.specs.Serving.{HasServed, Leaves};
+ghost use Rattle.net_doors.specs.Serving.{HasServed, IsServed};
 
 use crate::door::Door;
 use crate::ending::Served;
 use crate::names::Opening;
-use crate::{End, Keeping, Listener};
+use crate::{End, Lender, Listener};
 use std::marker::Brand;
 use std::sync::ledger::{Blank, Ledger, Share};
 use std::sync::{Mutex, Wait};
 use std::thread::{Threads, join};
 
-// Accepts a link under the lock.
-fn accept_one<N: End, P, L: Listener<N>, W: Keeping<P>, J: Opening<N, P>, R: Wait>(
+// Accepts a link under the lock, with what it is served with.
+fn accept_one<N: End, P, L: Listener<N>, W: Lender<P>, J: Opening<N, P>, R: Wait>(
     rt: &R,
     door: &Mutex<Door<N, P, L, W, J>>,
     share: &mut Share<J>,
-) -> Option<N>
+) -> Option<(N, P)>
     requires parts { share.old.parts ≡ 1 }
     requires none { share.old.amount ≡ 0 }
     ensures parts { share.new.parts ≡ 1 }
     ensures amount { share.new.amount ≡ length (option_to_list result) }
-    ensures untouched { IfSome result (λ link. IsUntouched (N.source_talk link) (N.source_faults link)) }
+    ensures untouched { IfSome result (λ next. IsUntouched (N.source_talk next.0) (N.source_faults next.0)) }
+    ensures starts { IfSome result (λ next. W.starts next.1) }
 {
     door.lock(rt).next(share)
 }
 
 // Gives a link back under the lock, with what serving it left.
-fn return_one<N: End, P, L: Listener<N>, W: Keeping<P>, J: Opening<N, P>, R: Wait>(
+fn return_one<N: End, P, L: Listener<N>, W: Lender<P>, J: Opening<N, P>, R: Wait>(
     rt: &R,
     door: &Mutex<Door<N, P, L, W, J>>,
     share: &mut Share<J>,
@@ -38,55 +39,54 @@ fn return_one<N: End, P, L: Listener<N>, W: Keeping<P>, J: Opening<N, P>, R: Wai
 )
     requires parts { share.old.parts ≡ 1 }
     requires one { share.old.amount ≡ 1 }
-    requires served { (came : N) × IsUntouched (N.source_talk came) (N.source_faults came) × J.serves came (link, left) }
+    requires served { IsServed (λ came. IsUntouched (N.source_talk came) (N.source_faults came)) W.starts J.serves link left }
     ensures parts { share.new.parts ≡ 1 }
     ensures none { share.new.amount ≡ 0 }
 {
     door.lock(rt).give_back(share, link, left)
 }
 
-// Serves a link and closes it.
-fn serve_one<N: End, P, F: Fn(N) -> (N, P)>(serve: &F, link: N) -> (N, P)
-    requires accepts { (link : N) → IsUntouched (N.source_talk link) (N.source_faults link) → F.pre serve.now link }
-    requires untouched { IsUntouched (N.source_talk link) (N.source_faults link) }
-    ensures { F.post serve.now link result }
+// Serves a link with what was handed out for it, and closes it.
+fn serve_one<N: End, P, F: Fn(N, P) -> (N, P)>(serve: &F, link: N, given: P) -> (N, P)
+    requires { F.pre serve.now link given }
+    ensures { F.post serve.now link given result }
 {
-    let (mut link, left) = serve(link);
+    let (mut link, left) = serve(link, given);
     link.close();
     (link, left)
 }
 
 // Accepts, serves and gives back one link. It answers false when accepting has ended.
-fn turn<N: End, P, L: Listener<N>, W: Keeping<P>, F: Fn(N) -> (N, P), J: Opening<N, P>, R: Wait>(
+fn turn<N: End, P, L: Listener<N>, W: Lender<P>, F: Fn(N, P) -> (N, P), J: Opening<N, P>, R: Wait>(
     rt: &R,
     door: &Mutex<Door<N, P, L, W, J>>,
     serve: &F,
     share: &mut Share<J>,
 ) -> bool
-    requires accepts { (link : N) → IsUntouched (N.source_talk link) (N.source_faults link) → F.pre serve.now link }
-    requires serves { (came : N) (served : N × P) → F.post serve.now came served → J.serves came served }
+    requires accepts { (link : N) (given : P) → IsUntouched (N.source_talk link) (N.source_faults link) → W.starts given → F.pre serve.now link given }
+    requires serves { (came : N) (given : P) (served : N × P) → F.post serve.now came given served → J.serves came given served }
     requires parts { share.old.parts ≡ 1 }
     requires none { share.old.amount ≡ 0 }
     ensures parts { share.new.parts ≡ 1 }
     ensures none { share.new.amount ≡ 0 }
 {
-    let Some(link) = accept_one(rt, door, share) else {
+    let Some((link, given)) = accept_one(rt, door, share) else {
         return false;
     };
-    let (link, left) = serve_one(serve, link);
+    let (link, left) = serve_one(serve, link, given);
     return_one(rt, door, share, link, left);
     true
 }
 
 // One worker: turns until accepting has ended.
-fn work<N: End, P, L: Listener<N>, W: Keeping<P>, F: Fn(N) -> (N, P), J: Opening<N, P>, R: Wait>(
+fn work<N: End, P, L: Listener<N>, W: Lender<P>, F: Fn(N, P) -> (N, P), J: Opening<N, P>, R: Wait>(
     rt: &R,
     door: &Mutex<Door<N, P, L, W, J>>,
     serve: &F,
     share: Share<J>,
 ) -> Share<J>
-    requires accepts { (link : N) → IsUntouched (N.source_talk link) (N.source_faults link) → F.pre serve.now link }
-    requires serves { (came : N) (served : N × P) → F.post serve.now came served → J.serves came served }
+    requires accepts { (link : N) (given : P) → IsUntouched (N.source_talk link) (N.source_faults link) → W.starts given → F.pre serve.now link given }
+    requires serves { (came : N) (given : P) (served : N × P) → F.post serve.now came given served → J.serves came given served }
     requires parts { share.parts ≡ 1 }
     requires none { share.amount ≡ 0 }
     ensures parts { result.parts ≡ 1 }
@@ -106,13 +106,13 @@ fn crew<
     N: End + Send,
     P: Send,
     L: Listener<N> + Send,
-    W: Keeping<P> + Send,
-    F: Fn(N) -> (N, P) + Sync,
+    W: Lender<P> + Send,
+    F: Fn(N, P) -> (N, P) + Sync,
     J: Opening<N, P> + Send + Sync,
     R: Threads + Wait + Sync,
 >(rt: &R, door: &Mutex<Door<N, P, L, W, J>>, serve: &F, share: Share<J>, workers: u32) -> Share<J>
-    requires accepts { (link : N) → IsUntouched (N.source_talk link) (N.source_faults link) → F.pre serve.now link }
-    requires serves { (came : N) (served : N × P) → F.post serve.now came served → J.serves came served }
+    requires accepts { (link : N) (given : P) → IsUntouched (N.source_talk link) (N.source_faults link) → W.starts given → F.pre serve.now link given }
+    requires serves { (came : N) (given : P) (served : N × P) → F.post serve.now came given served → J.serves came given served }
     requires some { 0 < workers }
     requires parts { share.parts ≡ workers }
     requires none { share.amount ≡ 0 }
@@ -129,15 +129,15 @@ fn crew<
         rt,
         || -> Share<J>
             requires { IsSync R.row × IsSync F.row × IsSend N.row × IsSend P.row × IsSend L.row × IsSend W.row × IsSend J.row × IsSync J.row
-                × ((link : N) → IsUntouched (N.source_talk link) (N.source_faults link) → F.pre serve.now link)
-                × ((came : N) (served : N × P) → F.post serve.now came served → J.serves came served)
+                × ((link : N) (given : P) → IsUntouched (N.source_talk link) (N.source_faults link) → W.starts given → F.pre serve.now link given)
+                × ((came : N) (given : P) (served : N × P) → F.post serve.now came given served → J.serves came given served)
                 × (mine.parts ≡ 1) × (mine.amount ≡ 0) }
             ensures { (result.parts ≡ 1) × (result.amount ≡ 0) }
         { work(rt, door, serve, mine) },
         || -> Share<J>
             requires { IsSync R.row × IsSync F.row × IsSend N.row × IsSend P.row × IsSend L.row × IsSend W.row × IsSend J.row × IsSync J.row
-                × ((link : N) → IsUntouched (N.source_talk link) (N.source_faults link) → F.pre serve.now link)
-                × ((came : N) (served : N × P) → F.post serve.now came served → J.serves came served)
+                × ((link : N) (given : P) → IsUntouched (N.source_talk link) (N.source_faults link) → W.starts given → F.pre serve.now link given)
+                × ((came : N) (given : P) (served : N × P) → F.post serve.now came given served → J.serves came given served)
                 × (0 < others) × (share.parts ≡ others) × (share.amount ≡ 0) }
             ensures { (result.parts ≡ others) × (result.amount ≡ 0) }
         { crew(rt, door, serve, share, others) },
@@ -151,8 +151,8 @@ fn round<
     N: End + Send,
     P: Send,
     L: Listener<N> + Send,
-    W: Keeping<P> + Send,
-    F: Fn(N) -> (N, P) + Sync,
+    W: Lender<P> + Send,
+    F: Fn(N, P) -> (N, P) + Sync,
     J: Opening<N, P> + Send + Sync,
     R: Threads + Wait + Sync,
 >(
@@ -162,8 +162,8 @@ fn round<
     share: Share<J>,
     workers: u32,
 ) -> (Door<N, P, L, W, J>, Share<J>)
-    requires accepts { (link : N) → IsUntouched (N.source_talk link) (N.source_faults link) → F.pre serve.now link }
-    requires serves { (came : N) (served : N × P) → F.post serve.now came served → J.serves came served }
+    requires accepts { (link : N) (given : P) → IsUntouched (N.source_talk link) (N.source_faults link) → W.starts given → F.pre serve.now link given }
+    requires serves { (came : N) (given : P) (served : N × P) → F.post serve.now came given served → J.serves came given served }
     requires some { 0 < workers }
     requires parts { share.parts ≡ workers }
     requires none { share.amount ≡ 0 }
@@ -180,14 +180,14 @@ fn serve_as<
     N: End + Send,
     P: Send,
     L: Listener<N> + Send,
-    W: Keeping<P> + Send,
-    F: Fn(N) -> (N, P) + Sync,
+    W: Lender<P> + Send,
+    F: Fn(N, P) -> (N, P) + Sync,
     J: Opening<N, P> + Send + Sync,
     R: Threads + Wait + Sync,
 >(
     rt: &R,
     listener: L,
-    kept: W,
+    lender: W,
     serve: &F,
     workers: u32,
     connections: u64,
@@ -198,13 +198,15 @@ fn serve_as<
     requires parts { (blank.parts ≡ J.parts) × (blank.parts ≡ workers) }
     requires began { J.began ≡ L.shows listener }
     requires most { J.most ≡ connections }
-    requires accepts { (link : N) → IsUntouched (N.source_talk link) (N.source_faults link) → F.pre serve.now link }
-    requires serves { (came : N) (served : N × P) → F.post serve.now came served → J.serves came served }
-    ensures { HasServed (λ link. IsUntouched (N.source_talk link) (N.source_faults link)) (Leaves J.serves (W.knows result.kept)) J.began
-        (L.shows result.listener) J.most result.links result.ending }
+    requires holds { W.holds lender 0 [] }
+    requires accepts { (link : N) (given : P) → IsUntouched (N.source_talk link) (N.source_faults link) → W.starts given → F.pre serve.now link given }
+    requires serves { (came : N) (given : P) (served : N × P) → F.post serve.now came given served → J.serves came given served }
+    ensures { (lefts : List P) × W.holds result.lender result.links lefts
+        × HasServed (IsServed (λ link. IsUntouched (N.source_talk link) (N.source_faults link)) W.starts J.serves) J.began
+        (L.shows result.listener) J.most result.links result.ending lefts }
 {
     let (book, share) = blank.open::<J>();
-    let mut door = Door::new(listener, kept, connections, book);
+    let mut door = Door::new(listener, lender, connections, book);
     let mut share = share;
     for _ in rt.forever() {
         let (next_door, next_share) = round(rt, door, serve, share, workers);
@@ -218,27 +220,30 @@ fn serve_as<
 }
 
 /// Serves the links of a listener by so many workers, until so many connections were accepted, the listener is closed, or an accept
-/// failed. Each link that was accepted is served by a call of `serve`, closed and given back, whatever became of the others; what serving
-/// it left beside it goes to `kept`, which knows it from then on. Of its own this takes no memory. `serve` has to take each link that comes
-/// with nothing read or written, and says by its own contract how it leaves it.
+/// failed. Each link that was accepted is served by a call of `serve`, closed and given back, whatever became of the others; the lender hands
+/// out what it is served with, and takes back what serving it left, in the order in which the links are given back. Of its own this takes no
+/// memory. `serve` has to take each link that comes with nothing read or written, with what begins as the lender hands it out, and says by
+/// its own contract how it leaves the two.
 pub fn serve_all<
     N: End + Send,
     P: Send,
     L: Listener<N> + Send,
-    W: Keeping<P> + Send,
-    F: Fn(N) -> (N, P) + Sync,
+    W: Lender<P> + Send,
+    F: Fn(N, P) -> (N, P) + Sync,
     R: Threads + Wait + Sync,
->(rt: &R, listener: L, kept: W, serve: &F, workers: u32, connections: u64) -> Served<L, W>
+>(rt: &R, listener: L, lender: W, serve: &F, workers: u32, connections: u64) -> Served<L, W>
     requires some { 0 < workers }
-    requires accepts { (link : N) → IsUntouched (N.source_talk link) (N.source_faults link) → F.pre serve.now link }
-    ensures { HasServed (λ link. IsUntouched (N.source_talk link) (N.source_faults link))
-        (Leaves (λ came served. F.post serve.now came served) (W.knows result.kept)) (L.shows listener) (L.shows result.listener) connections
-        result.links result.ending }
+    requires none { W.holds lender 0 [] }
+    requires accepts { (link : N) (given : P) → IsUntouched (N.source_talk link) (N.source_faults link) → W.starts given → F.pre serve.now link given }
+    ensures { (lefts : List P) × W.holds result.lender result.links lefts
+        × HasServed (IsServed (λ link. IsUntouched (N.source_talk link) (N.source_faults link)) W.starts
+        (λ came given served. F.post serve.now came given served)) (L.shows listener) (L.shows result.listener) connections
+        result.links result.ending lefts }
 {
     serve_as::<N, P, L, W, F, Brand, R>(
         rt,
         listener,
-        kept,
+        lender,
         serve,
         workers,
         connections,

@@ -1,13 +1,12 @@
 -- What one call under the lock does: the history goes on by its entry, and its caller is told so.
-use Rattle.std.proofs.Common.{◌≡◌, ◌≤◌, ◌+◌, ℕ, List, [], ◌∷◌, ◌++◌, Bool, true, false, cond}
+use Rattle.std.proofs.Common.{◌≡◌, ◌≤◌, ℕ, List, [], ◌∷◌, ◌++◌, Bool, true, false, cond}
 use Rattle.std.proofs.Common.{Option, Some, None, IfSome, IsSome, append_assoc, append-nil, length, length-append}
 use Rattle.std.proofs.Common.{inl, inr, refl, sym, ap, ◌∙◌, subst, arith, eq-eqb, le_refl, le_trans}
 use Rattle.std.specs.Prelude.{Result, Ok, Err, ◌==◌, IsTrue}
 use Rattle.dh_base.specs.declared.memory.Memory.{Memory}
 use Rattle.shared_engine.specs.Views.{own, LockView, TokenView, Follows, IsOneOf}
-use Rattle.shared_engine.specs.Rule.{Names}
 use Rattle.shared_engine.proofs.Histories.{own-append}
-use Rattle.std.proofs.lemmas.List.{get_or_push, take_all}
+use Rattle.std.proofs.lemmas.List.{take_all}
 use Rattle.dh_metadata.specs.declared.held.Records.{Records}
 use Rattle.change_log.specs.declared.limits.Limits.{Limits}
 use Rattle.engine.specs.Requests.{Asked}
@@ -20,7 +19,7 @@ use Rattle.engine.specs.declared.machine.CutFault.{CutFault}
 use Rattle.engine.specs.declared.machine.CutFault.TheVariants as cut
 use Rattle.dh_base.specs.declared.plain.CutKind.{CutKind}
 use Rattle.dh_base.specs.declared.plain.CutKind.TheVariants.{Full, Latest}
-use Rattle.engine.specs.Machine.{State, start, Act, IsReply, next, lacks_memory, Step, StepBy, by_kind, staged_of, changes_for, is_begun}
+use Rattle.engine.specs.Machine.{State, Act, IsReply, next, lacks_memory, Step, StepBy, by_kind, staged_of, changes_for, is_begun}
 use Rattle.engine.specs.Machine.Act.{changed, begun, swapped, dropped, looked}
 use Rattle.engine.specs.Seen.{Seen, Brought, IsCutOf, update_in}
 use Rattle.engine.specs.declared.machine.Cut.{Cut}
@@ -31,7 +30,7 @@ use Rattle.engine.specs.declared.machine.View.{View}
 use Rattle.table_rows.specs.Store.{contents_in}
 use Rattle.std.specs.Arc.{arc_value}
 use Rattle.std.specs.Prelude.{take, IfOk}
-use Rattle.shared_engine.specs.Entries.{Entry, caller_of, named_of, Stand, entries_if, entries_of, entry_by, entries_by, after_entries, IsRight, IsFault, Owns}
+use Rattle.shared_engine.specs.Entries.{Entry, caller_of, Stand, entries_if, entries_of, entry_by, entries_by, after_entries, IsRight, IsFault, Owns}
 use Rattle.shared_engine.specs.Histories.{Made, begin, stand_of, IsLegal, StandsAt, IsRunning, IsBegunBy}
 use Rattle.shared_engine.specs.Calls.{IsCall, IsUpdate, last_of}
 use Rattle.shared_engine.specs.Builds.{IsCutBy}
@@ -252,22 +251,6 @@ pub look_made : (made : Made) (engine : Seen) (l0 l1 l2 l3 : LockView Entry) (to
 look_made made engine l0 l1 l2 l3 token now asked reply running table taken follows step noted back given =
     quiet_made made engine engine l0 l1 l2 l3 token now (looked asked reply) running table taken follows (look_goes engine asked reply step) tt refl noted back
     given
-
--- at the start
-pub begun_running : (made : Made) (engine : Seen) (lock : LockView Entry) → lock ≡ record { table = made.table; list = []; told = 0; count = 0; taken = None }
-    → engine.state ≡ start → engine.meta ≡ made.meta → engine.limits ≡ made.limits → engine.faults ≡ made.opening → IsRunning made engine lock
-begun_running made engine lock is state meta limits faults = subst (λ (l : LockView Entry). IsRunning made engine l) (sym is) (record {
-  table = refl;
-  nobody = refl;
-  stands = record { meta = meta; limits = limits; legal = tt; state = state; faults = faults };
-  told = sym (ap (λ (s : State). s.published) state);
-})
-
--- a new caller changes nothing
-pub more_callers : (made : Made) (engine : Seen) (old new : LockView Entry) → IsRunning made engine old → new ≡ record old { count = old.count + 1 }
-    → IsRunning made engine new
-more_callers made engine old new r is = subst (λ (l : LockView Entry). IsRunning made engine l) (sym is)
-    (record { table = r.table; nobody = r.nobody; stands = r.stands; told = r.told })
 
 -- what a look gives stands for the changes of the history as the call left it
 pub look_tables : (made : Made) (engine : Seen) (lock : LockView Entry) (now : TokenView Entry) (reply : Result View LookFault) → IsRunning made engine lock
@@ -512,31 +495,6 @@ update_refused made a b kind (cut.Busy ticket) faults x =
 update_refused made a b kind (cut.UpdatesSpent limit) faults x =
     (record { caller = a.caller; act = begun kind (Err (cut.UpdatesSpent limit)); faults = faults } ∷ [], x, (faults, refl))
 update_refused made a b kind cut.Memory faults x = ([], x, inl refl)
-
--- the number of the swap that was added last is named
-pub end_named : (v w : LockView Entry) (ticket number faults : ℕ) (reply : Result ℕ Memory) → reply ≡ Ok number
-    → w ≡ record v { list = v.list ++ entry_by v.taken (end_act ticket reply) faults ∷ [] } → Names caller_of named_of w.list number
-end_named v w ticket number faults reply ok is =
-    let e : Entry = entry_by v.taken (swapped ticket (Ok number)) faults in
-    let list : w.list ≡ v.list ++ e ∷ [] = ap (λ (l : LockView Entry). l.list) is
-    ∙ ap (λ r. v.list ++ entry_by v.taken (end_act ticket r) faults ∷ []) ok in
-    let long : length (v.list ++ e ∷ []) ≡ length v.list + 1 = length-append v.list (e ∷ []) in
-    subst (λ (l : List Entry). Names caller_of named_of l number) (sym list)
-    (length v.list, e, (omega (arith, long)), get_or_push v.list e e (length v.list) refl, refl)
-
-pub end_rises : (v w : LockView Entry) (list : List Entry) (number : ℕ) (reply : Result ℕ Memory) → reply ≡ Ok number → w ≡ record v { list = list }
-    → IfOk reply (λ number. v.told ≤ number) → w.told ≤ number
-end_rises v w list number reply ok is h =
-    subst (λ (n : ℕ). n ≤ number) (sym (ap (λ (l : LockView Entry). l.told) is)) (subst (λ r. IfOk r (λ number. v.told ≤ number)) ok h)
-
-pub ended_ok : (v w x : LockView Entry) (list : List Entry) (number : ℕ) (reply : Result ℕ Memory) → reply ≡ Ok number → w ≡ record v { list = list }
-    → x ≡ record w { told = number } → x ≡ record v { list = list; told = told_after v.told reply }
-ended_ok v w x list number reply ok is told =
-    told ∙ ap (λ (l : LockView Entry). record l { told = number }) is ∙ ap (λ r. record v { list = list; told = told_after v.told r }) (sym ok)
-
-pub ended_err : (v w : LockView Entry) (list : List Entry) (memory : Memory) (reply : Result ℕ Memory) → reply ≡ Err memory → w ≡ record v { list = list }
-    → w ≡ record v { list = list; told = told_after v.told reply }
-ended_err v w list memory reply err is = is ∙ ap (λ r. record v { list = list; told = told_after v.told r }) (sym err)
 
 -- the update that ends is begun, of these changes
 pub end_staged : (made : Made) (engine : Seen) (l0 l1 : LockView Entry) (token : TokenView Entry) (kind : CutKind) (update : Staged) (changes : List Change)

@@ -1,4 +1,5 @@
 pub mod PlaceLemmas
+pub mod ApartLemmas
 pub mod Histories
 mod Moves
 pub mod Growth

@@ -2,7 +2,7 @@
 use Rattle.std.specs.Prelude.{◌≡◌, ◌≤◌, ◌++◌, ◌∷◌, ◌⊎◌, [], ℕ, List, Result, Ok, Err}
 use mathlib.Core.List.{IsPrefix}
 use Rattle.dh_base.specs.declared.plain.CutKind.{CutKind}
-use Rattle.shared_engine.specs.Views.{own, TokenView}
+use Rattle.shared_engine.specs.Views.{own, FirstView, Settled, TokenView}
 use Rattle.engine.specs.declared.machine.Staged.{Staged}
 use Rattle.engine.specs.declared.machine.CutFault.{CutFault}
 use Rattle.engine.specs.declared.machine.CutFault.TheVariants as cut
@@ -13,6 +13,17 @@ use Rattle.shared_engine.specs.Histories.{Made, IsLegal, stand_of}
 -- stands for a pass whose token is away
 abbrev pub no_token : TokenView Entry
 no_token = record { table = Rattle.shared_engine.specs.Histories.no_table; caller = 0; list = []; told = 0 }
+
+-- stands for the first caller whose token is away
+abbrev pub no_first : FirstView Entry
+no_first = record { table = Rattle.shared_engine.specs.Histories.no_table; list = []; count = 0; gone = [] }
+
+-- the first caller knows a legal history in which it has no entry itself, with all entries of those who are gone
+pub record IsFirst (made : Made) (first : FirstView Entry) : Type 0 where
+  pub table : first.table ≡ made.table
+  pub legal : IsLegal made first.list
+  pub none : own caller_of 0 first.list ≡ []
+  pub settled : Settled caller_of first.count first.gone first.list
 
 -- the last of these entries, if there is one
 abbrev pub last_of : List Entry → List Entry

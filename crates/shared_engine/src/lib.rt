@@ -26,7 +26,7 @@ pub use laws::{
     updates_stay_begun,
 };
 pub use names::{Item, Naming};
-pub use shared::{Opened, Pass, Shared, open};
-pub use table::{HistoryTable, LockSeat, Token};
+pub use shared::{Callers, Opened, Pass, Shared, open};
+pub use table::{FirstToken, HistoryTable, LockSeat, Token};
 pub use views::{EntryName, Recorded};
 pub use work::{Builder, build_each};

@@ -1,8 +1,7 @@
 //! What lies under the lock: the engine, and the seat that knows the whole history. Each call takes its caller in, makes one step of
 //! the machine, adds its entry, and gives the caller its token back.
-ghost use Rattle.std.specs.Prelude.{◌≡◌, ◌∷◌, ℕ, [], IfOk, map, take};
-ghost use mathlib.Core.List.{IsPrefix};
-ghost use Rattle.shared_engine.specs.Views.{own};
+ghost use Rattle.std.specs.Prelude.{◌≡◌, ◌+◌, ◌++◌, ◌∷◌, ℕ, [], IfOk, map, take};
+ghost use Rattle.shared_engine.specs.Views.{known_of, own};
 ghost use Rattle.std.specs.Arc.{arc_value};
 ghost use Rattle.value_import.specs.Outcomes.{IsKnown};
 ghost use Rattle.table_rows.specs.Store.{contents_in};
@@ -14,12 +13,12 @@ ghost use Rattle.shared_engine.specs.Entries.{entries_of, caller_of};
 ghost use Rattle.shared_engine.specs.Histories.{stand_of, IsLegal};
 ghost use Rattle.shared_engine.specs.Ends.{end_act};
 ghost use Rattle.shared_engine.specs.Builds.{CanBuild, ArePartsOf, IsCutBy};
-ghost use Rattle.shared_engine.specs.Calls.{IsCall};
+ghost use Rattle.shared_engine.specs.Calls.{IsCall, IsFirst};
 
 use crate::names::{Item, Naming};
 use crate::notes::{Begun, Changed, Looked, note, note_end};
 use crate::steps::end_with;
-use crate::{HistoryTable, LockSeat, Token};
+use crate::{FirstToken, HistoryTable, LockSeat, Token};
 use dh_base::memory::Memory;
 use dh_base::plain::CutKind;
 use dh_changes::outcome::Who;
@@ -49,35 +48,43 @@ impl<J: Naming, K: Keeper> Model for Locked<J, K> {
 }
 
 impl<J: Naming, K: Keeper> Locked<J, K> {
-    /// The token of a new caller.
-    pub(crate) fn pass(&mut self, words: &HistoryTable<Item>) -> Token<Item>
-        requires { words.now ≡ J.made.table }
-        ensures table { result.table ≡ J.made.table }
-        ensures none { own caller_of result.caller result.list ≡ [] }
-        ensures legal { IsLegal J.made result.list }
-        ensures told { result.told ≡ (stand_of J.made result.list).machine.published }
-    {
-        self.seat.new_pass(words)
-    }
-
-    /// Takes a token back for good. The caller of the other one then knows the whole history, which begins with all that either knew.
-    pub(crate) fn gather(
+    /// The token of a new caller. The first caller, who hands it out, then counts one more.
+    pub(crate) fn pass(
         &mut self,
         words: &HistoryTable<Item>,
-        whole: Token<Item>,
-        token: Token<Item>,
-    ) -> Token<Item>
+        first: FirstToken<Item>,
+    ) -> (FirstToken<Item>, Token<Item>)
         requires words { words.now ≡ J.made.table }
-        requires tables { (whole.table ≡ J.made.table) × (token.table ≡ J.made.table) }
-        ensures table { result.table ≡ J.made.table }
-        ensures front { IsPrefix whole.list result.list }
-        ensures other { IsPrefix token.list result.list }
-        ensures legal { IsLegal J.made result.list }
+        requires first { IsFirst J.made first }
+        ensures first { IsFirst J.made result.0 }
+        ensures counts { (result.0.count ≡ first.count + 1) × (result.0.gone ≡ first.gone) }
+        ensures table { result.1.table ≡ J.made.table }
+        ensures none { own caller_of result.1.caller result.1.list ≡ [] }
+        ensures legal { IsLegal J.made result.1.list }
+        ensures told { result.1.told ≡ (stand_of J.made result.1.list).machine.published }
     {
-        self.seat.take_in(words, token);
-        drop(self.seat.give_back(words));
-        self.seat.take_in(words, whole);
-        self.seat.give_back(words)
+        self.seat.take_first(words, first);
+        let token = self.seat.new_pass(words);
+        let first = self.seat.first_back(words);
+        (first, token)
+    }
+
+    /// Takes a token back for good. The first caller then knows the whole history, and what this one knew last.
+    pub(crate) fn take_back(
+        &mut self,
+        words: &HistoryTable<Item>,
+        first: FirstToken<Item>,
+        token: Token<Item>,
+    ) -> FirstToken<Item>
+        requires words { words.now ≡ J.made.table }
+        requires first { IsFirst J.made first }
+        requires table { token.table ≡ J.made.table }
+        ensures first { IsFirst J.made result }
+        ensures counts { (result.count ≡ first.count) × (result.gone ≡ first.gone ++ known_of token ∷ []) }
+    {
+        self.seat.take_first(words, first);
+        self.seat.forget(words, token);
+        self.seat.first_back(words)
     }
 
     /// A change of the machine, by the caller of a token.

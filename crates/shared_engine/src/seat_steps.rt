@@ -1,6 +1,6 @@
 //! The rule of the two words, and what each step on them tells.
 ghost use Rattle.shared_engine.specs.Rule.{IsKept};
-ghost use Rattle.shared_engine.specs.Steps.{opening, Stamped, Told, Met, Asked, with_caller, new_token, with_nobody, token_back, with_token, spent};
+ghost use Rattle.shared_engine.specs.Steps.{opening, Stamped, Told, Met, Asked, with_caller, new_token, with_nobody, token_back, with_token, with_gone, spent};
 
 use crate::views::{EntryName, Recorded, View};
 use atomic_table::{Join, Play, Split, TableRule};
@@ -63,6 +63,15 @@ impl<E> Split<View<E>> for Returns {
     ghost left = { with_nobody };
 
     ghost right = { token_back };
+}
+
+/// A token is taken back for good, while the first caller is taken in.
+pub struct Forgets;
+
+impl<E> Join<View<E>> for Forgets {
+    ghost both = { with_gone };
+
+    ghost spent = { spent };
 }
 
 /// A token is taken in.

@@ -1,10 +1,9 @@
 //! The lock, the words beside it, and the passes of its callers.
-ghost use Rattle.std.specs.Prelude.{◌≡◌, ◌≤◌, ◌∷◌, [], ℕ, List, IfOk, map, take};
-ghost use mathlib.Core.List.{IsPrefix};
+ghost use Rattle.std.specs.Prelude.{◌≡◌, ◌≤◌, ◌+◌, ◌++◌, ◌∷◌, [], ℕ, List, IfOk, map, take};
 ghost use Rattle.std.specs.Arc.{arc_value};
 ghost use Rattle.value_import.specs.Outcomes.{IsKnown};
 ghost use Rattle.table_rows.specs.Store.{contents_in};
-ghost use Rattle.shared_engine.specs.Views.{own};
+ghost use Rattle.shared_engine.specs.Views.{known_of, own, Settled};
 ghost use Rattle.engine.specs.Machine.{start};
 ghost use Rattle.engine.specs.Machine.Act.{changed, begun, looked};
 ghost use Rattle.engine.specs.Seen.{update_in, published_in};
@@ -19,7 +18,7 @@ ghost use Rattle.shared_engine.specs.Calls.{IsCall, IsUpdate};
 use crate::builds::build_parts;
 use crate::locked::Locked;
 use crate::names::{Item, Naming};
-use crate::{Gate, HistoryTable, LockSeat, Token};
+use crate::{FirstToken, Gate, HistoryTable, LockSeat, Token};
 use dh_base::memory::Memory;
 use dh_base::plain::CutKind;
 use dh_changes::outcome::Who;
@@ -50,6 +49,38 @@ impl<J: Naming> Model for Pass<J> {
     ghost view = { λ pass. unwrap_or pass.token no_token };
 
     ghost invariant = { λ pass. IsSome pass.token × ((unwrap_or pass.token no_token).table ≡ J.made.table) };
+}
+
+/// Who hands out passes and takes them back. Contracts see the history as its last call left it, how many callers there are, and who of them
+/// is gone, with what they knew last. It is the first caller itself, and makes no call.
+#[derive(Drop)]
+pub struct Callers<J: Naming> {
+    token: Option<FirstToken<Item>>,
+    of: PhantomData<J>,
+}
+
+impl<J: Naming> Model for Callers<J> {
+    ghost use Rattle.std.specs.Prelude.{unwrap_or, IsSome};
+    ghost use Rattle.shared_engine.specs.Views.{FirstView};
+    ghost use Rattle.shared_engine.specs.Entries.{Entry};
+    ghost use Rattle.shared_engine.specs.Calls.{no_first, IsFirst};
+
+    ghost Value = { FirstView Entry };
+
+    ghost view = { λ callers. unwrap_or callers.token no_first };
+
+    ghost invariant = { λ callers. IsSome callers.token × IsFirst J.made (unwrap_or callers.token no_first) };
+}
+
+impl<J: Naming> Callers<J> {
+    /// Tells what is known in the end: a legal history, in which the first caller has no entry, with all entries of those who are gone.
+    pub fn close(self)
+        ensures legal { IsLegal J.made self.list }
+        ensures none { own caller_of 0 self.list ≡ [] }
+        ensures settled { Settled caller_of self.count self.gone self.list }
+    {
+        let Callers { token: _, of: _ } = self;
+    }
 }
 
 /// The engine that threads share.
@@ -83,7 +114,7 @@ pub struct Opened<K: Keeper> {
 impl<K: Keeper> Model for Opened<K> {
     ghost use Rattle.std.specs.Coded.{codes};
     ghost use Rattle.expr_lang.specs.contracts.expr.Expr as expression;
-    ghost use Rattle.std.specs.Prelude.{◌≡◌, [], None};
+    ghost use Rattle.std.specs.Prelude.{◌≡◌, [], Some};
     ghost use Rattle.std.specs.Arc.{arc_value};
     ghost use Rattle.engine.specs.Machine.{start};
     ghost use Rattle.shared_engine.specs.Histories.{Made};
@@ -100,14 +131,15 @@ impl<K: Keeper> Model for Opened<K> {
     } };
 
     ghost invariant = { λ opened.
-        (opened.seat ≡ record { table = opened.words; list = []; told = 0; count = 0; taken = None })
+        (opened.seat ≡ record { table = opened.words; list = []; told = 0; count = 1; taken = Some 0; gone = [] })
         × (opened.engine.state ≡ start) × (opened.engine.meta ≡ arc_value opened.meta) };
 }
 
 impl<K: Keeper> Opened<K> {
-    /// Puts the engine and the history under a lock. The name says which system it is.
-    pub fn named<J: Naming>(self) -> Shared<J, K>
+    /// Puts the engine and the history under a lock, at which nobody has been. The name says which system it is.
+    pub fn named<J: Naming>(self) -> (Shared<J, K>, Callers<J>)
         requires { self ≡ J.made }
+        ensures { (result.1.count ≡ 1) × (result.1.gone ≡ []) }
     {
         let Opened {
             words,
@@ -115,12 +147,18 @@ impl<K: Keeper> Opened<K> {
             meta,
             engine,
         } = self;
+        let mut seat = seat;
+        let token = Some(seat.first_back(&words));
         let lock = Mutex::new(Locked {
             engine,
             seat,
             of: PhantomData,
         });
-        Shared { words, meta, lock }
+        let callers = Callers {
+            token,
+            of: PhantomData,
+        };
+        (Shared { words, meta, lock }, callers)
     }
 }
 
@@ -151,17 +189,34 @@ pub fn open<K: Keeper>(
 
 impl<J: Naming, K: Keeper> Shared<J, K> {
     /// A new caller's pass, which is told what is published.
-    pub fn pass<R: Wait>(&self, rt: &R) -> Pass<J>
+    pub fn pass<R: Wait>(&self, rt: &R, callers: &mut Callers<J>) -> Pass<J>
+        ensures counts { (callers.new.count ≡ callers.old.count + 1) × (callers.new.gone ≡ callers.old.gone) }
         ensures none { own caller_of result.caller result.list ≡ [] }
         ensures legal { IsLegal J.made result.list }
         ensures told { result.told ≡ (stand_of J.made result.list).machine.published }
     {
+        let Some(first) = callers.token.take() else {
+            unreachable!()
+        };
         let mut locked = self.lock.lock(rt);
-        let token = Some(locked.pass(&self.words));
+        let (first, token) = locked.pass(&self.words, first);
+        callers.token = Some(first);
         Pass {
-            token,
+            token: Some(token),
             of: PhantomData,
         }
+    }
+
+    /// Takes a pass back for good. The callers then know the whole history, and what this one knew last.
+    pub fn take_back<R: Wait>(&self, rt: &R, callers: &mut Callers<J>, pass: Pass<J>)
+        ensures { (callers.new.count ≡ callers.old.count) × (callers.new.gone ≡ callers.old.gone ++ known_of pass ∷ []) }
+    {
+        let Pass { token, of: _ } = pass;
+        let (Some(token), Some(first)) = (token, callers.token.take()) else {
+            unreachable!()
+        };
+        let mut locked = self.lock.lock(rt);
+        callers.token = Some(locked.take_back(&self.words, first, token));
     }
 
     /// The metadata.
@@ -182,20 +237,6 @@ impl<J: Naming, K: Keeper> Shared<J, K> {
         let published = self.words.published(&mut token);
         pass.token = Some(token);
         published
-    }
-
-    /// Takes a pass back for good. The caller of the other one then knows the whole history, which begins with all that either knew.
-    pub fn gather<R: Wait>(&self, rt: &R, whole: &mut Pass<J>, pass: Pass<J>)
-        ensures front { IsPrefix whole.old.list whole.new.list }
-        ensures other { IsPrefix pass.list whole.new.list }
-        ensures legal { IsLegal J.made whole.new.list }
-    {
-        let Pass { token, of: _ } = pass;
-        let (Some(token), Some(kept)) = (token, whole.token.take()) else {
-            unreachable!()
-        };
-        let mut locked = self.lock.lock(rt);
-        whole.token = Some(locked.gather(&self.words, kept, token));
     }
 
     /// Changes the log as the request says.

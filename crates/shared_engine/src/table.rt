@@ -1,9 +1,9 @@
 //! The table of the two words, the seat that lies under the lock, and the callers' tokens.
-ghost use Rattle.std.specs.Prelude.{◌≡◌, ◌≤◌, ◌+◌, ◌++◌, [], None, Some, IfOk, IfSome, IsSome};
-ghost use Rattle.shared_engine.specs.Views.{own, Follows, IsOneOf};
+ghost use Rattle.std.specs.Prelude.{◌≡◌, ◌≤◌, ◌+◌, ◌++◌, ◌∷◌, [], None, Some, IfOk, IfSome, IsSome};
+ghost use Rattle.shared_engine.specs.Views.{own, Follows, IsOneOf, Settled};
 ghost use Rattle.shared_engine.specs.Rule.{Names};
 
-use crate::seat_steps::{Adds, Asks, Law, Meets, Returns, Stamps, Takes, Tells};
+use crate::seat_steps::{Adds, Asks, Forgets, Law, Meets, Returns, Stamps, Takes, Tells};
 use crate::views::{EntryName, Recorded, View};
 use atomic_table::{Seat, Table};
 use dh_base::memory::Memory;
@@ -48,6 +48,7 @@ impl<E> Model for LockSeat<E> {
       told = lock.seat.me.0.told;
       count = lock.seat.me.0.count;
       taken = lock.seat.me.0.taken;
+      gone = lock.seat.me.0.gone;
     } };
 
     ghost invariant = { λ lock. (lock.seat.id ≡ 0) × (lock.seat.me.1 ≡ []) × (lock.seat.me.0.role ≡ Lock) × (lock.seat.me.0.old ≡ None) };
@@ -76,10 +77,33 @@ impl<E> Model for Token<E> {
     ghost invariant = { λ token. (token.seat.me.1 ≡ []) × (token.seat.me.0.role ≡ Caller) };
 }
 
+/// The token of the first caller, who makes no entry: with it under the lock other callers come and go.
+#[derive(Drop)]
+pub struct FirstToken<E> {
+    seat: Seat<(), View<E>>,
+}
+
+impl<E> Model for FirstToken<E> {
+    ghost use Rattle.std.specs.Prelude.{◌≡◌, []};
+    ghost use Rattle.shared_engine.specs.Views.{FirstView};
+    ghost use Rattle.shared_engine.specs.declared.views.Role.TheVariants.{Caller};
+
+    ghost Value = { FirstView E };
+
+    ghost view = { λ first. record {
+      table = first.seat.table_id;
+      list = first.seat.me.0.list;
+      count = first.seat.me.0.count;
+      gone = first.seat.me.0.gone;
+    } };
+
+    ghost invariant = { λ first. (first.seat.me.1 ≡ []) × (first.seat.me.0.role ≡ Caller) × (first.seat.me.0.caller ≡ 0) };
+}
+
 impl<E: Recorded> HistoryTable<E> {
-    /// Two words with an empty history, nothing told and no caller.
+    /// Two words with an empty history and nothing told; the first caller is taken in.
     pub fn new(alloc: Global) -> Result<(HistoryTable<E>, LockSeat<E>), Memory>
-        ensures { IfOk result (λ made. made.1 ≡ record { table = made.0; list = []; told = 0; count = 0; taken = None }) }
+        ensures { IfOk result (λ made. made.1 ≡ record { table = made.0; list = []; told = 0; count = 1; taken = Some 0; gone = [] }) }
     {
         let (table, seat) = Table::of_words(alloc, &[0, 0], &())?;
         Ok((HistoryTable { table }, LockSeat { seat }))
@@ -96,9 +120,10 @@ impl<E: Recorded> HistoryTable<E> {
 }
 
 impl<E: Recorded> LockSeat<E> {
-    /// The token of a new caller, who has no entry yet.
+    /// The token of a new caller, who has no entry yet, while the first one is taken in.
     pub fn new_pass(&mut self, table: &HistoryTable<E>) -> Token<E>
-        requires { self.old.table ≡ table.now }
+        requires table { self.old.table ≡ table.now }
+        requires first { self.old.taken ≡ Some 0 }
         ensures lock { self.new ≡ record self.old { count = self.old.count + 1 } }
         ensures token { result ≡ record { table = self.old.table; caller = self.old.count; list = self.old.list; told = self.old.told } }
         ensures none { own E.caller result.caller result.list ≡ [] }
@@ -106,6 +131,45 @@ impl<E: Recorded> LockSeat<E> {
         table.table.shared.load::<Meets>(&mut self.seat, 0);
         let seat = table.table.shared.split_seat::<Adds>(&mut self.seat);
         Token { seat }
+    }
+
+    /// Takes in the first caller, who knows how many callers there are and who is gone.
+    pub fn take_first(&mut self, table: &HistoryTable<E>, first: FirstToken<E>)
+        requires table { (self.old.table ≡ table.now) × (first.table ≡ table.now) }
+        requires nobody { self.old.taken ≡ None }
+        ensures taken { self.new ≡ record self.old { taken = Some 0 } }
+        ensures knows { (first.count ≡ self.old.count) × (first.gone ≡ self.old.gone) }
+        ensures same { own E.caller 0 self.old.list ≡ own E.caller 0 first.list }
+    {
+        let FirstToken { seat } = first;
+        table.table.shared.join_seat::<Takes>(&mut self.seat, seat);
+        table.table.shared.load::<Meets>(&mut self.seat, 0);
+    }
+
+    /// Takes a caller's token back for good, while the first caller is taken in.
+    pub fn forget(&mut self, table: &HistoryTable<E>, token: Token<E>)
+        requires table { (self.old.table ≡ table.now) × (token.table ≡ table.now) }
+        requires first { self.old.taken ≡ Some 0 }
+        ensures { self.new ≡ record self.old { gone = self.old.gone ++ record { caller = token.caller; list = token.list } ∷ [] } }
+    {
+        let Token { seat } = token;
+        table
+            .table
+            .shared
+            .join_seat::<Forgets>(&mut self.seat, seat);
+    }
+
+    /// Gives the first caller its token back.
+    pub fn first_back(&mut self, table: &HistoryTable<E>) -> FirstToken<E>
+        requires table { self.old.table ≡ table.now }
+        requires first { self.old.taken ≡ Some 0 }
+        ensures lock { self.new ≡ record self.old { taken = None } }
+        ensures token { result ≡ record { table = self.old.table; list = self.old.list; count = self.old.count; gone = self.old.gone } }
+        ensures settled { Settled E.caller result.count result.gone result.list }
+    {
+        table.table.shared.load::<Meets>(&mut self.seat, 0);
+        let seat = table.table.shared.split_seat::<Returns>(&mut self.seat);
+        FirstToken { seat }
     }
 
     /// Takes in a caller: from now on its entries may be added.

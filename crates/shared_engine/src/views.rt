@@ -11,10 +11,19 @@ pub enum Role {
     Lock,
 }
 
-/// What a token knew that was taken in: a beginning of the history, and the greatest number that it was told.
+/// What a caller who is gone knew last: a beginning of the history.
+pub struct Known<E> {
+    pub caller: u64,
+    pub list: LinkedList<E>,
+}
+
+/// What a token knew that was taken in: a beginning of the history, and the greatest number that it was told. The first caller's knew how
+/// many callers there were, and who was gone.
 pub struct Old<E> {
     pub list: LinkedList<E>,
     pub told: u64,
+    pub count: u64,
+    pub gone: LinkedList<Known<E>>,
 }
 
 /// What a seat knows. No value of it is made.
@@ -26,6 +35,7 @@ pub struct View<E> {
     pub count: u64,
     pub taken: Option<u64>,
     pub old: Option<Old<E>>,
+    pub gone: LinkedList<Known<E>>,
 }
 
 /// An entry of a history: its caller, and the number that it names, if it names one.

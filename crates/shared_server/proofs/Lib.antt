@@ -6,3 +6,5 @@ pub mod StepLemmas
 pub mod AlongLemmas
 pub mod OverLemmas
 pub mod ShareLemmas
+mod UnseenLemmas
+pub mod ServingLemmas

@@ -18,7 +18,8 @@ use Rattle.net_doors.specs.declared.ending.Ending.TheVariants as ending
 use Rattle.request_session.specs.Session.{AppendsFront}
 use Rattle.shared_engine.specs.Entries.{Entry}
 use Rattle.shared_engine.specs.Histories.{Made}
-use Rattle.shared_server.specs.Links.{Serves}
+use Rattle.shared_engine.specs.Views.{TokenView}
+use Rattle.shared_server.specs.Links.{Answers, Serves}
 use Rattle.shared_server.specs.OverFile.{served_line, Completes, Finishes, ServesMeta, ServesOver, ServesTold, Tells}
 use Rattle.shared_server.specs.declared.over_file.ServeEnd.{ServeEnd}
 use Rattle.shared_server.specs.declared.over_file.ServeEnd.TheVariants as end
@@ -48,9 +49,9 @@ ends_from ending.Enough before mid after most count least ends = ends
 ends_from ending.Closed before mid after most count least ends = ends
 ends_from ending.ListenFault before mid after most count least ends = rose_from before.faults mid.faults after.faults least ends
 
-serving_from : {N : Type 0} (U : N → Type 0) (A : N → N → Type 0) (before mid after : Shown N) (most count out : ℕ) → mid.accepted ≡ before.accepted
-    → mid.back ≡ before.back → before.faults ≤ mid.faults → Serving U A mid after most count out → Serving U A before after most count out
-serving_from U A before mid after most count out accepted back least was = record {
+serving_from : {N P : Type 0} (Served : N → P → Type 0) (before mid after : Shown N) (most count out : ℕ) (lefts : List P) → mid.accepted ≡ before.accepted
+    → mid.back ≡ before.back → before.faults ≤ mid.faults → Serving Served mid after most count out lefts → Serving Served before after most count out lefts
+serving_from Served before mid after most count out lefts accepted back least was = record {
   back = was.back;
   counted = was.counted;
   accepted = was.accepted ∙ ap (λ (n : ℕ). n + count) accepted;
@@ -60,7 +61,7 @@ serving_from U A before mid after most count out accepted back least was = recor
   faults = omega (arith, least, was.faults);
 }
 
-serves_from : {N : Type 0} (U : N → Type 0) (A : Made → List Entry → N → N → Type 0) (before mid after : Shown N) (meta : Records) (most count : ℕ)
+serves_from : {N : Type 0} (U : N → Type 0) (A : Made → TokenView Entry → N → N → Type 0) (before mid after : Shown N) (meta : Records) (most count : ℕ)
     (how : Ending) → mid.accepted ≡ before.accepted → mid.back ≡ before.back → before.faults ≤ mid.faults → Serves U A mid after meta most count how
     → Serves U A before after meta most count how
 serves_from U A before mid after meta most count how accepted back least was = record {
@@ -69,14 +70,17 @@ serves_from U A before mid after meta most count how accepted back least was = r
   served = record {
     whole = was.served.whole;
     legal = was.served.legal;
+    callers = was.served.callers;
     links = record {
-      links = serving_from U (A was.made was.served.whole) before mid after most count 0 accepted back least was.served.links.links;
+      links = serving_from (Answers U (A was.made)) before mid after most count 0 was.served.callers accepted back least was.served.links.links;
       ends = ends_from how before mid after most count least was.served.links.ends;
     };
+    theirs = was.served.theirs;
+    unseen = was.served.unseen;
   };
 }
 
-tells : {N : Type 0} (U : N → Type 0) (A : Made → List Entry → N → N → Type 0) (before after : Shown N) (meta : Records) (most count : ℕ)
+tells : {N : Type 0} (U : N → Type 0) (A : Made → TokenView Entry → N → N → Type 0) (before after : Shown N) (meta : Records) (most count : ℕ)
     (written written' : Option (List ℕ)) (result : ServeEnd) → Completes U A before after meta most count → Tells count written written' result
     → ServesMeta U A before after most meta written written' result
 tells U A before after meta most count written written' end.Refused was told = absurd told
@@ -86,7 +90,7 @@ tells U A before after meta most count written written' (end.Served links) was t
 tells U A before after meta most count written written' end.ListenFault was told = absurd told
 tells U A before after meta most count written written' end.Memory was told = (told, inr (count, was))
 
-finishes : {N : Type 0} (U : N → Type 0) (A : Made → List Entry → N → N → Type 0) (before after : Shown N) (meta : Records) (most count : ℕ) (how : Ending)
+finishes : {N : Type 0} (U : N → Type 0) (A : Made → TokenView Entry → N → N → Type 0) (before after : Shown N) (meta : Records) (most count : ℕ) (how : Ending)
     (written written' : Option (List ℕ)) (result : ServeEnd) → Serves U A before after meta most count how → Finishes how count written written' result
     → ServesMeta U A before after most meta written written' result
 finishes U A before after meta most count ending.Enough written written' result was told =
@@ -97,7 +101,7 @@ finishes U A before after meta most count ending.ListenFault written written' re
     subst (ServesMeta U A before after most meta written written') (sym told.0) (was.served.links.ends, told.1, inr (count, was))
 
 -- links were served once the listener listened
-pub listened : {N : Type 0} (U : N → Type 0) (A : Made → List Entry → N → N → Type 0) (before mid after : Shown N) (most : ℕ) (meta : Records)
+pub listened : {N : Type 0} (U : N → Type 0) (A : Made → TokenView Entry → N → N → Type 0) (before mid after : Shown N) (most : ℕ) (meta : Records)
     (written written' : Option (List ℕ)) (result : ServeEnd) → mid.accepted ≡ before.accepted → mid.back ≡ before.back → before.faults ≤ mid.faults
     → ServesTold U A mid after most meta written written' result → ServesMeta U A before after most meta written written' result
 listened U A before mid after most meta written written' result accepted back least was =
@@ -106,11 +110,11 @@ listened U A before mid after most meta written written' result accepted back le
 
 -- ---- out of memory while the file was read
 
-unread-by : {N : Type 0} (U : N → Type 0) (A : Made → List Entry → N → N → Type 0) (shown : Shown N) (most : ℕ) (bytes : List ℕ) (written : Option (List ℕ))
-    (found : Result Records MetaFault) → IsMetadata bytes found → ServesOver U A shown shown most bytes written written end.Memory
+unread-by : {N : Type 0} (U : N → Type 0) (A : Made → TokenView Entry → N → N → Type 0) (shown : Shown N) (most : ℕ) (bytes : List ℕ)
+    (written : Option (List ℕ)) (found : Result Records MetaFault) → IsMetadata bytes found → ServesOver U A shown shown most bytes written written end.Memory
 unread-by U A shown most bytes written (Ok meta) is = inr (meta, is, (kept written, inl refl))
 unread-by U A shown most bytes written (Err found) is = inl (found, is, kept written, refl)
 
-pub unread : {N : Type 0} (U : N → Type 0) (A : Made → List Entry → N → N → Type 0) (shown : Shown N) (most : ℕ) (bytes : List ℕ) (written : Option (List ℕ))
-    → ServesOver U A shown shown most bytes written written end.Memory
+pub unread : {N : Type 0} (U : N → Type 0) (A : Made → TokenView Entry → N → N → Type 0) (shown : Shown N) (most : ℕ) (bytes : List ℕ)
+    (written : Option (List ℕ)) → ServesOver U A shown shown most bytes written written end.Memory
 unread U A shown most bytes written = let file = some-metadata bytes in unread-by U A shown most bytes written file.0 file.1

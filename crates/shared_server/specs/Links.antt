@@ -1,5 +1,5 @@
 -- What becomes of the links that are served over one shared engine.
-use Rattle.std.specs.Prelude.{◌≡◌, ◌≤◌, ℕ, ℤ, List, [], Option}
+use Rattle.std.specs.Prelude.{◌≡◌, ◌≤◌, ℕ, ℤ, List, [], All, Any, map, Option}
 use mathlib.Core.List.{IsPrefix}
 use Rattle.dh_outside.specs.Faults.{Rose}
 use Rattle.dh_outside.specs.Talk.{Talk}
@@ -7,7 +7,7 @@ use Rattle.dh_metadata.specs.declared.held.Records.{Records}
 use Rattle.net_doors.specs.Doors.{Shown, IsUntouched}
 use Rattle.net_doors.specs.Serving.{HasServed}
 use Rattle.net_doors.specs.declared.ending.Ending.{Ending}
-use Rattle.shared_engine.specs.Views.{TokenView, own}
+use Rattle.shared_engine.specs.Views.{AreApart, TokenView, own}
 use Rattle.engine.specs.InMemory.{largest}
 use Rattle.request_session.specs.Prompt.{Prompt}
 use Rattle.request_session.specs.Session.{Served}
@@ -17,6 +17,7 @@ use Rattle.shared_engine.specs.Entries.{Entry, caller_of}
 use Rattle.shared_engine.specs.Histories.{Made, IsLegal}
 use Rattle.shared_server.specs.Serving.{most_requests}
 use Rattle.shared_server.specs.Steps.{SharedReply}
+use Rattle.shared_server.specs.Unseen.{UnseenStays}
 
 -- the system has this metadata, the largest limits, and a keeper without a fault
 pub record IsMadeFor (meta : Records) (made : Made) : Type 0 where
@@ -50,33 +51,41 @@ pub record IsAnswered (made : Made) (shows : ℤ → Type 0) (after : TokenView 
   pub keeps : came.faults ≤ link.faults
 
 -- the same of links whose parts show so much
-abbrev pub AnsweredTo : {N : Type 0} → (ℤ → Type 0) → (N → Option (List ℕ)) → (N → Option (List ℕ)) → (N → Option Talk) → (N → ℕ) → Made
+abbrev pub Answered : {N : Type 0} → (ℤ → Type 0) → (N → Option (List ℕ)) → (N → Option (List ℕ)) → (N → Option Talk) → (N → ℕ) → Made
     → TokenView Entry → N → N → Type 0
-AnsweredTo shows left written talk faults made after came link =
+Answered shows left written talk faults made after came link =
     IsAnswered made shows after (link_shown (left came) (written came) (talk came) (faults came))
     (link_shown (left link) (written link) (talk link) (faults link))
-
--- a link is answered, and the history that its caller knows is a beginning of this one
-abbrev pub Answered : {N : Type 0} → (ℤ → Type 0) → (N → Option (List ℕ)) → (N → Option (List ℕ)) → (N → Option Talk) → (N → ℕ) → Made → List Entry
-    → N → N → Type 0
-Answered shows left written talk faults made whole came link =
-    (after : TokenView Entry) × AnsweredTo shows left written talk faults made after came link × IsPrefix after.list whole
 
 -- links of which nothing was read, and to which nothing was written
 abbrev pub Untouched : {N : Type 0} → (N → Option Talk) → (N → ℕ) → N → Type 0
 Untouched talk faults link = IsUntouched (talk link) (faults link)
 
--- So many links were accepted, at most as many as are wanted, and accepting ended so. The system has one legal history, of which all
--- that their callers know are beginnings; each link was answered, and given back: where the listener tells its links, these stand after
--- those that were there before.
-pub record ServesBy {N : Type 0} (Untouched : N → Type 0) (Answered : Made → List Entry → N → N → Type 0) (before after : Shown N) (made : Made)
+-- a link was accepted with nothing read or written, and is answered for the caller who knows this at its end
+abbrev pub Answers : {N : Type 0} → (N → Type 0) → (TokenView Entry → N → N → Type 0) → N → TokenView Entry → Type 0
+Answers {N} Untouched Answered link after = (came : N) × Untouched came × Answered after came link
+
+-- The history is that of these callers, of whom no two are the same: what each knows is a beginning of it, with all of the caller's own
+-- entries, and it has no entry of anyone else.
+pub record IsHistoryOf (callers : List (TokenView Entry)) (whole : List Entry) : Type 0 where
+  pub apart : AreApart (map (λ (one : TokenView Entry). one.caller) callers)
+  pub fronts : All (λ (one : TokenView Entry). IsPrefix one.list whole × (own caller_of one.caller whole ≡ own caller_of one.caller one.list)) callers
+  pub theirs : All (λ (entry : Entry). Any (λ (one : TokenView Entry). caller_of entry ≡ one.caller) callers) whole
+
+-- So many links were accepted, at most as many as are wanted, and accepting ended so. Each was answered, and given back: where the listener
+-- tells its links, these stand after those that were there before. The system has one legal history, which is that of the links' callers.
+-- What a user doesn't see of the published changes changes no reply to the user's queries and checks.
+pub record ServesBy {N : Type 0} (Untouched : N → Type 0) (Answered : Made → TokenView Entry → N → N → Type 0) (before after : Shown N) (made : Made)
     (most count : ℕ) (how : Ending) : Type 0 where
   pub whole : List Entry
   pub legal : IsLegal made whole
-  pub links : HasServed Untouched (Answered made whole) before after most count how
+  pub callers : List (TokenView Entry)
+  pub links : HasServed (Answers Untouched (Answered made)) before after most count how callers
+  pub theirs : IsHistoryOf callers whole
+  pub unseen : UnseenStays made
 
 -- the same over one system, which is made for the metadata
-pub record Serves {N : Type 0} (Untouched : N → Type 0) (Answered : Made → List Entry → N → N → Type 0) (before after : Shown N) (meta : Records)
+pub record Serves {N : Type 0} (Untouched : N → Type 0) (Answered : Made → TokenView Entry → N → N → Type 0) (before after : Shown N) (meta : Records)
     (most count : ℕ) (how : Ending) : Type 0 where
   pub made : Made
   pub made_for : IsMadeFor meta made

@@ -13,6 +13,7 @@ use Rattle.request_replies.specs.OverFile.{refusal_line}
 use Rattle.request_session.specs.Session.{AppendsFront}
 use Rattle.shared_engine.specs.Entries.{Entry}
 use Rattle.shared_engine.specs.Histories.{Made}
+use Rattle.shared_engine.specs.Views.{TokenView}
 use Rattle.shared_server.specs.Links.{Serves}
 use Rattle.shared_server.specs.declared.over_file.ServeEnd.{ServeEnd}
 use Rattle.shared_server.specs.declared.over_file.ServeEnd.TheVariants as end
@@ -44,14 +45,14 @@ Refuses found written written' end.ListenFault = ⊥
 Refuses found written written' end.Memory = Keeps written written'
 
 -- links were served until as many were accepted as are wanted, or the listener was closed
-pub record Completes {N : Type 0} (Untouched : N → Type 0) (Answered : Made → List Entry → N → N → Type 0) (before after : Shown N) (meta : Records)
+pub record Completes {N : Type 0} (Untouched : N → Type 0) (Answered : Made → TokenView Entry → N → N → Type 0) (before after : Shown N) (meta : Records)
     (most count : ℕ) : Type 0 where
   pub how : Ending
   pub complete : how ≢ ending.ListenFault
   pub serves : Serves Untouched Answered before after meta most count how
 
 -- so many links were served, however accepting ended, and this is told
-abbrev pub ServesTold : {N : Type 0} → (N → Type 0) → (Made → List Entry → N → N → Type 0) → Shown N → Shown N → ℕ → Records → Option (List ℕ)
+abbrev pub ServesTold : {N : Type 0} → (N → Type 0) → (Made → TokenView Entry → N → N → Type 0) → Shown N → Shown N → ℕ → Records → Option (List ℕ)
     → Option (List ℕ) → ServeEnd → Type 0
 ServesTold Untouched Answered before after most meta written written' how =
     (count : ℕ) × (ending : Ending) × Serves Untouched Answered before after meta most count ending × Finishes ending count written written' how
@@ -65,7 +66,7 @@ pub record IsIdle {N : Type 0} (before after : Shown N) : Type 0 where
 -- A server over metadata that served so many links writes how many. It fails to listen or to accept only where the listener counted a
 -- fault: then no link was accepted, or all that were are answered and given back. If memory runs out the listener wasn't called, or all
 -- links were served; then nothing is written.
-abbrev pub ServesMeta : {N : Type 0} → (N → Type 0) → (Made → List Entry → N → N → Type 0) → Shown N → Shown N → ℕ → Records → Option (List ℕ)
+abbrev pub ServesMeta : {N : Type 0} → (N → Type 0) → (Made → TokenView Entry → N → N → Type 0) → Shown N → Shown N → ℕ → Records → Option (List ℕ)
     → Option (List ℕ) → ServeEnd → Type 0
 ServesMeta Untouched Answered before after most meta written written' end.Refused = ⊥
 ServesMeta Untouched Answered before after most meta written written' end.Unwritten =
@@ -79,7 +80,7 @@ ServesMeta Untouched Answered before after most meta written written' end.Memory
     Keeps written written' × ((after ≡ before) ⊎ ((count : ℕ) × Completes Untouched Answered before after meta most count))
 
 -- the same over the bytes of a metadata file; if they are refused, the listener isn't called
-abbrev pub ServesOver : {N : Type 0} → (N → Type 0) → (Made → List Entry → N → N → Type 0) → Shown N → Shown N → ℕ → List ℕ → Option (List ℕ)
+abbrev pub ServesOver : {N : Type 0} → (N → Type 0) → (Made → TokenView Entry → N → N → Type 0) → Shown N → Shown N → ℕ → List ℕ → Option (List ℕ)
     → Option (List ℕ) → ServeEnd → Type 0
 ServesOver Untouched Answered before after most bytes written written' how =
     ((found : MetaFault) × IsMetadata bytes (Err found) × Refuses found written written' how × (after ≡ before))

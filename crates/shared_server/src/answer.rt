@@ -1,5 +1,9 @@
 //! The answers to one link.
-ghost use Rattle.shared_server.specs.Links.{AnsweredTo};
+ghost use Rattle.std.specs.Prelude.{◌≡◌, []};
+ghost use Rattle.shared_engine.specs.Entries.{caller_of};
+ghost use Rattle.shared_engine.specs.Histories.{IsLegal};
+ghost use Rattle.shared_engine.specs.Views.{own};
+ghost use Rattle.shared_server.specs.Links.{Answered};
 
 use crate::serving::serve_connection;
 use crate::setup::Setup;
@@ -18,11 +22,13 @@ pub(crate) fn answer_link<
     C: Clock,
     G: Gate + Sync,
     N: End,
->(setup: &Setup<'_, R, C, G>, shared: &Shared<J, K>, link: N) -> (N, Pass<J>)
-    ensures { AnsweredTo (C.shows setup.now.clock.now) N.left N.written N.source_talk N.source_faults J.made result.1 link result.0 }
+>(setup: &Setup<'_, R, C, G>, shared: &Shared<J, K>, link: N, pass: Pass<J>) -> (N, Pass<J>)
+    requires alone { own caller_of pass.caller pass.list ≡ [] }
+    requires legal { IsLegal J.made pass.list }
+    ensures { Answered (C.shows setup.now.clock.now) N.left N.written N.source_talk N.source_faults J.made result.1 link result.0 }
 {
     let mut link = link;
-    let mut pass = shared.pass(setup.rt);
+    let mut pass = pass;
     let system = System {
         shared,
         rt: setup.rt,

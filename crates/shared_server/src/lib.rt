@@ -8,13 +8,13 @@ mod answer;
 mod change;
 mod look;
 mod over_file;
+mod pass_lender;
 mod replier;
 mod serving;
 mod setup;
 mod system;
 mod update;
 mod updating;
-mod whole;
 mod workers;
 
 pub use over_file::{Finished, ServeEnd, refuse_long, serve_over};

@@ -122,7 +122,7 @@ fn serve_and_tell<
 {
     let Served {
         listener,
-        kept: (),
+        lender: (),
         links,
         ending,
     } = serve_opened(setup, opened, listener);

@@ -1,20 +1,23 @@
 //! The workers, over an engine that has its name.
 ghost use denote.Param.Send.{IsSend, IsSync};
-ghost use Rattle.std.specs.Prelude.{◌≡◌, ◌<◌};
+ghost use Rattle.std.specs.Prelude.{◌≡◌, ◌<◌, ◌+◌, List, [], map};
 ghost use Rattle.net_doors.specs.Serving.{HasServed};
-ghost use Rattle.shared_server.specs.Links.{Answered, AnsweredTo, ServesBy, Untouched};
+ghost use Rattle.shared_engine.specs.Entries.{Entry, caller_of};
+ghost use Rattle.shared_engine.specs.Histories.{IsLegal};
+ghost use Rattle.shared_engine.specs.Views.{TokenView, known_of, own};
+ghost use Rattle.shared_server.specs.Links.{Answered, Answers, ServesBy, Untouched};
 
 use crate::answer::answer_link;
+use crate::pass_lender::PassLender;
 use crate::setup::Setup;
-use crate::whole::Whole;
 use dh_outside::{Clock, Keeper};
 use net_doors::{End, Listener, Served, serve_all};
-use shared_engine::{Gate, Naming, Opened, Pass, Shared};
+use shared_engine::{Callers, Gate, Naming, Opened, Pass, Shared};
 use std::marker::Brand;
 use std::sync::Wait;
 use std::thread::Threads;
 
-// Serves links over a shared engine. What each of their callers knows is then a beginning of the history that is kept.
+// Serves links over a shared engine. As many passes were handed out as links were accepted, and that of each link's caller came back.
 fn serve_links<
     'a,
     J: Naming + Send + Sync,
@@ -27,28 +30,31 @@ fn serve_links<
 >(
     setup: &Setup<'_, R, C, G>,
     shared: &Shared<J, K>,
-    whole: Whole<'a, J, K, R>,
+    lender: PassLender<'a, J, K, R>,
     listener: L,
-) -> Served<L, Whole<'a, J, K, R>>
-    requires { 0 < setup.now.workers }
-    ensures { HasServed (Untouched N.source_talk N.source_faults)
-        (Answered (C.shows setup.now.clock.now) N.left N.written N.source_talk N.source_faults J.made result.kept)
-        (L.shows listener) (L.shows result.listener) setup.now.connections result.links result.ending }
+) -> Served<L, PassLender<'a, J, K, R>>
+    requires some { 0 < setup.now.workers }
+    requires new { (lender.count ≡ 1) × (lender.gone ≡ []) }
+    ensures { (callers : List (TokenView Entry)) × (result.lender.count ≡ result.links + 1) × (result.lender.gone ≡ map known_of callers)
+        × HasServed (Answers (Untouched N.source_talk N.source_faults)
+        (Answered (C.shows setup.now.clock.now) N.left N.written N.source_talk N.source_faults J.made))
+        (L.shows listener) (L.shows result.listener) setup.now.connections result.links result.ending callers }
 {
     serve_all(
         setup.rt,
         listener,
-        whole,
-        &|link: N| -> (N, Pass<J>)
-            requires { IsSync R.row × IsSync G.row × IsSend K.row }
-            ensures { AnsweredTo (C.shows setup.entry.now.clock.now) N.left N.written N.source_talk N.source_faults J.made result.1 link result.0 }
-        { answer_link(setup, shared, link) },
+        lender,
+        &|link: N, pass: Pass<J>| -> (N, Pass<J>)
+            requires { IsSync R.row × IsSync G.row × IsSend K.row
+                × (own caller_of pass.caller pass.list ≡ []) × IsLegal J.made pass.list }
+            ensures { Answered (C.shows setup.entry.now.clock.now) N.left N.written N.source_talk N.source_faults J.made result.1 link result.0 }
+        { answer_link(setup, shared, link, pass) },
         setup.workers,
         setup.connections,
     )
 }
 
-// The same with the history from the first link on.
+// The same with the history from the first link on. Once no more passes are handed out, it is told what all callers made.
 fn serve_shared<
     J: Naming + Send + Sync,
     K: Keeper + Send,
@@ -57,26 +63,38 @@ fn serve_shared<
     G: Gate + Sync,
     N: End + Send,
     L: Listener<N> + Send,
->(setup: &Setup<'_, R, C, G>, shared: &Shared<J, K>, listener: L) -> Served<L, ()>
-    requires { 0 < setup.now.workers }
+>(
+    setup: &Setup<'_, R, C, G>,
+    shared: &Shared<J, K>,
+    callers: Callers<J>,
+    listener: L,
+) -> Served<L, ()>
+    requires some { 0 < setup.now.workers }
+    requires new { (callers.count ≡ 1) × (callers.gone ≡ []) }
     ensures { ServesBy (Untouched N.source_talk N.source_faults)
         (Answered (C.shows setup.now.clock.now) N.left N.written N.source_talk N.source_faults)
         (L.shows listener) (L.shows result.listener) J.made setup.now.connections result.links result.ending }
 {
-    let whole = Whole {
+    let lender = PassLender {
         shared,
         rt: setup.rt,
-        pass: shared.pass(setup.rt),
+        callers,
     };
     let Served {
         listener,
-        kept: _,
+        lender,
         links,
         ending,
-    } = serve_links(setup, shared, whole, listener);
+    } = serve_links(setup, shared, lender, listener);
+    let PassLender {
+        shared: _,
+        rt: _,
+        callers,
+    } = lender;
+    callers.close();
     Served {
         listener,
-        kept: (),
+        lender: (),
         links,
         ending,
     }
@@ -98,13 +116,13 @@ fn serve_named<
         (Answered (C.shows setup.now.clock.now) N.left N.written N.source_talk N.source_faults)
         (L.shows listener) (L.shows result.listener) J.made setup.now.connections result.links result.ending }
 {
-    let shared = opened.named::<J>();
-    serve_shared(setup, &shared, listener)
+    let (shared, callers) = opened.named::<J>();
+    serve_shared(setup, &shared, callers, listener)
 }
 
 /// Serves the links of a listener over an engine that is opened, until as many were accepted as the setup says, the listener is closed,
 /// or an accept failed. Each link that was accepted is answered for a caller of its own, and given back; all that these callers know are
-/// beginnings of one history.
+/// beginnings of one history, which has no other entries than theirs.
 pub fn serve_opened<
     K: Keeper + Send,
     R: Threads + Wait + Sync,

@@ -3,7 +3,7 @@ use Rattle.net_doors.proofs.workers.serve_all.Given as goal
 abbrev pub ghosts-serve_as-J-Opening : goal.ghosts-serve_as-J-Opening
 ghosts-serve_as-J-Opening g a = record {
   began = g.L.Listener.shows a.listener;
-  serves = λ came served. g.F.Fn.post a.serve.now (came, tt) served;
+  serves = λ came given served. g.F.Fn.post a.serve.now (came, (given, tt)) served;
   most = a.connections;
 }
 

@@ -1,4 +1,4 @@
-use Rattle.std.proofs.Common.{rules, ◌≡◌}
+use Rattle.std.proofs.Common.{rules}
 use Rattle.dh_base.specs.Memory.{IsCause}
 use Rattle.dh_periods.specs.Moment.{day_of}
 use Rattle.web_routes.specs.Given.{cause_of}

@@ -1,4 +1,4 @@
-use Rattle.std.proofs.Common.{◌≡◌, ◌∙◌, ◌+◌, FitsSigned, to_z, of_z, to_z-of_z, w64, subst, arith}
+use Rattle.std.proofs.Common.{◌∙◌, ◌+◌, FitsSigned, to_z, of_z, to_z-of_z, w64, subst, arith}
 use Rattle.dh_metadata.specs.declared.held.Records.{Records}
 use Rattle.offline_replies.specs.Loaded.{HasLoaded}
 use Rattle.offline_replies.proofs.LoadLemmas.{nothing-loaded, own-meta, still_loaded, few_sets, few_sets_done, none-brought, set-step, all-brought}
