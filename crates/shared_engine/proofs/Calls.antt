@@ -2,8 +2,9 @@
 use Rattle.std.proofs.Common.{◌≡◌, ◌≤◌, ℕ, List, [], ◌∷◌, ◌++◌, Bool, true, false, cond}
 use Rattle.std.proofs.Common.{Option, Some, None, IfSome, IsSome, append_assoc, append-nil, length, length-append}
 use Rattle.std.proofs.Common.{inl, inr, refl, sym, ap, ◌∙◌, subst, arith, eq-eqb, le_refl, le_trans}
-use Rattle.std.specs.Prelude.{Result, Ok, Err, ◌==◌, IsTrue}
+use Rattle.std.specs.Prelude.{Result, Ok, Err, ◌==◌, IsTrue, unwrap_or}
 use Rattle.dh_base.specs.declared.memory.Memory.{Memory}
+use Rattle.atomic_table.specs.Seated.{TableId}
 use Rattle.shared_engine.specs.Views.{own, LockView, TokenView, Follows, IsOneOf}
 use Rattle.shared_engine.proofs.Histories.{own-append}
 use Rattle.std.proofs.lemmas.List.{take_all}
@@ -32,7 +33,7 @@ use Rattle.std.specs.Arc.{arc_value}
 use Rattle.std.specs.Prelude.{take, IfOk}
 use Rattle.shared_engine.specs.Entries.{Entry, caller_of, Stand, entries_if, entries_of, entry_by, entries_by, after_entries, IsRight, IsFault, Owns}
 use Rattle.shared_engine.specs.Histories.{Made, begin, stand_of, IsLegal, StandsAt, IsRunning, IsBegunBy}
-use Rattle.shared_engine.specs.Calls.{IsCall, IsUpdate, last_of}
+use Rattle.shared_engine.specs.Calls.{IsCall, IsUpdate, last_of, no_token}
 use Rattle.shared_engine.specs.Builds.{IsCutBy}
 use Rattle.shared_engine.specs.Ends.{staged_in, end_act, told_after, answer_of, Goes}
 use Rattle.shared_engine.proofs.Growth.{after_both, legal_both, updates_stay, has_staged}
@@ -50,6 +51,19 @@ none_added v b e is = ap (λ l. record v { list = l }) (sym (ap (λ b. v.list ++
 pub one_added : (v w : LockView Entry) (b : Bool) (e : Entry) → b ≡ false → w ≡ record v { list = v.list ++ e ∷ [] }
     → w ≡ record v { list = v.list ++ entries_if b e }
 one_added v w b e is added = added ∙ ap (λ b. record v { list = v.list ++ entries_if b e }) (sym is)
+
+-- the token of a pass, which was taken out of it
+pub token_out : (made : Made) (held taken : Option (TokenView Entry)) (token pass : TokenView Entry) → taken ≡ held → taken ≡ Some token
+    → unwrap_or held no_token ≡ pass → (unwrap_or held no_token).table ≡ made.table → (token ≡ pass) × (token.table ≡ made.table)
+token_out made held taken token pass same is view table =
+    let out : token ≡ unwrap_or held no_token = ap (λ (o : Option (TokenView Entry)). unwrap_or o no_token) (sym is ∙ same) in
+    (out ∙ view, ap (λ (t : TokenView Entry). t.table) out ∙ table)
+
+-- the entry of the caller who is taken in may be added
+pub may_add : (made : Made) (engine : Seen) (l0 l1 : LockView Entry) (table : TableId) (caller : ℕ) → IsRunning made engine l0 → table ≡ made.table
+    → l1 ≡ record l0 { taken = Some caller } → (l1.table ≡ table) × IsSome l1.taken
+may_add made engine l0 l1 table caller running is taken =
+    (ap (λ (l : LockView Entry). l.table) taken ∙ running.table ∙ sym is, subst (λ (l : LockView Entry). IsSome l.taken) (sym taken) refl)
 
 own_entries : (b : Bool) (e : Entry) → own caller_of e.caller (entries_if b e) ≡ entries_if b e
 own_entries true e = refl

@@ -1,8 +1,7 @@
 //! The parts of an update's years: they are built outside the lock, and handed in under it.
-ghost use Rattle.std.specs.Prelude.{◌≡◌, true, map, take, IfOk};
+ghost use Rattle.std.specs.Prelude.{◌≡◌, map, IfOk};
 ghost use Rattle.std.specs.Arc.{arc_value};
 ghost use Rattle.shared_engine.specs.Places.{ArePlaces};
-ghost use Rattle.engine.specs.Machine.{has_ticket, number_in};
 ghost use Rattle.shared_engine.specs.Builds.{CanBuild, IsYearOf, ArePartsOf, HasParts};
 
 use crate::{Builder, Gate, build_each};
@@ -91,21 +90,8 @@ pub(crate) fn build_parts<R: Threads + Sync, G: Gate + Sync>(
     }
 }
 
-// Hands in the parts that were built of the full update with this ticket.
-fn hand_in_all<K: Keeper>(engine: &mut Engine<K>, ticket: u64, parts: Vec<Option<Partition>>)
-    requires begun { has_ticket ticket engine.old.state.full ≡ true }
-    requires parts { ArePartsOf engine.old.meta (take (number_in engine.old.state.full) engine.old.state.log) parts.items }
-    ensures { engine.new ≡ engine.old }
-{
-    for part in parts {
-        if let Some(part) = part {
-            engine.hand_in(ticket, part);
-        }
-    }
-}
-
 /// Hands in the parts that were built of the update with this ticket, if it is a full one.
-pub(crate) fn hand_in_for<K: Keeper>(
+pub(crate) fn hand_in_all<K: Keeper>(
     engine: &mut Engine<K>,
     kind: CutKind,
     ticket: u64,
@@ -115,7 +101,13 @@ pub(crate) fn hand_in_for<K: Keeper>(
     ensures { engine.new ≡ engine.old }
 {
     match kind {
-        CutKind::Full => hand_in_all(engine, ticket, parts),
+        CutKind::Full => {
+            for part in parts {
+                if let Some(part) = part {
+                    engine.hand_in(ticket, part);
+                }
+            }
+        }
         CutKind::Latest => drop(parts),
     }
 }

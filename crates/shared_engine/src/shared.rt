@@ -1,35 +1,34 @@
 //! The lock, the words beside it, and the passes of its callers.
-ghost use Rattle.std.specs.Prelude.{◌≡◌, ◌≤◌, ◌+◌, ◌++◌, ◌∷◌, [], ℕ, List, IfOk, map, take};
+ghost use Rattle.std.specs.Prelude.{◌≡◌, ◌≤◌, ◌+◌, ◌++◌, ◌∷◌, [], ℕ, List, IfOk, take};
 ghost use Rattle.std.specs.Arc.{arc_value};
 ghost use Rattle.value_import.specs.Outcomes.{IsKnown};
 ghost use Rattle.table_rows.specs.Store.{contents_in};
 ghost use Rattle.shared_engine.specs.Views.{known_of, own, Settled};
 ghost use Rattle.engine.specs.Machine.{start};
-ghost use Rattle.engine.specs.Machine.Act.{changed, begun, looked};
-ghost use Rattle.engine.specs.Seen.{update_in, published_in};
+ghost use Rattle.engine.specs.Machine.Act.{changed, looked};
+ghost use Rattle.engine.specs.Seen.{published_in};
 ghost use Rattle.engine.specs.Stands.{Stands};
 ghost use Rattle.engine.specs.Tables.{tables_of};
 ghost use Rattle.shared_engine.specs.Entries.{Entry, entries_of, caller_of};
 ghost use Rattle.shared_engine.specs.Histories.{stand_of, IsLegal};
-ghost use Rattle.shared_engine.specs.Ends.{end_act, answer_of};
-ghost use Rattle.shared_engine.specs.Builds.{CanBuild, ArePartsOf, IsCutBy};
+ghost use Rattle.shared_engine.specs.Ends.{answer_of};
 ghost use Rattle.shared_engine.specs.Calls.{IsCall, IsUpdate};
 
 use crate::builds::build_parts;
 use crate::locked::Locked;
 use crate::names::{Item, Naming};
+use crate::notes::{Changed, Looked, note};
 use crate::{FirstToken, Gate, HistoryTable, LockSeat, Token};
 use dh_base::memory::Memory;
 use dh_base::plain::CutKind;
 use dh_changes::outcome::Who;
 use dh_metadata::metadata::Metadata;
 use dh_outside::Keeper;
-use engine::{ChangeFault, ChangeRequest, Cut, CutFault, Engine, LookFault, Report, View};
+use engine::{ChangeFault, ChangeRequest, CutFault, Engine, LookFault, Report, View};
 use std::alloc::Global;
 use std::marker::{Model, PhantomData};
 use std::sync::{Arc, Mutex, Wait};
 use std::thread::Threads;
-use table_sums::Partition;
 
 /// A caller's pass. Contracts see the caller, the history as its last call left it, and the greatest number that it was told.
 #[derive(Drop)]
@@ -195,11 +194,12 @@ impl<J: Naming, K: Keeper> Shared<J, K> {
         ensures legal { IsLegal J.made result.list }
         ensures told { result.told ≡ (stand_of J.made result.list).machine.published }
     {
-        let Some(first) = callers.token.take() else {
-            unreachable!()
-        };
+        let first = callers.token.take().unwrap();
         let mut locked = self.lock.lock(rt);
-        let (first, token) = locked.pass(&self.words, first);
+        let seat = &mut locked.seat;
+        seat.take_first(&self.words, first);
+        let token = seat.new_pass(&self.words);
+        let first = seat.first_back(&self.words);
         callers.token = Some(first);
         Pass {
             token: Some(token),
@@ -212,11 +212,14 @@ impl<J: Naming, K: Keeper> Shared<J, K> {
         ensures { (callers.new.count ≡ callers.old.count) × (callers.new.gone ≡ callers.old.gone ++ known_of pass ∷ []) }
     {
         let Pass { token, of: _ } = pass;
-        let (Some(token), Some(first)) = (token, callers.token.take()) else {
-            unreachable!()
-        };
+        let token = token.unwrap();
+        let first = callers.token.take().unwrap();
         let mut locked = self.lock.lock(rt);
-        callers.token = Some(locked.take_back(&self.words, first, token));
+        let seat = &mut locked.seat;
+        seat.take_first(&self.words, first);
+        seat.forget(&self.words, token);
+        let first = seat.first_back(&self.words);
+        callers.token = Some(first);
     }
 
     /// The metadata.
@@ -231,9 +234,7 @@ impl<J: Naming, K: Keeper> Shared<J, K> {
         ensures told { pass.new ≡ record pass.old { told = result } }
         ensures rises { pass.old.told ≤ result }
     {
-        let Some(mut token) = pass.token.take() else {
-            unreachable!()
-        };
+        let mut token = pass.token.take().unwrap();
         let published = self.words.published(&mut token);
         pass.token = Some(token);
         published
@@ -253,11 +254,19 @@ impl<J: Naming, K: Keeper> Shared<J, K> {
         ensures { (faults : ℕ) × IsCall J.made pass.old pass.new
             (entries_of pass.old.caller (changed (record { who = who; moment = moment; request = request.now }) result) faults) }
     {
-        let Some(token) = pass.token.take() else {
-            unreachable!()
+        let token = pass.token.take().unwrap();
+        let mut guard = self.lock.lock(rt);
+        let locked = &mut *guard;
+        locked.seat.take_in(&self.words, token);
+        let reply = locked.engine.change(alloc, who, moment, request);
+        let call = Changed {
+            who,
+            moment,
+            request,
+            reply: &reply,
         };
-        let mut locked = self.lock.lock(rt);
-        let (token, reply) = locked.change(alloc, &self.words, token, who, moment, request);
+        note(&mut locked.seat, &self.words, &locked.engine, &call);
+        let token = locked.seat.give_back(&self.words);
         pass.token = Some(token);
         reply
     }
@@ -271,11 +280,17 @@ impl<J: Naming, K: Keeper> Shared<J, K> {
             (stand_of J.made pass.new.list).machine.base_cut view.published (arc_value view.tables)) }
         ensures told { IfOk result (λ view. view.published ≡ pass.new.told) }
     {
-        let Some(token) = pass.token.take() else {
-            unreachable!()
+        let token = pass.token.take().unwrap();
+        let mut guard = self.lock.lock(rt);
+        let locked = &mut *guard;
+        locked.seat.take_in(&self.words, token);
+        let reply = locked.engine.look(asked);
+        let call = Looked {
+            asked,
+            reply: &reply,
         };
-        let mut locked = self.lock.lock(rt);
-        let (token, reply) = locked.look(&self.words, token, asked);
+        note(&mut locked.seat, &self.words, &locked.engine, &call);
+        let token = locked.seat.give_back(&self.words);
         pass.token = Some(token);
         reply
     }
@@ -296,9 +311,7 @@ impl<J: Naming, K: Keeper> Shared<J, K> {
     ) -> Result<u64, CutFault>
         ensures { (entries : List Entry) × IsCall J.made pass.old pass.new entries × IsUpdate pass.old.caller kind result entries }
     {
-        let Some(token) = pass.token.take() else {
-            unreachable!()
-        };
+        let token = pass.token.take().unwrap();
         let (token, answer) = self.update_by(rt, alloc, token, kind, workers, gate);
         pass.token = Some(token);
         answer
@@ -317,50 +330,19 @@ impl<J: Naming, K: Keeper> Shared<J, K> {
         requires { token.table ≡ J.made.table }
         ensures { (entries : List Entry) × IsCall J.made token result.0 entries × IsUpdate token.caller kind result.1 entries }
     {
-        let (token, begun) = self.begin(rt, alloc, token, kind);
+        let (token, begun) = self.lock.lock(rt).cut(alloc, &self.words, token, kind);
         match begun {
             Ok(cut) => {
                 // Nobody has to wait for the lock meanwhile.
                 let parts = build_parts(rt, alloc, self.meta(), &cut, workers, gate);
-                let (token, ended) = self.end(rt, alloc, token, &cut, parts);
+                let (token, ended) = self
+                    .lock
+                    .lock(rt)
+                    .finish(alloc, &self.words, token, &cut, parts);
                 (token, answer_of(ended))
             }
             Err(fault) => (token, Err(fault)),
         }
-    }
-
-    fn begin<R: Wait>(
-        &self,
-        rt: &R,
-        alloc: Global,
-        token: Token<Item>,
-        kind: CutKind,
-    ) -> (Token<Item>, Result<Cut, CutFault>)
-        requires { token.table ≡ J.made.table }
-        ensures call { (faults : ℕ) × IsCall J.made token result.0 (entries_of token.caller (begun kind (update_in result.1)) faults) }
-        ensures begun { IfOk result.1 (IsCutBy J.made result.0.list token.caller) }
-        ensures builds { IfOk result.1 (λ cut. CanBuild (map arc_value cut.changes.items)) }
-    {
-        let mut locked = self.lock.lock(rt);
-        locked.cut(alloc, &self.words, token, kind)
-    }
-
-    fn end<R: Wait>(
-        &self,
-        rt: &R,
-        alloc: Global,
-        token: Token<Item>,
-        cut: &Cut,
-        parts: Vec<Option<Partition>>,
-    ) -> (Token<Item>, Result<u64, Memory>)
-        requires table { token.table ≡ J.made.table }
-        requires begun { IsCutBy J.made token.list token.caller cut.now }
-        requires parts { ArePartsOf J.made.meta (map arc_value cut.now.changes.items) parts.items }
-        ensures { (faults : ℕ) × IsCall J.made token result.0
-            (record { caller = token.caller; act = end_act cut.now.ticket result.1; faults = faults } ∷ []) }
-    {
-        let mut locked = self.lock.lock(rt);
-        locked.finish(alloc, &self.words, token, cut, parts)
     }
 }
 

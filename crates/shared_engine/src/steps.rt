@@ -4,7 +4,7 @@ ghost use Rattle.engine.specs.Machine.{is_begun};
 ghost use Rattle.shared_engine.specs.Builds.{HasParts};
 ghost use Rattle.shared_engine.specs.Ends.{end_act, told_after, Goes};
 
-use crate::builds::hand_in_for;
+use crate::builds::hand_in_all;
 use dh_base::memory::Memory;
 use dh_base::plain::CutKind;
 use dh_outside::Keeper;
@@ -12,24 +12,8 @@ use engine::Engine;
 use std::alloc::Global;
 use table_sums::Partition;
 
-/// Swaps an update in; out of memory it is dropped.
+/// Hands in the parts that were built of an update, and swaps it in; out of memory it is dropped.
 #[tactic(auto, using(crate::proofs::Calls::ends))]
-fn end_update<K: Keeper>(alloc: Global, engine: &mut Engine<K>, ticket: u64) -> Result<u64, Memory>
-    requires { IsTrue (is_begun engine.old.state ticket) }
-    ensures goes { Goes engine.old (end_act ticket result) engine.new }
-    ensures published { engine.new.state.published ≡ told_after engine.old.state.published result }
-    ensures rises { IfOk result (λ number. engine.old.state.published ≤ number) }
-{
-    match engine.swap(alloc, ticket) {
-        Ok(number) => Ok(number),
-        Err(fault) => {
-            engine.drop_update(ticket);
-            Err(fault)
-        }
-    }
-}
-
-/// Hands in the parts that were built of an update, and ends it.
 pub(crate) fn end_with<K: Keeper>(
     alloc: Global,
     engine: &mut Engine<K>,
@@ -43,6 +27,12 @@ pub(crate) fn end_with<K: Keeper>(
     ensures published { engine.new.state.published ≡ told_after engine.old.state.published result }
     ensures rises { IfOk result (λ number. engine.old.state.published ≤ number) }
 {
-    hand_in_for(engine, kind, ticket, parts);
-    end_update(alloc, engine, ticket)
+    hand_in_all(engine, kind, ticket, parts);
+    match engine.swap(alloc, ticket) {
+        Ok(number) => Ok(number),
+        Err(fault) => {
+            engine.drop_update(ticket);
+            Err(fault)
+        }
+    }
 }

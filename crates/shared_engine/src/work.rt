@@ -116,22 +116,23 @@ fn put_all<P: Drop, B: Builder<P>>(
     }
 }
 
-// Puts what the workers built into its places. A worker that found no memory leaves the places of its years without a part.
+// What the workers built, in its places. A worker that found no memory leaves the places of its years without a part.
 fn gather<P: Drop, B: Builder<P>>(
-    places: &mut Vec<Option<P>>,
+    alloc: Global,
     works: Vec<Result<Vec<Built<P>>, Memory>>,
     years: &[i32],
     builder: &B,
-)
-    requires places { ArePlaces (B.is_part builder.now) years.now places.old.items }
+) -> Result<Vec<Option<P>>, Memory>
     requires works { All (IsWork (B.is_part builder.now) years.now) works.items }
-    ensures { ArePlaces (B.is_part builder.now) years.now places.new.items }
+    ensures { IfOk result (λ places. ArePlaces (B.is_part builder.now) years.now places.items) }
 {
+    let mut places = blank_places(alloc, years, builder)?;
     for work in works {
         if let Ok(found) = work {
-            put_all(places, found, years, builder);
+            put_all(&mut places, found, years, builder);
         }
     }
+    Ok(places)
 }
 
 /// So many workers build the parts of these years at the same time, each in a thread of its own where one can be made. Each calls the
@@ -147,7 +148,6 @@ pub fn build_each<R: Threads + Sync, P: Drop + Send, B: Builder<P> + Sync, G: Ga
     ensures { IfOk result (λ places. ArePlaces (B.is_part builder.now) years.now places.items) }
 {
     let next = AtomicU64::new(0);
-    let mut places = blank_places(alloc, years, builder)?;
     let works = thread::map_indices(
         rt,
         alloc,
@@ -156,6 +156,5 @@ pub fn build_each<R: Threads + Sync, P: Drop + Send, B: Builder<P> + Sync, G: Ga
             ensures { IsWork (B.is_part builder.entry.now) years.entry.now result }
         { work(alloc, years, builder, gate, &next) },
     )?;
-    gather(&mut places, works, years, builder);
-    Ok(places)
+    gather(alloc, works, years, builder)
 }

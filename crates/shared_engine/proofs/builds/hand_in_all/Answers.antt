@@ -1,11 +1,18 @@
-use Rattle.std.proofs.Common.{◌≡◌, ◌∷◌, ◌∙◌, Option, Some, IfSome, List, subst, sym, true}
+use Rattle.std.proofs.Common.{◌≡◌, ◌∷◌, ◌∙◌, ℕ, Option, Some, IfSome, List, refl, subst, sym, true}
+use Rattle.dh_base.specs.declared.plain.CutKind.{CutKind}
+use Rattle.dh_base.specs.declared.plain.CutKind.TheVariants.{Full}
 use Rattle.std.specs.Prelude.{take}
 use Rattle.std.proofs.lemmas.List.Elements.{All-head, All-rest}
 use Rattle.table_sums.specs.YearParts.{YearPart}
 use Rattle.engine.specs.Machine.{has_ticket, number_in}
 use Rattle.engine.specs.Seen.{Seen, IsPartOf}
-use Rattle.shared_engine.specs.Builds.{ArePartsOf}
+use Rattle.shared_engine.specs.Builds.{ArePartsOf, HasParts}
 use Rattle.shared_engine.proofs.builds.hand_in_all.Goals as goal
+
+-- the parts of a full update
+full-parts : (engine : Seen) (kind : CutKind) (ticket : ℕ) (parts : List (Option YearPart)) → kind ≡ Full → HasParts engine kind ticket parts
+    → HasParts engine Full ticket parts
+full-parts engine kind ticket parts is has = subst (λ (k : CutKind). HasParts engine k ticket parts) is has
 
 -- the next part may be handed in
 next-part : (engine now : Seen) (part : YearPart) (place : Option YearPart) (left rest : List (Option YearPart)) → now ≡ engine → place ≡ Some part
@@ -23,9 +30,18 @@ left-parts : (engine : Seen) (place : Option YearPart) (left rest : List (Option
 left-parts engine place left rest next are =
     All-rest (λ (p : Option YearPart). IfSome p (IsPartOf engine.meta (take (number_in engine.state.full) engine.state.log))) place rest left next are
 
+pub loop-part-init : goal.loop-part-init
+loop-part-init g c = (
+  refl,
+  subst (λ (l : List (Option YearPart)). ArePartsOf c.args.engine.now.meta
+      (take (number_in c.args.engine.now.state.full) c.args.engine.now.state.log) l) (sym c.into_iter-part-iterator.ensures.into_iter_gives.0)
+      (full-parts c.args.engine.now c.args.kind c.args.ticket c.args.parts.items c.in-Full.is c.requires).1,
+)
+
 pub hand_in-requires-clause-begun : goal.hand_in-requires-clause-begun
 hand_in-requires-clause-begun g c =
-    subst (λ (e : Seen). has_ticket c.args.ticket e.state.full ≡ true) (sym c.loop-part.invariant.0) c.requires.begun
+    subst (λ (e : Seen). has_ticket c.args.ticket e.state.full ≡ true) (sym c.loop-part.invariant.0)
+    (full-parts c.args.engine.now c.args.kind c.args.ticket c.args.parts.items c.in-Full.is c.requires).0
 
 pub hand_in-requires-clause-part : goal.hand_in-requires-clause-part
 hand_in-requires-clause-part g c =

@@ -1,8 +1,14 @@
-use Rattle.std.proofs.Common.{subst}
+use Rattle.std.proofs.Common.{subst, sym}
 use Rattle.std.specs.List.{All}
 use Rattle.std.proofs.lemmas.List.Elements.{All-head, All-rest}
 use Rattle.shared_engine.specs.Places.{IsWork}
 use Rattle.shared_engine.proofs.work.gather.Goals as goal
+
+pub loop-work-init : goal.loop-work-init
+loop-work-init g c = (
+  c.in_ok-places.ensures,
+  subst (All (IsWork (g.B.Builder.is_part c.args.builder.now) c.args.years.now)) (sym c.into_iter-work-iterator.ensures.into_iter_gives.0) c.requires.works,
+)
 
 pub put_all-requires : goal.put_all-requires
 put_all-requires g c = record {

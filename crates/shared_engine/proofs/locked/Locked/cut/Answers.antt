@@ -1,10 +1,10 @@
-use Rattle.std.proofs.Common.{sym, ◌∙◌, subst, List}
+use Rattle.std.proofs.Common.{refl, rules, sym, ◌∙◌, subst, List}
 use Rattle.std.specs.Prelude.{IfOk}
 use Rattle.engine.specs.Seen.{update_in}
 use Rattle.shared_engine.specs.Entries.{Entry}
 use Rattle.shared_engine.specs.Builds.{IsCutBy}
 use Rattle.shared_engine.proofs.BuildLemmas.{cut_builds}
-use Rattle.shared_engine.proofs.Calls.{cut_made, cut_goes, cut_published, cut_begun}
+use Rattle.shared_engine.proofs.Calls.{may_add, cut_made, cut_goes, cut_published, cut_begun}
 use Rattle.shared_engine.proofs.locked.Locked.cut.Goals as goal
 
 pub take_in-requires-clause-table : goal.take_in-requires-clause-table
@@ -13,6 +13,12 @@ take_in-requires-clause-table g c =
 
 pub take_in-requires-clause-nobody : goal.take_in-requires-clause-nobody
 take_in-requires-clause-nobody g c = c.self.invariant.nobody
+
+pub note-requires : goal.note-requires
+note-requires g c =
+    λ κs within.
+    let may = may_add g.J.Naming.made _ _ _ _ _ c.self.invariant c.requires.table.0 c.take_in.ensures.taken in
+    (search rules, (search rules, (may.0, (may.1, refl))))
 
 pub invariant_of-self : goal.invariant_of-self
 invariant_of-self g c =

@@ -1,7 +1,7 @@
-use Rattle.std.proofs.Common.{sym, ◌∙◌, ◌≤◌, IfOk, rules}
+use Rattle.std.proofs.Common.{refl, rules, sym, ◌∙◌}
 use Rattle.shared_engine.specs.Ends.{staged_in}
 use Rattle.shared_engine.proofs.BuildLemmas.{parts_handed}
-use Rattle.shared_engine.proofs.Calls.{end_made, end_staged, end_begun, end_low}
+use Rattle.shared_engine.proofs.Calls.{may_add, end_made, end_staged, end_begun, end_low}
 use Rattle.shared_engine.proofs.locked.Locked.finish.Goals as goal
 
 pub take_in-requires-clause-table : goal.take_in-requires-clause-table
@@ -26,9 +26,10 @@ end_with-reply-requires-clause-parts g c =
 
 pub note_end-requires : goal.note_end-requires
 note_end-requires g c =
-    let rises : IfOk c.end_with-reply.result (λ number. c.take_in.new.self.told ≤ number) =
-    end_low g.J.Naming.made _ _ _ _ _ c.self.invariant c.take_in.ensures.taken c.end_with-reply.ensures.rises in
-    search rules
+    λ κs within.
+    let may = may_add g.J.Naming.made _ _ _ _ _ c.self.invariant c.requires.table.0 c.take_in.ensures.taken in
+    let low = end_low g.J.Naming.made _ _ _ _ _ c.self.invariant c.take_in.ensures.taken c.end_with-reply.ensures.rises in
+    (search rules, (may.0, (may.1, (low, refl))))
 
 pub invariant_of-self : goal.invariant_of-self
 invariant_of-self g c =

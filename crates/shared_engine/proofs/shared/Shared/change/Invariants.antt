@@ -1,6 +1,6 @@
 use Rattle.engine.specs.Machine.Act.{changed}
 use Rattle.shared_engine.specs.Entries.{entry_by}
-use Rattle.shared_engine.proofs.locked.Locked.change.Given as goal
+use Rattle.shared_engine.proofs.shared.Shared.change.Given as goal
 
 abbrev pub ghost-note : goal.ghost-note
 ghost-note g a =
