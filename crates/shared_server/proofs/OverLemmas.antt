@@ -33,7 +33,7 @@ pub front_written : {T : Type 0} (result : Result T Failed) (old new : Option (L
 front_written (Ok v) old new talk talk' text front = tt
 front_written (Err e) old new talk talk' text front = (take front.0 text, drop front.0 text, sym (take-append-drop front.0 text), front.2)
 
-kept : (written : Option (List ℕ)) → Keeps written written
+pub kept : (written : Option (List ℕ)) → Keeps written written
 kept None = tt
 kept (Some bytes) = refl
 

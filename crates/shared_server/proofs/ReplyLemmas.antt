@@ -1,5 +1,5 @@
 -- Replies to calls, and to what a request is read as.
-use Rattle.std.proofs.Common.{◌≡◌, ◌<◌, inl, inr, ℕ, ℤ, Bool, List, [], length, Option, None, Some, Result, Ok, IfOk, sym, subst, ap, refl}
+use Rattle.std.proofs.Common.{◌≡◌, ◌<◌, inl, inr, ℕ, ℤ, Bool, List, [], length, Option, None, Some, Result, Ok, IfOk, take, sym, subst, ap, refl}
 use Rattle.dh_base.specs.Memory.{IsCause}
 use Rattle.dh_base.specs.declared.codes.Refusal.{Refusal}
 use Rattle.dh_base.specs.declared.plain.CutKind.{CutKind}
@@ -7,6 +7,9 @@ use Rattle.dh_changes.specs.declared.change.Change.{Change}
 use Rattle.dh_metadata.specs.declared.held.Records.{Records}
 use Rattle.shared_engine.specs.Views.{TokenView}
 use Rattle.web_routes.specs.declared.call.Call.{Call}
+use Rattle.web_routes.specs.Calls.{routed}
+use Rattle.dh_periods.specs.Moment.{day_of}
+use Rattle.http_wire.specs.declared.request.Request.{Request}
 use Rattle.engine.specs.Requests.{Asked}
 use Rattle.request_session.specs.Replies.{text_in}
 use Rattle.request_session.specs.declared.reply.Reply.{Reply}
@@ -20,8 +23,8 @@ use Rattle.shared_engine.specs.Calls.{IsCall, IsUpdate}
 use Rattle.shared_engine.specs.Entries.{Entry, entries_of}
 use Rattle.shared_engine.specs.Histories.{Made}
 use Rattle.request_replies.specs.Texts.{told, IsTold, Refuses, change_text, report_reply, update_reply}
-use Rattle.shared_server.specs.Replies.{ChangeReply, UpdateReply, update_told}
-use Rattle.shared_server.specs.Steps.{CallReply, RoutedReply, MeantReply}
+use Rattle.shared_server.specs.Replies.{ChangeReply, UpdateReply, log_known, published_known, update_told}
+use Rattle.shared_server.specs.Steps.{CallReply, RoutedReply, MeantReply, ReplyAt}
 
 -- ---- changes and updates
 
@@ -71,3 +74,11 @@ pub of_fault : (made : Made) (moment : ℤ) (meant : Result Call Refusal) (cause
 of_fault made moment meant None keep pass text is none = inl (none, refl)
 of_fault made moment meant (Some refused) keep pass text is refuses =
     inr (subst (λ (m : Result Call Refusal). RoutedReply made moment m keep pass text pass) (sym is) (refuses, refl))
+
+-- the same at a moment, where it is read over the metadata as the published changes leave them
+pub at_known : (made : Made) (moment : ℤ) (request : Request) (keep : Bool) (before now : TokenView Entry) (text : Option (List ℕ)) (meta : Records)
+    → ((log : List Change) → meta ≡ meta_after made.meta log) → MeantReply made moment (routed meta (day_of moment) request) keep before text now
+    → ReplyAt made moment request keep before text now
+at_known made moment request keep before now text meta is reply =
+    subst (λ (r : Records). MeantReply made moment (routed r (day_of moment) request) keep before text now)
+    (is (take (published_known made before) (log_known made before))) reply

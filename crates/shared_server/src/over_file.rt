@@ -6,7 +6,7 @@ ghost use Rattle.meta_reader.specs.declared.fault.MetaFault.TheVariants as fault
 ghost use Rattle.meta_reader.specs.declared.fault.Which.TheVariants as which;
 ghost use Rattle.request_session.specs.Session.{AppendsFront};
 ghost use Rattle.shared_server.specs.Links.{Answered, IsMadeFor, Untouched};
-ghost use Rattle.shared_server.specs.OverFile.{served_line, Finishes, Refuses, ServesMeta, ServesOver, ServesTold, Tells};
+ghost use Rattle.shared_server.specs.OverFile.{served_line, Finishes, Refuses, ServesMeta, ServesOver, Tells};
 ghost use Rattle.shared_server.specs.declared.over_file.ServeEnd.TheVariants as end;
 
 use crate::setup::{Setup, open_over};
@@ -104,33 +104,7 @@ fn finish<O: Sink>(alloc: Global, output: &mut O, links: u64, ending: Ending) ->
     }
 }
 
-// Serves over an engine that is opened, by a listener that listens.
-fn serve_and_tell<
-    R: Threads + Wait + Sync,
-    C: Clock + Sync,
-    G: Gate + Sync,
-    O: Sink,
-    N: End + Send,
-    L: Listener<N> + Send,
->(setup: &Setup<'_, R, C, G>, opened: Opened<Unkept>, output: &mut O, listener: L) -> Finished<L>
-    requires some { 0 < setup.now.workers }
-    requires made { IsMadeFor opened.meta opened }
-    ensures serves { ServesTold (Untouched N.source_talk N.source_faults)
-        (Answered (C.shows setup.now.clock.now) N.left N.written N.source_talk N.source_faults)
-        (L.shows listener) (L.shows result.listener) setup.now.connections opened.meta (O.written output.old) (O.written output.new) result.end }
-    ensures unwritten { result.end ≡ end.Unwritten → Rose (O.sink_faults output.old) (O.sink_faults output.new) }
-{
-    let Served {
-        listener,
-        lender: (),
-        links,
-        ending,
-    } = serve_opened(setup, opened, listener);
-    let end = finish(setup.alloc, output, links, ending);
-    Finished { listener, end }
-}
-
-// Listens and serves.
+// Listens and serves, and writes how many links were served.
 fn listen_and_serve<
     R: Threads + Wait + Sync,
     C: Clock + Sync,
@@ -154,7 +128,16 @@ fn listen_and_serve<
 {
     let mut listener = listener;
     match listener.listen(addr) {
-        Ok(()) => serve_and_tell(setup, opened, output, listener),
+        Ok(()) => {
+            let Served {
+                listener,
+                lender: (),
+                links,
+                ending,
+            } = serve_opened(setup, opened, listener);
+            let end = finish(setup.alloc, output, links, ending);
+            Finished { listener, end }
+        }
         Err(_) => {
             drop(opened);
             Finished {

@@ -1,11 +1,10 @@
 //! What answers the requests of one caller.
 ghost use Rattle.std.specs.Prelude.{◌≡◌, List};
 ghost use Rattle.dh_changes.specs.declared.change.Change.{Change};
-ghost use Rattle.dh_periods.specs.Moment.{day_of};
 ghost use Rattle.engine.specs.MetaAfter.{meta_after};
-ghost use Rattle.web_routes.specs.Calls.{routed, IsSound};
+ghost use Rattle.web_routes.specs.Calls.{IsSound};
 ghost use Rattle.request_replies.specs.Texts.{told};
-ghost use Rattle.shared_server.specs.Steps.{CallReply, MeantReply, ReplyAt};
+ghost use Rattle.shared_server.specs.Steps.{CallReply, ReplyAt};
 
 use crate::change::reply_to_change;
 use crate::look::{reply_to_check, reply_to_query};
@@ -27,7 +26,6 @@ use web_routes::call::Call;
 use web_routes::routing::route;
 
 // The reply to a call at a moment.
-#[tactic(auto, using(crate::proofs::ReplyLemmas::user_made))]
 fn reply_to_call<J: Naming, K: Keeper, R: Wait, G, U: Updates<Pass<J>> + Drop>(
     system: &System<'_, J, K, R, G>,
     updating: &Updating<J, U>,
@@ -88,27 +86,7 @@ fn reply_to_call<J: Naming, K: Keeper, R: Wait, G, U: Updates<Pass<J>> + Drop>(
     }
 }
 
-// The reply to a request at a moment, read over metadata.
-#[tactic(auto, using(crate::proofs::ReplyLemmas::of_call))]
-fn reply_over<J: Naming, K: Keeper, R: Wait, G, U: Updates<Pass<J>> + Drop>(
-    system: &System<'_, J, K, R, G>,
-    updating: &Updating<J, U>,
-    pass: &mut Pass<J>,
-    meta: &Metadata,
-    moment: i64,
-    request: &Request,
-    keep: bool,
-) -> Result<Reply, Memory>
-    requires { (log : List Change) → meta.now ≡ meta_after J.made.meta log }
-    ensures { MeantReply J.made moment (routed meta.now (day_of moment) request.now) keep pass.old (told result) pass.new }
-{
-    match route(system.alloc, request, meta, day_of(moment)) {
-        Ok(call) => reply_to_call(system, updating, pass, meta, moment, call, keep),
-        Err(fault) => refuse(system.alloc, keep, &fault),
-    }
-}
-
-/// The reply to a request at a moment.
+/// The reply to a request at a moment, which is read over the metadata as the published changes leave them.
 pub(crate) fn reply_at<J: Naming, K: Keeper, R: Wait, G, U: Updates<Pass<J>> + Drop>(
     system: &System<'_, J, K, R, G>,
     updating: &Updating<J, U>,
@@ -119,15 +97,11 @@ pub(crate) fn reply_at<J: Naming, K: Keeper, R: Wait, G, U: Updates<Pass<J>> + D
 ) -> Result<Reply, Memory>
     ensures { ReplyAt J.made moment request.now keep pass.old (told result) pass.new }
 {
-    reply_over(
-        system,
-        updating,
-        pass,
-        meta_of(system.shared),
-        moment,
-        request,
-        keep,
-    )
+    let meta = meta_of(system.shared);
+    match route(system.alloc, request, meta, day_of(moment)) {
+        Ok(call) => reply_to_call(system, updating, pass, meta, moment, call, keep),
+        Err(fault) => refuse(system.alloc, keep, &fault),
+    }
 }
 
 /// What answers the requests of one caller, whose pass is lent to it, by a clock that is lent to it.

@@ -43,34 +43,11 @@ fn serve_by<J: Naming, K: Keeper, C: Clock, R: Wait, G, U: Updates<Pass<J>> + Dr
 }
 
 // Answers the requests of a link for the caller of a pass, by what makes updates.
-fn serve_with<J: Naming, K: Keeper, C: Clock, R: Wait, G, U: Updates<Pass<J>> + Drop, N: Link>(
-    system: System<'_, J, K, R, G>,
-    updating: &Updating<J, U>,
-    pass: &mut Pass<J>,
-    clock: &C,
-    link: &mut N,
-) -> Ended
-    ensures served { Served (SharedReply J.made (C.shows clock.now)) most_requests (N.left link.old) (N.left link.new) (N.written link.old)
-        (N.written link.new) pass.old pass.new result }
-    ensures prompt { Prompt (SharedReply J.made (C.shows clock.now)) most_requests (N.source_talk link.old) (N.source_talk link.new) pass.old }
-    ensures read_fault { result ≡ ReadFault → Rose (N.source_faults link.old) (N.source_faults link.new) }
-    ensures write_fault { result ≡ WriteFault → Rose (N.sink_faults link.old) (N.sink_faults link.new) }
-    ensures keeps { N.source_faults link.old ≤ N.source_faults link.new }
-{
-    let mut machine = SharedReplier {
-        system,
-        updating,
-        pass,
-        clock,
-    };
-    serve_by(&mut machine, link)
-}
-
-fn serve_in<J: Naming, K: Keeper, C: Clock, R: Wait, G, U: Updates<Pass<J>> + Drop, N: Link>(
-    system: System<'_, J, K, R, G>,
+fn serve_in<'a, J: Naming, K: Keeper, C: Clock, R: Wait, G, U: Updates<Pass<J>> + Drop, N: Link>(
+    system: System<'a, J, K, R, G>,
     updates: U,
     pass: &mut Pass<J>,
-    clock: &C,
+    clock: &'a C,
     link: &mut N,
 ) -> Ended
     requires may { (kind : Kind) → U.may updates kind }
@@ -84,7 +61,13 @@ fn serve_in<J: Naming, K: Keeper, C: Clock, R: Wait, G, U: Updates<Pass<J>> + Dr
     ensures keeps { N.source_faults link.old ≤ N.source_faults link.new }
 {
     let updating = Updating::by(updates);
-    serve_with(system, &updating, pass, clock, link)
+    let mut machine = SharedReplier {
+        system,
+        updating: &updating,
+        pass,
+        clock,
+    };
+    serve_by(&mut machine, link)
 }
 
 /// Answers the requests of a link one after another, each before it reads on, for the caller of a pass. Each request takes one moment

@@ -21,15 +21,9 @@ pub struct System<'a, J: Naming, K: Keeper, R: Wait, G> {
     pub gate: &'a G,
 }
 
-fn after(meta: &Metadata) -> &Metadata
-    ensures { (log : List Change) → result.now ≡ meta_after meta.now log }
-{
-    access::meta_after(meta)
-}
-
 /// The metadata, with rights and the tree as the published changes leave them.
 pub(crate) fn meta_of<J: Naming, K: Keeper>(shared: &Shared<J, K>) -> &Metadata
     ensures { (log : List Change) → result.now ≡ meta_after J.made.meta log }
 {
-    after(shared.meta())
+    access::meta_after(shared.meta())
 }

@@ -12,7 +12,7 @@ use crate::pass_lender::PassLender;
 use crate::setup::Setup;
 use dh_outside::{Clock, Keeper};
 use net_doors::{End, Listener, Served, serve_all};
-use shared_engine::{Callers, Gate, Naming, Opened, Pass, Shared};
+use shared_engine::{Gate, Naming, Opened, Pass, Shared};
 use std::marker::Brand;
 use std::sync::Wait;
 use std::thread::Threads;
@@ -54,53 +54,8 @@ fn serve_links<
     )
 }
 
-// The same with the history from the first link on. Once no more passes are handed out, it is told what all callers made.
-fn serve_shared<
-    J: Naming + Send + Sync,
-    K: Keeper + Send,
-    R: Threads + Wait + Sync,
-    C: Clock + Sync,
-    G: Gate + Sync,
-    N: End + Send,
-    L: Listener<N> + Send,
->(
-    setup: &Setup<'_, R, C, G>,
-    shared: &Shared<J, K>,
-    callers: Callers<J>,
-    listener: L,
-) -> Served<L, ()>
-    requires some { 0 < setup.now.workers }
-    requires new { (callers.count ≡ 1) × (callers.gone ≡ []) }
-    ensures { ServesBy (Untouched N.source_talk N.source_faults)
-        (Answered (C.shows setup.now.clock.now) N.left N.written N.source_talk N.source_faults)
-        (L.shows listener) (L.shows result.listener) J.made setup.now.connections result.links result.ending }
-{
-    let lender = PassLender {
-        shared,
-        rt: setup.rt,
-        callers,
-    };
-    let Served {
-        listener,
-        lender,
-        links,
-        ending,
-    } = serve_links(setup, shared, lender, listener);
-    let PassLender {
-        shared: _,
-        rt: _,
-        callers,
-    } = lender;
-    callers.close();
-    Served {
-        listener,
-        lender: (),
-        links,
-        ending,
-    }
-}
-
-// The same with the name of the engine.
+// The same with the name of the engine, and the history from the first link on. Once no more passes are handed out, it is told what all
+// callers made.
 fn serve_named<
     J: Naming + Send + Sync,
     K: Keeper + Send,
@@ -117,7 +72,29 @@ fn serve_named<
         (L.shows listener) (L.shows result.listener) J.made setup.now.connections result.links result.ending }
 {
     let (shared, callers) = opened.named::<J>();
-    serve_shared(setup, &shared, callers, listener)
+    let lender = PassLender {
+        shared: &shared,
+        rt: setup.rt,
+        callers,
+    };
+    let Served {
+        listener,
+        lender,
+        links,
+        ending,
+    } = serve_links(setup, &shared, lender, listener);
+    let PassLender {
+        shared: _,
+        rt: _,
+        callers,
+    } = lender;
+    callers.close();
+    Served {
+        listener,
+        lender: (),
+        links,
+        ending,
+    }
 }
 
 /// Serves the links of a listener over an engine that is opened, until as many were accepted as the setup says, the listener is closed,

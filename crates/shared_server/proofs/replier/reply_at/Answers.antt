@@ -1,21 +1,25 @@
-use Rattle.std.proofs.Common.{ℤ, w64, FitsSigned, subst, take}
+use Rattle.std.proofs.Common.{◌≡◌, Ok, rules, refl, w64}
 use Rattle.std.proofs.lemmas.Int.{to_z-of_z}
-use Rattle.dh_metadata.specs.declared.held.Records.{Records}
+use Rattle.dh_base.specs.Memory.{IsCause}
 use Rattle.dh_periods.specs.Moment.{day_of}
+use Rattle.web_routes.specs.Given.{cause_of}
 use Rattle.web_routes.specs.Calls.{routed}
 use Rattle.request_replies.specs.Texts.{told}
-use Rattle.shared_server.specs.Replies.{log_known, published_known}
-use Rattle.shared_server.specs.Steps.{MeantReply}
+use Rattle.shared_server.proofs.ReplyLemmas.{at_known, call_replied, of_call, of_fault}
 use Rattle.shared_server.proofs.replier.reply_at.Goals as goal
 
-pub returns : goal.returns
-returns g c =
-    let fits : FitsSigned w64 c.args.moment = c.ranges.moment in
-    subst
-    (λ (r : Records). MeantReply g.J.Naming.made c.args.moment (routed r (day_of c.args.moment) c.args.request.now) c.args.keep c.args.pass.now
-    (told c.reply_over.result) c.reply_over.new.pass)
-    (c.meta_of.ensures (take (published_known g.J.Naming.made c.args.pass.now) (log_known g.J.Naming.made c.args.pass.now)))
-    (subst
-    (λ (m : ℤ). MeantReply g.J.Naming.made m (routed c.meta_of.result.now (day_of m) c.args.request.now) c.args.keep c.args.pass.now
-    (told c.reply_over.result) c.reply_over.new.pass)
-    (to_z-of_z w64 c.args.moment fits) c.reply_over.ensures)
+pub returns-in-Ok : goal.returns-in-Ok
+returns-in-Ok g c =
+    let is : routed c.meta_of-meta.result.now (day_of c.args.moment) c.args.request.now ≡ Ok c.in-Ok.call = search rules in
+    at_known g.J.Naming.made c.args.moment c.args.request.now c.args.keep c.args.pass.now c.reply_to_call.new.pass (told c.reply_to_call.result)
+    c.meta_of-meta.result.now c.meta_of-meta.ensures
+    (of_call g.J.Naming.made c.args.moment _ c.in-Ok.call c.args.keep _ _ _ is
+    (call_replied g.J.Naming.made c.args.moment _ c.in-Ok.call c.in-Ok.call c.args.keep _ _ _ refl (to_z-of_z w64 c.args.moment c.ranges.moment)
+    c.reply_to_call.ensures))
+
+pub returns-in-Err : goal.returns-in-Err
+returns-in-Err g c =
+    let cause : IsCause (routed c.meta_of-meta.result.now (day_of c.args.moment) c.args.request.now) (cause_of c.in-Err.fault) = search rules in
+    at_known g.J.Naming.made c.args.moment c.args.request.now c.args.keep c.args.pass.now c.args.pass.now (told c.refuse.result)
+    c.meta_of-meta.result.now c.meta_of-meta.ensures
+    (of_fault g.J.Naming.made c.args.moment _ (cause_of c.in-Err.fault) c.args.keep _ _ cause c.refuse.ensures)

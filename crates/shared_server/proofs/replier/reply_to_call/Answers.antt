@@ -1,8 +1,9 @@
-use Rattle.std.proofs.Common.{w64, FitsSigned, refl}
+use Rattle.std.proofs.Common.{w64, FitsSigned, refl, subst}
 use Rattle.std.proofs.lemmas.Int.{to_z-of_z}
+use Rattle.web_routes.specs.Calls.{IsSound}
 use Rattle.web_routes.specs.declared.call.Call.TheVariants as call
 use Rattle.request_replies.specs.Texts.{told}
-use Rattle.shared_server.proofs.ReplyLemmas.{call_replied}
+use Rattle.shared_server.proofs.ReplyLemmas.{call_replied, user_made}
 use Rattle.shared_server.proofs.replier.reply_to_call.Goals as goal
 
 pub returns-in-Query : goal.returns-in-Query
@@ -43,3 +44,27 @@ returns-in-Tracker g c =
     let fits : FitsSigned w64 c.args.moment = c.ranges.moment in
     call_replied g.J.Naming.made c.args.moment _ c.args.call (call.Tracker c.in-Tracker.user c.in-Tracker.bundle) c.args.keep c.args.pass.now
     c.reply_to_change-in-Tracker.new.pass (told c.reply_to_change-in-Tracker.result) c.in-Tracker.is (to_z-of_z w64 c.args.moment fits) c.reply_to_change-in-Tracker.ensures
+
+pub reply_to_change-requires : goal.reply_to_change-requires
+reply_to_change-requires g c = record {
+  user = user_made g.J.Naming.made c.args.meta.now c.in-Values.user c.requires.meta
+      (subst (IsSound c.args.meta.now) c.in-Values.is c.requires.sound);
+}
+
+pub reply_to_change-requires-in-Completion : goal.reply_to_change-requires-in-Completion
+reply_to_change-requires-in-Completion g c = record {
+  user = user_made g.J.Naming.made c.args.meta.now c.in-Completion.user c.requires.meta
+      (subst (IsSound c.args.meta.now) c.in-Completion.is c.requires.sound);
+}
+
+pub reply_to_change-requires-in-Approval : goal.reply_to_change-requires-in-Approval
+reply_to_change-requires-in-Approval g c = record {
+  user = user_made g.J.Naming.made c.args.meta.now c.in-Approval.user c.requires.meta
+      (subst (IsSound c.args.meta.now) c.in-Approval.is c.requires.sound);
+}
+
+pub reply_to_change-requires-in-Tracker : goal.reply_to_change-requires-in-Tracker
+reply_to_change-requires-in-Tracker g c = record {
+  user = user_made g.J.Naming.made c.args.meta.now c.in-Tracker.user c.requires.meta
+      (subst (IsSound c.args.meta.now) c.in-Tracker.is c.requires.sound);
+}

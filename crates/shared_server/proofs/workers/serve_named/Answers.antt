@@ -3,7 +3,7 @@ use Rattle.shared_engine.specs.Entries.{Entry}
 use Rattle.shared_engine.specs.Views.{FirstView}
 use Rattle.shared_server.specs.Links.{Answered, Untouched}
 use Rattle.shared_server.proofs.ServingLemmas.{serves_by}
-use Rattle.shared_server.proofs.workers.serve_shared.Goals as goal
+use Rattle.shared_server.proofs.workers.serve_named.Goals as goal
 
 -- what is told in the end is of the callers with whom the links were served
 pub returns : goal.returns
