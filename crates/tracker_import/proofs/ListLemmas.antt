@@ -1,5 +1,5 @@
 -- The pairs of an object that is written, and the attributes that stood and stay, fit the bytes of a change.
-use Rattle.std.proofs.Common.{◌≡◌, ℕ, ◌+◌, ◌<◌, ◌≤◌, ◌^◌, Bool, true, false, cond, List, [], ◌∷◌, ◌++◌, length, take, filter}
+use Rattle.std.proofs.Common.{◌≡◌, ℕ, ◌<◌, ◌≤◌, ◌^◌, Bool, true, false, cond, List, [], ◌∷◌, ◌++◌, length, take, filter}
 use Rattle.std.proofs.Common.{Option, Some, None, refl, sym, arith}
 use Rattle.std.specs.Prelude.{not, ◌&&◌, ◌||◌, nat_lt, nat_le, option_map, option_and_then}
 use Rattle.std.specs.Option.{is_some, is_none}

@@ -1,7 +1,6 @@
 -- Loops over the objects of a bundle.
 use Rattle.std.proofs.Common.{◌≡◌, ◌∙◌, ℕ, ◌+◌, ◌<◌, ◌≤◌, Bool, true, false, cond, List, [], ◌∷◌, ◌++◌, length, drop, get_or, filter, map}
-use Rattle.std.proofs.Common.{refl, sym, ap}
-use Rattle.std.specs.List.{flat_map}
+use Rattle.std.proofs.Common.{sym, ap}
 use Rattle.std.proofs.lemmas.List.{drop_all, drop_more, append_assoc, append-nil}
 
 -- a loop that takes one member after another: what it comes to is F of those that are left, after what those before came to
@@ -46,17 +45,6 @@ mapped-rest f xs whole before after i x y within at known made is =
 pub mapped-all : {X Y : Type 0} (f : X → Y) (xs : List X) (whole before : List Y) (i : ℕ) → length xs ≤ i → whole ≡ before ++ map f (drop i xs)
     → before ≡ whole
 mapped-all f xs whole before i past known = sym (known ∙ ap (λ l. before ++ map f l) (drop_all i xs past) ∙ append-nil before)
-
--- one that puts a list for each member at the end
-pub joined-rest : {X Y : Type 0} (f : X → List Y) (xs : List X) (whole before after part : List Y) (i : ℕ) (x : X) → i < length xs → x ≡ get_or xs i x
-    → whole ≡ before ++ flat_map f (drop i xs) → part ≡ f x → after ≡ before ++ part → whole ≡ after ++ flat_map f (drop (i + 1) xs)
-joined-rest f xs whole before after part i x within at known made is =
-    let rest : List _ = flat_map f (drop (i + 1) xs) in
-    known
-    ∙ ap (λ l. before ++ flat_map f l) (drop_more xs i x within)
-    ∙ ap (λ v. before ++ (f v ++ rest)) (sym at)
-    ∙ sym (append_assoc before (f x) rest)
-    ∙ ap (λ l. l ++ rest) (sym (is ∙ ap (λ l. before ++ l) made))
 
 -- an owned list that is moved to the end of another
 pub moved-more : {X : Type 0} (whole before after left rest : List X) (x : X) → whole ≡ before ++ left → left ≡ x ∷ rest → after ≡ before ++ x ∷ []

@@ -1,7 +1,7 @@
 -- Each write of the verdict on a bundle fits the bytes of a change.
 use Rattle.std.proofs.Common.{◌≡◌, Bool, true, false, cond, List, [], ◌∷◌, ◌++◌, ℕ, length, map, Option, Some, None, sym, subst}
 use Rattle.std.proofs.Common.{Result, Ok, Err, IfOk}
-use Rattle.std.specs.Prelude.{◌&&◌, not, option_and_then, option_map}
+use Rattle.std.specs.Prelude.{◌&&◌, not, option_and_then}
 use Rattle.std.specs.Option.{is_some}
 use Rattle.std.specs.List.{All, AllByRecursion, flat_map}
 use Rattle.std.proofs.lemmas.List.Elements.{All-from_recursion}
@@ -26,10 +26,10 @@ use Rattle.tracker_import.specs.declared.judged.Judged.TheVariants as outcome
 use Rattle.tracker_import.specs.Rules.{id_in, is_repeated}
 use Rattle.tracker_import.proofs.FitLemmas.{Fits, by-judged, entity-fits, enrollment-fits, event-fits}
 use Rattle.tracker_import.specs.Known.{entity_now, enrollment_now, event_now}
-use Rattle.tracker_import.specs.Deletes.{live_entity, live_enrollment, live_event, delete_conflict, events_left, enrollments_left, enrollment_gone, ordered}
-use Rattle.tracker_import.specs.Deletes.{entity_gone, judged_delete}
+use Rattle.tracker_import.specs.Deletes.{delete_conflict, events_left, enrollments_left, enrollment_gone, ordered, entity_gone, judged_delete}
 use Rattle.tracker_import.specs.Outcomes.{Sofar, none, counted, taken, is_whole, unwritten, finished}
 use Rattle.tracker_import.specs.Verdicts.{entity_delete, entity_write, enrollment_delete, enrollment_write, event_delete, event_write, with_one, with_each}
+use Rattle.tracker_import.specs.Verdicts.{entity_there, enrollment_there, event_there, event_gone}
 use Rattle.tracker_import.specs.Verdicts.{with_entities, with_enrollments, with_events, with_all, verdict_of}
 
 -- ---- what is taken away
@@ -86,10 +86,8 @@ taken-fits id what sofar all fits = counted-fits (length sofar.judged) id what s
 
 module _ (facts : Facts) (r : Records) (who : Who) (chosen : ImportStrategy) where
   entity_delete-fits : (sofar : Sofar) (id : Option (List ℕ)) → Fits (entity_delete facts r who chosen sofar id)
-  unfolding entity_delete
   entity_delete-fits sofar id =
-      delete-fits (delete_conflict facts r who chosen (is_repeated sofar.judged id) kind.TrackedEntityType id
-      (option_map live_entity (option_and_then (entity_now facts sofar.verdict.writes) id)))
+      delete-fits (delete_conflict facts r who chosen (is_repeated sofar.judged id) kind.TrackedEntityType id (entity_there facts sofar.verdict.writes id))
       (entity_gone facts sofar.verdict.writes) id (entity_gone-fits facts sofar.verdict.writes)
 
   entity_write-fits : (sofar : Sofar) (asked : BundleEntity) → Fits (entity_write facts r who chosen sofar asked)
@@ -99,10 +97,8 @@ module _ (facts : Facts) (r : Records) (who : Who) (chosen : ImportStrategy) whe
       (is_repeated sofar.judged (id_in asked.id)) asked
 
   enrollment_delete-fits : (sofar : Sofar) (id : Option (List ℕ)) → Fits (enrollment_delete facts r who chosen sofar id)
-  unfolding enrollment_delete
   enrollment_delete-fits sofar id =
-      delete-fits (delete_conflict facts r who chosen (is_repeated sofar.judged id) kind.Program id
-      (option_map (live_enrollment facts sofar.verdict.writes) (option_and_then (enrollment_now facts sofar.verdict.writes) id)))
+      delete-fits (delete_conflict facts r who chosen (is_repeated sofar.judged id) kind.Program id (enrollment_there facts sofar.verdict.writes id))
       (enrollment_gone facts sofar.verdict.writes) id (enrollment_gone-fits facts sofar.verdict.writes)
 
   enrollment_write-fits : (sofar : Sofar) (asked : BundleEnrollment) → Fits (enrollment_write facts r who chosen sofar asked)
@@ -112,11 +108,9 @@ module _ (facts : Facts) (r : Records) (who : Who) (chosen : ImportStrategy) whe
       (is_repeated sofar.judged (id_in asked.id)) (option_and_then (entity_now facts sofar.verdict.writes) (id_in asked.entity)) asked
 
   event_delete-fits : (sofar : Sofar) (id : Option (List ℕ)) → Fits (event_delete facts r who chosen sofar id)
-  unfolding event_delete
   event_delete-fits sofar id =
-      delete-fits (delete_conflict facts r who chosen (is_repeated sofar.judged id) kind.Program id
-      (option_map (live_event facts sofar.verdict.writes) (option_and_then (event_now facts sofar.verdict.writes) id)))
-      (λ own. write.EventDeleted own ∷ []) id (λ own. (tt, tt))
+      delete-fits (delete_conflict facts r who chosen (is_repeated sofar.judged id) kind.Program id (event_there facts sofar.verdict.writes id))
+      (event_gone facts sofar.verdict.writes) id (λ own. (tt, tt))
 
   event_write-fits : (sofar : Sofar) (asked : BundleEvent) → Fits (event_write facts r who chosen sofar asked)
   unfolding event_write

@@ -72,6 +72,11 @@ is_no_day text = option_map_or (λ own. is_none (dated own)) text false
 abbrev pub day_in : Option (List ℕ) → Option ℤ
 day_in text = option_and_then dated text
 
+-- what stands beside a text in a table
+abbrev pub beside : List (List ℕ × ℕ) → List ℕ → Option ℕ
+beside [] text = None
+beside (entry ∷ more) text = cond (bytes_eq text entry.0) (Some entry.1) (beside more text)
+
 -- the places of the statuses of an event that hasn't occurred
 unfoldable pub pending_status_of : List ℕ → Option ℕ
 pending_status_of text =

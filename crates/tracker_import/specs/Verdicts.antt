@@ -2,7 +2,9 @@
 use Rattle.std.specs.Prelude.{ℕ, cond, List, [], ◌∷◌, Option, option_and_then, option_map}
 use Rattle.std.specs.Option.{is_some}
 use Rattle.dh_metadata.specs.declared.held.Records.{Records}
+use Rattle.dh_metadata.specs.declared.kind.Kind.{Kind}
 use Rattle.dh_metadata.specs.declared.kind.Kind.TheVariants as kind
+use Rattle.dh_changes.specs.declared.change.Write.{Write}
 use Rattle.dh_changes.specs.declared.change.Write.TheVariants as write
 use Rattle.dh_changes.specs.Facts.{Facts}
 use Rattle.dh_changes.specs.declared.outcome.Verdict.{Verdict}
@@ -14,6 +16,7 @@ use Rattle.import_forms.specs.declared.enrollment.BundleEnrollment.{BundleEnroll
 use Rattle.import_forms.specs.declared.event.BundleEvent.{BundleEvent}
 use Rattle.value_import.specs.Values.{is_delete_all}
 use Rattle.tracker_import.specs.declared.judged.Judged.{Judged}
+use Rattle.tracker_import.specs.declared.places.Live.{Live}
 use Rattle.tracker_import.specs.Known.{entity_now, enrollment_now, event_now}
 use Rattle.tracker_import.specs.Rules.{id_in, is_repeated}
 use Rattle.tracker_import.specs.Entities.{judged_entity}
@@ -24,33 +27,43 @@ use Rattle.tracker_import.specs.Outcomes.{Sofar, none, taken, finished}
 
 -- what an object of the bundle comes to that is to be taken away, and one that is to be written
 
-unfoldable pub entity_delete : Facts → Records → Who → ImportStrategy → Sofar → Option (List ℕ) → Judged
-entity_delete facts r who chosen sofar id = judged_delete (
-    delete_conflict facts r who chosen (is_repeated sofar.judged id) kind.TrackedEntityType id
-    (option_map live_entity (option_and_then (entity_now facts sofar.verdict.writes) id)))
-    (entity_gone facts sofar.verdict.writes) id
+abbrev pub deleted : Kind → (Facts → List Write → Option (List ℕ) → Option Live) → (Facts → List Write → List ℕ → List Write)
+    → Facts → Records → Who → ImportStrategy → Sofar → Option (List ℕ) → Judged
+deleted owners there gone facts r who chosen sofar id = judged_delete (
+    delete_conflict facts r who chosen (is_repeated sofar.judged id) owners id (there facts sofar.verdict.writes id))
+    (gone facts sofar.verdict.writes) id
+
+-- the entity of an identifier, if it is there, by its unit and its owner; so for enrollments and events
+abbrev pub entity_there : Facts → List Write → Option (List ℕ) → Option Live
+entity_there facts accepted id = option_map live_entity (option_and_then (entity_now facts accepted) id)
+
+abbrev pub entity_delete : Facts → Records → Who → ImportStrategy → Sofar → Option (List ℕ) → Judged
+entity_delete = deleted kind.TrackedEntityType entity_there entity_gone
 
 unfoldable pub entity_write : Facts → Records → Who → ImportStrategy → Sofar → BundleEntity → Judged
 entity_write facts r who chosen sofar asked =
     judged_entity facts r who chosen (option_and_then (entity_now facts sofar.verdict.writes) (id_in asked.id))
     (is_repeated sofar.judged (id_in asked.id)) asked
 
-unfoldable pub enrollment_delete : Facts → Records → Who → ImportStrategy → Sofar → Option (List ℕ) → Judged
-enrollment_delete facts r who chosen sofar id = judged_delete (
-    delete_conflict facts r who chosen (is_repeated sofar.judged id) kind.Program id
-    (option_map (live_enrollment facts sofar.verdict.writes) (option_and_then (enrollment_now facts sofar.verdict.writes) id)))
-    (enrollment_gone facts sofar.verdict.writes) id
+abbrev pub enrollment_there : Facts → List Write → Option (List ℕ) → Option Live
+enrollment_there facts accepted id = option_map (live_enrollment facts accepted) (option_and_then (enrollment_now facts accepted) id)
+
+abbrev pub enrollment_delete : Facts → Records → Who → ImportStrategy → Sofar → Option (List ℕ) → Judged
+enrollment_delete = deleted kind.Program enrollment_there enrollment_gone
 
 unfoldable pub enrollment_write : Facts → Records → Who → ImportStrategy → Sofar → BundleEnrollment → Judged
 enrollment_write facts r who chosen sofar asked =
     judged_enrollment facts r who chosen (is_some (option_and_then (enrollment_now facts sofar.verdict.writes) (id_in asked.id)))
     (is_repeated sofar.judged (id_in asked.id)) (option_and_then (entity_now facts sofar.verdict.writes) (id_in asked.entity)) asked
 
-unfoldable pub event_delete : Facts → Records → Who → ImportStrategy → Sofar → Option (List ℕ) → Judged
-event_delete facts r who chosen sofar id = judged_delete (
-    delete_conflict facts r who chosen (is_repeated sofar.judged id) kind.Program id
-    (option_map (live_event facts sofar.verdict.writes) (option_and_then (event_now facts sofar.verdict.writes) id)))
-    (λ own. write.EventDeleted own ∷ []) id
+abbrev pub event_there : Facts → List Write → Option (List ℕ) → Option Live
+event_there facts accepted id = option_map (live_event facts accepted) (option_and_then (event_now facts accepted) id)
+
+abbrev pub event_gone : Facts → List Write → List ℕ → List Write
+event_gone facts accepted id = write.EventDeleted id ∷ []
+
+abbrev pub event_delete : Facts → Records → Who → ImportStrategy → Sofar → Option (List ℕ) → Judged
+event_delete = deleted kind.Program event_there event_gone
 
 unfoldable pub event_write : Facts → Records → Who → ImportStrategy → Sofar → BundleEvent → Judged
 event_write facts r who chosen sofar asked =

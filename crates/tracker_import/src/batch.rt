@@ -1,6 +1,6 @@
 //! The verdict so far, and what its writes say.
 
-ghost use Rattle.std.specs.Prelude.{◌≡◌, ◌+◌, ◌<◌, ◌^◌, ◌++◌, ◌∷◌, [], Some, None, IfOk, OnOk};
+ghost use Rattle.std.specs.Prelude.{◌≡◌, ◌+◌, ◌<◌, ◌^◌, ◌++◌, ◌∷◌, [], Some, None, option_and_then, IfOk, OnOk};
 ghost use Rattle.std.specs.Option.{option_copied};
 ghost use Rattle.dh_changes.specs.World.{facts};
 ghost use Rattle.tracker_import.specs.Known as known;
@@ -66,11 +66,12 @@ pub fn empty_batch(alloc: Global) -> Batch
 
 // ---- what there is
 
-/// The entity of an identifier.
-pub fn entity_now<'a>(world: &'a World, batch: &'a Batch, id: Uid) -> Option<&'a Entity>
+/// The entity of an identifier, if there is one.
+pub fn entity_now<'a>(world: &'a World, batch: &'a Batch, id: &Option<Uid>) -> Option<&'a Entity>
     requires { IsBatch batch.now }
-    ensures { option_copied result ≡ known.entity_now (facts world.now) batch.now.verdict.writes id }
+    ensures { option_copied result ≡ option_and_then (known.entity_now (facts world.now) batch.now.verdict.writes) id.now }
 {
+    let id = (*id)?;
     match batch.notes.entities.get(&id) {
         Some(held) => held.as_ref(),
         None => world.entity(id),
@@ -104,10 +105,11 @@ fn event_place(found: Option<&Event>) -> Option<EventPlace>
 }
 
 /// Where the enrollment of an identifier stands.
-pub fn enrollment_now(world: &World, batch: &Batch, id: Uid) -> Option<EnrollmentPlace>
+pub fn enrollment_now(world: &World, batch: &Batch, id: &Option<Uid>) -> Option<EnrollmentPlace>
     requires { IsBatch batch.now }
-    ensures { result ≡ known.enrollment_now (facts world.now) batch.now.verdict.writes id }
+    ensures { result ≡ option_and_then (known.enrollment_now (facts world.now) batch.now.verdict.writes) id.now }
 {
+    let id = (*id)?;
     match batch.notes.enrollments.get(&id) {
         Some(held) => *held,
         None => enrollment_place(world.enrollment(id)),
@@ -115,10 +117,11 @@ pub fn enrollment_now(world: &World, batch: &Batch, id: Uid) -> Option<Enrollmen
 }
 
 /// Where the event of an identifier stands.
-pub fn event_now(world: &World, batch: &Batch, id: Uid) -> Option<EventPlace>
+pub fn event_now(world: &World, batch: &Batch, id: &Option<Uid>) -> Option<EventPlace>
     requires { IsBatch batch.now }
-    ensures { result ≡ known.event_now (facts world.now) batch.now.verdict.writes id }
+    ensures { result ≡ option_and_then (known.event_now (facts world.now) batch.now.verdict.writes) id.now }
 {
+    let id = (*id)?;
     match batch.notes.events.get(&id) {
         Some(held) => *held,
         None => event_place(world.event(id)),
@@ -151,17 +154,6 @@ fn copied_pairs(
     Ok(Items::from(copy))
 }
 
-fn copied_entity(alloc: Global, entity: &Entity) -> Result<Entity, Memory>
-    ensures { IfOk result (λ copy. copy ≡ entity.now) }
-{
-    Ok(Entity {
-        id: entity.id,
-        kind: entity.kind,
-        unit: entity.unit,
-        attributes: copied_pairs(alloc, entity.attributes.as_slice())?,
-    })
-}
-
 // Notes what is there of an identifier.
 fn hold<T: Drop>(
     held: &mut HashMap<Uid, Option<T>>,
@@ -181,7 +173,12 @@ fn hold_entity(
 ) -> Result<(), Memory>
     ensures { OnOk result (Holds entity.now.id (Some entity.now) held.old held.new) }
 {
-    let copy = copied_entity(alloc, entity)?;
+    let copy = Entity {
+        id: entity.id,
+        kind: entity.kind,
+        unit: entity.unit,
+        attributes: copied_pairs(alloc, entity.attributes.as_slice())?,
+    };
     hold(held, entity.id, Some(copy))
 }
 
@@ -216,22 +213,7 @@ fn note(alloc: Global, notes: &mut Notes, write: &Write) -> Result<(), Memory>
     }
 }
 
-// Accepts a write.
-fn accept(
-    alloc: Global,
-    notes: &mut Notes,
-    writes: &mut Items<Write>,
-    write: Write,
-) -> Result<(), Memory>
-    requires { AreSaid notes.old.entities notes.old.enrollments notes.old.events writes.old }
-    ensures writes { OnOk result (writes.new ≡ writes.old ++ write ∷ []) }
-    ensures said { OnOk result (AreSaid notes.new.entities notes.new.enrollments notes.new.events writes.new) }
-{
-    note(alloc, notes, &write)?;
-    writes.push(write)?;
-    Ok(())
-}
-
+// Accepts writes.
 fn accept_all(
     alloc: Global,
     notes: &mut Notes,
@@ -243,7 +225,8 @@ fn accept_all(
     ensures said { OnOk result (AreSaid notes.new.entities notes.new.enrollments notes.new.events writes.new) }
 {
     for write in more.items {
-        accept(alloc, notes, writes, write)?;
+        note(alloc, notes, &write)?;
+        writes.push(write)?;
     }
     Ok(())
 }
@@ -293,32 +276,7 @@ fn count(
     }
 }
 
-// Notes that an object of this identifier was judged.
-fn note_some(
-    judged: &mut Items<Option<Uid>>,
-    seen: &mut HashSet<Uid>,
-    id: Uid,
-) -> Result<(), Memory>
-    requires { AreSeen seen.old judged.old }
-    ensures judged { OnOk result (judged.new ≡ judged.old ++ Some id ∷ []) }
-    ensures seen { OnOk result (AreSeen seen.new judged.new) }
-{
-    seen.insert(id)?;
-    judged.push(Some(id))?;
-    Ok(())
-}
-
-// Notes that an object without an identifier was judged.
-fn note_none(judged: &mut Items<Option<Uid>>, seen: &HashSet<Uid>) -> Result<(), Memory>
-    requires { AreSeen seen.now judged.old }
-    ensures judged { OnOk result (judged.new ≡ judged.old ++ None ∷ []) }
-    ensures seen { OnOk result (AreSeen seen.now judged.new) }
-{
-    let _seen = seen;
-    judged.push(None)?;
-    Ok(())
-}
-
+// Notes that an object of this identifier, or without one, was judged.
 fn note_judged(
     judged: &mut Items<Option<Uid>>,
     seen: &mut HashSet<Uid>,
@@ -328,10 +286,11 @@ fn note_judged(
     ensures judged { OnOk result (judged.new ≡ judged.old ++ id.now ∷ []) }
     ensures seen { OnOk result (AreSeen seen.new judged.new) }
 {
-    match id {
-        Some(own) => note_some(judged, seen, *own),
-        None => note_none(judged, seen),
+    if let Some(own) = id {
+        seen.insert(*own)?;
     }
+    judged.push(*id)?;
+    Ok(())
 }
 
 /// Takes in what an object comes to.

@@ -1,21 +1,20 @@
 //! How objects are taken away, each with what hangs on it.
 
-ghost use Rattle.std.specs.Prelude.{◌≡◌, ◌++◌, ◌∷◌, [], true, filter, is_some, map, Some, if◌then◌else◌, IfOk, OnOk};
+ghost use Rattle.std.specs.Prelude.{◌≡◌, ◌++◌, ◌∷◌, [], true, map, if◌then◌else◌, IfOk, OnOk};
 ghost use Rattle.std.specs.List.{flat_map};
-ghost use Rattle.dh_metadata.specs.Objects.{find_of, is_shared};
-ghost use Rattle.dh_metadata.specs.declared.kind.Kind.TheVariants.{OrganisationUnit};
+ghost use Rattle.dh_metadata.specs.Objects.{is_shared};
 ghost use Rattle.dh_changes.specs.World.{facts};
 ghost use Rattle.value_import.specs.Outcomes.{IsKnown};
-ghost use Rattle.value_import.specs.Rules.{first_of};
 ghost use Rattle.tracker_import.specs.Batches.{IsBatch};
 ghost use Rattle.tracker_import.specs.Deletes as known;
-ghost use Rattle.tracker_import.specs.Known as there;
+ghost use Rattle.tracker_import.specs.Outcomes.{sofar_of};
+ghost use Rattle.tracker_import.specs.Verdicts as verdicts;
 
 use crate::asking::Asking;
-use crate::batch::{Batch, enrollment_now, entity_now, event_now};
+use crate::batch::{Batch, enrollment_now, event_now, is_repeated};
 use crate::judged::Judged;
-use crate::names::EnrollmentPlace;
-use crate::places::{EventPlace, Live};
+use crate::object::Object;
+use crate::places::Live;
 use crate::rights::right_condition;
 use crate::standing::standing_condition;
 use dh_base::codes::Code;
@@ -23,114 +22,58 @@ use dh_base::items::Items;
 use dh_base::memory::Memory;
 use dh_base::uid::Uid;
 use dh_changes::change::Write;
-use dh_changes::tracker::Entity;
 use dh_changes::world::World;
 use dh_metadata::kind::Kind;
-use dh_metadata::metadata::Metadata;
 use std::alloc::Global;
 use std::collections::BTreeMap;
 
 // ---- the conditions
 
-/// An entity that is there.
-pub fn live_entity(entity: &Entity) -> Live
-    ensures { result ≡ known.live_entity entity.now }
-{
-    Live {
-        unit: entity.unit,
-        owner: entity.kind,
-        orphaned: false,
-    }
-}
-
-/// An enrollment that is there.
-pub fn live_enrollment(world: &World, batch: &Batch, at: &EnrollmentPlace) -> Live
-    requires { IsBatch batch.now }
-    ensures { result ≡ known.live_enrollment (facts world.now) batch.now.verdict.writes at.now }
-{
-    Live {
-        unit: at.unit,
-        owner: at.program,
-        orphaned: entity_now(world, batch, at.entity).is_none(),
-    }
-}
-
-/// An event that is there.
-pub fn live_event(world: &World, batch: &Batch, at: &EventPlace) -> Live
-    requires { IsBatch batch.now }
-    ensures { result ≡ known.live_event (facts world.now) batch.now.verdict.writes at.now }
-{
-    let orphaned = match &at.enrollment {
-        Some(id) => enrollment_now(world, batch, *id).is_none(),
-        None => false,
-    };
-    Live {
-        unit: at.unit,
-        owner: at.program,
-        orphaned,
-    }
-}
-
 #[tactic(auto, unfolding(crate::specs::Deletes::live_conditions))]
-fn live_condition(unit: Option<u32>, meta: &Metadata, live: &Live) -> Option<Code>
-    requires { unit ≡ find_of meta.now OrganisationUnit live.now.unit }
-    ensures { result ≡ first_of (known.live_conditions meta.now live.now) }
+fn live_conflict(asking: &Asking<'_>, owners: Kind, live: &Option<Live>) -> Option<Code>
+    requires who { IsKnown asking.now.meta.now asking.now.who }
+    requires shared { is_shared owners ≡ true }
+    ensures { result ≡ known.live_conflict (facts asking.now.world.now) asking.now.meta.now asking.now.who owners live.now }
 {
-    let _meta = meta;
+    let Some(live) = live else {
+        return None;
+    };
+    let unit = asking.meta.find(Kind::OrganisationUnit, live.unit);
     if unit.is_none() {
         return Some(Code::T3);
     }
     if live.orphaned {
         return Some(Code::T4);
     }
-    None
-}
-
-fn conflict_of(asking: &Asking<'_>, owners: Kind, live: &Live) -> Option<Code>
-    requires who { IsKnown asking.now.meta.now asking.now.who }
-    requires shared { is_shared owners ≡ true }
-    ensures { result ≡ known.live_conflict (facts asking.now.world.now) asking.now.meta.now asking.now.who owners (Some live.now) }
-{
-    let unit = asking.meta.find(Kind::OrganisationUnit, live.unit);
-    if let Some(code) = live_condition(unit, asking.meta, live) {
-        return Some(code);
-    }
     let owner = asking.meta.find(owners, live.owner);
     right_condition(asking, unit, owners, owner)
 }
 
-fn live_conflict(asking: &Asking<'_>, owners: Kind, live: &Option<Live>) -> Option<Code>
-    requires who { IsKnown asking.now.meta.now asking.now.who }
-    requires shared { is_shared owners ≡ true }
-    ensures { result ≡ known.live_conflict (facts asking.now.world.now) asking.now.meta.now asking.now.who owners live.now }
-{
-    match live {
-        Some(live) => conflict_of(asking, owners, live),
-        None => None,
-    }
-}
-
-/// The first condition that holds, of an object with this identifier that is to be taken away.
+/// What an object with this identifier comes to that is to be taken away.
 #[tactic(auto, unfolding(crate::specs::Deletes::delete_conflict))]
-pub fn delete_conflict(
+pub fn deleted<T: Object>(
+    alloc: Global,
     asking: &Asking<'_>,
-    repeated: bool,
-    owners: Kind,
+    batch: &Batch,
     id: &Option<Uid>,
-    live: &Option<Live>,
-) -> Option<Code>
+) -> Result<Judged, Memory>
     requires who { IsKnown asking.now.meta.now asking.now.who }
-    requires shared { is_shared owners ≡ true }
-    ensures { result ≡ known.delete_conflict (facts asking.now.world.now) asking.now.meta.now asking.now.who asking.now.strategy
-        repeated owners id.now live.now }
+    requires held { IsBatch batch.now }
+    ensures { IfOk result (λ judged. judged ≡ verdicts.deleted T.owned_by T.there T.removal (facts asking.now.world.now) asking.now.meta.now
+        asking.now.who asking.now.strategy (sofar_of batch.now.verdict batch.now.judged) id.now) }
 {
-    if id.is_none() {
-        return Some(Code::T1);
+    let Some(own) = id else {
+        return Ok(Judged::Refused(Code::T1));
+    };
+    let live = T::live(asking.world, batch, id);
+    if let Some(code) = live_conflict(asking, T::owners(), &live) {
+        return Ok(Judged::Refused(code));
     }
-    if let Some(code) = live_conflict(asking, owners, live) {
-        return Some(code);
+    let repeated = is_repeated(batch, id);
+    match standing_condition(asking.strategy, live.is_some(), repeated) {
+        Some(code) => Ok(Judged::Refused(code)),
+        None => Ok(Judged::Deleted(T::gone(alloc, asking.world, batch, *own)?)),
     }
-    standing_condition(asking.strategy, live.is_some(), repeated)
 }
 
 // ---- what goes with it
@@ -142,22 +85,6 @@ fn keep_if(kept: &mut Items<Uid>, id: Uid, keep: bool) -> Result<(), Memory>
         kept.push(id)?;
     }
     Ok(())
-}
-
-fn kept_events(
-    alloc: Global,
-    world: &World,
-    batch: &Batch,
-    ids: &[Uid],
-) -> Result<Items<Uid>, Memory>
-    requires { IsBatch batch.now }
-    ensures { IfOk result (λ left. left ≡ filter (λ id. is_some (there.event_now (facts world.now) batch.now.verdict.writes id)) ids.now) }
-{
-    let mut left = Items::new(alloc);
-    for id in ids {
-        keep_if(&mut left, *id, event_now(world, batch, *id).is_some())?;
-    }
-    Ok(left)
 }
 
 /// The events of an enrollment that are there.
@@ -172,21 +99,13 @@ fn events_left(
     ensures { IfOk result (λ ids. ids ≡ known.events_left (facts world.now) batch.now.verdict.writes enrollment) }
 {
     let all = world.events_of(alloc, enrollment)?;
-    kept_events(alloc, world, batch, all.as_slice())
-}
-
-fn kept_enrollments(
-    alloc: Global,
-    world: &World,
-    batch: &Batch,
-    ids: &[Uid],
-) -> Result<Items<Uid>, Memory>
-    requires { IsBatch batch.now }
-    ensures { IfOk result (λ left. left ≡ filter (λ id. is_some (there.enrollment_now (facts world.now) batch.now.verdict.writes id)) ids.now) }
-{
     let mut left = Items::new(alloc);
-    for id in ids {
-        keep_if(&mut left, *id, enrollment_now(world, batch, *id).is_some())?;
+    for id in all.as_slice() {
+        keep_if(
+            &mut left,
+            *id,
+            event_now(world, batch, &Some(*id)).is_some(),
+        )?;
     }
     Ok(left)
 }
@@ -203,7 +122,15 @@ fn enrollments_left(
     ensures { IfOk result (λ ids. ids ≡ known.enrollments_left (facts world.now) batch.now.verdict.writes entity) }
 {
     let all = world.enrollments_of(alloc, entity)?;
-    kept_enrollments(alloc, world, batch, all.as_slice())
+    let mut left = Items::new(alloc);
+    for id in all.as_slice() {
+        keep_if(
+            &mut left,
+            *id,
+            enrollment_now(world, batch, &Some(*id)).is_some(),
+        )?;
+    }
+    Ok(left)
 }
 
 fn put_events(writes: &mut Items<Write>, ids: &[Uid]) -> Result<(), Memory>
@@ -242,32 +169,6 @@ pub fn enrollment_gone(
     Ok(writes)
 }
 
-fn append(list: &mut Items<Uid>, more: Items<Uid>) -> Result<(), Memory>
-    ensures { OnOk result (list.new ≡ list.old ++ more) }
-{
-    let mut rest = more.items;
-    list.items.append(&mut rest)?;
-    Ok(())
-}
-
-// The events of some enrollments.
-fn all_events(
-    alloc: Global,
-    world: &World,
-    batch: &Batch,
-    enrollments: &[Uid],
-) -> Result<Items<Uid>, Memory>
-    requires { IsBatch batch.now }
-    ensures { IfOk result (λ ids. ids ≡ flat_map (known.events_left (facts world.now) batch.now.verdict.writes) enrollments.now) }
-{
-    let mut all = Items::new(alloc);
-    for enrollment in enrollments {
-        let events = events_left(alloc, world, batch, *enrollment)?;
-        append(&mut all, events)?;
-    }
-    Ok(all)
-}
-
 fn put_ids(all: &mut BTreeMap<Uid, Uid>, ids: &[Uid]) -> Result<(), Memory>
     ensures { OnOk result (all.new.entries ≡ known.put_ids all.old.entries ids.now) }
 {
@@ -277,15 +178,42 @@ fn put_ids(all: &mut BTreeMap<Uid, Uid>, ids: &[Uid]) -> Result<(), Memory>
     Ok(())
 }
 
+/// The events of some enrollments, in order.
 #[tactic(auto, unfolding(crate::specs::Deletes::ordered))]
-fn ordered(alloc: Global, ids: &[Uid]) -> Result<Items<Uid>, Memory>
-    ensures { IfOk result (λ list. list ≡ known.ordered ids.now) }
+fn events_in_order(
+    alloc: Global,
+    world: &World,
+    batch: &Batch,
+    enrollments: &[Uid],
+) -> Result<Items<Uid>, Memory>
+    requires { IsBatch batch.now }
+    ensures { IfOk result (λ ids. ids ≡ known.ordered (flat_map (known.events_left (facts world.now) batch.now.verdict.writes) enrollments.now)) }
 {
     let mut all = BTreeMap::new(alloc);
-    put_ids(&mut all, ids)?;
+    for enrollment in enrollments {
+        let events = events_left(alloc, world, batch, *enrollment)?;
+        put_ids(&mut all, events.as_slice())?;
+    }
     Ok(Items {
-        items: all.values().copied().collect(alloc)?,
+        items: all.into_values().collect(alloc)?,
     })
+}
+
+// The writes that take an entity with these enrollments and events away.
+fn entity_writes(
+    alloc: Global,
+    events: &[Uid],
+    enrollments: &[Uid],
+    id: Uid,
+) -> Result<Items<Write>, Memory>
+    ensures { IfOk result (λ writes. writes ≡ map Write.EventDeleted events.now ++ map Write.EnrollmentDeleted enrollments.now
+        ++ Write.EntityDeleted id ∷ []) }
+{
+    let mut writes = Items::new(alloc);
+    put_events(&mut writes, events)?;
+    put_enrollments(&mut writes, enrollments)?;
+    writes.push(Write::EntityDeleted(id))?;
+    Ok(writes)
 }
 
 /// The writes that take an entity away.
@@ -300,11 +228,6 @@ pub fn entity_gone(
     ensures { IfOk result (λ writes. writes ≡ known.entity_gone (facts world.now) batch.now.verdict.writes id) }
 {
     let enrollments = enrollments_left(alloc, world, batch, id)?;
-    let events = all_events(alloc, world, batch, enrollments.as_slice())?;
-    let events = ordered(alloc, events.as_slice())?;
-    let mut writes = Items::new(alloc);
-    put_events(&mut writes, events.as_slice())?;
-    put_enrollments(&mut writes, enrollments.as_slice())?;
-    writes.push(Write::EntityDeleted(id))?;
-    Ok(writes)
+    let events = events_in_order(alloc, world, batch, enrollments.as_slice())?;
+    entity_writes(alloc, events.as_slice(), enrollments.as_slice(), id)
 }

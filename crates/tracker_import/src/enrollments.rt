@@ -1,14 +1,12 @@
 //! How enrollments are judged.
 
-ghost use Rattle.std.specs.Prelude.{◌≡◌, ◌<◌, ◌∷◌, ◌++◌, false, length, IfOk, OnOk};
+ghost use Rattle.std.specs.Prelude.{◌≡◌, ◌<◌, ◌∷◌, ◌++◌, length, IfOk, OnOk};
 ghost use Rattle.std.specs.Option.{option_copied, option_map_or};
 ghost use Rattle.dh_metadata.specs.Linked.{IsBelow};
 ghost use Rattle.dh_changes.specs.World.{facts};
 ghost use Rattle.value_import.specs.Outcomes.{IsKnown};
 ghost use Rattle.value_import.specs.Rules.{first_of};
-ghost use Rattle.dh_changes.specs.Said.{same_id};
 ghost use Rattle.tracker_import.specs.Enrollments as known;
-ghost use Rattle.tracker_import.specs.Pairs.{merged};
 ghost use Rattle.tracker_import.specs.Rules.{put};
 
 use crate::asking::Asking;
@@ -63,49 +61,24 @@ fn name_condition(meta: &Metadata, names: &EnrollmentNames, pairs: &[Pair]) -> O
     None
 }
 
-fn program_type_id(meta: &Metadata, program: u32) -> Option<Uid>
-    requires { program < length meta.now.programs }
-    ensures { result ≡ known.program_type_id meta.now program }
-{
-    match meta.program(program).tracked_entity_type {
-        Some(kind) => Some(type_id(meta, kind)),
-        None => None,
-    }
-}
-
-fn is_kind(kind: Option<Uid>, entity: &Entity) -> bool
-    ensures { result ≡ option_map_or (same_id entity.now.kind) kind false }
-{
-    match kind {
-        Some(kind) => entity.kind == kind,
-        None => false,
-    }
-}
-
-#[tactic(auto, unfolding(crate::specs::Enrollments::is_of_type))]
-fn is_of_type(meta: &Metadata, program: Option<u32>, entity: &Entity) -> bool
-    requires { IsBelow (length meta.now.programs) program }
-    ensures { result ≡ known.is_of_type meta.now program entity.now }
-{
-    match program {
-        Some(program) => is_kind(program_type_id(meta, program), entity),
-        None => false,
-    }
-}
-
-#[tactic(auto, unfolding(crate::specs::Enrollments::entity_conditions))]
+#[tactic(auto, unfolding(crate::specs::Enrollments::entity_conditions, crate::specs::Enrollments::is_of_type))]
 fn entity_condition(meta: &Metadata, program: Option<u32>, parent: Option<&Entity>) -> Option<Code>
     requires { IsBelow (length meta.now.programs) program }
     ensures { result ≡ first_of (known.entity_conditions meta.now program (option_copied parent.entry)) }
 {
-    match parent {
-        Some(entity) => if is_of_type(meta, program, entity) {
-            None
-        } else {
-            Some(Code::T5)
-        },
-        None => Some(Code::T4),
+    let Some(entity) = parent else {
+        return Some(Code::T4);
+    };
+    let Some(program) = program else {
+        return Some(Code::T5);
+    };
+    let Some(kind) = meta.program(program).tracked_entity_type else {
+        return Some(Code::T5);
+    };
+    if entity.kind != type_id(meta, kind) {
+        return Some(Code::T5);
     }
+    None
 }
 
 #[tactic(auto, unfolding(crate::specs::Enrollments::enrollment_form_conditions))]
@@ -172,22 +145,12 @@ fn enrollment_conflict(
         standing.live standing.repeated (option_copied parent.entry) names.now asked.now }
 {
     let pairs = asked.attributes.as_slice();
-    if let Some(code) = name_condition(asking.meta, names, pairs) {
-        return Some(code);
-    }
-    if let Some(code) = entity_condition(asking.meta, names.program, parent) {
-        return Some(code);
-    }
-    if let Some(code) = right_condition(asking, names.unit, Kind::Program, names.program) {
-        return Some(code);
-    }
-    if let Some(code) = form_condition(asked) {
-        return Some(code);
-    }
-    if let Some(code) = attribute_condition(asking.meta, names.program, pairs) {
-        return Some(code);
-    }
-    standing_condition(asking.strategy, standing.live, standing.repeated)
+    name_condition(asking.meta, names, pairs)
+        .or(entity_condition(asking.meta, names.program, parent))
+        .or(right_condition(asking, names.unit, Kind::Program, names.program))
+        .or(form_condition(asked))
+        .or(attribute_condition(asking.meta, names.program, pairs))
+        .or(standing_condition(asking.strategy, standing.live, standing.repeated))
 }
 
 /// The identifier of a program.
@@ -226,23 +189,6 @@ fn enrollment_after(
     })
 }
 
-// The entity with the attributes that an enrollment names.
-fn with_attributes(
-    alloc: Global,
-    meta: &Metadata,
-    entity: &Entity,
-    pairs: &[Pair],
-) -> Result<Entity, Memory>
-    ensures { IfOk result (λ after. after ≡ record entity.now { attributes = merged meta.now entity.now.attributes pairs.now }) }
-{
-    Ok(Entity {
-        id: entity.id,
-        kind: entity.kind,
-        unit: entity.unit,
-        attributes: merged(alloc, meta, entity.attributes.as_slice(), pairs)?,
-    })
-}
-
 // Puts the write of the entity after that of the enrollment, if it names attributes.
 #[tactic(auto, unfolding(crate::specs::Enrollments::entity_writes))]
 fn put_entity(
@@ -259,7 +205,12 @@ fn put_entity(
     }
     match parent {
         Some(entity) => {
-            let after = with_attributes(alloc, meta, entity, pairs)?;
+            let after = Entity {
+                id: entity.id,
+                kind: entity.kind,
+                unit: entity.unit,
+                attributes: merged(alloc, meta, entity.attributes.as_slice(), pairs)?,
+            };
             let written = Write::entity(alloc, after)?;
             writes.push(written)?;
             Ok(())

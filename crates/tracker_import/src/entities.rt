@@ -58,16 +58,6 @@ fn name_condition(meta: &Metadata, names: &EntityNames, pairs: &[Pair]) -> Optio
     None
 }
 
-#[tactic(auto, unfolding(crate::specs::Entities::entity_value_conditions))]
-fn value_condition(meta: &Metadata, pairs: &[Pair]) -> Option<Code>
-    ensures { result ≡ first_of (known.entity_value_conditions meta.now pairs.now) }
-{
-    if has_unfit(meta, ItemKind::Attribute, pairs) {
-        return Some(Code::T11);
-    }
-    None
-}
-
 /// Whether an object is there, and whether one of its identifier was judged before.
 #[derive(Clone, Copy)]
 pub struct Standing {
@@ -75,7 +65,7 @@ pub struct Standing {
     pub repeated: bool,
 }
 
-#[tactic(auto, unfolding(crate::specs::Entities::entity_conflict))]
+#[tactic(auto, unfolding(crate::specs::Entities::entity_conflict, crate::specs::Entities::entity_value_conditions))]
 fn entity_conflict(
     asking: &Asking<'_>,
     standing: Standing,
@@ -94,8 +84,8 @@ fn entity_conflict(
     if let Some(code) = right_condition(asking, names.unit, Kind::TrackedEntityType, names.kind) {
         return Some(code);
     }
-    if let Some(code) = value_condition(asking.meta, pairs) {
-        return Some(code);
+    if has_unfit(asking.meta, ItemKind::Attribute, pairs) {
+        return Some(Code::T11);
     }
     standing_condition(asking.strategy, standing.live, standing.repeated)
 }

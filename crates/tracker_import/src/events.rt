@@ -66,22 +66,16 @@ fn name_condition(meta: &Metadata, names: &EventNames, pairs: &[Pair]) -> Option
     None
 }
 
-fn has_registration(kind: ProgramType) -> bool
-    ensures { result ≡ known.has_registration kind }
-{
-    match kind {
-        ProgramType::WithRegistration => true,
-        ProgramType::WithoutRegistration => false,
-    }
-}
-
 #[tactic(auto, unfolding(crate::specs::Events::is_registered))]
 fn is_registered(meta: &Metadata, program: Option<u32>) -> bool
     requires { IsBelow (length meta.now.programs) program }
     ensures { result ≡ known.is_registered meta.now program }
 {
     match program {
-        Some(program) => has_registration(meta.program(program).program_type),
+        Some(program) => match meta.program(program).program_type {
+            ProgramType::WithRegistration => true,
+            ProgramType::WithoutRegistration => false,
+        },
         None => false,
     }
 }
@@ -101,22 +95,15 @@ fn is_stage_of(meta: &Metadata, program: Option<u32>, stage: Option<u32>) -> boo
 }
 
 #[tactic(auto, unfolding(crate::specs::Events::is_enrolled_in))]
-fn is_enrolled_in(meta: &Metadata, program: Option<u32>, enrollment: EnrollmentPlace) -> bool
-    requires { IsBelow (length meta.now.programs) program }
-    ensures { result ≡ known.is_enrolled_in meta.now program enrollment }
-{
-    match program {
-        Some(program) => enrollment.program == program_id(meta, program),
-        None => false,
-    }
-}
-
 fn is_enrolled(meta: &Metadata, program: Option<u32>, parent: Option<EnrollmentPlace>) -> bool
     requires { IsBelow (length meta.now.programs) program }
     ensures { result ≡ option_map_or (known.is_enrolled_in meta.now program) parent false }
 {
-    match parent {
-        Some(enrollment) => is_enrolled_in(meta, program, enrollment),
+    let Some(enrollment) = parent else {
+        return false;
+    };
+    match program {
+        Some(program) => enrollment.program == program_id(meta, program),
         None => false,
     }
 }
@@ -221,22 +208,12 @@ fn event_conflict(
         standing.live standing.repeated parent names.now asked.now }
 {
     let pairs = asked.values.as_slice();
-    if let Some(code) = name_condition(asking.meta, names, pairs) {
-        return Some(code);
-    }
-    if let Some(code) = enrollment_condition(asking.meta, names, parent) {
-        return Some(code);
-    }
-    if let Some(code) = right_condition(asking, names.unit, Kind::Program, names.program) {
-        return Some(code);
-    }
-    if let Some(code) = form_condition(asked) {
-        return Some(code);
-    }
-    if let Some(code) = element_condition(asking.meta, names.stage, pairs) {
-        return Some(code);
-    }
-    standing_condition(asking.strategy, standing.live, standing.repeated)
+    name_condition(asking.meta, names, pairs)
+        .or(enrollment_condition(asking.meta, names, parent))
+        .or(right_condition(asking, names.unit, Kind::Program, names.program))
+        .or(form_condition(asked))
+        .or(element_condition(asking.meta, names.stage, pairs))
+        .or(standing_condition(asking.strategy, standing.live, standing.repeated))
 }
 
 #[tactic(auto, unfolding(crate::specs::Events::stage_id))]

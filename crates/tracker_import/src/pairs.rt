@@ -1,8 +1,7 @@
 //! Attributes and data elements with their values.
 
-ghost use Rattle.std.specs.Prelude.{◌≡◌, ◌<◌, ◌∷◌, ◌++◌, [], Some, option_map, filter, IfOk, OnOk};
+ghost use Rattle.std.specs.Prelude.{◌≡◌, ◌<◌, ◌∷◌, [], Some, filter, IfOk, OnOk};
 ghost use Rattle.dh_metadata.specs.Linked.{IsBelow};
-ghost use Rattle.dh_metadata.specs.Members as members;
 ghost use Rattle.dh_metadata.specs.Objects.{count_of};
 ghost use Rattle.tracker_import.specs.Pairs as known;
 
@@ -116,23 +115,12 @@ pub fn has_unfit(meta: &Metadata, kind: ItemKind, pairs: &[Pair]) -> bool
     false
 }
 
-fn has(numbers: &[u32], number: u32) -> bool
-    ensures { result ≡ members.has numbers.now number }
-{
-    for own in numbers {
-        if *own == number {
-            return true;
-        }
-    }
-    false
-}
-
 #[tactic(auto, unfolding(crate::specs::Pairs::is_among))]
 fn is_among(meta: &Metadata, kind: ItemKind, numbers: &[u32], pair: &Pair) -> bool
     ensures { result ≡ known.is_among meta.now kind numbers.now pair.now }
 {
     match item_named(meta, kind, pair) {
-        Some(number) => has(numbers, number),
+        Some(number) => numbers.contains(&number),
         None => false,
     }
 }
@@ -161,17 +149,6 @@ fn put(
     let copy = Items::from(text.to_vec(alloc)?);
     all.insert(id, copy)?;
     Ok(())
-}
-
-// What a pair tells.
-fn told_by(pair: &Pair) -> Option<(Uid, &[u8])>
-    ensures { option_map (λ told. (told.0, told.1.now)) result ≡ known.told_by pair.now }
-{
-    let id = id_in(&pair.item)?;
-    match &pair.value {
-        Some(text) => Some((id, text.as_slice())),
-        None => None,
-    }
 }
 
 // Whether an attribute that stood stays.
@@ -210,38 +187,18 @@ fn put_pairs(
     ensures { OnOk result (all.new.entries ≡ known.put_all all.old.entries (known.told pairs.now)) }
 {
     for pair in pairs {
-        if let Some((id, text)) = told_by(pair) {
-            put(alloc, all, id, text)?;
+        let Some(id) = id_in(&pair.item) else {
+            continue;
+        };
+        if let Some(text) = &pair.value {
+            put(alloc, all, id, text.as_slice())?;
         }
     }
     Ok(())
 }
 
-fn listed(alloc: Global, all: BTreeMap<Uid, Items<u8>>) -> Result<Items<(Uid, Items<u8>)>, Memory>
-    ensures { IfOk result (λ list. list ≡ all.entries) }
-{
-    Ok(Items {
-        items: all.into_iter().collect(alloc)?,
-    })
-}
-
-#[tactic(auto, using(crate::proofs::PairLemmas::put_all_both))]
-fn put_both(
-    alloc: Global,
-    all: &mut BTreeMap<Uid, Items<u8>>,
-    meta: &Metadata,
-    old: &[(Uid, Items<u8>)],
-    pairs: &[Pair],
-) -> Result<(), Memory>
-    ensures { OnOk result (all.new.entries ≡ known.put_all all.old.entries (filter (known.is_kept meta.now) old.now ++ known.told pairs.now)) }
-{
-    put_kept(alloc, all, meta, old)?;
-    put_pairs(alloc, all, pairs)?;
-    Ok(())
-}
-
 /// What stood and stays, with what pairs tell, in the order of the identifiers' bytes.
-#[tactic(auto, unfolding(crate::specs::Pairs::merged, crate::specs::Pairs::in_order))]
+#[tactic(auto, using(crate::proofs::PairLemmas::put_all_both), unfolding(crate::specs::Pairs::merged, crate::specs::Pairs::in_order))]
 pub fn merged(
     alloc: Global,
     meta: &Metadata,
@@ -251,6 +208,9 @@ pub fn merged(
     ensures { IfOk result (λ list. list ≡ known.merged meta.now old.now pairs.now) }
 {
     let mut all = BTreeMap::new(alloc);
-    put_both(alloc, &mut all, meta, old, pairs)?;
-    listed(alloc, all)
+    put_kept(alloc, &mut all, meta, old)?;
+    put_pairs(alloc, &mut all, pairs)?;
+    Ok(Items {
+        items: all.into_iter().collect(alloc)?,
+    })
 }

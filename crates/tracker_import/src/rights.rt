@@ -16,46 +16,8 @@ use dh_records::access::may;
 use dh_sharing::access::Right;
 use value_import::rights::is_captured;
 
-#[tactic(auto, unfolding(crate::specs::Rules::is_outside))]
-fn is_outside(asking: &Asking<'_>, unit: Option<u32>) -> bool
-    requires who { IsKnown asking.now.meta.now asking.now.who }
-    requires unit { IsBelow (length asking.now.meta.now.organisation_units) unit }
-    ensures { result ≡ rules.is_outside (facts asking.now.world.now) asking.now.meta.now asking.now.who unit }
-{
-    match asking.who {
-        Who::User(user) => match unit {
-            Some(unit) => !is_captured(asking.world, asking.meta, unit, user),
-            None => true,
-        },
-        Who::Loader => false,
-    }
-}
-
-#[tactic(auto, unfolding(crate::specs::Rules::is_barred))]
-fn is_barred(asking: &Asking<'_>, kind: Kind, owner: Option<u32>) -> bool
-    requires who { IsKnown asking.now.meta.now asking.now.who }
-    requires shared { is_shared kind ≡ true }
-    requires owner { IsBelow (count_of asking.now.meta.now kind) owner }
-    ensures { result ≡ rules.is_barred (facts asking.now.world.now) asking.now.meta.now asking.now.who kind owner }
-{
-    match asking.who {
-        Who::User(user) => match owner {
-            Some(owner) => !may(
-                asking.world,
-                asking.meta,
-                user,
-                Right::DataWrite,
-                kind,
-                owner,
-            ),
-            None => true,
-        },
-        Who::Loader => false,
-    }
-}
-
 /// The first condition on who may write where that holds.
-#[tactic(auto, unfolding(crate::specs::Rules::right_conditions))]
+#[tactic(auto, unfolding(crate::specs::Rules::right_conditions, crate::specs::Rules::is_outside, crate::specs::Rules::is_barred))]
 pub fn right_condition(
     asking: &Asking<'_>,
     unit: Option<u32>,
@@ -68,10 +30,20 @@ pub fn right_condition(
     requires owner { IsBelow (count_of asking.now.meta.now kind) owner }
     ensures { result ≡ first_of (rules.right_conditions (facts asking.now.world.now) asking.now.meta.now asking.now.who unit kind owner) }
 {
-    if is_outside(asking, unit) {
+    let Who::User(user) = asking.who else {
+        return None;
+    };
+    let Some(unit) = unit else {
+        return Some(Code::T6);
+    };
+    if !is_captured(asking.world, asking.meta, unit, user) {
         return Some(Code::T6);
     }
-    if is_barred(asking, kind, owner) {
+    let Some(owner) = owner else {
+        return Some(Code::T7);
+    };
+    let right = Right::DataWrite;
+    if !may(asking.world, asking.meta, user, right, kind, owner) {
         return Some(Code::T7);
     }
     None

@@ -1,14 +1,13 @@
 //! The verdict on a tracker bundle.
 
-ghost use Rattle.std.specs.Prelude.{◌≡◌, ◌<◌, ◌^◌, ◌∷◌, [], ◌&&◌, not, length, option_map, option_and_then, IfOk, OnOk};
+ghost use Rattle.std.specs.Prelude.{◌≡◌, ◌<◌, ◌^◌, ◌&&◌, not, length, IfOk, OnOk};
 ghost use Rattle.std.specs.List.{All};
-ghost use Rattle.std.specs.Option.{option_copied, option_map_or};
 ghost use Rattle.change_log.specs.Forms.{WriteFits};
 ghost use Rattle.dh_changes.specs.World.{facts};
+ghost use Rattle.dh_metadata.specs.declared.kind.Kind.TheVariants as kind;
 ghost use Rattle.value_import.specs.Outcomes.{IsKnown};
 ghost use Rattle.tracker_import.specs.Batches.{IsBatch};
 ghost use Rattle.tracker_import.specs.Deletes as deletes;
-ghost use Rattle.tracker_import.specs.Known as known;
 ghost use Rattle.tracker_import.specs.Outcomes as outcomes;
 ghost use Rattle.tracker_import.specs.Outcomes.{sofar_of, AreAtMost};
 ghost use Rattle.tracker_import.specs.Rules.{id_in};
@@ -18,23 +17,19 @@ use crate::asking::Asking;
 use crate::batch::{
     Batch, empty_batch, enrollment_now, entity_now, event_now, is_repeated, take_in,
 };
-use crate::deletes::{
-    delete_conflict, enrollment_gone, entity_gone, live_enrollment, live_entity, live_event,
-};
+use crate::deletes::{deleted, enrollment_gone, entity_gone};
 use crate::enrollments::judge_enrollment;
 use crate::entities::{Standing, judge_entity, only};
 use crate::events::judge_event;
 use crate::items::id_in;
 use crate::judged::Judged;
-use crate::names::EnrollmentPlace;
 use crate::object::Object;
-use crate::places::{EventPlace, Live};
+use crate::places::Live;
 use dh_base::items::Items;
 use dh_base::memory::Memory;
 use dh_base::uid::Uid;
 use dh_changes::change::Write;
 use dh_changes::outcome::{Verdict, Who};
-use dh_changes::tracker::Entity;
 use dh_changes::world::World;
 use dh_metadata::kind::Kind;
 use dh_metadata::metadata::Metadata;
@@ -45,130 +40,14 @@ use import_forms::event::BundleEvent;
 use std::alloc::Global;
 use value_import::strategy::is_delete_all;
 
-fn entity_of<'a>(world: &'a World, batch: &'a Batch, id: &Option<Uid>) -> Option<&'a Entity>
-    requires { IsBatch batch.now }
-    ensures { option_copied result ≡ option_and_then (known.entity_now (facts world.now) batch.now.verdict.writes) id.now }
-{
-    match id {
-        Some(id) => entity_now(world, batch, *id),
-        None => None,
-    }
-}
-
-fn enrollment_of(world: &World, batch: &Batch, id: &Option<Uid>) -> Option<EnrollmentPlace>
-    requires { IsBatch batch.now }
-    ensures { result ≡ option_and_then (known.enrollment_now (facts world.now) batch.now.verdict.writes) id.now }
-{
-    match id {
-        Some(id) => enrollment_now(world, batch, *id),
-        None => None,
-    }
-}
-
-fn event_of(world: &World, batch: &Batch, id: &Option<Uid>) -> Option<EventPlace>
-    requires { IsBatch batch.now }
-    ensures { result ≡ option_and_then (known.event_now (facts world.now) batch.now.verdict.writes) id.now }
-{
-    match id {
-        Some(id) => event_now(world, batch, *id),
-        None => None,
-    }
-}
-
-fn live_entity_of(before: Option<&Entity>) -> Option<Live>
-    ensures { result ≡ option_map deletes.live_entity (option_copied before.entry) }
-{
-    match before {
-        Some(entity) => Some(live_entity(entity)),
-        None => None,
-    }
-}
-
-fn live_entity_at(world: &World, batch: &Batch, id: &Option<Uid>) -> Option<Live>
-    requires { IsBatch batch.now }
-    ensures { result ≡ option_map deletes.live_entity (option_and_then (known.entity_now (facts world.now) batch.now.verdict.writes) id.now) }
-{
-    live_entity_of(entity_of(world, batch, id))
-}
-
-fn live_enrollment_of(
-    world: &World,
-    batch: &Batch,
-    before: &Option<EnrollmentPlace>,
-) -> Option<Live>
-    requires { IsBatch batch.now }
-    ensures { result ≡ option_map (deletes.live_enrollment (facts world.now) batch.now.verdict.writes) before.now }
-{
-    match before {
-        Some(at) => Some(live_enrollment(world, batch, at)),
-        None => None,
-    }
-}
-
-fn live_event_of(world: &World, batch: &Batch, before: &Option<EventPlace>) -> Option<Live>
-    requires { IsBatch batch.now }
-    ensures { result ≡ option_map (deletes.live_event (facts world.now) batch.now.verdict.writes) before.now }
-{
-    match before {
-        Some(at) => Some(live_event(world, batch, at)),
-        None => None,
-    }
-}
-
-fn entity_deleted(
-    alloc: Global,
-    asking: &Asking<'_>,
-    batch: &Batch,
-    id: &Option<Uid>,
-) -> Result<Judged, Memory>
-    requires { IsBatch batch.now }
-    ensures { IfOk result (λ judged. judged ≡ option_map_or
-        (λ own. Judged.Deleted (deletes.entity_gone (facts asking.now.world.now) batch.now.verdict.writes own)) id.now Judged.Nothing) }
-{
-    match id {
-        Some(id) => {
-            let writes = entity_gone(alloc, asking.world, batch, *id)?;
-            Ok(Judged::Deleted(writes))
-        }
-        None => Ok(Judged::Nothing),
-    }
-}
-
-fn enrollment_deleted(
-    alloc: Global,
-    asking: &Asking<'_>,
-    batch: &Batch,
-    id: &Option<Uid>,
-) -> Result<Judged, Memory>
-    requires { IsBatch batch.now }
-    ensures { IfOk result (λ judged. judged ≡ option_map_or
-        (λ own. Judged.Deleted (deletes.enrollment_gone (facts asking.now.world.now) batch.now.verdict.writes own)) id.now Judged.Nothing) }
-{
-    match id {
-        Some(id) => {
-            let writes = enrollment_gone(alloc, asking.world, batch, *id)?;
-            Ok(Judged::Deleted(writes))
-        }
-        None => Ok(Judged::Nothing),
-    }
-}
-
-fn event_deleted(alloc: Global, id: &Option<Uid>) -> Result<Judged, Memory>
-    ensures { IfOk result (λ judged. judged ≡ option_map_or (λ own. Judged.Deleted (Write.EventDeleted own ∷ [])) id.now Judged.Nothing) }
-{
-    match id {
-        Some(id) => {
-            let writes = only(alloc, Write::EventDeleted(*id))?;
-            Ok(Judged::Deleted(writes))
-        }
-        None => Ok(Judged::Nothing),
-    }
-}
-
 impl Object for BundleEntity {
     ghost own = { λ asked. id_in asked.id };
 
-    ghost gone = { verdicts.entity_delete };
+    ghost owned_by = { kind.TrackedEntityType };
+
+    ghost there = { verdicts.entity_there };
+
+    ghost removal = { deletes.entity_gone };
 
     ghost written = { verdicts.entity_write };
 
@@ -176,19 +55,23 @@ impl Object for BundleEntity {
         id_in(&self.id)
     }
 
-    #[tactic(auto, unfolding(crate::specs::Verdicts::entity_delete))]
-    fn delete(
-        alloc: Global,
-        asking: &Asking<'_>,
-        batch: &Batch,
-        id: &Option<Uid>,
-    ) -> Result<Judged, Memory> {
-        let live = live_entity_at(asking.world, batch, id);
-        let repeated = is_repeated(batch, id);
-        match delete_conflict(asking, repeated, Kind::TrackedEntityType, id, &live) {
-            Some(code) => Ok(Judged::Refused(code)),
-            None => entity_deleted(alloc, asking, batch, id),
+    fn owners() -> Kind {
+        Kind::TrackedEntityType
+    }
+
+    fn live(world: &World, batch: &Batch, id: &Option<Uid>) -> Option<Live> {
+        match entity_now(world, batch, id) {
+            Some(entity) => Some(Live {
+                unit: entity.unit,
+                owner: entity.kind,
+                orphaned: false,
+            }),
+            None => None,
         }
+    }
+
+    fn gone(alloc: Global, world: &World, batch: &Batch, id: Uid) -> Result<Items<Write>, Memory> {
+        entity_gone(alloc, world, batch, id)
     }
 
     #[tactic(auto, unfolding(crate::specs::Verdicts::entity_write))]
@@ -200,7 +83,7 @@ impl Object for BundleEntity {
         batch: &Batch,
     ) -> Result<Judged, Memory> {
         let id = id_in(&self.id);
-        let before = entity_of(world, batch, &id);
+        let before = entity_now(world, batch, &id);
         judge_entity(alloc, asking, before, is_repeated(batch, &id), self)
     }
 }
@@ -208,7 +91,11 @@ impl Object for BundleEntity {
 impl Object for BundleEnrollment {
     ghost own = { λ asked. id_in asked.id };
 
-    ghost gone = { verdicts.enrollment_delete };
+    ghost owned_by = { kind.Program };
+
+    ghost there = { verdicts.enrollment_there };
+
+    ghost removal = { deletes.enrollment_gone };
 
     ghost written = { verdicts.enrollment_write };
 
@@ -216,20 +103,23 @@ impl Object for BundleEnrollment {
         id_in(&self.id)
     }
 
-    #[tactic(auto, unfolding(crate::specs::Verdicts::enrollment_delete))]
-    fn delete(
-        alloc: Global,
-        asking: &Asking<'_>,
-        batch: &Batch,
-        id: &Option<Uid>,
-    ) -> Result<Judged, Memory> {
-        let before = enrollment_of(asking.world, batch, id);
-        let live = live_enrollment_of(asking.world, batch, &before);
-        let repeated = is_repeated(batch, id);
-        match delete_conflict(asking, repeated, Kind::Program, id, &live) {
-            Some(code) => Ok(Judged::Refused(code)),
-            None => enrollment_deleted(alloc, asking, batch, id),
+    fn owners() -> Kind {
+        Kind::Program
+    }
+
+    fn live(world: &World, batch: &Batch, id: &Option<Uid>) -> Option<Live> {
+        match enrollment_now(world, batch, id) {
+            Some(at) => Some(Live {
+                unit: at.unit,
+                owner: at.program,
+                orphaned: entity_now(world, batch, &Some(at.entity)).is_none(),
+            }),
+            None => None,
         }
+    }
+
+    fn gone(alloc: Global, world: &World, batch: &Batch, id: Uid) -> Result<Items<Write>, Memory> {
+        enrollment_gone(alloc, world, batch, id)
     }
 
     #[tactic(auto, unfolding(crate::specs::Verdicts::enrollment_write))]
@@ -241,9 +131,9 @@ impl Object for BundleEnrollment {
         batch: &Batch,
     ) -> Result<Judged, Memory> {
         let id = id_in(&self.id);
-        let live = enrollment_of(world, batch, &id).is_some();
+        let live = enrollment_now(world, batch, &id).is_some();
         let repeated = is_repeated(batch, &id);
-        let parent = entity_of(world, batch, &id_in(&self.entity));
+        let parent = entity_now(world, batch, &id_in(&self.entity));
         judge_enrollment(alloc, asking, Standing { live, repeated }, parent, self)
     }
 }
@@ -251,7 +141,11 @@ impl Object for BundleEnrollment {
 impl Object for BundleEvent {
     ghost own = { λ asked. id_in asked.id };
 
-    ghost gone = { verdicts.event_delete };
+    ghost owned_by = { kind.Program };
+
+    ghost there = { verdicts.event_there };
+
+    ghost removal = { verdicts.event_gone };
 
     ghost written = { verdicts.event_write };
 
@@ -259,20 +153,29 @@ impl Object for BundleEvent {
         id_in(&self.id)
     }
 
-    #[tactic(auto, unfolding(crate::specs::Verdicts::event_delete))]
-    fn delete(
-        alloc: Global,
-        asking: &Asking<'_>,
-        batch: &Batch,
-        id: &Option<Uid>,
-    ) -> Result<Judged, Memory> {
-        let before = event_of(asking.world, batch, id);
-        let live = live_event_of(asking.world, batch, &before);
-        let repeated = is_repeated(batch, id);
-        match delete_conflict(asking, repeated, Kind::Program, id, &live) {
-            Some(code) => Ok(Judged::Refused(code)),
-            None => event_deleted(alloc, id),
+    fn owners() -> Kind {
+        Kind::Program
+    }
+
+    fn live(world: &World, batch: &Batch, id: &Option<Uid>) -> Option<Live> {
+        match event_now(world, batch, id) {
+            Some(at) => Some(Live {
+                unit: at.unit,
+                owner: at.program,
+                orphaned: at.enrollment.is_some()
+                    && enrollment_now(world, batch, &at.enrollment).is_none(),
+            }),
+            None => None,
         }
+    }
+
+    fn gone(
+        alloc: Global,
+        _world: &World,
+        _batch: &Batch,
+        id: Uid,
+    ) -> Result<Items<Write>, Memory> {
+        only(alloc, Write::EventDeleted(id))
     }
 
     #[tactic(auto, unfolding(crate::specs::Verdicts::event_write))]
@@ -284,9 +187,9 @@ impl Object for BundleEvent {
         batch: &Batch,
     ) -> Result<Judged, Memory> {
         let id = id_in(&self.id);
-        let live = event_of(world, batch, &id).is_some();
+        let live = event_now(world, batch, &id).is_some();
         let repeated = is_repeated(batch, &id);
-        let parent = enrollment_of(world, batch, &id_in(&self.enrollment));
+        let parent = enrollment_now(world, batch, &id_in(&self.enrollment));
         judge_event(alloc, asking, Standing { live, repeated }, parent, self)
     }
 }
@@ -300,13 +203,13 @@ fn with_one<T: Object>(
 ) -> Result<(), Memory>
     requires who { IsKnown asking.now.meta.now asking.now.who }
     requires held { IsBatch batch.old }
-    ensures sofar { OnOk result (sofar_of batch.new.verdict batch.new.judged ≡ verdicts.with_one T.own T.gone T.written (facts asking.now.world.now)
-        asking.now.meta.now asking.now.who asking.now.strategy asked.now (sofar_of batch.old.verdict batch.old.judged)) }
+    ensures sofar { OnOk result (sofar_of batch.new.verdict batch.new.judged ≡ verdicts.with_one T.own (verdicts.deleted T.owned_by T.there T.removal) T.written
+        (facts asking.now.world.now) asking.now.meta.now asking.now.who asking.now.strategy asked.now (sofar_of batch.old.verdict batch.old.judged)) }
     ensures held { OnOk result (IsBatch batch.new) }
 {
     let id = asked.id();
     let judged = if is_delete_all(asking.strategy) {
-        T::delete(alloc, asking, batch, &id)?
+        deleted::<T>(alloc, asking, batch, &id)?
     } else {
         asked.write(alloc, asking, asking.world, batch)?
     };
@@ -321,8 +224,9 @@ fn with_each<T: Object>(
 ) -> Result<(), Memory>
     requires who { IsKnown asking.now.meta.now asking.now.who }
     requires held { IsBatch batch.old }
-    ensures sofar { OnOk result (sofar_of batch.new.verdict batch.new.judged ≡ verdicts.with_each (verdicts.with_one T.own T.gone T.written
-        (facts asking.now.world.now) asking.now.meta.now asking.now.who asking.now.strategy) list.now (sofar_of batch.old.verdict batch.old.judged)) }
+    ensures sofar { OnOk result (sofar_of batch.new.verdict batch.new.judged ≡ verdicts.with_each (verdicts.with_one T.own
+        (verdicts.deleted T.owned_by T.there T.removal) T.written (facts asking.now.world.now) asking.now.meta.now asking.now.who
+        asking.now.strategy) list.now (sofar_of batch.old.verdict batch.old.judged)) }
     ensures held { OnOk result (IsBatch batch.new) }
 {
     for asked in list {

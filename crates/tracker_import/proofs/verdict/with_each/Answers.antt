@@ -1,7 +1,7 @@
 use Rattle.std.proofs.Common.{refl}
 use Rattle.dh_changes.specs.World.{facts}
 use Rattle.tracker_import.specs.Outcomes.{sofar_of}
-use Rattle.tracker_import.specs.Verdicts.{with_one, with_each}
+use Rattle.tracker_import.specs.Verdicts.{deleted, with_one, with_each}
 use Rattle.tracker_import.proofs.LoopLemmas.{folded-more}
 use Rattle.tracker_import.proofs.verdict.with_each.Goals as goal
 
@@ -9,7 +9,8 @@ pub loop-asked-preserved : goal.loop-asked-preserved
 loop-asked-preserved g c =
     let kind = g.T.Object in
     let asking = c.args.asking.now in
-    let step = with_one kind.own kind.gone kind.written (facts asking.world.now) asking.meta.now asking.who asking.strategy in
+    let gone = deleted kind.owned_by kind.there kind.removal in
+    let step = with_one kind.own gone kind.written (facts asking.world.now) asking.meta.now asking.who asking.strategy in
     let before = c.loop-asked.batch in
     let after = c.with_one.new.batch in
     record {

@@ -1,9 +1,0 @@
-use Rattle.std.proofs.Common.{◌≡◌, ◌++◌, filter, drop, is_some}
-use Rattle.dh_changes.specs.World.{facts}
-use Rattle.tracker_import.specs.Known.{event_now}
-use Rattle.tracker_import.proofs.deletes.kept_events.Given as goal
-
-abbrev pub invariant-loop-id : goal.invariant-loop-id
-invariant-loop-id l =
-    filter (λ id. is_some (event_now (facts l.world) l.batch.verdict.writes id)) l.ids
-    ≡ l.left ++ filter (λ id. is_some (event_now (facts l.world) l.batch.verdict.writes id)) (drop l.id-index l.ids)
