@@ -1,31 +1,22 @@
 //! Which rules are asked of a data set and a period.
 ghost use Rattle.std.specs.Prelude.{◌≡◌, ◌<◌, length};
-ghost use Rattle.std.specs.List.{list_all};
-ghost use Rattle.validation.specs.Check.{has_element_named, is_in_set, are_in_set, fits};
+ghost use Rattle.validation.specs.Check.{is_in_set, are_in_set, fits};
 
-use dh_base::uid::Uid;
 use dh_metadata::kind::Kind;
 use dh_metadata::metadata::Metadata;
 use dh_metadata::records::Rule;
 use dh_periods::PeriodType;
 use expr_lang::{Expr, Item};
 
-fn has_element(meta: &Metadata, set: u32, element: &Uid) -> bool
-    requires { set < length meta.now.data_sets }
-    ensures { result ≡ has_element_named meta.now set element.now }
-{
-    match meta.find(Kind::DataElement, *element) {
-        None => false,
-        Some(number) => meta.has_element(set, number),
-    }
-}
-
 fn is_in_set(meta: &Metadata, set: u32, item: &Item) -> bool
     requires { set < length meta.now.data_sets }
     ensures { result ≡ is_in_set meta.now set item.now }
 {
     match item {
-        Item::Element { element, .. } => has_element(meta, set, element),
+        Item::Element { element, .. } => match meta.find(Kind::DataElement, *element) {
+            Some(number) => meta.has_element(set, number),
+            None => false,
+        },
         _ => true,
     }
 }

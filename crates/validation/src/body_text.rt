@@ -1,11 +1,10 @@
 //! The body that tells violations.
-ghost use Rattle.std.specs.Prelude.{◌≡◌, ◌<◌, map, length, IfOk};
+ghost use Rattle.std.specs.Prelude.{◌≡◌, map, IfOk};
 ghost use Rattle.std.specs.List.{All};
 ghost use Rattle.serde_json.specs.Data.{put as with_member};
 ghost use Rattle.serde_json.specs.View.{view, members_view};
 ghost use Rattle.serde_json.specs.Written.{compact_text};
-ghost use Rattle.validation.specs.Body.{text_of, side_of, violation_with, violation_of, violations_of, body_of};
-ghost use Rattle.validation.specs.Check.{id_of};
+ghost use Rattle.validation.specs.Body.{text_of, side_of, violation_of, violations_of, body_of};
 ghost use Rattle.validation.specs.Run.{IsRuleOf};
 
 use crate::outcome::Violation;
@@ -50,32 +49,29 @@ fn side_value(alloc: Global, side: Option<Frac>) -> Result<Value, Memory>
     }
 }
 
-fn id_value(alloc: Global, meta: &Metadata, rule: u32) -> Result<Value, Memory>
-    requires { rule < length meta.now.validation_rules }
-    ensures { IfOk result (λ v. view v ≡ text_of (id_of meta.now rule)) }
+/// The members and one more, that of a side's value.
+fn with_side(
+    alloc: Global,
+    members: Map<String, Value>,
+    name: &str,
+    side: Option<Frac>,
+) -> Result<Map<String, Value>, Memory>
+    ensures { IfOk result (λ more. members_view more.entries ≡ with_member name.now (side_of side) (members_view members.entries)) }
 {
-    let id = meta.rule(rule).id.bytes();
-    text_value(alloc, &id)
+    let value = side_value(alloc, side)?;
+    Ok(with_value(alloc, members, name, value)?)
 }
 
 #[tactic(auto, unfolding(crate::specs::Body::violation_with))]
-fn violation_with(alloc: Global, id: Value, left: Value, right: Value) -> Result<Value, AllocError>
-    ensures { IfOk result (λ v. view v ≡ violation_with (view id) (view left) (view right)) }
-{
-    let members = with_value(alloc, Map::new(alloc), "id", id)?;
-    let members = with_value(alloc, members, "leftsideValue", left)?;
-    let members = with_value(alloc, members, "rightsideValue", right)?;
-    Ok(Value::Object(members))
-}
-
 fn violation_value(alloc: Global, meta: &Metadata, violation: &Violation) -> Result<Value, Memory>
     requires { IsRuleOf meta.now violation.now }
     ensures { IfOk result (λ v. view v ≡ violation_of meta.now violation.now) }
 {
-    let left = side_value(alloc, violation.left)?;
-    let right = side_value(alloc, violation.right)?;
-    let id = id_value(alloc, meta, violation.rule)?;
-    Ok(violation_with(alloc, id, left, right)?)
+    let id = text_value(alloc, &meta.rule(violation.rule).id.bytes())?;
+    let members = with_value(alloc, Map::new(alloc), "id", id)?;
+    let members = with_side(alloc, members, "leftsideValue", violation.left)?;
+    let members = with_side(alloc, members, "rightsideValue", violation.right)?;
+    Ok(Value::Object(members))
 }
 
 fn violation_values(

@@ -1,9 +1,9 @@
 //! The check.
-ghost use Rattle.std.specs.Prelude.{◌≡◌, ◌<◌, Some, length, IfOk, OnOk};
+ghost use Rattle.std.specs.Prelude.{◌≡◌, Some, IfOk, OnOk};
 ghost use Rattle.std.specs.List.{All};
 ghost use Rattle.dh_base.specs.Memory.{Answers};
 ghost use Rattle.cell_values.specs.Seen.{seen_of, contents_of};
-ghost use Rattle.validation.specs.Check.{id_of, rule_outcome, outcome_of, check_all, check_of};
+ghost use Rattle.validation.specs.Check.{id_of, outcome_of, check_all, check_of};
 ghost use Rattle.validation.specs.Run.{cause_of, IsChecking, IsSpot, AreKnownAt, IsRuleOf, IsOutcomeOf, is_wide_outcome, violation_in, with_violation};
 
 use crate::asked::fits;
@@ -20,14 +20,12 @@ use dh_base::items::Items;
 use dh_base::memory::Memory;
 use dh_base::uid::Uid;
 use dh_metadata::kind::Kind;
-use dh_metadata::metadata::Metadata;
-use dh_metadata::records::Rule;
 use std::alloc::{AllocFailed, Global};
 use std::collections::BTreeMap;
 use table_rows::RowStore;
 
 /// Why a check gives no violations.
-#[derive(Clone, Copy, PartialEq, Eq)]
+#[derive(Clone, Copy)]
 pub enum CheckFault {
     /// A side or the comparison of a rule is too wide to be computed. It carries the identifier of
     /// the first such rule.
@@ -54,37 +52,6 @@ impl<T: Drop> From<AllocFailed<T>> for CheckFault {
     fn from(_error: AllocFailed<T>) -> CheckFault {
         CheckFault::Memory
     }
-}
-
-/// What comes of a rule that is asked.
-fn rule_outcome<S: RowStore>(
-    alloc: Global,
-    source: &Source<'_, S>,
-    spot: &Spot,
-    known: &mut BTreeMap<ItemKey, Option<Frac>>,
-    number: u32,
-    rule: &Rule,
-) -> Result<Outcome, Memory>
-    requires spot { IsSpot source.now.meta.now source.now.seer.now spot.now }
-    requires rule { number < length source.now.meta.now.validation_rules }
-    requires known { AreKnownAt source.now.meta.now source.now.seer.now
-        (contents_of (S.rows source.now.store.now) (S.events source.now.store.now) (S.regs source.now.store.now))
-        spot.now.place known.old.entries }
-    ensures known { OnOk result (AreKnownAt source.now.meta.now source.now.seer.now
-        (contents_of (S.rows source.now.store.now) (S.events source.now.store.now) (S.regs source.now.store.now))
-        spot.now.place known.new.entries) }
-    ensures rule { IfOk result (λ outcome. IsOutcomeOf source.now.meta.now number outcome) }
-    ensures value { IfOk result (λ outcome. outcome ≡ rule_outcome source.now.meta.now
-        (seen_of source.now.meta.now source.now.seer.now.user
-        (contents_of (S.rows source.now.store.now) (S.events source.now.store.now) (S.regs source.now.store.now)))
-        spot.now.place number rule.now) }
-{
-    if !fits(source.meta, spot.place.set, spot.place.period.kind(), rule) {
-        return Ok(Outcome::Kept);
-    }
-    let left = side_value(alloc, source, spot, known, &rule.left_side)?;
-    let right = side_value(alloc, source, spot, known, &rule.right_side)?;
-    Ok(judged(rule.operator, number, &left, &right))
 }
 
 /// What comes of the rule with that number. One that the user may not read isn't asked.
@@ -116,17 +83,13 @@ fn outcome_of<S: RowStore>(
     if meta.count(Kind::ValidationRule) <= number {
         return Ok(Outcome::Kept);
     }
-    rule_outcome(alloc, source, spot, known, number, meta.rule(number))
-}
-
-/// The rule's identifier.
-fn wide_rule(meta: &Metadata, number: u32) -> CheckFault
-    requires { number < length meta.now.validation_rules }
-    ensures { cause_of result ≡ Some (id_of meta.now number) }
-{
-    CheckFault::Wide {
-        id: meta.rule(number).id,
+    let rule = meta.rule(number);
+    if !fits(meta, spot.place.set, spot.place.period.kind(), rule) {
+        return Ok(Outcome::Kept);
     }
+    let left = side_value(alloc, source, spot, known, &rule.left_side)?;
+    let right = side_value(alloc, source, spot, known, &rule.right_side)?;
+    Ok(judged(rule.operator, number, &left, &right))
 }
 
 fn is_wide_outcome(outcome: &Outcome) -> bool
@@ -135,15 +98,6 @@ fn is_wide_outcome(outcome: &Outcome) -> bool
     match outcome {
         Outcome::Wide => true,
         Outcome::Kept | Outcome::Violated(_) => false,
-    }
-}
-
-fn violation_in(outcome: &Outcome) -> Option<Violation>
-    ensures { result ≡ violation_in outcome.now }
-{
-    match outcome {
-        Outcome::Violated(violation) => Some(*violation),
-        Outcome::Wide | Outcome::Kept => None,
     }
 }
 
@@ -161,12 +115,12 @@ fn push(
 }
 
 /// Adds the violation, where there is one.
-fn add(violations: &mut Items<Violation>, found: &Option<Violation>) -> Result<(), Memory>
-    ensures { OnOk result (violations.new ≡ with_violation found.now violations.old) }
+fn add(violations: &mut Items<Violation>, outcome: &Outcome) -> Result<(), Memory>
+    ensures { OnOk result (violations.new ≡ with_violation (violation_in outcome.now) violations.old) }
 {
-    match found {
-        None => Ok(()),
-        Some(violation) => push(violations, violation.rule, violation.left, violation.right),
+    match outcome {
+        Outcome::Violated(found) => push(violations, found.rule, found.left, found.right),
+        Outcome::Wide | Outcome::Kept => Ok(()),
     }
 }
 
@@ -189,10 +143,11 @@ fn check_all<S: RowStore>(
     for number in order {
         let outcome = outcome_of(alloc, source, spot, &mut known, *number)?;
         if is_wide_outcome(&outcome) {
-            return Err(wide_rule(source.meta, *number));
+            return Err(CheckFault::Wide {
+                id: source.meta.rule(*number).id,
+            });
         }
-        let found = violation_in(&outcome);
-        add(&mut violations, &found)?;
+        add(&mut violations, &outcome)?;
     }
     Ok(violations)
 }

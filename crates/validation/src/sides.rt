@@ -2,7 +2,6 @@
 ghost use Rattle.std.specs.Prelude.{◌≡◌, map, get_or, None, IfOk, OnOk};
 ghost use Rattle.cell_values.specs.Seen.{seen_of, contents_of};
 ghost use Rattle.validation.specs.Check.{given_at, side_value};
-ghost use Rattle.validation.specs.Known.{item_of};
 ghost use Rattle.validation.specs.Run.{IsSpot, AreKnownAt};
 
 use crate::known::{ItemKey, key_of, look_up, note};
@@ -17,32 +16,6 @@ use std::alloc::Global;
 use std::collections::BTreeMap;
 use table_rows::RowStore;
 
-/// The values of items, in their order, at the unit alone and inside the period.
-fn values_of<S: RowStore>(
-    alloc: Global,
-    source: &Source<'_, S>,
-    spot: &Spot,
-    items: &[Item],
-) -> Result<Vec<Option<Frac>>, Memory>
-    requires { IsSpot source.now.meta.now source.now.seer.now spot.now }
-    ensures { IfOk result (λ values. values.items ≡ map (given_at source.now.meta.now
-        (seen_of source.now.meta.now source.now.seer.now.user
-        (contents_of (S.rows source.now.store.now) (S.events source.now.store.now) (S.regs source.now.store.now)))
-        spot.now.place) items.now) }
-{
-    let plans = item_plans(alloc, source, items)?;
-    let groups = item_groups(alloc, plans.as_slice(), &spot.periods)?;
-    let values = item_values(
-        alloc,
-        source,
-        plans.as_slice(),
-        groups.as_slice(),
-        &spot.periods,
-        &spot.units,
-    )?;
-    Ok(values)
-}
-
 fn first_of(values: &[Option<Frac>]) -> Option<Frac>
     ensures { result ≡ get_or values.now 0 None }
 {
@@ -52,7 +25,7 @@ fn first_of(values: &[Option<Frac>]) -> Option<Frac>
     values[0]
 }
 
-/// The value of an item, from the records.
+/// The value of an item at the unit alone and inside the period, from the records.
 fn value_of<S: RowStore>(
     alloc: Global,
     source: &Source<'_, S>,
@@ -66,39 +39,17 @@ fn value_of<S: RowStore>(
         spot.now.place item.now) }
 {
     let items = [*item];
-    let values = values_of(alloc, source, spot, &items)?;
+    let plans = item_plans(alloc, source, &items)?;
+    let groups = item_groups(alloc, plans.as_slice(), &spot.periods)?;
+    let values = item_values(
+        alloc,
+        source,
+        plans.as_slice(),
+        groups.as_slice(),
+        &spot.periods,
+        &spot.units,
+    )?;
     Ok(first_of(&values))
-}
-
-/// The value of an item under its key: the one that is known, or that from the records, which is
-/// known afterwards.
-fn value_under<S: RowStore>(
-    alloc: Global,
-    source: &Source<'_, S>,
-    spot: &Spot,
-    known: &mut BTreeMap<ItemKey, Option<Frac>>,
-    key: &ItemKey,
-    item: &Item,
-) -> Result<Option<Frac>, Memory>
-    requires spot { IsSpot source.now.meta.now source.now.seer.now spot.now }
-    requires key { item_of key.now ≡ item.now }
-    requires known { AreKnownAt source.now.meta.now source.now.seer.now
-        (contents_of (S.rows source.now.store.now) (S.events source.now.store.now) (S.regs source.now.store.now))
-        spot.now.place known.old.entries }
-    ensures known { OnOk result (AreKnownAt source.now.meta.now source.now.seer.now
-        (contents_of (S.rows source.now.store.now) (S.events source.now.store.now) (S.regs source.now.store.now))
-        spot.now.place known.new.entries) }
-    ensures value { IfOk result (λ value. value ≡ given_at source.now.meta.now
-        (seen_of source.now.meta.now source.now.seer.now.user
-        (contents_of (S.rows source.now.store.now) (S.events source.now.store.now) (S.regs source.now.store.now)))
-        spot.now.place item.now) }
-{
-    if let Some(value) = look_up(known, key) {
-        return Ok(value);
-    }
-    let value = value_of(alloc, source, spot, item)?;
-    note(known, key, &value)?;
-    Ok(value)
 }
 
 /// The value of an item. One that has a key is valued once a check.
@@ -121,10 +72,15 @@ fn item_value<S: RowStore>(
         (contents_of (S.rows source.now.store.now) (S.events source.now.store.now) (S.regs source.now.store.now)))
         spot.now.place item.now) }
 {
-    match key_of(item) {
-        Some(key) => value_under(alloc, source, spot, known, &key, item),
-        None => value_of(alloc, source, spot, item),
+    let Some(key) = key_of(item) else {
+        return value_of(alloc, source, spot, item);
+    };
+    if let Some(value) = look_up(known, &key) {
+        return Ok(value);
     }
+    let value = value_of(alloc, source, spot, item)?;
+    note(known, &key, &value)?;
+    Ok(value)
 }
 
 /// The values of items, in their order.

@@ -2,7 +2,7 @@ use Rattle.std.proofs.Common.{◌∙◌, ◌+◌, ◌<◌, drop, ap, subst, sym}
 use Rattle.dh_metadata.specs.Sets.{put_by_id}
 use Rattle.validation.specs.Check.{rule_ids}
 use Rattle.validation.proofs.OrderLemmas.{put-more}
-use Rattle.validation.proofs.order.rule_map.Goals as goal
+use Rattle.validation.proofs.order.rules_by_id.Goals as goal
 
 pub loop-number-preserved : goal.loop-number-preserved
 loop-number-preserved c =
