@@ -2,15 +2,12 @@
 use Rattle.std.proofs.Common.{◌≡◌, ℕ, List, [], ◌∷◌, Bool, true, false, ◌||◌, Ordering, Less, Equal, Greater, refl}
 use Rattle.std.specs.Ordering.{nat_cmp, match_ordering}
 use Rattle.std.specs.Cmp.Lexicographic.{slice_cmp}
-use Rattle.serde_json.specs.Data.{Data, object, Members, no_members, member, put}
+use Rattle.serde_json.specs.Data.{Data, Members, no_members, member, put}
 use Rattle.serde_json.specs.View.{items_of}
 use Rattle.serde_json.specs.Written.{has_float, items_have_float, members_have_float}
 use Rattle.dh_metadata.specs.declared.held.Records.{Records}
 use Rattle.query_lang.specs.declared.plain.Query.{Query}
-use Rattle.query_answer.specs.Heads.{heads_of, dimension_of, value_column}
 use Rattle.query_answer.specs.Names.{ids_of, name_of, put_name, put_names, dimensions_of, meta_of, dx_named, unit_named, period_named}
-use Rattle.query_answer.specs.Body.{told_of}
-use Rattle.query_answer.specs.Written.{members_before, before_of}
 
 both_false : (a b : Bool) → a ≡ false → b ≡ false → (a || b) ≡ false
 both_false true b p q = p
@@ -19,13 +16,6 @@ both_false false b p q = q
 ids_plain : (named : List (List ℕ × List ℕ)) → items_have_float (items_of (ids_of named)) ≡ false
 ids_plain [] = refl
 ids_plain (x ∷ xs) = ids_plain xs
-
-heads_plain : (periods units : Bool) → items_have_float (items_of (heads_of periods units)) ≡ false
-unfolding heads_of dimension_of value_column
-heads_plain true true = refl
-heads_plain true false = refl
-heads_plain false true = refl
-heads_plain false false = refl
 
 by_order : (o : Ordering) (a b c : Members) → members_have_float a ≡ false → members_have_float b ≡ false → members_have_float c ≡ false
     → members_have_float (match_ordering o a b c) ≡ false
@@ -54,7 +44,7 @@ unfolding name_of
 names_plain [] ms p = p
 names_plain (x ∷ xs) ms p = names_plain xs (put_name x ms) (put_plain _ _ ms refl p)
 
-meta_plain : (r : Records) (query : Query) → has_float (meta_of r query) ≡ false
+pub meta_plain : (r : Records) (query : Query) → has_float (meta_of r query) ≡ false
 unfolding meta_of dimensions_of
 meta_plain r query =
     both_false _ _
@@ -63,13 +53,3 @@ meta_plain r query =
     (both_false _ _
     (names_plain (unit_named r query.units.items) _ (names_plain (period_named query.periods.items) _ (names_plain (dx_named r query.dx) no_members refl)))
     refl)
-
-told_plain : (told : Bool) (r : Records) (query : Query) → has_float (told_of told r query) ≡ false
-told_plain true r query = meta_plain r query
-told_plain false r query = refl
-
--- the members before the rows
-pub before_plain : (r : Records) (query : Query) (height : ℕ) → has_float (object (before_of r query height)) ≡ false
-unfolding members_before
-before_plain r query height =
-    both_false _ _ (heads_plain query.periods.filter query.units.filter) (both_false _ _ (told_plain query.meta r query) refl)

@@ -9,3 +9,4 @@ pub mod PlanLemmas
 pub mod PartLemmas
 pub mod RowLemmas
 pub mod BodyLemmas
+pub mod BothLemmas

@@ -55,10 +55,6 @@ unfolding in_quotes
 plain_text bytes e =
     ap (λ l. compact_text (string l)) (plain_lossy bytes e) ∙ ap (λ l. 34 ∷ (l ++ 34 ∷ [])) (plain_escape bytes e)
 
-pub plain_name : (name : List ℕ) → list_all is_plain name ≡ true → in_quotes name ≡ compact_text (string name)
-unfolding in_quotes
-plain_name name e = ap (λ l. compact_text (string l)) (plain_lossy name e)
-
 -- ---- rows
 
 -- periods that compare as equal are one

@@ -1,8 +1,8 @@
 -- The body as it is written: what stands before its rows, the rows, and what stands after them.
 use Rattle.std.specs.Prelude.{◌≡◌, ℕ, Bool, true, false, List, [], ◌∷◌, ◌++◌, length, Option, codes}
-use Rattle.serde_json.specs.Data.{Data, number, unsigned, string, array, Members, member, no_members}
+use Rattle.serde_json.specs.Data.{number, unsigned, string, array}
 use Rattle.serde_json.specs.View.{items_of}
-use Rattle.serde_json.specs.Written.{comma_if, compact_text}
+use Rattle.serde_json.specs.Written.{compact_text}
 use Rattle.dh_periods.specs.declared.name.PeriodName.{PeriodName}
 use Rattle.dh_metadata.specs.declared.held.Records.{Records}
 use Rattle.query_lang.specs.declared.plain.Dx.{Dx}
@@ -31,28 +31,41 @@ more_row r dx row = 44 ∷ row_text r dx row
 unfoldable pub rows_text : Records → List Dx → List AnswerRow → List ℕ
 rows_text r dx rows = compact_text (array (items_of (rows_of r dx rows)))
 
--- members without the brace that closes them
-abbrev pub open_members : Bool → Members → List ℕ
-open_members later no_members = []
-open_members later (member k d ms) = comma_if later ++ (compact_text (string k) ++ 58 ∷ (compact_text d ++ open_members true ms))
+-- the name of a member, after another
+abbrev pub name_text : List ℕ → List ℕ
+name_text name = 44 ∷ (compact_text (string name) ++ 58 ∷ [])
 
--- the members before the rows
-unfoldable pub members_before : List Data → ℕ → Data → ℕ → Members
-members_before heads width told height =
-    member (codes "headerWidth") (number (unsigned width))
-    (member (codes "headers") (array (items_of heads))
-    (member (codes "height") (number (unsigned height))
-    (member (codes "metaData") told no_members)))
+-- how many columns there are
+abbrev pub width_text : Bool → Bool → List ℕ
+width_text periods units = compact_text (number (unsigned (length (heads_of periods units))))
 
-abbrev pub before_of : Records → Query → ℕ → Members
-before_of r query height =
-    let heads = heads_of query.periods.filter query.units.filter in
-    members_before heads (length heads) (told_of query.meta r query) height
+-- the digit of their number
+abbrev pub width_digit : Bool → Bool → ℕ
+width_digit true true = 50
+width_digit false false = 52
+width_digit _ _ = 51
+
+abbrev pub opening_text : Bool → Bool → List ℕ
+opening_text periods units =
+    123 ∷ (compact_text (string (codes "headerWidth")) ++ 58 ∷ width_digit periods units ∷ (name_text (codes "headers") ++ 91 ∷ []))
+
+abbrev pub text_unless : Bool → List ℕ → List ℕ
+text_unless true text = []
+text_unless false text = text
+
+-- the heads of the columns, after how many they are
+unfoldable pub heads_text : Bool → Bool → List ℕ
+heads_text periods units =
+    123 ∷ (compact_text (string (codes "headerWidth")) ++ 58 ∷ (width_text periods units
+    ++ (name_text (codes "headers") ++ compact_text (array (items_of (heads_of periods units))))))
 
 -- all that stands before the array of the rows
 unfoldable pub before_text : Records → Query → ℕ → List ℕ
-before_text r query height = 123 ∷ (open_members false (before_of r query height) ++ 44 ∷ (in_quotes (codes "rows") ++ 58 ∷ []))
+before_text r query height =
+    heads_text query.periods.filter query.units.filter
+    ++ (name_text (codes "height") ++ (compact_text (number (unsigned height))
+    ++ (name_text (codes "metaData") ++ (compact_text (told_of query.meta r query) ++ name_text (codes "rows")))))
 
 -- all that stands after it
-unfoldable pub after_text : ℕ → List ℕ
-after_text width = 44 ∷ (in_quotes (codes "width") ++ 58 ∷ (compact_text (number (unsigned width)) ++ 125 ∷ []))
+unfoldable pub after_text : Bool → Bool → List ℕ
+after_text periods units = name_text (codes "width") ++ width_digit periods units ∷ 125 ∷ []

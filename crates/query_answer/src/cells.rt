@@ -1,33 +1,22 @@
 //! The value of a cell.
 
-ghost use Rattle.std.specs.Prelude.{◌≡◌, ◌≤◌, ℕ, List, map, None, false, true, IfOk};
+ghost use Rattle.std.specs.Prelude.{◌≡◌, ◌≤◌, Option, map, true, IfOk};
+ghost use Rattle.dh_base.specs.Fractions.{Fraction};
 ghost use Rattle.dh_base.specs.Decimals.{printed};
-ghost use Rattle.dh_periods.specs.declared.name.PeriodName.{PeriodName};
-ghost use Rattle.program_cells.specs.Cells.{cell_value as program_value};
-ghost use Rattle.program_cells.specs.Kept.{IsProgramPlan, AreSubjects};
-ghost use Rattle.dh_metadata.specs.declared.held.Records.{Records};
 ghost use Rattle.program_cells.specs.Value.{ProgramValue, Values};
-ghost use Rattle.table_rows.specs.declared.event.EventRow.{EventRow};
-ghost use Rattle.cell_values.specs.Prepared.{IsDue, IsPrepared};
-ghost use Rattle.cell_values.specs.Reporting.{rate_of};
-ghost use Rattle.cell_values.specs.Held.{AreCellUnits};
-ghost use Rattle.cell_values.specs.Rates.{IsRatePlan};
-ghost use Rattle.cell_values.specs.Seen.{seen, seen_events, seen_regs, seen_of, contents_of};
-ghost use Rattle.cell_values.specs.Cells.{cell_of, aggregate_of};
-ghost use Rattle.cell_values.specs.Plans.{IsElementPlan, inside, groups_inside};
+ghost use Rattle.cell_values.specs.Seen.{seen_of, contents_of};
+ghost use Rattle.cell_values.specs.Plans.{groups_inside};
 ghost use Rattle.query_answer.specs.Asked.{can_answer_dx};
 ghost use Rattle.query_answer.specs.Cells.{of_option, of_program, indicator_cell, cell_value, places_of, decimals_of, value_text};
 ghost use Rattle.query_answer.specs.Parts.{IsUnitPart};
 ghost use Rattle.query_answer.specs.Plans.{IsIndicatorPlan, IsPlan, plan_in, ArePlanGroups};
 
 use crate::arithmetic::CellValue;
+use crate::both::both;
 use crate::parts::UnitPart;
 use crate::plans::{IndicatorPlan, PlanGroups};
 use crate::sides::indicator_value;
-use cell_values::{
-    CellPeriods, CellUnits, Due, ElementPlan, RatePlan, Source, item_values, planned_rate,
-    planned_value,
-};
+use cell_values::{CellPeriods, Source, item_values, planned_rate, planned_value};
 use dh_base::frac::Frac;
 use dh_base::items::Items;
 use dh_base::memory::Memory;
@@ -35,55 +24,20 @@ use dh_base::print::print_rounded;
 use dh_metadata::metadata::Metadata;
 use dh_metadata::records::Indicator;
 use expr_eval::PiFault;
-use program_cells::{ProgramPlan, Subjects, value};
+use program_cells::value;
 use query_lang::{Dx, DxKind};
 use std::alloc::Global;
 use table_rows::{Group, RowStore};
 
-fn from_option(value: Option<Frac>) -> CellValue
-    ensures { result ≡ of_option value }
+/// The cell of a value that was looked for.
+fn from_found(found: Result<Option<Frac>, Memory>) -> Result<CellValue, Memory>
+    ensures { (value : Option Fraction) → IfOk found (λ it. it ≡ value) → IfOk result (λ cell. cell ≡ of_option value) }
 {
-    match value {
-        None => CellValue::None,
-        Some(number) => CellValue::Number(number),
+    match found {
+        Ok(None) => Ok(CellValue::None),
+        Ok(Some(number)) => Ok(CellValue::Number(number)),
+        Err(fault) => Err(fault),
     }
-}
-
-fn element_cell<S: RowStore>(
-    alloc: Global,
-    source: &Source<'_, S>,
-    plan: &ElementPlan,
-    groups: &[Group],
-    periods: &CellPeriods,
-    units: &CellUnits,
-) -> Result<CellValue, Memory>
-    requires plan { IsElementPlan source.now.meta.now source.now.seer.now.user (S.rows source.now.store.now) plan.now }
-    requires groups { groups.now ≡ inside periods.now plan.now.groups }
-    requires units { AreCellUnits source.now.meta.now source.now.seer.now.user units.now }
-    ensures { IfOk result (λ cell. cell
-        ≡ of_option (aggregate_of source.now.meta.now (seen source.now.meta.now source.now.seer.now.user (S.rows source.now.store.now))
-        (cell_of plan.now.operand.element plan.now.operand.combo plan.now.operand.attribute periods.now units.now.units units.now.alone))) }
-{
-    let value = planned_value(alloc, source, plan, groups, periods, units)?;
-    Ok(from_option(value))
-}
-
-fn rate_cell<S: RowStore>(
-    alloc: Global,
-    source: &Source<'_, S>,
-    plan: &RatePlan,
-    due: &Due,
-    units: &CellUnits,
-) -> Result<CellValue, Memory>
-    requires plan { IsRatePlan source.now.meta.now source.now.seer.now.user (S.regs source.now.store.now) plan.now }
-    requires due { IsPrepared plan.now.reports due.now }
-    requires units { AreCellUnits source.now.meta.now source.now.seer.now.user units.now }
-    ensures { (periods : List PeriodName) → IsDue periods plan.now.reports due.now
-        → IfOk result (λ cell. cell ≡ of_option (rate_of source.now.meta.now plan.now.asked.which plan.now.asked.set periods units.now.units
-        (seen_regs source.now.meta.now source.now.seer.now.user (S.regs source.now.store.now)) units.now.alone)) }
-{
-    let value = planned_rate(alloc, source, plan, due, units)?;
-    Ok(from_option(value))
 }
 
 #[tactic(auto, unfolding(crate::specs::Cells::indicator_cell))]
@@ -109,8 +63,9 @@ fn indicator_cell<S: RowStore>(
         indicator.now periods.now unit.now.units.units) }
 {
     let units = &unit.units;
-    let numerator = item_values(alloc, source, plan.over.as_slice(), over, periods, units)?;
-    let denominator = item_values(alloc, source, plan.under.as_slice(), under, periods, units)?;
+    let numerator = item_values(alloc, source, plan.over.as_slice(), over, periods, units);
+    let denominator = item_values(alloc, source, plan.under.as_slice(), under, periods, units);
+    let (numerator, denominator) = both(numerator, denominator)?;
     indicator_value(
         alloc,
         &plan.sides,
@@ -129,20 +84,6 @@ fn from_program(found: Result<Option<Frac>, PiFault>) -> Result<CellValue, Memor
         Err(PiFault::Wide) => Ok(CellValue::Wide),
         Err(PiFault::Memory) => Err(Memory),
     }
-}
-
-fn program_cell(
-    alloc: Global,
-    plan: &ProgramPlan,
-    subjects: &Subjects<'_>,
-    unit: &UnitPart,
-) -> Result<CellValue, Memory>
-    ensures { (r : Records) (user n : ℕ) (periods : List PeriodName) (all : List EventRow)
-        → IsProgramPlan r user all n plan.now → AreSubjects r user all periods plan.now subjects.now → IsUnitPart r user unit.now
-        → IfOk result (λ cell. cell ≡ of_program (program_value r n periods unit.now.units.units (seen_events r user all))) }
-{
-    let found = value(alloc, plan, subjects, &unit.units);
-    from_program(found)
 }
 
 /// The value of the item's cell over these periods and units, by its groups inside the periods.
@@ -165,9 +106,11 @@ pub fn cell_value<S: RowStore>(
         (seen_of source.now.meta.now source.now.seer.now.user
         (contents_of (S.rows source.now.store.now) (S.events source.now.store.now) (S.regs source.now.store.now))) dx.now periods.now unit.now.units.units) }
 {
+    let units = &unit.units;
     match groups {
         PlanGroups::Element(plan, own) => {
-            element_cell(alloc, source, plan, own.as_slice(), periods, &unit.units)
+            let own = own.as_slice();
+            from_found(planned_value(alloc, source, plan, own, periods, units))
         }
         PlanGroups::Indicator(plan, over, under) => {
             let indicator = source.meta.indicator(dx.number);
@@ -175,8 +118,8 @@ pub fn cell_value<S: RowStore>(
             let under = under.as_slice();
             indicator_cell(alloc, source, indicator, plan, over, under, periods, unit)
         }
-        PlanGroups::Rate(plan, due) => rate_cell(alloc, source, plan, due, &unit.units),
-        PlanGroups::Program(plan, subjects) => program_cell(alloc, plan, subjects, unit),
+        PlanGroups::Rate(plan, due) => from_found(planned_rate(alloc, source, plan, due, units)),
+        PlanGroups::Program(plan, subjects) => from_program(value(alloc, plan, subjects, units)),
     }
 }
 

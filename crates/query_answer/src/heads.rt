@@ -1,75 +1,50 @@
-//! The heads of the columns.
+//! The heads of the columns, as they are written.
 
-ghost use Rattle.std.specs.Prelude.{◌≡◌, [], ◌∷◌, ◌++◌, map, IfOk, OnOk};
-ghost use Rattle.serde_json.specs.View.{view};
-ghost use Rattle.query_answer.specs.Heads.{column_of, dimension_of, value_column, unless, heads_of};
+ghost use Rattle.std.specs.Prelude.{◌≡◌, ◌++◌, OnOk};
+ghost use Rattle.query_answer.specs.Written.{text_unless, opening_text, heads_text};
 
-use crate::members::{with_text, with_truth};
 use dh_base::memory::Memory;
-use serde_json::{Map, Value};
-use std::alloc::{AllocError, Global};
 
-// The head of a column.
-fn column(
-    alloc: Global,
-    title: &str,
-    dimension: bool,
-    name: &str,
-    kind: &str,
-    value_kind: &str,
-) -> Result<Value, AllocError>
-    ensures { IfOk result (λ v. view v ≡ column_of title.now dimension name.now kind.now value_kind.now) }
-{
-    let members = with_text(alloc, Map::new(alloc), "column", title)?;
-    let members = with_truth(alloc, members, "hidden", false)?;
-    let members = with_truth(alloc, members, "meta", dimension)?;
-    let members = with_text(alloc, members, "name", name)?;
-    let members = with_text(alloc, members, "type", kind)?;
-    let members = with_text(alloc, members, "valueType", value_kind)?;
-    Ok(Value::Object(members))
-}
+const DATA: &[u8] =
+    br#"{"column":"Data","hidden":false,"meta":true,"name":"dx","type":"java.lang.String","valueType":"TEXT"}"#;
 
-#[tactic(auto, unfolding(crate::specs::Heads::dimension_of))]
-fn dimension(alloc: Global, title: &str, name: &str) -> Result<Value, AllocError>
-    ensures { IfOk result (λ v. view v ≡ dimension_of title.now name.now) }
-{
-    column(alloc, title, true, name, "java.lang.String", "TEXT")
-}
+const PERIOD: &[u8] =
+    br#",{"column":"Period","hidden":false,"meta":true,"name":"pe","type":"java.lang.String","valueType":"TEXT"}"#;
 
-#[tactic(auto, unfolding(crate::specs::Heads::value_column))]
-fn value_column(alloc: Global) -> Result<Value, AllocError>
-    ensures { IfOk result (λ v. view v ≡ value_column) }
-{
-    column(alloc, "Value", false, "value", "java.lang.Double", "NUMBER")
-}
+const UNIT: &[u8] =
+    br#",{"column":"Organisation unit","hidden":false,"meta":true,"name":"ou","type":"java.lang.String","valueType":"TEXT"}"#;
 
-fn push_unless(
-    alloc: Global,
-    list: &mut Vec<Value>,
-    filter: bool,
-    title: &str,
-    name: &str,
-) -> Result<(), Memory>
-    ensures { OnOk result (map view list.new.items ≡ map view list.old.items ++ unless filter (dimension_of title.now name.now)) }
+const VALUE: &[u8] =
+    br#",{"column":"Value","hidden":false,"meta":false,"name":"value","type":"java.lang.Double","valueType":"NUMBER"}"#;
+
+/// What the body begins with: how many heads there are, and the bracket before them.
+#[tactic(auto, unfolding(json::specs::Print::escape_byte))]
+fn opening(periods: bool, units: bool) -> &'static [u8]
+    ensures { result.now ≡ opening_text periods units }
 {
-    if filter {
-        return Ok(());
+    match (periods, units) {
+        (true, true) => br#"{"headerWidth":2,"headers":["#,
+        (false, false) => br#"{"headerWidth":4,"headers":["#,
+        _ => br#"{"headerWidth":3,"headers":["#,
     }
-    let head = dimension(alloc, title, name)?;
-    list.push(head)?;
-    Ok(())
 }
 
-/// The heads of the columns, where periods and units may be filters.
-#[tactic(auto, unfolding(crate::specs::Heads::heads_of))]
-pub fn heads(alloc: Global, periods: bool, units: bool) -> Result<Vec<Value>, Memory>
-    ensures { IfOk result (λ list. map view list.items ≡ heads_of periods units) }
+/// A filter has no column.
+fn unless(filter: bool, head: &[u8]) -> &[u8]
+    ensures { result.now ≡ text_unless filter head.now }
 {
-    let mut list = Vec::new(alloc);
-    push_unless(alloc, &mut list, false, "Data", "dx")?;
-    push_unless(alloc, &mut list, periods, "Period", "pe")?;
-    push_unless(alloc, &mut list, units, "Organisation unit", "ou")?;
-    let value = value_column(alloc)?;
-    list.push(value)?;
-    Ok(list)
+    if filter { b"" } else { head }
+}
+
+/// The beginning of the body with the heads, where periods and units may be filters.
+pub fn push_heads(text: &mut Vec<u8>, periods: bool, units: bool) -> Result<(), Memory>
+    ensures { OnOk result (text.new.items ≡ text.old.items ++ heads_text periods units) }
+{
+    text.extend_from_slice(opening(periods, units))?;
+    text.extend_from_slice(DATA)?;
+    text.extend_from_slice(unless(periods, PERIOD))?;
+    text.extend_from_slice(unless(units, UNIT))?;
+    text.extend_from_slice(VALUE)?;
+    text.push(b']')?;
+    Ok(())
 }

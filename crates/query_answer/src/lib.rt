@@ -7,6 +7,7 @@ mod asked;
 mod asking;
 mod body;
 mod body_rows;
+mod both;
 mod cells;
 mod heads;
 mod members;

@@ -2,7 +2,7 @@
 //! its caller holds nothing where it may have to return early.
 
 ghost use Rattle.std.specs.Prelude.{◌≡◌, IfOk};
-ghost use Rattle.serde_json.specs.Data.{boolean, number, unsigned, string, put as with_member};
+ghost use Rattle.serde_json.specs.Data.{put as with_member};
 ghost use Rattle.serde_json.specs.View.{view, members_view};
 
 use serde_json::{Map, Value, put};
@@ -20,46 +20,4 @@ pub(crate) fn with_value(
     let mut members = members;
     put(&mut members, alloc, name, value)?;
     Ok(members)
-}
-
-/// The members and a number more.
-pub(crate) fn with_number(
-    alloc: Global,
-    members: Map<String, Value>,
-    name: &str,
-    value: u64,
-) -> Result<Map<String, Value>, AllocError>
-    ensures { IfOk result (λ more. members_view more.entries ≡ with_member name.now (number (unsigned value)) (members_view members.entries)) }
-{
-    with_value(alloc, members, name, Value::from(value))
-}
-
-/// The members and a text more.
-pub(crate) fn with_text(
-    alloc: Global,
-    members: Map<String, Value>,
-    name: &str,
-    text: &str,
-) -> Result<Map<String, Value>, AllocError>
-    ensures { IfOk result (λ more. members_view more.entries ≡ with_member name.now (string text.now) (members_view members.entries)) }
-{
-    match Value::try_from_str(alloc, text) {
-        Ok(value) => with_value(alloc, members, name, value),
-        Err(fault) => {
-            drop(members);
-            Err(fault)
-        }
-    }
-}
-
-/// The members and a truth value more.
-pub(crate) fn with_truth(
-    alloc: Global,
-    members: Map<String, Value>,
-    name: &str,
-    value: bool,
-) -> Result<Map<String, Value>, AllocError>
-    ensures { IfOk result (λ more. members_view more.entries ≡ with_member name.now (boolean value) (members_view members.entries)) }
-{
-    with_value(alloc, members, name, Value::Bool(value))
 }

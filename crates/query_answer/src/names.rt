@@ -10,13 +10,13 @@ ghost use Rattle.query_answer.specs.Names.{IsThere, AreUnits, dx_name, name_of, 
 ghost use Rattle.query_answer.specs.Names.{dimensions_of, meta_of};
 
 use crate::members::with_value;
-use crate::texts::{push_text, text_value};
+use crate::texts::text_value;
 use dh_base::memory::Memory;
 use dh_metadata::metadata::Metadata;
 use dh_periods::Period;
 use query_lang::{Dx, DxKind, Query};
 use serde_json::{Map, Value, put};
-use std::alloc::{AllocError, Global};
+use std::alloc::Global;
 
 /// The name of a `dx` item: the object's, or the item's text at an operand and a rate.
 fn name_of_dx<'a>(meta: &'a Metadata, dx: &'a Dx) -> &'a [u8]
@@ -43,18 +43,21 @@ fn name_value(alloc: Global, name: &[u8]) -> Result<Value, Memory>
     Ok(Value::Object(members))
 }
 
-/// A name under an identifier, in the place of one that is there.
+/// A name under an identifier, in the place of one that is there, and the identifier after those before it.
 fn add_name(
     alloc: Global,
     items: &mut Map<String, Value>,
+    ids: &mut Vec<Value>,
     id: &[u8],
     name: &[u8],
 ) -> Result<(), Memory>
-    ensures { OnOk result (members_view items.new.entries ≡ put_name (id.now, name.now) (members_view items.old.entries)) }
+    ensures name { OnOk result (members_view items.new.entries ≡ put_name (id.now, name.now) (members_view items.old.entries)) }
+    ensures id { OnOk result (map view ids.new.items ≡ map view ids.old.items ++ text_of_bytes id.now ∷ []) }
 {
     let named = name_value(alloc, name)?;
     let key = String::from_utf8_lossy(alloc, id)?;
     put(items, alloc, key.as_str(), named)?;
+    ids.push(Value::String(key))?;
     Ok(())
 }
 
@@ -70,9 +73,8 @@ fn add_dx(
 {
     let mut ids = Vec::new(alloc);
     for each in dx {
-        let text = each.text.as_slice();
-        add_name(alloc, items, text, name_of_dx(meta, each))?;
-        push_text(alloc, &mut ids, text)?;
+        let name = name_of_dx(meta, each);
+        add_name(alloc, items, &mut ids, each.text.as_slice(), name)?;
     }
     Ok(ids)
 }
@@ -88,8 +90,8 @@ fn add_periods(
     let mut ids = Vec::new(alloc);
     for each in periods {
         let text = each.print(alloc)?;
-        add_name(alloc, items, text.as_slice(), text.as_slice())?;
-        push_text(alloc, &mut ids, text.as_slice())?;
+        let text = text.as_slice();
+        add_name(alloc, items, &mut ids, text, text)?;
     }
     Ok(ids)
 }
@@ -108,24 +110,32 @@ fn add_units(
     for each in units {
         let unit = meta.unit(*each);
         let id = unit.id.bytes();
-        add_name(alloc, items, &id, unit.name.as_slice())?;
-        push_text(alloc, &mut ids, &id)?;
+        add_name(alloc, items, &mut ids, &id, unit.name.as_slice())?;
     }
     Ok(ids)
 }
 
+/// The dimensions of what a query asks. The names go to the others.
 #[tactic(auto, unfolding(crate::specs::Names::dimensions_of))]
 fn dimensions(
     alloc: Global,
-    dx: Vec<Value>,
-    units: Vec<Value>,
-    periods: Vec<Value>,
-) -> Result<Value, AllocError>
-    ensures { IfOk result (λ v. view v ≡ dimensions_of (map view dx.items) (map view units.items) (map view periods.items)) }
+    items: &mut Map<String, Value>,
+    meta: &Metadata,
+    query: &Query,
+) -> Result<Value, Memory>
+    requires dx { All (IsThere meta.now) query.now.dx }
+    requires units { AreUnits meta.now query.now.units.items }
+    ensures dimensions { IfOk result (λ v. view v ≡ dimensions_of (ids_of (dx_named meta.now query.now.dx))
+        (ids_of (unit_named meta.now query.now.units.items)) (ids_of (period_named query.now.periods.items))) }
+    ensures names { OnOk result (members_view items.new.entries ≡ put_names (unit_named meta.now query.now.units.items)
+        (put_names (period_named query.now.periods.items) (put_names (dx_named meta.now query.now.dx) (members_view items.old.entries)))) }
 {
-    let members = with_value(alloc, Map::new(alloc), "dx", Value::Array(dx))?;
-    let members = with_value(alloc, members, "ou", Value::Array(units))?;
-    let members = with_value(alloc, members, "pe", Value::Array(periods))?;
+    let ids = add_dx(alloc, items, meta, query.dx.as_slice())?;
+    let members = with_value(alloc, Map::new(alloc), "dx", Value::Array(ids))?;
+    let ids = add_periods(alloc, items, query.periods.items.as_slice())?;
+    let members = with_value(alloc, members, "pe", Value::Array(ids))?;
+    let ids = add_units(alloc, items, meta, query.units.items.as_slice())?;
+    let members = with_value(alloc, members, "ou", Value::Array(ids))?;
     Ok(Value::Object(members))
 }
 
@@ -137,10 +147,7 @@ pub fn meta_data(alloc: Global, meta: &Metadata, query: &Query) -> Result<Value,
     ensures { IfOk result (λ v. view v ≡ meta_of meta.now query.now) }
 {
     let mut items = Map::new(alloc);
-    let dx = add_dx(alloc, &mut items, meta, query.dx.as_slice())?;
-    let periods = add_periods(alloc, &mut items, query.periods.items.as_slice())?;
-    let units = add_units(alloc, &mut items, meta, query.units.items.as_slice())?;
-    let dimensions = dimensions(alloc, dx, units, periods)?;
+    let dimensions = dimensions(alloc, &mut items, meta, query)?;
     let members = with_value(alloc, Map::new(alloc), "items", Value::Object(items))?;
     let members = with_value(alloc, members, "dimensions", dimensions)?;
     Ok(Value::Object(members))

@@ -8,6 +8,7 @@ ghost use Rattle.query_lang.specs.declared.plain.DxKind.TheVariants as dx_kind;
 ghost use Rattle.query_answer.specs.Asked.{can_answer_dx};
 ghost use Rattle.query_answer.specs.Plans.{IsIndicatorPlan, IsPlan, plan_in, ArePlanGroups};
 
+use crate::both::both;
 use crate::sides::{Sides, sides_of};
 use cell_values::{
     CellPeriods, Due, ElementPlan, ItemPlan, Operand, RateAsked, RatePlan, Source, element_groups,
@@ -15,7 +16,6 @@ use cell_values::{
 };
 use dh_base::items::Items;
 use dh_base::memory::Memory;
-use dh_base::plain::Rate;
 use dh_metadata::records::Indicator;
 use program_cells::{ProgramPlan, Subjects, program_plan, subjects_during};
 use query_lang::{Dx, DxKind};
@@ -62,60 +62,11 @@ fn indicator_plan<S: RowStore>(
     ensures { IfOk result (λ plan. IsIndicatorPlan source.now.meta.now source.now.seer.now.user
         (contents_of (S.rows source.now.store.now) (S.events source.now.store.now) (S.regs source.now.store.now)) indicator.now plan) }
 {
-    let over = item_plans(alloc, source, indicator.numerator.items())?;
-    let under = item_plans(alloc, source, indicator.denominator.items())?;
-    let sides = sides_of(alloc, source.meta, indicator)?;
+    let over = item_plans(alloc, source, indicator.numerator.items());
+    let under = item_plans(alloc, source, indicator.denominator.items());
+    let sides = sides_of(alloc, source.meta, indicator);
+    let (sides, (over, under)) = both(sides, both(over, under))?;
     Ok(IndicatorPlan { sides, over, under })
-}
-
-#[tactic(auto, using(crate::proofs::AskedLemmas::element_there))]
-fn operand_plan<S: RowStore>(alloc: Global, source: &Source<'_, S>, dx: &Dx) -> Result<Plan, Memory>
-    requires seer { IsSeer source.now.meta.now source.now.seer.now }
-    requires dx { can_answer_dx source.now.meta.now dx.now ≡ true }
-    requires kind { dx.now.kind ≡ dx_kind.Element }
-    ensures { IfOk result (λ plan. IsPlan source.now.meta.now source.now.seer.now.user
-        (contents_of (S.rows source.now.store.now) (S.events source.now.store.now) (S.regs source.now.store.now)) dx.now plan) }
-{
-    let operand = Operand {
-        element: dx.number,
-        combo: dx.part,
-        attribute: None,
-    };
-    let plan = element_plan(alloc, source, &operand)?;
-    Ok(Plan::Element(plan))
-}
-
-#[tactic(auto, using(crate::proofs::AskedLemmas::rate_there))]
-fn set_plan<S: RowStore>(
-    alloc: Global,
-    source: &Source<'_, S>,
-    dx: &Dx,
-    which: Rate,
-) -> Result<Plan, Memory>
-    requires seer { IsSeer source.now.meta.now source.now.seer.now }
-    requires dx { can_answer_dx source.now.meta.now dx.now ≡ true }
-    requires kind { dx.now.kind ≡ dx_kind.Rate which }
-    ensures { IfOk result (λ plan. IsPlan source.now.meta.now source.now.seer.now.user
-        (contents_of (S.rows source.now.store.now) (S.events source.now.store.now) (S.regs source.now.store.now)) dx.now plan) }
-{
-    let asked = RateAsked {
-        set: dx.number,
-        which,
-    };
-    let plan = rate_plan(alloc, source, asked)?;
-    Ok(Plan::Rate(plan))
-}
-
-#[tactic(auto, using(crate::proofs::AskedLemmas::program_there))]
-fn sampled_plan<S: RowStore>(alloc: Global, source: &Source<'_, S>, dx: &Dx) -> Result<Plan, Memory>
-    requires seer { IsSeer source.now.meta.now source.now.seer.now }
-    requires dx { can_answer_dx source.now.meta.now dx.now ≡ true }
-    requires kind { dx.now.kind ≡ dx_kind.ProgramIndicator }
-    ensures { IfOk result (λ plan. IsPlan source.now.meta.now source.now.seer.now.user
-        (contents_of (S.rows source.now.store.now) (S.events source.now.store.now) (S.regs source.now.store.now)) dx.now plan) }
-{
-    let plan = program_plan(alloc, source, dx.number)?;
-    Ok(Plan::Program(plan))
 }
 
 /// The plan of a `dx` item.
@@ -132,9 +83,27 @@ pub fn plan_of<S: RowStore>(alloc: Global, source: &Source<'_, S>, dx: &Dx) -> R
             let plan = indicator_plan(alloc, source, indicator)?;
             Ok(Plan::Indicator(plan))
         }
-        DxKind::Rate(which) => set_plan(alloc, source, dx, which),
-        DxKind::ProgramIndicator => sampled_plan(alloc, source, dx),
-        DxKind::Element => operand_plan(alloc, source, dx),
+        DxKind::Rate(which) => {
+            let asked = RateAsked {
+                set: dx.number,
+                which,
+            };
+            let plan = rate_plan(alloc, source, asked)?;
+            Ok(Plan::Rate(plan))
+        }
+        DxKind::ProgramIndicator => {
+            let plan = program_plan(alloc, source, dx.number)?;
+            Ok(Plan::Program(plan))
+        }
+        DxKind::Element => {
+            let operand = Operand {
+                element: dx.number,
+                combo: dx.part,
+                attribute: None,
+            };
+            let plan = element_plan(alloc, source, &operand)?;
+            Ok(Plan::Element(plan))
+        }
     }
 }
 
@@ -157,8 +126,9 @@ pub fn plan_groups<'a, S: RowStore>(
             Ok(PlanGroups::Element(plan, own))
         }
         Plan::Indicator(plan) => {
-            let over = item_groups(alloc, plan.over.as_slice(), periods)?;
-            let under = item_groups(alloc, plan.under.as_slice(), periods)?;
+            let over = item_groups(alloc, plan.over.as_slice(), periods);
+            let under = item_groups(alloc, plan.under.as_slice(), periods);
+            let (over, under) = both(over, under)?;
             Ok(PlanGroups::Indicator(plan, over, under))
         }
         Plan::Rate(plan) => {

@@ -1,8 +1,6 @@
 //! The rows, cell by cell.
 
-ghost use Rattle.std.specs.Prelude.{◌≡◌, ◌<◌, ◌++◌, [], ℕ, length, get_or, map, true, false, None, find, option_map, IfOk};
-ghost use Rattle.std.specs.List.{All};
-ghost use Rattle.dh_metadata.specs.declared.held.Records.{Records};
+ghost use Rattle.std.specs.Prelude.{◌≡◌, ◌++◌, [], true, false, None, find, option_map, IfOk};
 ghost use Rattle.cell_values.specs.Held.{IsSeer};
 ghost use Rattle.cell_values.specs.Seen.{seen_of, contents_of};
 ghost use Rattle.query_answer.specs.Asked.{CanAnswer, can_answer_dx};
@@ -35,40 +33,6 @@ struct DxItem<'a> {
 struct PeriodItem<'a, 'b> {
     part: &'a PeriodPart,
     groups: &'a PlanGroups<'b>,
-}
-
-#[tactic(auto, using(crate::proofs::PartLemmas::period_many))]
-fn period_count<S>(asking: &Asking<'_, S>) -> usize
-    requires { map period_slot asking.now.periods.now ≡ period_slots asking.now.query.now }
-    ensures { result ≡ length (period_slots asking.now.query.now) }
-{
-    asking.periods.len()
-}
-
-#[tactic(auto, using(crate::proofs::PartLemmas::period_there, crate::proofs::PartLemmas::period_found))]
-fn period_at<'a, S>(asking: &'a Asking<'_, S>, place: usize) -> &'a PeriodPart
-    requires parts { map period_slot asking.now.periods.now ≡ period_slots asking.now.query.now }
-    requires place { place < length (period_slots asking.now.query.now) }
-    ensures { period_slot result.now ≡ get_or (period_slots asking.now.query.now) place (period_slot result.now) }
-{
-    &asking.periods[place]
-}
-
-#[tactic(auto, using(crate::proofs::PartLemmas::unit_many))]
-fn unit_count<S>(asking: &Asking<'_, S>) -> usize
-    requires { map unit_slot asking.now.units.now ≡ unit_slots asking.now.query.now }
-    ensures { result ≡ length (unit_slots asking.now.query.now) }
-{
-    asking.units.len()
-}
-
-fn unit_at<'a, S>(asking: &'a Asking<'_, S>, place: usize) -> &'a UnitPart
-    requires parts { map unit_slot asking.now.units.now ≡ unit_slots asking.now.query.now }
-    requires place { place < length (unit_slots asking.now.query.now) }
-    ensures slot { unit_slot result.now ≡ get_or (unit_slots asking.now.query.now) place (unit_slot result.now) }
-    ensures member { (r : Records) (user : ℕ) → All (IsUnitPart r user) asking.now.units.now → IsUnitPart r user result.now }
-{
-    &asking.units[place]
 }
 
 /// Writes the row of a cell, where it has a value, and says whether it is too wide.
@@ -154,8 +118,7 @@ fn write_units<S: RowStore>(
         (S.regs asking.now.source.now.store.now)))
         item.now.place item.now.dx.now (unit_slots asking.now.query.now) (period_slot period.now.part.now)) }
 {
-    for place in 0..unit_count(asking) {
-        let unit = unit_at(asking, place);
+    for unit in asking.units {
         if write_cell(alloc, asking, item, period, unit, rows)? {
             return Ok(true);
         }
@@ -163,44 +126,7 @@ fn write_units<S: RowStore>(
     Ok(false)
 }
 
-/// The same, with the groups of the item inside the periods worked out.
-fn write_period<S: RowStore>(
-    alloc: Global,
-    asking: &Asking<'_, S>,
-    item: &DxItem<'_>,
-    part: &PeriodPart,
-    rows: &mut Vec<AnswerRow>,
-) -> Result<bool, Memory>
-    requires seer { IsSeer asking.now.source.now.meta.now asking.now.source.now.seer.now }
-    requires dx { can_answer_dx asking.now.source.now.meta.now item.now.dx.now ≡ true }
-    requires plan { IsPlan asking.now.source.now.meta.now asking.now.source.now.seer.now.user
-        (contents_of (S.rows asking.now.source.now.store.now) (S.events asking.now.source.now.store.now)
-        (S.regs asking.now.source.now.store.now)) item.now.dx.now item.now.plan.now }
-    requires parts { AreParts asking.now.source.now.meta.now asking.now.source.now.seer.now.user asking.now.query.now
-        asking.now.periods.now asking.now.units.now }
-    ensures wide { IfOk result (λ wide. wide ≡ period_is_wide asking.now.source.now.meta.now
-        (seen_of asking.now.source.now.meta.now asking.now.source.now.seer.now.user
-        (contents_of (S.rows asking.now.source.now.store.now) (S.events asking.now.source.now.store.now)
-        (S.regs asking.now.source.now.store.now)))
-        item.now.dx.now (unit_slots asking.now.query.now) (period_slot part.now)) }
-    ensures rows { IfOk result (λ wide. wide ≡ false → rows.new.items ≡ rows.old.items ++ period_rows asking.now.source.now.meta.now
-        (seen_of asking.now.source.now.meta.now asking.now.source.now.seer.now.user
-        (contents_of (S.rows asking.now.source.now.store.now) (S.events asking.now.source.now.store.now)
-        (S.regs asking.now.source.now.store.now)))
-        item.now.place item.now.dx.now (unit_slots asking.now.query.now) (period_slot part.now)) }
-{
-    let units = units_within(asking.units);
-    let groups = plan_groups(alloc, asking.source, item.plan, &part.periods, units)?;
-    let period = PeriodItem {
-        part,
-        groups: &groups,
-    };
-    let wide = write_units(alloc, asking, item, &period, rows);
-    drop(groups);
-    wide
-}
-
-/// The periods of a query, one by one or all together.
+/// The periods of a query, one by one or all together, each with the groups of the item inside it.
 #[tactic(auto, unfolding(crate::specs::Rows::dx_is_wide, crate::specs::Rows::dx_rows))]
 fn write_periods<S: RowStore>(
     alloc: Global,
@@ -226,47 +152,20 @@ fn write_periods<S: RowStore>(
         (S.regs asking.now.source.now.store.now)))
         asking.now.query.now item.now.place item.now.dx.now) }
 {
-    for place in 0..period_count(asking) {
-        let part = period_at(asking, place);
-        if write_period(alloc, asking, item, part, rows)? {
+    let units = units_within(asking.units);
+    for part in asking.periods {
+        let groups = plan_groups(alloc, asking.source, item.plan, &part.periods, units)?;
+        let period = PeriodItem {
+            part,
+            groups: &groups,
+        };
+        let wide = write_units(alloc, asking, item, &period, rows);
+        drop(groups);
+        if wide? {
             return Ok(true);
         }
     }
     Ok(false)
-}
-
-/// The rows of a `dx` item.
-fn write_dx<S: RowStore>(
-    alloc: Global,
-    asking: &Asking<'_, S>,
-    dx: &Dx,
-    place: usize,
-    rows: &mut Vec<AnswerRow>,
-) -> Result<bool, Memory>
-    requires seer { IsSeer asking.now.source.now.meta.now asking.now.source.now.seer.now }
-    requires dx { can_answer_dx asking.now.source.now.meta.now dx.now ≡ true }
-    requires parts { AreParts asking.now.source.now.meta.now asking.now.source.now.seer.now.user asking.now.query.now
-        asking.now.periods.now asking.now.units.now }
-    ensures wide { IfOk result (λ wide. wide ≡ dx_is_wide asking.now.source.now.meta.now
-        (seen_of asking.now.source.now.meta.now asking.now.source.now.seer.now.user
-        (contents_of (S.rows asking.now.source.now.store.now) (S.events asking.now.source.now.store.now)
-        (S.regs asking.now.source.now.store.now)))
-        asking.now.query.now dx.now) }
-    ensures rows { IfOk result (λ wide. wide ≡ false → rows.new.items ≡ rows.old.items ++ dx_rows asking.now.source.now.meta.now
-        (seen_of asking.now.source.now.meta.now asking.now.source.now.seer.now.user
-        (contents_of (S.rows asking.now.source.now.store.now) (S.events asking.now.source.now.store.now)
-        (S.regs asking.now.source.now.store.now)))
-        asking.now.query.now place dx.now) }
-{
-    let plan = plan_of(alloc, asking.source, dx)?;
-    let item = DxItem {
-        dx,
-        plan: &plan,
-        place,
-    };
-    let wide = write_periods(alloc, asking, &item, rows);
-    drop(plan);
-    wide
 }
 
 fn copy(alloc: Global, text: &[u8]) -> Result<Items<u8>, Memory>
@@ -303,7 +202,15 @@ pub fn write_rows<S: RowStore>(
     let items = asking.query.dx.as_slice();
     for place in 0..items.len() {
         let dx = &items[place];
-        if write_dx(alloc, asking, dx, place, rows)? {
+        let plan = plan_of(alloc, asking.source, dx)?;
+        let item = DxItem {
+            dx,
+            plan: &plan,
+            place,
+        };
+        let wide = write_periods(alloc, asking, &item, rows);
+        drop(plan);
+        if wide? {
             return Ok(Some(copy(alloc, dx.text.as_slice())?));
         }
     }

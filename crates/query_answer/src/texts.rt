@@ -1,8 +1,9 @@
 //! Texts as JSON values, and as they are written.
 
-ghost use Rattle.std.specs.Prelude.{◌≡◌, [], ◌∷◌, ◌++◌, map, IfOk, OnOk};
+ghost use Rattle.std.specs.Prelude.{◌≡◌, [], ◌∷◌, ◌++◌, false, IfOk, OnOk};
 ghost use Rattle.std.specs.List.{list_all};
 ghost use Rattle.serde_json.specs.View.{view};
+ghost use Rattle.serde_json.specs.Written.{has_float, compact_text};
 ghost use Rattle.query_answer.specs.Texts.{text_of_bytes, is_plain, in_quotes};
 
 use dh_base::memory::Memory;
@@ -14,15 +15,6 @@ pub fn text_value(alloc: Global, bytes: &[u8]) -> Result<Value, Memory>
     ensures { IfOk result (λ v. view v ≡ text_of_bytes bytes.now) }
 {
     Ok(Value::String(String::from_utf8_lossy(alloc, bytes)?))
-}
-
-/// A text more.
-pub fn push_text(alloc: Global, list: &mut Vec<Value>, bytes: &[u8]) -> Result<(), Memory>
-    ensures { OnOk result (map view list.new.items ≡ map view list.old.items ++ text_of_bytes bytes.now ∷ []) }
-{
-    let text = text_value(alloc, bytes)?;
-    list.push(text)?;
-    Ok(())
 }
 
 /// Whether the byte is ASCII that stands in quotes as it is.
@@ -52,14 +44,24 @@ fn push_plain(text: &mut Vec<u8>, bytes: &[u8]) -> Result<(), Memory>
     Ok(())
 }
 
+/// A value as it is written.
+pub fn push_value(alloc: Global, text: &mut Vec<u8>, value: Value) -> Result<(), Memory>
+    requires { has_float (view value) ≡ false }
+    ensures { OnOk result (text.new.items ≡ text.old.items ++ compact_text (view value)) }
+{
+    let written = value.to_vec(alloc);
+    drop(value);
+    let written = written?;
+    text.extend_from_slice(written.as_slice())?;
+    Ok(())
+}
+
 #[tactic(auto, unfolding(crate::specs::Texts::in_quotes))]
 fn push_escaped(alloc: Global, text: &mut Vec<u8>, bytes: &[u8]) -> Result<(), Memory>
     ensures { OnOk result (text.new.items ≡ text.old.items ++ in_quotes bytes.now) }
 {
     let value = text_value(alloc, bytes)?;
-    let escaped = value.to_vec(alloc)?;
-    text.extend_from_slice(escaped.as_slice())?;
-    Ok(())
+    push_value(alloc, text, value)
 }
 
 /// The text in its quotes. What is plain, as nearly all of a body is, makes no value of its own.

@@ -12,6 +12,7 @@ ghost use Rattle.query_answer.specs.Rows.{rows_from};
 use crate::asking::Asking;
 use crate::body::body;
 use crate::body_rows::AnswerRow;
+use crate::both::both;
 use crate::parts::{period_parts, unit_parts};
 use crate::rows::write_rows;
 use cell_values::{Seer, Source};
@@ -61,8 +62,9 @@ fn query_rows<S: RowStore>(
         (contents_of (S.rows source.now.store.now) (S.events source.now.store.now) (S.regs source.now.store.now)))
         query.now 0 query.now.dx) }
 {
-    let all_periods = period_parts(alloc, &query.periods)?;
-    let all_units = unit_parts(alloc, source.meta, source.seer, &query.units)?;
+    let all_periods = period_parts(alloc, &query.periods);
+    let all_units = unit_parts(alloc, source.meta, source.seer, &query.units);
+    let (all_periods, all_units) = both(all_periods, all_units)?;
     let periods = all_periods.as_slice();
     let units = all_units.as_slice();
     let asking = Asking {

@@ -7,6 +7,7 @@ use Rattle.query_answer.specs.Cells.{indicator_cell}
 use Rattle.cell_values.specs.Seen.{SeenRecords, seen_of, contents_of}
 use Rattle.cell_values.specs.Items.{item_value_of}
 use Rattle.cell_values.specs.Plans.{planned_value}
+use Rattle.query_answer.proofs.BothLemmas.{had}
 use Rattle.query_answer.proofs.PlanLemmas.{values-planned}
 use Rattle.query_answer.proofs.cells.indicator_cell.Goals as goal
 
@@ -23,10 +24,12 @@ returns g c =
     let units = c.args.unit.now.units in
     let value : Item → Option Fraction = λ item. item_value_of r shown item periods units.units false in
     let over : c.in_ok-numerator.numerator.items ≡ map value (items_in indicator.numerator) =
-    c.in_ok-numerator.ensures ∙ ap (map (planned_value r shown periods units.units units.alone)) c.as_slice.ensures
+    had _ _ _ c.item_values-numerator.ensures c.in_ok-numerator.ensures.first ∙ ap (map (planned_value r shown periods units.units units.alone))
+    c.as_slice.ensures
     ∙ values-planned r shown periods units.units units.alone plan.over (items_in indicator.numerator) c.requires.unit.alone c.requires.plan.over_items in
-    let under : c.in_ok-denominator.denominator.items ≡ map value (items_in indicator.denominator) =
-    c.in_ok-denominator.ensures ∙ ap (map (planned_value r shown periods units.units units.alone)) c.as_slice-2.ensures
+    let under : c.in_ok-numerator.denominator.items ≡ map value (items_in indicator.denominator) =
+    had _ _ _ c.item_values-denominator.ensures c.in_ok-numerator.ensures.second ∙ ap (map (planned_value r shown periods units.units units.alone))
+    c.as_slice-2.ensures
     ∙ values-planned r shown periods units.units units.alone plan.under (items_in indicator.denominator) c.requires.unit.alone c.requires.plan.under_items in
     subst (λ n. IfOk c.indicator_value.result (λ cell. cell ≡ indicator_value_of r value n indicator)) c.days.ensures.value
     (c.indicator_value.ensures.meaning r indicator value c.requires.plan.sides (c.as_slice-3.ensures.value ∙ over) (c.as_slice-4.ensures.value ∙ under))

@@ -12,13 +12,13 @@ loop-each-preserved c =
     let i = c.loop-each.each-index in
     let each = c.each-item.result in
     let named : Dx → List ℕ × List ℕ = λ item. (item.text, dx_name c.args.meta.now item) in
-    let id = c.as_slice-text.ensures ∙ ap (λ (item : Dx). item.text) c.each-item.is in
-    let name = c.name_of_dx.ensures ∙ ap (dx_name c.args.meta.now) c.each-item.is in
+    let id = c.as_slice.ensures ∙ ap (λ (item : Dx). item.text) c.each-item.is in
+    let name = c.name_of_dx-name.ensures ∙ ap (dx_name c.args.meta.now) c.each-item.is in
     record {
-      ids = ids-more dx named _ _ i each c.as_slice-text.result.now c.loop-each-test.true id c.loop-each.invariant.ids c.in_ok-push_text.ensures;
+      ids = ids-more dx named _ _ i each c.as_slice.result.now c.loop-each-test.true id c.loop-each.invariant.ids c.in_ok-add_name.ensures.id;
       names = names-more dx named (members_view c.loop-each.items.entries) (members_view c.add_name.new.items.entries) _ i each
-          c.as_slice-text.result.now c.name_of_dx.result.now
-          c.loop-each-test.true id name c.loop-each.invariant.names c.in_ok-add_name.ensures;
+          c.as_slice.result.now c.name_of_dx-name.result.now
+          c.loop-each-test.true id name c.loop-each.invariant.names c.in_ok-add_name.ensures.name;
     }
 
 pub returns-clause-ids : goal.returns-clause-ids

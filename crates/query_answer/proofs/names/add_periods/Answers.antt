@@ -15,12 +15,12 @@ loop-each-preserved c =
     let named : PeriodName → List ℕ × List ℕ = λ period. (period_text period, period_text period) in
     let text : c.in_ok-text.text.items ≡ period_text (get_or periods i each) = c.in_ok-text.ensures.text ∙ ap period_text c.each-item.is in
     record {
-      ids = ids-more periods named _ _ i each c.as_slice-in-loop-each-2.result.now
-          c.loop-each-test.true (c.as_slice-in-loop-each-2.ensures.value ∙ text) c.loop-each.invariant.ids c.in_ok-push_text.ensures;
+      ids = ids-more periods named _ _ i each c.as_slice-text.result.now
+          c.loop-each-test.true (c.as_slice-text.ensures.value ∙ text) c.loop-each.invariant.ids c.in_ok-add_name.ensures.id;
       names = names-more periods named (members_view c.loop-each.items.entries) (members_view c.add_name.new.items.entries) _ i each
-          c.as_slice.result.now c.as_slice-in-loop-each.result.now
-          c.loop-each-test.true (c.as_slice.ensures.value ∙ text) (c.as_slice-in-loop-each.ensures.value ∙ text) c.loop-each.invariant.names
-          c.in_ok-add_name.ensures;
+          c.as_slice-text.result.now c.as_slice-text.result.now
+          c.loop-each-test.true (c.as_slice-text.ensures.value ∙ text) (c.as_slice-text.ensures.value ∙ text) c.loop-each.invariant.names
+          c.in_ok-add_name.ensures.name;
     }
 
 pub returns-clause-ids : goal.returns-clause-ids

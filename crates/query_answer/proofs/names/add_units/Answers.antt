@@ -15,14 +15,15 @@ loop-each-preserved c =
     let id : c.bytes-id.result ≡ unit_id r (get_or units i 0) = search rules in
     let name : c.as_slice.result.now ≡ unit_name r (get_or units i 0) = search rules in
     record {
-      ids = ids-more units named _ _ i 0 c.bytes-id.result c.loop-each-test.true id c.loop-each.invariant.ids c.in_ok-push_text.ensures;
+      ids = ids-more units named _ _ i 0 c.bytes-id.result c.loop-each-test.true id c.loop-each.invariant.ids c.in_ok-add_name.ensures.id;
       names = names-more units named (members_view c.loop-each.items.entries) (members_view c.add_name.new.items.entries) _ i 0 c.bytes-id.result
-          c.as_slice.result.now c.loop-each-test.true id name c.loop-each.invariant.names c.in_ok-add_name.ensures;
+          c.as_slice.result.now c.loop-each-test.true id name c.loop-each.invariant.names c.in_ok-add_name.ensures.name;
     }
 
 pub returns-clause-ids : goal.returns-clause-ids
 returns-clause-ids c =
-    c.loop-each.invariant.ids ∙ ap (λ items. ids_of (unit_named c.args.meta.now items)) (take_all c.loop-each.each-index c.args.units.now c.loop-each-test.false)
+    c.loop-each.invariant.ids ∙ ap (λ items. ids_of (unit_named c.args.meta.now items))
+    (take_all c.loop-each.each-index c.args.units.now c.loop-each-test.false)
 
 pub returns-clause-names : goal.returns-clause-names
 returns-clause-names c =

@@ -21,7 +21,7 @@ returns-then-branch-clause-wide g c =
     let x : Dx = c.index-items-place.result in
     let within : c.loop-place.place < length items = omega arith in
     let here : test (get_or items c.loop-place.place x) ≡ true = ap test (sym c.index-items-place.is)
-    ∙ (sym c.in_ok-write_dx.ensures.wide ∙ c.if-branch.true) in
+    ∙ (sym c.in_ok-wide.ensures.wide ∙ c.if-branch.true) in
     let found : find test items ≡ Some (get_or items c.loop-place.place x) = find_at test items c.loop-place.place x within c.loop-place.invariant.none here in
     let of_query : find test c.args.asking.now.query.now.dx ≡ Some x =
     ap (find test) (sym c.as_slice-items.ensures) ∙ found ∙ ap Some (sym c.index-items-place.is) in
@@ -53,8 +53,8 @@ loop-place-preserved g c =
     let within : place < length items = omega arith in
     record {
       none = none-more (dx_is_wide r shown query) items place x within c.index-items-place.is c.loop-place.invariant.none
-          (sym c.in_ok-write_dx.ensures.wide ∙ c.if-branch.false);
-      rows = ap (λ l. l ++ rows_from r shown query (place + 1) (drop (place + 1) items)) (c.in_ok-write_dx.ensures.rows c.if-branch.false)
+          (sym c.in_ok-wide.ensures.wide ∙ c.if-branch.false);
+      rows = ap (λ l. l ++ rows_from r shown query (place + 1) (drop (place + 1) items)) (c.in_ok-wide.ensures.rows c.if-branch.false)
           ∙ dx_step r shown query items place x c.loop-place.rows.items (rows_from r shown query 0 items) within c.index-items-place.is
           c.loop-place.invariant.rows;
     }
@@ -72,8 +72,8 @@ returns-clause-rows g c = λ fine.
     sym (append-nil rows) ∙ ap (λ l. rows ++ rows_from r shown query c.loop-place.place l) (sym none)
     ∙ c.loop-place.invariant.rows ∙ ap (rows_from r shown query 0) c.as_slice-items.ensures
 
-pub write_dx-requires-clause-dx : goal.write_dx-requires-clause-dx
-write_dx-requires-clause-dx g c =
+pub plan_of-requires-clause-dx : goal.plan_of-requires-clause-dx
+plan_of-requires-clause-dx g c =
     let place = c.loop-place.place in
     let items : List Dx = c.as_slice-items.result.now in
     let asked : List Dx = c.args.asking.now.query.now.dx in

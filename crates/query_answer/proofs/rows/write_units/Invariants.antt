@@ -5,8 +5,8 @@ use Rattle.query_answer.specs.Parts.{period_slot}
 use Rattle.query_answer.specs.Rows.{unit_slots, unit_is_wide, unit_rows}
 use Rattle.query_answer.proofs.rows.write_units.Given as goal
 
-abbrev pub invariant-loop-place : goal.invariant-loop-place
-invariant-loop-place g l = record {
+abbrev pub invariant-loop-unit : goal.invariant-loop-unit
+invariant-loop-unit g l = record {
   none :
       list_any
       (unit_is_wide l.asking.source.now.meta.now
@@ -14,7 +14,7 @@ invariant-loop-place g l = record {
       (contents_of (g.S.RowStore.rows l.asking.source.now.store.now) (g.S.RowStore.events l.asking.source.now.store.now)
       (g.S.RowStore.regs l.asking.source.now.store.now)))
       l.item.dx.now (period_slot l.period.part.now))
-      (take l.place (unit_slots l.asking.query.now)) ≡ false;
+      (take l.unit-index (unit_slots l.asking.query.now)) ≡ false;
   rows :
       l.rows.items ≡ l.initial.rows.items
       ++ flat_map
@@ -23,5 +23,5 @@ invariant-loop-place g l = record {
       (contents_of (g.S.RowStore.rows l.asking.source.now.store.now) (g.S.RowStore.events l.asking.source.now.store.now)
       (g.S.RowStore.regs l.asking.source.now.store.now)))
       l.item.place l.item.dx.now (period_slot l.period.part.now))
-      (take l.place (unit_slots l.asking.query.now));
+      (take l.unit-index (unit_slots l.asking.query.now));
 }
