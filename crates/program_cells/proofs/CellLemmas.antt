@@ -1,7 +1,6 @@
 -- What is kept of events in steps is the cell's.
 use Rattle.std.proofs.Common.{◌≡◌, ◌∙◌, ℕ, Bool, true, false, cond, ◌&&◌, nat_eq, List, [], ◌∷◌, map, Option, Some, None, slice_get, Result, Ok}
 use Rattle.std.proofs.Common.{Err, IfOk, refl, sym, ap, subst}
-use Rattle.std.specs.Global.{Vec}
 use Rattle.std.specs.Prelude.{int_le, IsPermutation}
 use Rattle.std.specs.List.{filter, list_all}
 use Rattle.std.specs.Option.{option_map_or}
@@ -292,11 +291,10 @@ events_made r user all periods plan events (Ok kept) over during is = events_sub
 events_made r user all periods plan events (Err e) over during is = tt
 
 -- the plan of the indicator with a number
-pub planned_at : (r : Records) (user : ℕ) (all : List EventRow) (n : ℕ) (indicator : ProgramIndicator) (result : Result ProgramPlan Memory)
-    → slice_get r.program_indicators n ≡ Some indicator → IfOk result (IsPlanOf r user all indicator) → IfOk result (IsProgramPlan r user all n)
-planned_at r user all n indicator (Ok plan) at is =
+pub planned_at : (r : Records) (user : ℕ) (all : List EventRow) (n : ℕ) (indicator : ProgramIndicator) (plan : ProgramPlan)
+    → slice_get r.program_indicators n ≡ Some indicator → IsPlanOf r user all indicator plan → IsProgramPlan r user all n plan
+planned_at r user all n indicator plan at is =
     record { is = subst (λ (found : Option ProgramIndicator). IsPlanOfSome r user all found plan) (sym at) is }
-planned_at r user all n indicator (Err fault) at is = tt
 
 -- ---- the same events in another order
 

@@ -1,13 +1,13 @@
 -- One step of the loops over subjects, samples and identifiers.
 use Rattle.std.proofs.Common.{◌≡◌, ◌∙◌, ◌<◌, ◌≤◌, ◌+◌, ℕ, suc, Bool, true, false, cond, List, [], ◌∷◌, ◌++◌, map, take, drop, get_or, length, refl, sym, ap, add-one}
-use Rattle.std.proofs.Common.{◌&&◌, subst}
+use Rattle.std.proofs.Common.{zero, ◌&&◌, subst}
 use Rattle.std.proofs.Common.{drop-cons, append_assoc, append-nil, arith}
 use Rattle.std.proofs.Common.{Option, Some, None}
 use Rattle.std.proofs.lemmas.List.{drop_all, length-map, length-take-le, map-append, take_more}
 use Rattle.std.proofs.lemmas.List.Elements.{filter_more, filter-append}
 use Rattle.std.proofs.lemmas.List.Folds.{list_all-append}
 use Rattle.std.proofs.lemmas.Bool.{and_from}
-use Rattle.std.specs.List.{filter, list_all}
+use Rattle.std.specs.List.{filter, find, list_all}
 use Rattle.std.specs.Prelude.{option_and_then, option_map, if◌then◌else◌}
 use Rattle.std.specs.Option.{unwrap_or}
 use Rattle.dh_base.specs.Fractions.{Fraction, add_of}
@@ -196,3 +196,27 @@ pub counted_step : (before : List (List ℕ)) (x : List ℕ) (rest : List (List 
 counted_step before x rest count n all held is counted so_far =
     more_here count n (if is_one_of before x then 0 else 1) (different_after (before ++ x ∷ []) rest) all
     (counted ∙ ap (λ b. if b then 0 else 1) is) so_far
+
+-- ---- the first that passes
+
+not_found : {X : Type 0} (b : Bool) (x : X) (rest : Option X) → cond b (Some x) rest ≡ None → (b ≡ false) × (rest ≡ None)
+not_found true x rest none = absurd (cc)
+not_found false x rest none = (refl, none)
+
+pub find-here : {X : Type 0} (p : X → Bool) (xs : List X) (i : ℕ) (d : X) → i < length xs → find p (take i xs) ≡ None → p (get_or xs i d) ≡ true
+    → find p xs ≡ Some (get_or xs i d)
+find-here p [] i d within none here = absurd (omega arith)
+find-here p (x ∷ xs) zero d within none here = rw here refl
+find-here p (x ∷ xs) (suc i) d within none here =
+    let parts = not_found (p x) x (find p (take i xs)) none in
+    rw parts.0 (find-here p xs i d (omega arith) parts.1 here)
+
+find-last : {X : Type 0} (p : X → Bool) (xs : List X) (x : X) → find p xs ≡ None → p x ≡ false → find p (xs ++ x ∷ []) ≡ None
+find-last p [] x none here = rw here refl
+find-last p (y ∷ xs) x none here =
+    let parts = not_found (p y) y (find p xs) none in
+    rw parts.0 (find-last p xs x parts.1 here)
+
+pub find-past : {X : Type 0} (p : X → Bool) (xs : List X) (i : ℕ) (d : X) → i < length xs → find p (take i xs) ≡ None → p (get_or xs i d) ≡ false
+    → find p (take (i + 1) xs) ≡ None
+find-past p xs i d within none here = ap (find p) (take_more xs i d within) ∙ find-last p (take i xs) (get_or xs i d) none here

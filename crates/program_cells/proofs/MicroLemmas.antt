@@ -1,5 +1,5 @@
 -- Sums of millionths.
-use Rattle.std.proofs.Common.{◌≡◌, ◌∙◌, ℕ, ◌+◌, ◌<◌, ◌≤◌, ◌^◌, ◌*◌, ◌/◌, ◌&&◌, Bool, true, ℤ, pos, List, [], ◌∷◌, ◌++◌, map}
+use Rattle.std.proofs.Common.{◌≡◌, ◌∙◌, ℕ, ◌+◌, ◌<◌, ◌≤◌, ◌^◌, ◌*◌, ◌/◌, true, ℤ, pos, List, [], ◌∷◌, ◌++◌, map}
 use Rattle.std.proofs.Common.{◌+ℤ◌, ◌*ℤ◌, negsuc, unsigned_abs, length, drop, get_or, Option, Some, None, FitsSigned, w64, refl, sym, ap, arith}
 use Rattle.std.proofs.Common.{div-le_self, mul-le-mul}
 use Rattle.std.proofs.lemmas.List.{get_or_default}

@@ -1,12 +1,12 @@
 -- Sums of whole numbers.
-use Rattle.std.proofs.Common.{◌≡◌, ◌∙◌, ℕ, ◌<◌, ◌≤◌, ◌^◌, ◌*◌, ◌/◌, ◌&&◌, Bool, true, false, ℤ, pos}
+use Rattle.std.proofs.Common.{◌≡◌, ◌∙◌, ◌<◌, ◌^◌, ◌*◌, ◌/◌, ◌&&◌, Bool, true, false, ℤ, pos}
 use Rattle.std.proofs.Common.{◌+ℤ◌, ◌*ℤ◌, unsigned_abs, Option, Some, None, of_z, refl, sym, ap, subst, arith}
 use Rattle.std.specs.Int.{w128}
-use Rattle.std.specs.Prelude.{nat_lt, option_map, IfSome}
+use Rattle.std.specs.Prelude.{option_map, IfSome}
 use Rattle.std.proofs.lemmas.Bool.{and_from}
 use Rattle.std.proofs.lemmas.Bool.Decides.{nat_tests}
 use Rattle.std.proofs.lemmas.Int.{ints}
-use Rattle.dh_base.specs.Fractions.{Fraction, IsReduced, fraction_of, of_micros, ratio, gcd, greatest_divisor, over_common, fits}
+use Rattle.dh_base.specs.Fractions.{Fraction, IsReduced, fraction_of, of_micros, ratio, gcd, over_common, fits}
 use Rattle.dh_base.specs.Fractions.{fits_size, can_compare, can_add, add_of, sum_of, or_wide, some_if}
 use Rattle.dh_base.proofs.FractionLemmas.{fraction_of-reduced, fraction_of-same}
 use Rattle.dh_base.proofs.GcdLemmas.{gcd-positive, gcd-le}

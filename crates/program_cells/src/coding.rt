@@ -16,54 +16,40 @@ use expr_eval::{PiCode, PiItem, PiValue, Postfix, compile};
 use expr_lang::Expr;
 use std::alloc::Global;
 
-fn value_of(alloc: Global, expr: &Expr) -> Result<PiValue, Memory>
-    ensures measured { IfOk result (λ value. measure_in value ≡ measure_of expr.now.tree) }
-    ensures formula { IfOk result (IsFormula expr.now) }
+/// What is taken by an expression, and the items of it.
+fn value_of(alloc: Global, meta: &Metadata, expr: &Expr) -> Result<(PiValue, Items<PiItem>), Memory>
+    ensures measured { IfOk result (λ made. measure_in made.0 ≡ measure_of expr.now.tree) }
+    ensures formula { IfOk result (λ made. IsFormula expr.now made.0) }
+    ensures items { IfOk result (λ made. made.1 ≡ items_by meta.now (measure_in made.0) expr.now) }
 {
     match measure_of(expr) {
-        Measure::Formula => Ok(PiValue::Formula(compile(alloc, expr)?)),
-        Measure::Events => Ok(PiValue::Events),
-        Measure::Enrollments => Ok(PiValue::Enrollments),
-        Measure::Entities => Ok(PiValue::Entities),
+        Measure::Formula => {
+            let form = compile(alloc, expr)?;
+            let items = named_items(alloc, meta, expr.items())?;
+            Ok((PiValue::Formula(form), items))
+        }
+        Measure::Events => Ok((PiValue::Events, Items::new(alloc))),
+        Measure::Enrollments => Ok((PiValue::Enrollments, Items::new(alloc))),
+        Measure::Entities => Ok((PiValue::Entities, Items::new(alloc))),
     }
 }
 
-fn value_items(
+/// A filter, and the items of it.
+fn filter_of(
     alloc: Global,
     meta: &Metadata,
-    value: &PiValue,
-    expr: &Expr,
-) -> Result<Items<PiItem>, Memory>
-    ensures { IfOk result (λ items. items ≡ items_by meta.now (measure_in value.now) expr.now) }
-{
-    match value {
-        PiValue::Formula(_) => named_items(alloc, meta, expr.items()),
-        _ => Ok(Items::new(alloc)),
-    }
-}
-
-fn filter_of(alloc: Global, filter: &Option<Expr>) -> Result<Option<Postfix>, Memory>
-    ensures { IfOk result (IsFilter filter.now) }
+    filter: &Option<Expr>,
+) -> Result<(Option<Postfix>, Items<PiItem>), Memory>
+    ensures filter { IfOk result (λ made. IsFilter filter.now made.0) }
+    ensures items { IfOk result (λ made. made.1 ≡ filter_items_of meta.now filter.now) }
 {
     match filter {
         Some(expr) => {
             let form = compile(alloc, expr)?;
-            Ok(Some(form))
+            let items = named_items(alloc, meta, expr.items())?;
+            Ok((Some(form), items))
         }
-        None => Ok(None),
-    }
-}
-
-fn filter_items(
-    alloc: Global,
-    meta: &Metadata,
-    filter: &Option<Expr>,
-) -> Result<Items<PiItem>, Memory>
-    ensures { IfOk result (λ items. items ≡ filter_items_of meta.now filter.now) }
-{
-    match filter {
-        Some(expr) => named_items(alloc, meta, expr.items()),
-        None => Ok(Items::new(alloc)),
+        None => Ok((None, Items::new(alloc))),
     }
 }
 
@@ -75,10 +61,8 @@ pub(crate) fn code_of(
 ) -> Result<PiCode, Memory>
     ensures { IfOk result (IsCodeOf meta.now indicator.now) }
 {
-    let filter_items = filter_items(alloc, meta, &indicator.filter)?;
-    let value = value_of(alloc, &indicator.expression)?;
-    let value_items = value_items(alloc, meta, &value, &indicator.expression)?;
-    let filter = filter_of(alloc, &indicator.filter)?;
+    let (value, value_items) = value_of(alloc, meta, &indicator.expression)?;
+    let (filter, filter_items) = filter_of(alloc, meta, &indicator.filter)?;
     Ok(PiCode {
         program: indicator.program,
         value,

@@ -125,7 +125,12 @@ fn number(value: ItemValue) -> Frac
 pub(crate) fn entry_of(entries: &[(u32, ItemValue)], n: u32) -> Option<(u32, ItemValue)>
     ensures { result ≡ find (λ (entry : ℕ × ItemValue). entry.0 == n) entries.now }
 {
-    entries.iter().copied().find(|entry| entry.0 == n)
+    for entry in entries {
+        if entry.0 == n {
+            return Some(*entry);
+        }
+    }
+    None
 }
 
 fn held(entries: &[(u32, ItemValue)], n: u32) -> Option<Frac>
@@ -233,10 +238,15 @@ fn has_item(event: &EventRow, item: &PiItem) -> bool {
 }
 
 fn has_some(items: &[PiItem], subject: &[EventRow]) -> bool {
-    match subject.last() {
-        Some(event) => items.iter().any(|item| has_item(event, item)),
-        None => false,
+    let Some(event) = subject.last() else {
+        return false;
+    };
+    for item in items {
+        if has_item(event, item) {
+            return true;
+        }
     }
+    false
 }
 
 /// In how many of the subjects the last event has some of the items: about so many samples need room. This reads little of each event and

@@ -1,6 +1,6 @@
 //! Samples of events that are millionths, as the value of each item is.
 ghost use Rattle.std.specs.Prelude.{◌≡◌, ◌<◌, ◌^◌, ◌*ℤ◌, ◌+ℤ◌, ◌+◌, ◌++◌, ◌∷◌, [], ℕ, List, Some, pos, length, get_or, map, unsigned_abs, option_map};
-ghost use Rattle.std.specs.Prelude.{option_and_then, vec_len, vec_capacity, IfOk, OnOk, IfSome};
+ghost use Rattle.std.specs.Prelude.{option_and_then, IfOk, OnOk, IfSome};
 ghost use Rattle.std.specs.Option.{unwrap_or};
 ghost use Rattle.dh_base.specs.Fractions.{of_micros, add_of};
 ghost use Rattle.expr_eval.specs.Meaning.{zero_fraction};
@@ -84,20 +84,11 @@ fn item(item: &PiItem, event: &EventRow) -> i64
     }
 }
 
-/// Makes room for one more.
-fn grow(found: &mut Vec<i64>) -> Result<(), Memory>
-    ensures items { found.new.items ≡ found.old.items }
-    ensures room { OnOk result (vec_len found.new < vec_capacity found.new) }
-{
-    found.reserve(1)?;
-    Ok(())
-}
-
 fn put(found: &mut Vec<i64>, micros: i64) -> Result<(), Memory>
     ensures { OnOk result (found.new.items ≡ found.old.items ++ micros ∷ []) }
 {
     if found.len() == found.capacity() {
-        grow(found)?;
+        found.reserve(1)?;
     }
     found.push_reserved(micros);
     Ok(())

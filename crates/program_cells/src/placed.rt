@@ -38,22 +38,14 @@ impl<'a> Model for PlacedEvents<'a> {
     ghost invariant = { λ placed. ArePlaces order_of (map (λ event. event.now) placed.events.items) placed.places.items };
 }
 
-/// An empty list with room for so many places.
-fn empty_list(alloc: Global, room: usize) -> Result<Items<usize>, Memory>
-    ensures { IfOk result (λ list. list ≡ []) }
-{
-    let list = Vec::with_capacity(alloc, room)?;
-    Ok(Items::from(list))
-}
-
 /// An empty list for each unit, with room for so many places.
 fn empty_lists(alloc: Global, count: u32, room: usize) -> Result<Vec<Items<usize>>, Memory>
     ensures { IfOk result (λ lists. ArePlaces order_of [] lists.items) }
 {
     let mut lists = Vec::new(alloc);
     for _unit in 0..count {
-        let list = empty_list(alloc, room)?;
-        lists.push(list)?;
+        let list = Vec::with_capacity(alloc, room)?;
+        lists.push(Items::from(list))?;
     }
     Ok(lists)
 }
@@ -180,38 +172,6 @@ fn events_of_several<'a>(
     }
 }
 
-fn events_within<'a>(
-    alloc: Global,
-    events: &[&'a EventRow],
-    places: &[Items<usize>],
-    ranges: &ViewRanges,
-) -> Result<Vec<&'a [EventRow]>, Memory>
-    requires { ArePlaces order_of (map (λ event. event.now) events.now) places.now }
-    ensures { IfOk result (λ kept. map (λ subject. subject.now) kept.items
-        ≡ map alone (filter (is_placed_in ranges.now) (map (λ event. event.now) events.now))) }
-{
-    match own_places(places, ranges.parts()) {
-        Some(own) => events_at(alloc, events, own),
-        None => events_of_several(alloc, events, places, ranges),
-    }
-}
-
-/// The places of the events whose units lie in the ranges, where no list has them all.
-fn places_of_several(
-    alloc: Global,
-    events: &[&EventRow],
-    places: &[Items<usize>],
-    ranges: &ViewRanges,
-) -> Result<Vec<usize>, Memory>
-    requires { ArePlaces order_of (map (λ event. event.now) events.now) places.now }
-    ensures { IfOk result (λ own. own.items ≡ places_from 0 (is_placed_in ranges.now) (map (λ event. event.now) events.now)) }
-{
-    match joined_places(alloc, places, ranges.parts(), events.len() / FEW)? {
-        Some(own) => Ok(own),
-        None => places_in(alloc, ranges, events),
-    }
-}
-
 fn put_item<T: Copy>(kept: &mut Vec<T>, items: &[T], place: usize) -> Result<(), Memory>
     ensures { OnOk result (kept.new.items ≡ kept.old.items ++ option_to_list (slice_get items.now place)) }
 {
@@ -281,7 +241,10 @@ impl<'a> PlacedEvents<'a> {
     ) -> Result<Vec<&'a [EventRow]>, Memory>
         ensures { IfOk result (λ kept. map (λ subject. subject.now) kept.items ≡ map alone (filter (is_placed_in ranges.now) self.now)) }
     {
-        events_within(alloc, &self.events, &self.places, ranges)
+        match own_places(&self.places, ranges.parts()) {
+            Some(own) => events_at(alloc, &self.events, own),
+            None => events_of_several(alloc, &self.events, &self.places, ranges),
+        }
     }
 
     /// The events.
@@ -306,6 +269,10 @@ impl<'a> PlacedEvents<'a> {
     ) -> Result<Vec<usize>, Memory>
         ensures { IfOk result (λ own. own.items ≡ places_from 0 (is_placed_in ranges.now) self.now) }
     {
-        places_of_several(alloc, &self.events, &self.places, ranges)
+        let most = self.events.len() / FEW;
+        match joined_places(alloc, &self.places, ranges.parts(), most)? {
+            Some(own) => Ok(own),
+            None => places_in(alloc, ranges, &self.events),
+        }
     }
 }

@@ -9,11 +9,10 @@ ghost use Rattle.program_cells.specs.Cells.{cell_value};
 ghost use Rattle.program_cells.specs.Enrollments.{enrollments};
 ghost use Rattle.std.specs.List.{filter};
 ghost use Rattle.dh_metadata.specs.declared.records.ProgramIndicator.{ProgramIndicator};
-ghost use Rattle.program_cells.specs.declared.measure.Measure.TheVariants as measure;
 ghost use Rattle.program_cells.specs.Cells.{alone};
-ghost use Rattle.program_cells.specs.Code.{measure_in, IsCodeOf};
+ghost use Rattle.program_cells.specs.Code.{IsCodeOf};
 ghost use Rattle.program_cells.specs.Enrollments.{first_is};
-ghost use Rattle.program_cells.specs.Kept.{IsPlanOf, IsProgramPlan, AreDuring, AreEventSubjects, AreSubjects, is_placed_in};
+ghost use Rattle.program_cells.specs.Kept.{IsProgramPlan, AreDuring, AreEventSubjects, AreSubjects, is_placed_in};
 ghost use Rattle.program_cells.specs.Value.{Values, program_value};
 ghost use Rattle.table_rows.specs.declared.event.EventRow.{EventRow};
 
@@ -93,24 +92,6 @@ fn enrollments_for<S: RowStore>(
     }
 }
 
-fn plan_of<S: RowStore>(
-    alloc: Global,
-    source: &Source<'_, S>,
-    indicator: &ProgramIndicator,
-) -> Result<ProgramPlan, Memory>
-    requires { IsSeer source.now.meta.now source.now.seer.now }
-    ensures { IfOk result (IsPlanOf source.now.meta.now source.now.seer.now.user (S.events source.now.store.now) indicator.now) }
-{
-    let over = indicator.analytics_type;
-    let enrollments = enrollments_for(alloc, source, indicator.program, over)?;
-    let code = code_of(alloc, source.meta, indicator)?;
-    Ok(ProgramPlan {
-        code,
-        over,
-        enrollments,
-    })
-}
-
 /// The plan of the program indicator with that number.
 pub fn program_plan<S: RowStore>(
     alloc: Global,
@@ -121,7 +102,15 @@ pub fn program_plan<S: RowStore>(
     requires there { number < length source.now.meta.now.program_indicators }
     ensures { IfOk result (IsProgramPlan source.now.meta.now source.now.seer.now.user (S.events source.now.store.now) number) }
 {
-    plan_of(alloc, source, source.meta.program_indicator(number))
+    let indicator = source.meta.program_indicator(number);
+    let over = indicator.analytics_type;
+    let enrollments = enrollments_for(alloc, source, indicator.program, over)?;
+    let code = code_of(alloc, source.meta, indicator)?;
+    Ok(ProgramPlan {
+        code,
+        over,
+        enrollments,
+    })
 }
 
 // Where the cells have fewer than one in so many of the units, the samples of all events aren't worth working out.
@@ -177,18 +166,6 @@ pub fn subjects_during<'a, S: RowStore>(
     }
 }
 
-fn value_of_sampled(
-    alloc: Global,
-    sampled: &SampledEvents<'_>,
-    units: &CellUnits,
-) -> Result<Option<Frac>, PiFault>
-    ensures { (r : Records) (indicator : ProgramIndicator) → IsCodeOf r indicator sampled.now.code
-        → measure_in sampled.now.code.value ≡ measure.Formula
-        → Values result (program_value r indicator (map alone (filter (is_placed_in units.now.asked) sampled.now.events))) }
-{
-    sampled.value_within(alloc, &units.asked)
-}
-
 fn value_of_events(
     alloc: Global,
     code: &PiCode,
@@ -230,7 +207,7 @@ pub fn value(
 {
     match subjects {
         Subjects::Events(events) => value_of_events(alloc, &plan.code, events, units),
-        Subjects::Samples(sampled) => value_of_sampled(alloc, sampled, units),
+        Subjects::Samples(sampled) => sampled.value_within(alloc, &units.asked),
         Subjects::Enrollments(kept) => {
             value_of_enrollments(alloc, &plan.code, kept.as_slice(), units)
         }

@@ -101,27 +101,6 @@ fn samples_by_form(
     Ok(samples)
 }
 
-/// The value of an item in each event alone.
-fn item_samples(alloc: Global, item: &PiItem, events: &[&EventRow]) -> Result<Samples, Memory>
-    ensures { IfOk result (λ samples. samples_in samples ≡ map (item_sample item.now) (map (λ event. event.now) events.now)) }
-{
-    let found = micros_of(alloc, item, events)?;
-    Ok(Samples::Micros(found))
-}
-
-fn form_samples(
-    alloc: Global,
-    code: &PiCode,
-    form: &Postfix,
-    events: &[&EventRow],
-) -> Result<Samples, Memory>
-    requires { code.now.value ≡ taken.Formula form.now }
-    ensures { IfOk result (λ samples. samples_in samples ≡ map (sample_alone code.now) (map (λ event. event.now) events.now)) }
-{
-    let found = samples_by_form(alloc, code, form, events)?;
-    Ok(Samples::Any(found))
-}
-
 /// The sample of each event alone.
 fn samples_of(
     alloc: Global,
@@ -133,8 +112,14 @@ fn samples_of(
     ensures { IfOk result (λ samples. samples_in samples ≡ map (sample_alone code.now) (map (λ event. event.now) events.now)) }
 {
     match only_item(code, form) {
-        Some(item) => item_samples(alloc, item, events),
-        None => form_samples(alloc, code, form, events),
+        Some(item) => {
+            let found = micros_of(alloc, item, events)?;
+            Ok(Samples::Micros(found))
+        }
+        None => {
+            let found = samples_by_form(alloc, code, form, events)?;
+            Ok(Samples::Any(found))
+        }
     }
 }
 

@@ -2,7 +2,7 @@
 
 ghost use Rattle.std.specs.Prelude.{◌≡◌, ◌<◌, ◌^◌, ◌+ℤ◌, unsigned_abs, option_map, None, Some, IfSome};
 ghost use Rattle.dh_base.specs.Fractions.{add_of, fraction_of, some_if, fits};
-ghost use Rattle.expr_eval.specs.Meaning.{takes_next, is_less, is_greater};
+ghost use Rattle.expr_eval.specs.Meaning.{takes_next};
 ghost use Rattle.program_cells.specs.Value.{whole, unless_fault, sum_of, mean_of, some_of, better, better_if_any, best_from, value_by, aggregated};
 
 use dh_base::frac::Frac;
@@ -106,31 +106,13 @@ fn mean(samples: &[Frac]) -> Option<Frac>
     unless_fault(sum.div(whole(samples.len())))
 }
 
-fn is_less(ordering: Ordering) -> bool
-    ensures { result ≡ is_less ordering }
-{
-    match ordering {
-        Ordering::Less => true,
-        _ => false,
-    }
-}
-
-fn is_greater(ordering: Ordering) -> bool
-    ensures { result ≡ is_greater ordering }
-{
-    match ordering {
-        Ordering::Greater => true,
-        _ => false,
-    }
-}
-
 fn takes(greatest: bool, ordering: Ordering) -> bool
     ensures { result ≡ takes_next greatest ordering }
 {
-    if greatest {
-        is_less(ordering)
-    } else {
-        is_greater(ordering)
+    match ordering {
+        Ordering::Less => greatest,
+        Ordering::Equal => false,
+        Ordering::Greater => !greatest,
     }
 }
 

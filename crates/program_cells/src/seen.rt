@@ -119,22 +119,6 @@ fn picked<'a>(
     Ok(kept)
 }
 
-fn placed_of_picked<'a>(
-    alloc: Global,
-    meta: &Metadata,
-    seer: &Seer,
-    program: u32,
-    periods: &[Period],
-    events: &[&'a EventRow],
-) -> Result<PlacedEvents<'a>, Memory>
-    requires seer { IsSeer meta.now seer.now }
-    requires reads { may_of meta.now seer.now.user right.DataRead kind.Program program ≡ true }
-    ensures { IfOk result (λ kept. kept ≡ seen_during meta.now seer.now.user program periods.now (map (λ event. event.now) events.now)) }
-{
-    let some = picked(alloc, meta, seer, program, periods, events)?;
-    PlacedEvents::of(alloc, some, meta.count(Kind::OrganisationUnit))
-}
-
 /// Those of the events that are of the program, on days of the periods, and seen. Mostly these are all, and then none is moved.
 fn kept<'a>(
     alloc: Global,
@@ -152,7 +136,10 @@ fn kept<'a>(
     }
     match places_if_seen(alloc, meta, seer, program, periods, &events)? {
         Some(places) => Ok(PlacedEvents::at(events, places)),
-        None => placed_of_picked(alloc, meta, seer, program, periods, &events),
+        None => {
+            let some = picked(alloc, meta, seer, program, periods, &events)?;
+            PlacedEvents::of(alloc, some, meta.count(Kind::OrganisationUnit))
+        }
     }
 }
 

@@ -1,5 +1,5 @@
 //! The subjects of some units.
-ghost use Rattle.std.specs.Prelude.{◌≡◌, ◌++◌, ◌∷◌, [], cond, if◌then◌else◌, map, IfOk, OnOk};
+ghost use Rattle.std.specs.Prelude.{◌≡◌, ◌++◌, ◌∷◌, [], cond, map, IfOk, OnOk};
 ghost use Rattle.std.specs.List.{filter};
 ghost use Rattle.dh_sharing.specs.Ranges.{is_within};
 ghost use Rattle.program_cells.specs.Cells.{alone};
@@ -34,26 +34,9 @@ pub(crate) fn events_in<'a>(
 {
     let mut kept: Vec<&'a [EventRow]> = Vec::new(alloc);
     for event in events {
-        if ranges.holds(event.order) {
-            kept.push(from_ref(*event))?;
-        }
+        push_if(&mut kept, from_ref(*event), ranges.holds(event.order))?;
     }
     Ok(kept)
-}
-
-/// Puts the place of an event, if its unit lies in the ranges.
-fn put_place(
-    own: &mut Vec<usize>,
-    ranges: &ViewRanges,
-    event: &EventRow,
-    at: usize,
-) -> Result<(), Memory>
-    ensures { OnOk result (own.new.items ≡ own.old.items ++ (if is_placed_in ranges.now event.now then at ∷ [] else [])) }
-{
-    if ranges.holds(event.order) {
-        own.push(at)?;
-    }
-    Ok(())
 }
 
 /// The places of the events whose units lie in the ranges.
@@ -66,7 +49,7 @@ pub(crate) fn places_in(
 {
     let mut own = Vec::new(alloc);
     for at in 0..events.len() {
-        put_place(&mut own, ranges, events[at], at)?;
+        push_if(&mut own, at, ranges.holds(events[at].order))?;
     }
     Ok(own)
 }

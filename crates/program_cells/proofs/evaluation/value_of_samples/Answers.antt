@@ -1,4 +1,4 @@
-use Rattle.std.proofs.Common.{◌∙◌, List, Option, map, subst, ap}
+use Rattle.std.proofs.Common.{◌∙◌, Option, map, subst, ap}
 use Rattle.std.specs.Prelude.{option_and_then}
 use Rattle.dh_base.specs.Fractions.{Fraction}
 use Rattle.program_cells.specs.Cells.{alone}

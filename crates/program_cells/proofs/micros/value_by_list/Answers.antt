@@ -1,5 +1,4 @@
-use Rattle.std.proofs.Common.{◌≡◌, ◌∙◌, map, ap, slice_get}
-use Rattle.std.specs.List.{filter_map}
+use Rattle.std.proofs.Common.{◌∙◌, map, ap}
 use Rattle.dh_base.specs.Fractions.{of_micros}
 use Rattle.program_cells.proofs.MicroLemmas.{listed-value}
 use Rattle.program_cells.proofs.micros.value_by_list.Goals as goal

@@ -1,3 +1,4 @@
+use Rattle.std.proofs.Common.{◌∙◌}
 use Rattle.program_cells.specs.Places.{order_of}
 use Rattle.program_cells.proofs.PlaceLemmas.{none-yet, empty-more}
 use Rattle.program_cells.proofs.placed.empty_lists.Goals as goal
@@ -7,4 +8,5 @@ loop-unit-init c = none-yet order_of c.new-lists.result.items c.new-lists.ensure
 
 pub loop-unit-preserved : goal.loop-unit-preserved
 loop-unit-preserved c =
-    empty-more order_of c.loop-unit.lists.items c.push.new.self.items c.in_ok-list.list c.in_ok-list.ensures c.in_ok-push.ensures.items c.loop-unit.invariant
+    empty-more order_of c.loop-unit.lists.items c.push.new.self.items c.from.result (c.from.ensures ∙ c.in_ok-list.ensures.items)
+    c.in_ok-push.ensures.items c.loop-unit.invariant

@@ -18,9 +18,9 @@ returns-in-Events c r user n periods all is subjects units not =
 
 pub returns-in-Samples : goal.returns-in-Samples
 returns-in-Samples c r user n periods all is subjects units not =
-    sampled_meant r user n periods c.args.units.now all c.args.plan.now c.args.subjects.now c.in-Samples.sampled c.value_of_sampled.result is subjects
+    sampled_meant r user n periods c.args.units.now all c.args.plan.now c.args.subjects.now c.in-Samples.sampled c.value_within.result is subjects
     units not c.in-Samples.is
-    (λ indicator code same formula. c.value_of_sampled.ensures r indicator (subst (λ form. IsCodeOf r indicator form) (sym same) code)
+    (λ indicator code same formula. c.value_within.ensures r indicator (subst (λ form. IsCodeOf r indicator form) (sym same) code)
     (subst (λ (form : PiCode). measure_in form.value ≡ measure.Formula) (sym same) formula))
 
 pub returns-in-Enrollments : goal.returns-in-Enrollments

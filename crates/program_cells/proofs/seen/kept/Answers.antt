@@ -1,4 +1,4 @@
-use Rattle.std.proofs.Common.{◌≡◌, ◌∙◌, true, false, ap, sym, subst, map, rules}
+use Rattle.std.proofs.Common.{◌≡◌, ◌∙◌, true, sym, subst, map}
 use Rattle.std.specs.List.{list_all}
 use Rattle.std.specs.Prelude.{IfSome}
 use Rattle.program_cells.specs.Kept.{is_seen_during}
