@@ -8,5 +8,6 @@ pub mod Days
 pub mod Orders
 pub mod HistoryLaws
 pub mod LoadLemmas
+mod LoopLemmas
 pub mod StandLemmas
 pub mod SlotLemmas

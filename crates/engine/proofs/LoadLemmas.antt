@@ -1,6 +1,6 @@
 -- An engine in memory: what loading comes to.
-use Rattle.std.proofs.Common.{◌≡◌, ◌∙◌, ◌<◌, ℕ, List, ◌⊎◌, inl, inr, sym, ap, arith}
-use Rattle.std.specs.Prelude.{Option, None, Some, Result, Ok, Err}
+use Rattle.std.proofs.Common.{◌≡◌, ◌∙◌, ℕ, List, inl, inr, sym, ap, arith}
+use Rattle.std.specs.Prelude.{Result, Ok, Err}
 use Rattle.dh_base.specs.declared.codes.Refusal.{Refusal}
 use Rattle.dh_outside.specs.Faults.{Rose}
 use Rattle.dh_changes.specs.declared.change.Change.{Change}

@@ -1,9 +1,10 @@
 -- What a cut gives, and the slots of the full update as a part is handed in.
-use Rattle.std.proofs.Common.{◌≡◌, ◌≤◌, List, length, map, take, sym, subst}
-use Rattle.std.specs.Prelude.{Option, None, Some, IfSome}
+use Rattle.std.proofs.Common.{◌≡◌, ◌≤◌, ℕ, List, length, map, take, sym, subst}
+use Rattle.std.specs.Prelude.{Option, None, Some, IfSome, Result}
 use Rattle.std.specs.Arc.{arc_value}
 use Rattle.std.specs.Global.{Vec}
 use Rattle.std.specs.List.{All}
+use Rattle.dh_base.specs.declared.memory.Memory.{Memory}
 use Rattle.dh_base.specs.declared.plain.CutKind.{CutKind}
 use Rattle.change_log.specs.Forms.{WriteFits}
 use Rattle.dh_changes.specs.declared.change.Change.{Change}
@@ -15,10 +16,13 @@ use Rattle.table_build.specs.Listed.{listed_in}
 use Rattle.engine.specs.declared.machine.Cut.{Cut}
 use Rattle.engine.specs.declared.machine.Staged.{Staged}
 use Rattle.engine.specs.declared.updates.Shown.{Shown}
+use Rattle.engine.specs.declared.machine.CutFault.{CutFault}
+use Rattle.change_log.specs.declared.limits.Limits.{Limits}
 use Rattle.change_log.specs.Log.{LogSeen, writes_of}
-use Rattle.engine.specs.Machine.{State, by_kind, changes_for, number_in}
-use Rattle.engine.specs.Seen.{IsCutOf, IsPartOf, AreParts, FitSlots, years_for}
+use Rattle.engine.specs.Machine.{State, after_drop, by_kind, changes_for, number_in}
+use Rattle.engine.specs.Seen.{seen_of, state_of, Cuts, IsCutOf, IsPartOf, IsSound, AreParts, FitSlots, Shows, Swaps, years_for}
 use Rattle.engine.specs.Tables.{tables_of}
+use Rattle.engine.proofs.Orders.{cuts_in_order, drop_in_order, swaps_in_order}
 use Rattle.engine.proofs.Steps.{rest-few, rest-fits}
 
 -- a part of these changes, in the words of their lists
@@ -67,3 +71,35 @@ handed-parts log meta old new part same keeps is parts =
         latest = parts.shows.latest;
       };
     })
+
+pub cut-parts : (log : LogSeen) (meta seen : Records) (old new : Shown) (limits : Limits) (changes : List Change) (kind : CutKind)
+    (reply : Result Staged CutFault)
+    → limits ≡ log.limits → changes ≡ log.changes → seen ≡ meta → Cuts limits (state_of changes old) kind reply (state_of changes new)
+    → Shows seen changes new → AreParts log meta old → AreParts log meta new
+cut-parts log meta seen old new limits changes kind reply l c m step shows parts = record {
+  whole = parts.whole;
+  order = cuts_in_order log.limits (state_of log.changes old) (state_of log.changes new) kind reply
+      (subst (λ x. Cuts x (state_of log.changes old) kind reply (state_of log.changes new)) l
+      (subst (λ x. Cuts limits (state_of x old) kind reply (state_of x new)) c step)) parts.order;
+  shows = subst (λ x. Shows x log.changes new) m (subst (λ x. Shows seen x new) c shows);
+}
+
+pub swap-parts : (log : LogSeen) (meta seen : Records) (old new : Shown) (changes : List Change) (ticket : ℕ) (reply : Result ℕ Memory)
+    → changes ≡ log.changes → seen ≡ meta → Swaps (state_of changes old) ticket reply (state_of changes new)
+    → Shows seen changes new → AreParts log meta old → AreParts log meta new
+swap-parts log meta seen old new changes ticket reply c m step shows parts = record {
+  whole = parts.whole;
+  order = swaps_in_order log.limits (state_of log.changes old) (state_of log.changes new) ticket reply
+      (subst (λ x. Swaps (state_of x old) ticket reply (state_of x new)) c step) parts.order;
+  shows = subst (λ x. Shows x log.changes new) m (subst (λ x. Shows seen x new) c shows);
+}
+
+pub drop-parts : (log : LogSeen) (meta : Records) (old new : Shown) (ticket : ℕ) → state_of log.changes new ≡ after_drop (state_of log.changes old) ticket
+    → Shows meta log.changes new → AreParts log meta old → AreParts log meta new
+drop-parts log meta old new ticket is shows parts =
+    record { whole = parts.whole; order = drop_in_order log.limits _ _ ticket is parts.order; shows = shows }
+
+-- what the parts come to for those who see the engine
+pub parts-sound : (log : LogSeen) (meta : Records) (shown : Shown) → AreParts log meta shown → IsSound (seen_of log meta shown)
+parts-sound log meta shown parts =
+    record { acknowledged = parts.whole.acknowledged; kept = parts.whole.kept; order = parts.order; stands = parts.shows.stands }

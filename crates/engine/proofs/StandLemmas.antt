@@ -46,6 +46,21 @@ pub years-are : (meta : Records) (changes : List Change) → (listed_in meta (ro
 unfolding years_of
 years-are meta changes = ap (λ ws. (listed_in meta ws).years) (writes-are changes)
 
+-- the same of the first changes
+pub first-words : {X : Type 0} → (view : X → Change) → (number : ℕ) (changes : List X)
+    → rows.writes_of (map view (take number changes)) ≡ writes_of (take number (map view changes))
+first-words view number changes = writes-are (map view (take number changes)) ∙ ap writes_of (sym (take-map view number changes))
+
+pub tables-first : {X : Type 0} → (view : X → Change) → (meta : Records) (number : ℕ) (changes : List X)
+    → contents_in (listed_in meta (rows.writes_of (map view (take number changes)))) ≡ tables_of meta (take number (map view changes))
+tables-first view meta number changes =
+    tables-are meta (map view (take number changes)) ∙ ap (tables_of meta) (sym (take-map view number changes))
+
+pub years-first : {X : Type 0} → (view : X → Change) → (meta : Records) (number : ℕ) (changes : List X)
+    → (listed_in meta (rows.writes_of (map view (take number changes)))).years ≡ years_of meta (take number (map view changes))
+years-first view meta number changes =
+    years-are meta (map view (take number changes)) ∙ ap (years_of meta) (sym (take-map view number changes))
+
 -- likewise what yearly parts stand for
 pub base-words : {X : Type 0} → (view : X → Change) → (meta : Records) (changes : List X) (base : YearParts)
     → together base.parts ≡ tables_of meta (take base.base_cut (map view changes))

@@ -1,6 +1,6 @@
 -- The steps of the machine, from what its parts do.
 use Rattle.std.proofs.Common.{◌≡◌, ◌∙◌, ◌≤◌, ◌<◌, ℕ, List, [], ◌∷◌, ◌++◌, length, take, drop, sym, ap, subst, refl, arith, Bool, true, false}
-use Rattle.std.specs.Prelude.{is_some, option_map, Option, None, Some, Result, Ok, Err, if◌then◌else◌}
+use Rattle.std.specs.Prelude.{is_some, nat_lt, option_map, Option, None, Some, Result, Ok, Err, if◌then◌else◌}
 use Rattle.std.specs.Arc.{arc_value}
 use Rattle.std.specs.List.{All}
 use Rattle.std.proofs.lemmas.Bool.{lt-ltb}
@@ -15,6 +15,8 @@ use Rattle.dh_changes.specs.Facts.{Facts, facts_in}
 use Rattle.dh_metadata.specs.declared.held.Records.{Records}
 use Rattle.change_log.specs.declared.limits.Limits.{Limits}
 use Rattle.change_log.specs.Log.{LogSeen, IsWhole, Appends, with_change, writes_of, passed, over}
+use Rattle.change_log.specs.declared.limits.AppendFault.{AppendFault}
+use Rattle.change_log.specs.declared.limits.AppendFault.TheVariants as append
 use Rattle.dh_base.specs.Memory.{IsCause}
 use Rattle.engine.specs.declared.request.JudgeFault.{JudgeFault}
 use Rattle.engine.specs.declared.request.JudgeFault.TheVariants as judge
@@ -23,7 +25,7 @@ use Rattle.engine.specs.declared.request.Judged.{Judged}
 use Rattle.engine.specs.Histories.{IsInOrder}
 use Rattle.engine.specs.Machine.{State, Step, StepBy, IsReplyBy, log_by, has_writes, grown, judged_in, change_of, change_lacks, report_of}
 use Rattle.engine.specs.Machine.Act.{changed}
-use Rattle.engine.specs.Seen.{seen_of, state_of, part_in, AreParts, Shows, Puts, BringsBy, BringsIf, Brings, Brought, fault_by}
+use Rattle.engine.specs.Seen.{seen_of, state_of, part_in, AreParts, Shows, Puts, BringsBy, BringsIf, Brings, Brought, fault_by, log_fault}
 use Rattle.engine.specs.declared.updates.Shown.{Shown}
 use Rattle.engine.specs.declared.machine.Report.{Report}
 use Rattle.engine.specs.declared.machine.ChangeFault.{ChangeFault}
@@ -60,6 +62,26 @@ append-puts old new c found number some h =
         (ap (λ (l : LogSeen). l.limits) h.1.1.1, (h.1.1.0, ap (λ (l : LogSeen). is_some l.kept) h.1.1.1 ∙ still-known old.kept _)),
       ),
     )
+
+-- nothing is appended where nothing is written
+pub nothing-puts : (log : LogSeen) (c : Change) (found : Judged) (number : ℕ) → length c.writes ≡ 0 → number ≡ length log.changes
+    → Puts log c found (Ok (record { body = found.body; status = found.status; number = number })) log
+unfolding report_of
+nothing-puts log c found number none n =
+    let e : has_writes c ≡ false = ap (λ m. nat_lt 0 m) none in
+    let g : grown log.changes c ≡ log.changes = ap (λ b. if b then log.changes ++ c ∷ [] else log.changes) e in (
+      (ap (λ b. if b then passed log.limits (log.changes ++ c ∷ []) else None) e, ap (report-with found) (n ∙ sym (ap length g))),
+      (sym g, (refl, (omega arith, refl))),
+    )
+
+-- a fault of the log
+pub fault-puts : (old new : LogSeen) (c : Change) (found : Judged) (fault : AppendFault) → 0 < length c.writes → Appends old c (Err fault) new
+    → Puts old c found (Err (log_fault fault)) new
+fault-puts old new c found (append.LogFull limit) some h =
+    (ap (λ b. if b then passed old.limits (old.changes ++ c ∷ []) else None) (writes-there c some) ∙ h.0, h.1)
+fault-puts old new c found append.StoreFault some h =
+    let e = writes-there c some in ((ap (λ b. if b then passed old.limits (old.changes ++ c ∷ []) else None) e ∙ h.0, e), h.1)
+fault-puts old new c found append.Memory some h = h
 
 -- what is judged over what the log records is what the request comes to over the log
 pub judged-is : (meta : Records) (log : List Change) (asked : Asked) (facts : Facts) → facts ≡ facts_in (writes_of log)

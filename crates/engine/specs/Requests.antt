@@ -1,5 +1,5 @@
 -- What a request to change comes to: the writes and the report's body and status, or a refusal.
-use Rattle.std.specs.Prelude.{◌≡◌, ◌||◌, ℕ, ℤ, Bool, nat_eq, List, [], ◌∷◌, codes, slice_get, Option, None, Some, option_map, Result, Ok, Err}
+use Rattle.std.specs.Prelude.{◌||◌, ℕ, ℤ, Bool, nat_eq, List, [], ◌∷◌, codes, slice_get, Option, None, Some, option_map, Result, Ok, Err}
 use Rattle.dh_approvals.specs.Decisions.{decided}
 use Rattle.dh_approvals.specs.declared.act.ApprovalAct.{ApprovalAct}
 use Rattle.dh_approvals.specs.declared.act.ApprovalFault.{ApprovalFault}

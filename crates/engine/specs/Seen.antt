@@ -14,6 +14,8 @@ use Rattle.dh_changes.specs.declared.change.Change.{Change}
 use Rattle.dh_metadata.specs.declared.held.Records.{Records}
 use Rattle.change_log.specs.Forms.{WriteFits}
 use Rattle.change_log.specs.LogBytes.{log_bytes}
+use Rattle.change_log.specs.declared.limits.AppendFault.{AppendFault}
+use Rattle.change_log.specs.declared.limits.AppendFault.TheVariants as append
 use Rattle.change_log.specs.declared.limits.Limits.{Limits}
 use Rattle.change_log.specs.Log.{LogSeen, IsWhole, writes_of}
 use Rattle.engine.specs.declared.request.JudgeFault.{JudgeFault}
@@ -203,6 +205,12 @@ Puts old c found (Err change.StoreFault) new =
     × (Rose old.faults new.faults × ((old.faults ≤ new.faults) × (new ≡ record old { faults = new.faults })))
 Puts old c found (Err (change.Refused refused)) new = ⊥
 Puts old c found (Err change.Memory) new = new ≡ old
+
+-- why a change isn't made, by why it isn't appended
+abbrev pub log_fault : AppendFault → ChangeFault
+log_fault (append.LogFull limit) = change.LogFull limit
+log_fault append.StoreFault = change.StoreFault
+log_fault append.Memory = change.Memory
 
 -- why a change isn't made, by why its request came to nothing
 abbrev pub fault_by : JudgeFault → ChangeFault

@@ -1,9 +1,8 @@
 //! What an act on an approval comes to.
-ghost use Rattle.std.specs.Prelude.{◌≡◌, ◌<◌, ◌∷◌, [], length, IfOk, Some};
+ghost use Rattle.std.specs.Prelude.{◌≡◌, ◌<◌, IfOk, Some};
 ghost use Rattle.std.specs.List.{All};
 ghost use Rattle.change_log.specs.Forms.{WriteFits};
 ghost use Rattle.dh_base.specs.Memory.{Answers, IsFirst};
-ghost use Rattle.dh_approvals.specs.Decisions.{decided};
 ghost use Rattle.dh_changes.specs.World.{facts};
 ghost use Rattle.value_import.specs.Outcomes.{IsKnown};
 ghost use Rattle.engine.specs.Requests.{approval_body, approval_report, refusal_of, approval_by, cause_of};
@@ -22,39 +21,24 @@ use std::alloc::Global;
 
 const BODY: &[u8] = b"{\"httpStatus\":\"OK\",\"httpStatusCode\":200,\"status\":\"OK\"}";
 
+// The report on an act that is done, with its write.
 #[tactic(auto, unfolding(crate::specs::Requests::approval_body))]
-fn body(alloc: Global) -> Result<Items<u8>, Memory>
-    ensures { IfOk result (λ body. body ≡ approval_body) }
-{
-    Ok(Items::from(Vec::from_slice(alloc, BODY)?))
-}
-
-// A list of one write.
-fn only(alloc: Global, write: Write) -> Result<Items<Write>, Memory>
-    requires { WriteFits write }
-    ensures list { IfOk result (λ writes. writes ≡ write ∷ []) }
-    ensures fits { IfOk result (λ writes. All WriteFits writes) }
-{
-    let mut writes = Items::new(alloc);
-    writes.push(write)?;
-    Ok(writes)
-}
-
 fn report(alloc: Global, write: Write) -> Result<Judged, Memory>
     requires { WriteFits write }
     ensures value { IfOk result (λ judged. judged ≡ approval_report write) }
     ensures fits { IfOk result (λ judged. All WriteFits judged.writes) }
 {
-    let writes = only(alloc, write)?;
-    match body(alloc) {
+    let mut writes = Items::new(alloc);
+    writes.push(write)?;
+    match Vec::from_slice(alloc, BODY) {
         Ok(body) => Ok(Judged {
             writes,
-            body,
+            body: Items::from(body),
             status: 200,
         }),
-        Err(fault) => {
+        Err(_) => {
             drop(writes);
-            Err(fault)
+            Err(Memory)
         }
     }
 }
@@ -85,20 +69,6 @@ fn refusal_of(alloc: Global, fault: ApprovalFault) -> JudgeFault
     }
 }
 
-// The write fits the bytes of a change.
-fn decided(
-    world: &World,
-    meta: &Metadata,
-    user: u32,
-    act: &ApprovalAct,
-) -> Result<Write, ApprovalFault>
-    requires { user < length meta.now.users }
-    ensures value { result ≡ decided (facts world.now) meta.now user act.now }
-    ensures fits { IfOk result (λ write. WriteFits write) }
-{
-    decide(world, meta, user, act)
-}
-
 /// What the act of this asker comes to, over what is recorded. Only users approve.
 pub(crate) fn judge_approval(
     alloc: Global,
@@ -115,7 +85,7 @@ pub(crate) fn judge_approval(
         Who::User(user) => user,
         Who::Loader => return Err(refusal_of(alloc, ApprovalFault::NoRight)),
     };
-    match decided(world, meta, user, act) {
+    match decide(world, meta, user, act) {
         Ok(write) => Ok(report(alloc, write)?),
         Err(fault) => Err(refusal_of(alloc, fault)),
     }

@@ -4,12 +4,9 @@ ghost use Rattle.change_log.specs.Forms.{WriteFits};
 ghost use Rattle.std.specs.Prelude.{◌≡◌};
 ghost use Rattle.change_log.specs.Log.{IsWhole, NeverFails};
 ghost use Rattle.value_import.specs.Outcomes.{IsKnown};
-ghost use Rattle.engine.specs.Machine.{Step};
-ghost use Rattle.engine.specs.Machine.Act.{changed};
-ghost use Rattle.engine.specs.Seen.{seen_of, state_of, AreParts, Puts, Brings, Brought, fault_by};
+ghost use Rattle.engine.specs.Seen.{Brings, Puts, fault_by, log_fault};
 
 use crate::machine::{ChangeFault, Report};
-use crate::updates::Shown;
 use crate::{ChangeRequest, JudgeFault, Judged, judge, maker_of};
 use change_log::{AppendFault, ChangeLog};
 use dh_base::uid::Uid;
@@ -17,6 +14,17 @@ use dh_changes::outcome::Who;
 use dh_metadata::metadata::Metadata;
 use dh_outside::Keeper;
 use std::alloc::Global;
+
+// Why a change isn't made, by why it isn't appended.
+fn log_fault(fault: AppendFault) -> ChangeFault
+    ensures { result ≡ log_fault fault }
+{
+    match fault {
+        AppendFault::LogFull { limit } => ChangeFault::LogFull { limit },
+        AppendFault::StoreFault => ChangeFault::StoreFault,
+        AppendFault::Memory => ChangeFault::Memory,
+    }
+}
 
 // Puts the writes last in the log, if there are any.
 #[tactic(auto, unfolding(crate::specs::Machine::report_of))]
@@ -52,9 +60,7 @@ fn put<K: Keeper>(
             status,
             number,
         }),
-        Err(AppendFault::LogFull { limit }) => Err(ChangeFault::LogFull { limit }),
-        Err(AppendFault::StoreFault) => Err(ChangeFault::StoreFault),
-        Err(AppendFault::Memory) => Err(ChangeFault::Memory),
+        Err(fault) => Err(log_fault(fault)),
     }
 }
 
@@ -68,8 +74,8 @@ fn fault_by(met: JudgeFault) -> ChangeFault
     }
 }
 
-// The reply's body is made before the keeper is called.
-fn bring<K: Keeper>(
+// Brings to the log what a request comes to. The reply's body is made before the keeper is called.
+pub(crate) fn bring<K: Keeper>(
     alloc: Global,
     log: &mut ChangeLog<K>,
     meta: &Metadata,
@@ -88,25 +94,4 @@ fn bring<K: Keeper>(
         Ok(found) => put(alloc, log, user, moment, found),
         Err(met) => Err(fault_by(met)),
     }
-}
-
-// The same beside the tables, which stay.
-pub(crate) fn change<K: Keeper>(
-    alloc: Global,
-    log: &mut ChangeLog<K>,
-    shown: &Shown,
-    meta: &Metadata,
-    who: Who,
-    moment: i64,
-    request: &ChangeRequest,
-) -> Result<Report, ChangeFault>
-    requires parts { AreParts log.old meta.now shown.now }
-    requires known { IsKnown meta.now who }
-    ensures step { Step meta.now log.old.limits (state_of log.old.changes shown.now)
-        (changed (record { who = who; moment = moment; request = request.now }) result) (state_of log.new.changes shown.now) }
-    ensures brought { Brought (seen_of log.old meta.now shown.now) result (seen_of log.new meta.now shown.now) }
-    ensures parts { AreParts log.new meta.now shown.now }
-    ensures sure { NeverFails K.keeper_faults → log.old.faults ≡ 0 → log.new.faults ≡ 0 }
-{
-    bring(alloc, log, meta, who, moment, request)
 }

@@ -13,7 +13,7 @@ ghost use Rattle.engine.specs.Tables.{no_tables, tables_of};
 ghost use Rattle.engine.specs.Seen.{IsSound, Brought, BeginsPart, IsCutOf, IsPartOf, Lays, part_after, part_without, update_in, published_in};
 
 use crate::ChangeRequest;
-use crate::bring::change;
+use crate::bring::bring;
 use crate::machine::{ChangeFault, Cut, CutFault, LookFault, Report, Staged, Standing, View};
 use crate::served::serve_none;
 use crate::swaps::swap;
@@ -131,15 +131,7 @@ impl<K: Keeper> Engine<K> {
         ensures sure { NeverFails K.keeper_faults → self.old.faults ≡ 0 → self.new.faults ≡ 0 }
         ensures sound { IsSound self.new }
     {
-        change(
-            alloc,
-            &mut self.log,
-            &self.shown,
-            &self.meta,
-            who,
-            moment,
-            request,
-        )
+        bring(alloc, &mut self.log, &self.meta, who, moment, request)
     }
 
     /// Begins an update of the tables.
@@ -187,12 +179,10 @@ impl<K: Keeper> Engine<K> {
         ensures rises { IfOk result (λ number. self.old.state.published ≤ number) }
         ensures sound { IsSound self.new }
     {
-        let limits = self.log.limits();
         swap(
             alloc,
             &mut self.shown,
             &self.meta,
-            &limits,
             self.log.changes(),
             ticket,
         )

@@ -4,7 +4,6 @@
 
 mod approval;
 mod bring;
-mod bundle;
 mod engine;
 mod in_memory;
 mod kinds;
@@ -18,6 +17,7 @@ mod served;
 mod summary;
 mod swaps;
 mod tables;
+mod text;
 mod updates;
 
 pub use engine::Engine;

@@ -5,7 +5,6 @@ use dh_base::items::Items;
 use dh_base::plain::CutKind;
 use dh_changes::change::Change;
 use std::sync::Arc;
-use thiserror::Error;
 
 /// What a change that isn't refused came to.
 #[derive(Drop)]
@@ -52,27 +51,22 @@ pub struct Cut {
 }
 
 /// Why no update is begun.
-#[derive(Clone, Copy, Debug, Drop, Error)]
+#[derive(Clone, Copy, Drop)]
 pub enum CutFault {
     /// An update of the same kind is begun already, with this ticket.
-    #[error("update {ticket} is staged")]
     Busy { ticket: u64 },
     /// So many updates were begun, and no more may be.
-    #[error("all {limit} updates were made")]
     UpdatesSpent { limit: u64 },
     /// Out of memory.
-    #[error("out of memory")]
     Memory,
 }
 
 /// Why no tables are shown.
-#[derive(Clone, Copy, Debug, Drop, Error)]
+#[derive(Clone, Copy, Drop)]
 pub enum LookFault {
     /// Only so many changes are published.
-    #[error("only {published} changes are published")]
     NotYet { published: u64 },
     /// Out of memory.
-    #[error("out of memory")]
     Memory,
 }
 

@@ -1,10 +1,10 @@
 //! The report on a tracker bundle.
 ghost use Rattle.std.specs.Prelude.{◌≡◌, ◌<◌, ◌^◌, IfOk, map};
-ghost use Rattle.serde_json.specs.Data.{array};
-ghost use Rattle.serde_json.specs.View.{view, items_of};
+ghost use Rattle.serde_json.specs.View.{view};
 ghost use Rattle.engine.specs.Report as report;
 ghost use Rattle.tracker_import.specs.Outcomes.{total_of};
 
+use crate::text::text_of;
 use dh_base::memory::Memory;
 use dh_base::uid::Uid;
 use dh_changes::outcome::{Conflict, Verdict};
@@ -40,14 +40,6 @@ fn error_values(alloc: Global, conflicts: &[Conflict]) -> Result<Vec<Value>, Mem
         values.push(error_value(alloc, conflict)?)?;
     }
     Ok(values)
-}
-
-#[tactic(auto, unfolding(crate::specs::Report::validation_of))]
-fn validation(alloc: Global, errors: Vec<Value>) -> Result<Value, AllocError>
-    ensures { IfOk result (λ v. view v ≡ report.validation_of (array (items_of (map view errors.items)))) }
-{
-    let members = with_value(alloc, Map::new(alloc), "errorReports", Value::Array(errors))?;
-    Ok(Value::Object(members))
 }
 
 #[tactic(auto, unfolding(crate::specs::Report::stats_of))]
@@ -97,25 +89,28 @@ fn word(verdict: &Verdict) -> &'static str
     if is_idle(verdict) { "ERROR" } else { "WARNING" }
 }
 
-#[tactic(auto, unfolding(crate::specs::Report::body_of))]
-fn body(alloc: Global, stats: Value, word: &str, validation: Value) -> Result<Value, AllocError>
-    ensures { IfOk result (λ v. view v ≡ report.body_of (view stats) word.now (view validation)) }
-{
-    let members = with_value(alloc, Map::new(alloc), "stats", stats)?;
-    let members = with_value(alloc, members, "validationReport", validation)?;
-    let members = with_text(alloc, members, "status", word)?;
-    Ok(Value::Object(members))
-}
-
-#[tactic(auto, unfolding(crate::specs::Report::report_of))]
-fn report_value(alloc: Global, verdict: &Verdict) -> Result<Value, Memory>
-    requires { total_of verdict.now < 2 ^ 64 }
+// The report with these errors.
+#[tactic(auto, unfolding(crate::specs::Report::body_of, crate::specs::Report::report_of, crate::specs::Report::validation_of))]
+fn report_value(alloc: Global, verdict: &Verdict, errors: Vec<Value>) -> Result<Value, AllocError>
+    requires total { total_of verdict.now < 2 ^ 64 }
+    requires errors { map view errors.items ≡ map report.error_of verdict.now.conflicts }
     ensures { IfOk result (λ v. view v ≡ report.report_of verdict.now) }
 {
-    let errors = error_values(alloc, verdict.conflicts.as_slice())?;
-    let validation = validation(alloc, errors)?;
-    let stats = stats(alloc, verdict)?;
-    Ok(body(alloc, stats, word(verdict), validation)?)
+    let errors = with_value(alloc, Map::new(alloc), "errorReports", Value::Array(errors))?;
+    let members = with_value(
+        alloc,
+        Map::new(alloc),
+        "validationReport",
+        Value::Object(errors),
+    )?;
+    let members = with_text(alloc, members, "status", word(verdict))?;
+    match stats(alloc, verdict) {
+        Ok(stats) => Ok(Value::Object(with_value(alloc, members, "stats", stats)?)),
+        Err(fault) => {
+            drop(members);
+            Err(fault)
+        }
+    }
 }
 
 /// The body of the reply to a tracker bundle.
@@ -124,6 +119,7 @@ pub(crate) fn report_body(alloc: Global, verdict: &Verdict) -> Result<Vec<u8>, M
     requires { total_of verdict.now < 2 ^ 64 }
     ensures { IfOk result (λ text. text.items ≡ report.report_text verdict.now) }
 {
-    let value = report_value(alloc, verdict)?;
-    Ok(value.to_vec(alloc)?)
+    let errors = error_values(alloc, verdict.conflicts.as_slice())?;
+    let value = report_value(alloc, verdict, errors)?;
+    Ok(text_of(alloc, value)?)
 }

@@ -46,29 +46,6 @@ fn laid_over(
     }
 }
 
-// The tables that stand for these changes.
-fn tables_laid(
-    alloc: Global,
-    meta: &Metadata,
-    changes: &[Arc<Change>],
-    base: &Arc<YearTables>,
-    latest: &Option<Arc<LatestPart>>,
-) -> Result<Arc<Tables>, Memory>
-    requires few { length (writes_of (map arc_value changes.now)) ≤ MOST_RECORDS }
-    requires fits { All WriteFits (writes_of (map arc_value changes.now)) }
-    requires within { (arc_value base.now).base_cut ≤ length changes.now }
-    requires base { together (arc_value base.now).parts ≡ tables_of meta.now (take (arc_value base.now).base_cut (map arc_value changes.now)) }
-    requires over { LiesOver meta.now (map arc_value changes.now) (arc_value base.now).base_cut (option_map arc_value latest.now) }
-    ensures all { IfOk result (λ tables. contents_in (arc_value tables).all ≡ tables_of meta.now (map arc_value changes.now)) }
-    ensures years { IfOk result (λ tables. (arc_value tables).all.years ≡ years_in (arc_value base.now).parts) }
-    ensures base { IfOk result (λ tables. (arc_value tables).base ≡ arc_value base.now) }
-    ensures latest { IfOk result (λ tables. (arc_value tables).latest ≡ option_map arc_value latest.now) }
-{
-    let over = laid_over(alloc, meta, changes, base, latest)?;
-    let tables = tables_from(alloc, base, over)?;
-    Ok(tables)
-}
-
 // Tables that stand for the first changes: yearly parts, under a latest part if there is one.
 pub(crate) fn serve(
     alloc: Global,
@@ -88,7 +65,8 @@ pub(crate) fn serve(
     ensures base { IfOk result (λ tables. (arc_value tables).base ≡ arc_value base.now) }
     ensures latest { IfOk result (λ tables. (arc_value tables).latest ≡ option_map arc_value latest.now) }
 {
-    let tables = tables_laid(alloc, meta, &changes[..number as usize], base, latest)?;
+    let over = laid_over(alloc, meta, &changes[..number as usize], base, latest)?;
+    let tables = tables_from(alloc, base, over)?;
     Ok(tables)
 }
 

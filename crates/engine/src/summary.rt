@@ -1,10 +1,11 @@
 //! The summary of an import: the body and the status of the reply to it.
-ghost use Rattle.std.specs.Prelude.{◌≡◌, IfOk, Bool, map, codes};
-ghost use Rattle.serde_json.specs.Data.{Data, array};
-ghost use Rattle.serde_json.specs.View.{view, items_of};
+ghost use Rattle.std.specs.Prelude.{◌≡◌, IfOk, map};
+ghost use Rattle.http.specs.StatusCode.{IsStatusCode};
+ghost use Rattle.serde_json.specs.View.{view};
 ghost use Rattle.engine.specs.Summary.{conflict_of, counts_of, response_of, summary_of, summary_status_of, is_clean, word_within, word_of};
 ghost use Rattle.engine.specs.Summary.{summary_response, summary_text};
 
+use crate::text::text_of;
 use dh_base::memory::Memory;
 use dh_changes::outcome::{Conflict, Verdict};
 use request_session::{response_value, with_number, with_text, with_value};
@@ -30,12 +31,6 @@ fn conflict_values(alloc: Global, conflicts: &[Conflict]) -> Result<Vec<Value>, 
     Ok(values)
 }
 
-fn conflict_list(alloc: Global, conflicts: &[Conflict]) -> Result<Value, Memory>
-    ensures { IfOk result (λ v. view v ≡ array (items_of (map conflict_of conflicts.now))) }
-{
-    Ok(Value::Array(conflict_values(alloc, conflicts)?))
-}
-
 #[tactic(auto, unfolding(crate::specs::Summary::counts_of))]
 fn counts_value(alloc: Global, verdict: &Verdict) -> Result<Value, AllocError>
     ensures { IfOk result (λ v. view v ≡ counts_of verdict.now) }
@@ -44,22 +39,6 @@ fn counts_value(alloc: Global, verdict: &Verdict) -> Result<Value, AllocError>
     let members = with_number(alloc, members, "ignored", verdict.ignored)?;
     let members = with_number(alloc, members, "imported", verdict.imported)?;
     let members = with_number(alloc, members, "updated", verdict.updated)?;
-    Ok(Value::Object(members))
-}
-
-#[tactic(auto, unfolding(crate::specs::Summary::response_of))]
-fn import_response(
-    alloc: Global,
-    conflicts: Value,
-    counts: Value,
-    word: &str,
-) -> Result<Value, AllocError>
-    ensures { IfOk result (λ v. view v ≡ response_of (view conflicts) (view counts) word.now) }
-{
-    let members = with_value(alloc, Map::new(alloc), "conflicts", conflicts)?;
-    let members = with_value(alloc, members, "importCount", counts)?;
-    let members = with_text(alloc, members, "responseType", "ImportSummary")?;
-    let members = with_text(alloc, members, "status", word)?;
     Ok(Value::Object(members))
 }
 
@@ -72,7 +51,8 @@ fn is_clean(verdict: &Verdict) -> bool
 
 /// The status of the reply to an import of values or completions: 200, or 409 where there is a conflict.
 pub fn summary_status(verdict: &Verdict) -> u16
-    ensures { result ≡ summary_status_of verdict.now }
+    ensures value { result ≡ summary_status_of verdict.now }
+    ensures status { IsStatusCode result }
 {
     if is_clean(verdict) { 200 } else { 409 }
 }
@@ -93,28 +73,31 @@ fn word(verdict: &Verdict) -> &'static str
     if is_clean(verdict) { "OK" } else { "WARNING" }
 }
 
-#[tactic(auto, unfolding(crate::specs::Summary::summary_response))]
-fn response(alloc: Global, verdict: &Verdict) -> Result<Value, Memory>
+// The response with these conflicts.
+#[tactic(auto, unfolding(crate::specs::Summary::response_of, crate::specs::Summary::summary_response))]
+fn response(alloc: Global, verdict: &Verdict, conflicts: Vec<Value>) -> Result<Value, AllocError>
+    requires { map view conflicts.items ≡ map conflict_of verdict.now.conflicts }
     ensures { IfOk result (λ v. view v ≡ summary_response verdict.now) }
 {
-    let conflicts = conflict_list(alloc, verdict.conflicts.as_slice())?;
-    let counts = counts_value(alloc, verdict)?;
-    Ok(import_response(alloc, conflicts, counts, word_within(verdict))?)
-}
-
-#[tactic(auto, using(crate::proofs::SummaryLemmas::summary_has_status), unfolding(crate::specs::Summary::summary_of))]
-fn summary_value(alloc: Global, verdict: &Verdict) -> Result<Value, Memory>
-    ensures { IfOk result (λ v. view v ≡ summary_of verdict.now) }
-{
-    let response = response(alloc, verdict)?;
-    Ok(response_value(alloc, summary_status(verdict), response, word(verdict))?)
+    let members = with_value(alloc, Map::new(alloc), "conflicts", Value::Array(conflicts))?;
+    let members = with_text(alloc, members, "responseType", "ImportSummary")?;
+    let members = with_text(alloc, members, "status", word_within(verdict))?;
+    match counts_value(alloc, verdict) {
+        Ok(counts) => Ok(Value::Object(with_value(alloc, members, "importCount", counts)?)),
+        Err(fault) => {
+            drop(members);
+            Err(fault)
+        }
+    }
 }
 
 /// The body of the reply to an import of values or completions.
-#[tactic(auto, using(crate::proofs::SummaryLemmas::summary_whole), unfolding(crate::specs::Summary::summary_text))]
+#[tactic(auto, using(crate::proofs::SummaryLemmas::summary_whole), unfolding(crate::specs::Summary::summary_of, crate::specs::Summary::summary_text))]
 pub fn summary_body(alloc: Global, verdict: &Verdict) -> Result<Vec<u8>, Memory>
     ensures { IfOk result (λ text. text.items ≡ summary_text verdict.now) }
 {
-    let value = summary_value(alloc, verdict)?;
-    Ok(value.to_vec(alloc)?)
+    let conflicts = conflict_values(alloc, verdict.conflicts.as_slice())?;
+    let response = response(alloc, verdict, conflicts)?;
+    let value = response_value(alloc, summary_status(verdict), response, word(verdict))?;
+    Ok(text_of(alloc, value)?)
 }

@@ -5,16 +5,13 @@ ghost use Rattle.std.specs.List.{All};
 ghost use Rattle.change_log.specs.Forms.{WriteFits};
 ghost use Rattle.change_log.specs.Log.{writes_of};
 ghost use Rattle.engine.specs.Machine.{has_ticket, is_begun, number_in, number_of};
-ghost use Rattle.engine.specs.Histories.{IsInOrder};
 ghost use Rattle.engine.specs.Seen.{state_of, staged_latest, over_from, part_in, part_after, FitSlots, Lays, Shows, Swaps};
 ghost use Rattle.engine.specs.Stands.{GoesTo, Stands};
-ghost use Rattle.engine.specs.Tables.{tables_of};
 ghost use Rattle.dh_base.specs.declared.limits.TheConstants.{MOST_RECORDS};
 
 use crate::served::serve;
 use crate::tables::{Tables, base_of_first};
 use crate::updates::{LatestUpdate, Shown, end_latest, kind_of, number_in, staged_of};
-use change_log::Limits;
 use dh_base::memory::Memory;
 use dh_base::plain::CutKind;
 use dh_changes::change::Change;
@@ -177,7 +174,8 @@ fn swap_latest(
     Ok(number)
 }
 
-fn swap_in(
+// Publishes the update with this ticket.
+pub(crate) fn swap(
     alloc: Global,
     shown: &mut Shown,
     meta: &Metadata,
@@ -201,31 +199,4 @@ fn swap_in(
         CutKind::Full => swap_full(alloc, shown, meta, changes, ticket),
         CutKind::Latest => swap_latest(alloc, shown, meta, changes, ticket),
     }
-}
-
-#[tactic(auto, using(crate::proofs::Orders::swap_is_there, crate::proofs::Orders::swaps_in_order, crate::proofs::Orders::swap_rises))]
-pub(crate) fn swap(
-    alloc: Global,
-    shown: &mut Shown,
-    meta: &Metadata,
-    limits: &Limits,
-    changes: &[Arc<Change>],
-    ticket: u64,
-) -> Result<u64, Memory>
-    requires order { IsInOrder limits.now (state_of (map arc_value changes.now) shown.old) }
-    requires begun { IsTrue (is_begun (state_of (map arc_value changes.now) shown.old) ticket) }
-    requires few { length (writes_of (map arc_value changes.now)) ≤ MOST_RECORDS }
-    requires fits { All WriteFits (writes_of (map arc_value changes.now)) }
-    requires shows { Shows meta.now (map arc_value changes.now) shown.old }
-    ensures step { Swaps (state_of (map arc_value changes.now) shown.old) ticket result (state_of (map arc_value changes.now) shown.new) }
-    ensures order { IsInOrder limits.now (state_of (map arc_value changes.now) shown.new) }
-    ensures shows { Shows meta.now (map arc_value changes.now) shown.new }
-    ensures laid { Lays (state_of (map arc_value changes.now) shown.old) ticket result (option_map part_in shown.old.latest) (arc_value shown.old.tables)
-        (arc_value shown.new.tables) }
-    ensures part { option_map part_in shown.new.latest
-        ≡ part_after (state_of (map arc_value changes.now) shown.old) ticket result (option_map part_in shown.old.latest) }
-    ensures rises { IfOk result (λ number. shown.old.published ≤ number) }
-{
-    let _limits = limits;
-    swap_in(alloc, shown, meta, changes, ticket)
 }

@@ -4,8 +4,6 @@ ghost use Rattle.std.specs.Arc.{arc_value};
 ghost use Rattle.std.specs.List.{All};
 ghost use Rattle.change_log.specs.Forms.{WriteFits};
 ghost use Rattle.change_log.specs.Log.{writes_of};
-ghost use Rattle.table_build.specs.Listed.{listed_in};
-ghost use Rattle.table_build.specs.Slots.{AreSlots};
 ghost use Rattle.table_sums.specs.YearParts.{part_of, together, years_in};
 ghost use Rattle.engine.specs.Seen.{FitSlots, IsPartOf};
 ghost use Rattle.engine.specs.Tables.{served_from, tables_of, years_of};
@@ -145,61 +143,7 @@ pub(crate) fn tables_from(
     Ok(Arc::new(alloc, Tables { base, over })?)
 }
 
-// The yearly parts of these changes.
-fn base_of(
-    alloc: Global,
-    meta: &Metadata,
-    changes: &[Arc<Change>],
-) -> Result<Arc<YearTables>, Memory>
-    requires few { length (writes_of (map arc_value changes.now)) ≤ MOST_RECORDS }
-    requires fits { All WriteFits (writes_of (map arc_value changes.now)) }
-    ensures parts { IfOk result (λ base. together (arc_value base).parts ≡ tables_of meta.now (map arc_value changes.now)) }
-    ensures years { IfOk result (λ base. years_in (arc_value base).parts ≡ years_of meta.now (map arc_value changes.now)) }
-    ensures base_cut { IfOk result (λ base. (arc_value base).base_cut ≡ length changes.now) }
-{
-    let base = build(alloc, meta, changes)?;
-    Ok(Arc::new(alloc, base)?)
-}
-
-// The same, of the parts that were handed in, and of parts that are made for the other years.
-fn base_with(
-    alloc: Global,
-    meta: &Metadata,
-    changes: &[Arc<Change>],
-    slots: Vec<Slot>,
-) -> Result<Arc<YearTables>, Memory>
-    requires few { length (writes_of (map arc_value changes.now)) ≤ MOST_RECORDS }
-    requires fits { All WriteFits (writes_of (map arc_value changes.now)) }
-    requires slots { AreSlots (listed_in meta.now (writes_of (map arc_value changes.now))) slots.items }
-    ensures parts { IfOk result (λ base. together (arc_value base).parts ≡ tables_of meta.now (map arc_value changes.now)) }
-    ensures years { IfOk result (λ base. years_in (arc_value base).parts ≡ years_of meta.now (map arc_value changes.now)) }
-    ensures base_cut { IfOk result (λ base. (arc_value base).base_cut ≡ length changes.now) }
-{
-    let base = build_with(alloc, meta, changes, slots)?;
-    Ok(Arc::new(alloc, base)?)
-}
-
-// The yearly parts of these changes, of the parts that were handed in, if they are kept.
-fn base_by(
-    alloc: Global,
-    meta: &Metadata,
-    changes: &[Arc<Change>],
-    slots: Option<Vec<Slot>>,
-) -> Result<Arc<YearTables>, Memory>
-    requires few { length (writes_of (map arc_value changes.now)) ≤ MOST_RECORDS }
-    requires fits { All WriteFits (writes_of (map arc_value changes.now)) }
-    requires slots { FitSlots meta.now (map arc_value changes.now) slots }
-    ensures parts { IfOk result (λ base. together (arc_value base).parts ≡ tables_of meta.now (map arc_value changes.now)) }
-    ensures years { IfOk result (λ base. years_in (arc_value base).parts ≡ years_of meta.now (map arc_value changes.now)) }
-    ensures base_cut { IfOk result (λ base. (arc_value base).base_cut ≡ length changes.now) }
-{
-    match slots {
-        Some(slots) => base_with(alloc, meta, changes, slots),
-        None => base_of(alloc, meta, changes),
-    }
-}
-
-// Those of the first changes.
+// The yearly parts of the first changes, of the parts that were handed in, if they are kept.
 pub(crate) fn base_of_first(
     alloc: Global,
     meta: &Metadata,
@@ -215,7 +159,11 @@ pub(crate) fn base_of_first(
     ensures years { IfOk result (λ base. years_in (arc_value base).parts ≡ years_of meta.now (take number (map arc_value changes.now))) }
     ensures base_cut { IfOk result (λ base. (arc_value base).base_cut ≡ number) }
 {
-    base_by(alloc, meta, &changes[..number as usize], slots)
+    let first = &changes[..number as usize];
+    match slots {
+        Some(slots) => Ok(Arc::new(alloc, build_with(alloc, meta, first, slots)?)?),
+        None => Ok(Arc::new(alloc, build(alloc, meta, first)?)?),
+    }
 }
 
 /// Reads changes once for the parts of all their years.

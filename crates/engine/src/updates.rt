@@ -6,17 +6,14 @@ ghost use Rattle.dh_changes.specs.declared.change.Change.{Change};
 ghost use Rattle.change_log.specs.Forms.{WriteFits};
 ghost use Rattle.dh_metadata.specs.declared.held.Records.{Records};
 ghost use Rattle.change_log.specs.Log.{writes_of};
-ghost use Rattle.change_log.specs.declared.limits.Limits.{Limits as LogLimits};
 ghost use Rattle.engine.specs.Machine.{by_kind, has_ticket, kind_by, number_in, after_drop};
-ghost use Rattle.table_build.specs.Listed.{listed_in};
-ghost use Rattle.table_build.specs.Slots.{AreSlots};
 ghost use Rattle.dh_changes.specs.Facts.{facts_in};
 ghost use Rattle.dh_changes.specs.World.{facts};
-ghost use Rattle.engine.specs.Tables.{tables_of, years_of};
+ghost use Rattle.engine.specs.Tables.{tables_of};
 ghost use Rattle.table_rows.specs.Store.{contents_in};
 ghost use Rattle.engine.specs.Histories.{IsInOrder};
 ghost use Rattle.engine.specs.Seen.{state_of, staged_latest, part_in, part_without, BeginsPart, update_in, published_in, IsCutOf, IsPartOf, FitSlots, Shows};
-ghost use Rattle.engine.specs.Seen.{refused_by, spent_of, Cuts, Looks};
+ghost use Rattle.engine.specs.Seen.{refused_by, Cuts, Looks};
 ghost use Rattle.dh_base.specs.declared.plain.CutKind.TheVariants.{Full, Latest};
 ghost use Rattle.dh_base.specs.declared.limits.TheConstants.{MOST_RECORDS, MOST_UPDATES};
 
@@ -68,49 +65,17 @@ fn copied(alloc: Global, changes: &[Arc<Change>]) -> Result<Vec<Arc<Change>>, Me
     Ok(copy)
 }
 
-// The changes after the first ones.
-fn copied_after(
-    alloc: Global,
-    changes: &[Arc<Change>],
-    first: u64,
-) -> Result<Vec<Arc<Change>>, Memory>
-    requires { first ≤ length changes.now }
-    ensures { IfOk result (λ copy. map arc_value copy.items ≡ drop first (map arc_value changes.now)) }
-{
-    copied(alloc, &changes[first as usize..])
-}
-
-fn staged_latest(latest: &Option<LatestUpdate>) -> Option<Staged>
-    ensures { result ≡ staged_latest latest.now }
-{
-    match latest {
-        Some(update) => Some(update.staged),
-        None => None,
-    }
-}
-
 // The update of a kind that is begun.
 pub(crate) fn staged_of(shown: &Shown, kind: CutKind) -> Option<Staged>
     ensures { result ≡ by_kind kind shown.now.full (staged_latest shown.now.latest) }
 {
     match kind {
         CutKind::Full => shown.full,
-        CutKind::Latest => staged_latest(&shown.latest),
+        CutKind::Latest => match &shown.latest {
+            Some(update) => Some(update.staged),
+            None => None,
+        },
     }
-}
-
-// The years in which the log leaves something, each with a slot for its part.
-fn plan_for(
-    alloc: Global,
-    meta: &Metadata,
-    world: &World,
-    changes: &[Arc<Change>],
-) -> Result<Plan, Memory>
-    requires { facts world.now ≡ facts_in (writes_of (map arc_value changes.now)) }
-    ensures years { IfOk result (λ plan. plan.years ≡ years_of meta.now (map arc_value changes.now)) }
-    ensures slots { IfOk result (λ plan. AreSlots (listed_in meta.now (writes_of (map arc_value changes.now))) plan.slots.items) }
-{
-    plan_of(alloc, meta, world, changes)
 }
 
 // Why no update may be begun.
@@ -121,17 +86,13 @@ fn refusal(staged: Option<Staged>, ticket: u64, limit: u64) -> Option<CutFault>
         Some(update) => Some(CutFault::Busy {
             ticket: update.ticket,
         }),
-        None => spent(ticket, limit),
-    }
-}
-
-fn spent(ticket: u64, limit: u64) -> Option<CutFault>
-    ensures { result ≡ spent_of ticket limit }
-{
-    if ticket == limit {
-        Some(CutFault::UpdatesSpent { limit })
-    } else {
-        None
+        None => {
+            if ticket == limit {
+                Some(CutFault::UpdatesSpent { limit })
+            } else {
+                None
+            }
+        }
     }
 }
 
@@ -192,10 +153,10 @@ fn begin_full(
     ensures shows { Shows meta.now (map arc_value changes.now) shown.new }
     ensures tables { shown.new.tables ≡ shown.old.tables }
 {
-    let Ok(copy) = copied_after(alloc, changes, 0) else {
+    let Ok(copy) = copied(alloc, changes) else {
         return Err(CutFault::Memory);
     };
-    let Ok(Plan { years, slots }) = plan_for(alloc, meta, world, changes) else {
+    let Ok(Plan { years, slots }) = plan_of(alloc, meta, world, changes) else {
         return Err(CutFault::Memory);
     };
     let number = changes.len() as u64;
@@ -232,7 +193,7 @@ fn begin_latest(
     ensures shows { Shows meta.now (map arc_value changes.now) shown.new }
     ensures tables { shown.new.tables ≡ shown.old.tables }
 {
-    let Ok(copy) = copied_after(alloc, changes, shown.base_cut) else {
+    let Ok(copy) = copied(alloc, &changes[shown.base_cut as usize..]) else {
         return Err(CutFault::Memory);
     };
     let Ok(part) = latest_part(alloc, meta, world, changes, shown.tables.base()) else {
@@ -249,8 +210,9 @@ fn begin_latest(
     })
 }
 
+// Begins an update of a kind.
 #[tactic(auto, using(crate::proofs::Orders::refused_cuts))]
-fn begin(
+pub(crate) fn cut(
     alloc: Global,
     shown: &mut Shown,
     limits: &Limits,
@@ -279,33 +241,6 @@ fn begin(
         CutKind::Full => begin_full(alloc, shown, limits, meta, world, changes),
         CutKind::Latest => begin_latest(alloc, shown, limits, meta, world, changes),
     }
-}
-
-#[tactic(auto, using(crate::proofs::Orders::cuts_in_order))]
-pub(crate) fn cut(
-    alloc: Global,
-    shown: &mut Shown,
-    limits: &Limits,
-    meta: &Metadata,
-    world: &World,
-    changes: &[Arc<Change>],
-    kind: CutKind,
-) -> Result<Cut, CutFault>
-    requires order { IsInOrder limits.now (state_of (map arc_value changes.now) shown.old) }
-    requires limits { limits.now.updates ≤ MOST_UPDATES }
-    requires world { facts world.now ≡ facts_in (writes_of (map arc_value changes.now)) }
-    requires few { length (writes_of (map arc_value changes.now)) ≤ MOST_RECORDS }
-    requires fits { All WriteFits (writes_of (map arc_value changes.now)) }
-    requires shows { Shows meta.now (map arc_value changes.now) shown.old }
-    ensures order { IsInOrder limits.now (state_of (map arc_value changes.now) shown.new) }
-    ensures step { Cuts limits.now (state_of (map arc_value changes.now) shown.old) kind (update_in result) (state_of (map arc_value changes.now) shown.new) }
-    ensures given { IfOk result (IsCutOf meta.now (state_of (map arc_value changes.now) shown.old) kind) }
-    ensures part { BeginsPart (state_of (map arc_value changes.now) shown.old) kind (update_in result) (option_map part_in shown.old.latest)
-        (option_map part_in shown.new.latest) }
-    ensures shows { Shows meta.now (map arc_value changes.now) shown.new }
-    ensures tables { shown.new.tables ≡ shown.old.tables }
-{
-    begin(alloc, shown, limits, meta, world, changes, kind)
 }
 
 // Keeps a part for the full update.
@@ -348,16 +283,7 @@ pub(crate) fn number_in(staged: Option<Staged>) -> u64
     }
 }
 
-// The tables that are published, with the number of the changes for which they stand.
-fn view_of(shown: &Shown) -> Result<View, Memory>
-    ensures published { IfOk result (λ view. view.published ≡ shown.now.published) }
-    ensures tables { IfOk result (λ view. arc_value view.tables ≡ arc_value shown.now.tables) }
-{
-    let tables = Arc::try_clone(&shown.tables)?;
-    let published = shown.published;
-    Ok(View { published, tables })
-}
-
+// The tables that are published, if they stand for so many changes.
 pub(crate) fn look(shown: &Shown, asked: u64) -> Result<View, LookFault>
     ensures step { (log : List Change) → Looks (state_of log shown.now) asked (published_in result) }
     ensures tables { (meta : Records) → (log : List Change) → contents_in (arc_value shown.now.tables).all ≡ tables_of meta (take shown.now.published log)
@@ -370,8 +296,11 @@ pub(crate) fn look(shown: &Shown, asked: u64) -> Result<View, LookFault>
             published: shown.published,
         });
     }
-    match view_of(shown) {
-        Ok(view) => Ok(view),
+    match Arc::try_clone(&shown.tables) {
+        Ok(tables) => Ok(View {
+            published: shown.published,
+            tables,
+        }),
         Err(_) => Err(LookFault::Memory),
     }
 }
@@ -391,7 +320,8 @@ pub(crate) fn end_latest(shown: &mut Shown)
     shown.latest = None;
 }
 
-fn take_away(shown: &mut Shown, ticket: u64)
+// Takes away the update with this ticket.
+pub(crate) fn drop_staged(shown: &mut Shown, ticket: u64)
     ensures state { (log : List Change) → state_of log shown.new ≡ after_drop (state_of log shown.old) ticket }
     ensures shows { (meta : Records) → (log : List Change) → Shows meta log shown.old → Shows meta log shown.new }
     ensures tables { shown.new.tables ≡ shown.old.tables }
@@ -402,17 +332,4 @@ fn take_away(shown: &mut Shown, ticket: u64)
         CutKind::Full => end_full(shown),
         CutKind::Latest => end_latest(shown),
     }
-}
-
-// Takes away the update with this ticket.
-#[tactic(auto, using(crate::proofs::Orders::drop_in_order))]
-pub(crate) fn drop_staged(shown: &mut Shown, ticket: u64)
-    ensures state { (log : List Change) → state_of log shown.new ≡ after_drop (state_of log shown.old) ticket }
-    ensures order { (limits : LogLimits) → (log : List Change) → IsInOrder limits (state_of log shown.old) → IsInOrder limits (state_of log shown.new) }
-    ensures shows { (meta : Records) → (log : List Change) → Shows meta log shown.old → Shows meta log shown.new }
-    ensures tables { shown.new.tables ≡ shown.old.tables }
-    ensures part { (log : List Change) → option_map part_in shown.new.latest
-        ≡ part_without (state_of log shown.old) ticket (option_map part_in shown.old.latest) }
-{
-    take_away(shown, ticket);
 }

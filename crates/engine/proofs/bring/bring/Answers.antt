@@ -1,8 +1,6 @@
 use Rattle.std.proofs.Common.{subst, sym, ℤ, w64, Err, to_z, of_z}
 use Rattle.std.proofs.lemmas.Int.{to_z-of_z}
-use Rattle.dh_base.specs.Memory.{IsCause}
 use Rattle.dh_changes.specs.World.{facts}
-use Rattle.engine.specs.Requests.{cause_of}
 use Rattle.engine.specs.declared.machine.ChangeFault.{ChangeFault}
 use Rattle.engine.specs.Seen.{Brings, fault_by}
 use Rattle.engine.proofs.Steps.{brings-put, brings-fault}

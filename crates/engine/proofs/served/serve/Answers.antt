@@ -5,34 +5,35 @@ use Rattle.std.specs.Arc.{arc_value}
 use Rattle.std.proofs.lemmas.List.{length-map, length-take-le, take-take}
 use Rattle.change_log.specs.Forms.{WriteFits}
 use Rattle.change_log.specs.Log.{writes_of}
-use Rattle.table_sums.specs.YearParts.{YearParts, together, years_in}
+use Rattle.table_rows.specs.Store.{contents_in}
+use Rattle.table_sums.specs.YearParts.{together, years_in}
 use Rattle.engine.specs.Stands.{GoesTo, LiesOver}
-use Rattle.engine.specs.Tables.{tables_of}
+use Rattle.engine.specs.Tables.{Served, tables_of}
 use Rattle.engine.proofs.Steps.{first-few, first-fits}
 use Rattle.engine.proofs.StandLemmas.{goes-lies}
 use Rattle.engine.proofs.served.serve.Goals as goal
 
-pub tables_laid-requires-clause-few : goal.tables_laid-requires-clause-few
-tables_laid-requires-clause-few c =
+pub laid_over-requires-clause-few : goal.laid_over-requires-clause-few
+laid_over-requires-clause-few c =
     subst (λ x. length (writes_of x) ≤ 4194304) (take-map arc_value c.args.number c.args.changes.now) (first-few c.args.number _ c.requires.few)
 
-pub tables_laid-requires-clause-fits : goal.tables_laid-requires-clause-fits
-tables_laid-requires-clause-fits c =
+pub laid_over-requires-clause-fits : goal.laid_over-requires-clause-fits
+laid_over-requires-clause-fits c =
     subst (λ x. All WriteFits (writes_of x)) (take-map arc_value c.args.number c.args.changes.now) (first-fits c.args.number _ c.requires.fits)
 
-pub tables_laid-requires-clause-within : goal.tables_laid-requires-clause-within
-tables_laid-requires-clause-within c =
+pub laid_over-requires-clause-within : goal.laid_over-requires-clause-within
+laid_over-requires-clause-within c =
     subst (λ n. (arc_value c.args.base.now).base_cut ≤ n) (sym (length-take-le c.args.number c.args.changes.now c.requires.within)) c.requires.below
 
-pub tables_laid-requires-clause-base : goal.tables_laid-requires-clause-base
-tables_laid-requires-clause-base c =
+pub laid_over-requires-clause-base : goal.laid_over-requires-clause-base
+laid_over-requires-clause-base c =
     let base_cut = (arc_value c.args.base.now).base_cut in
     let log = map arc_value c.args.changes.now in
     c.requires.base ∙ ap (tables_of c.args.meta.now) (sym (take-take base_cut c.args.number log c.requires.below))
     ∙ ap (λ changes. tables_of c.args.meta.now (take base_cut changes)) (take-map arc_value c.args.number c.args.changes.now)
 
-pub tables_laid-requires-clause-over : goal.tables_laid-requires-clause-over
-tables_laid-requires-clause-over c =
+pub laid_over-requires-clause-over : goal.laid_over-requires-clause-over
+laid_over-requires-clause-over c =
     let log = map arc_value c.args.changes.now in
     let base_cut = (arc_value c.args.base.now).base_cut in
     let over = option_map arc_value c.args.latest.now in
@@ -41,11 +42,19 @@ tables_laid-requires-clause-over c =
     (subst (λ n. c.args.number ≤ n) (sym (length-map c.args.changes.now arc_value)) c.requires.within) c.requires.over)
 
 pub returns-clause-stands : goal.returns-clause-stands
-returns-clause-stands c = record {
-  base = ap (λ (b : YearParts). together b.parts) c.in_ok-tables.ensures.base ∙ c.requires.base;
-  cut = ap (λ (b : YearParts). b.base_cut) c.in_ok-tables.ensures.base;
-  latest = subst (GoesTo c.args.meta.now (map arc_value c.args.changes.now) (arc_value c.args.base.now).base_cut c.args.number)
-      (sym c.in_ok-tables.ensures.latest) c.requires.over;
-  all = c.in_ok-tables.ensures.all ∙ ap (tables_of c.args.meta.now) (sym (take-map arc_value c.args.number c.args.changes.now));
-  years = c.in_ok-tables.ensures.years ∙ sym (ap (λ (b : YearParts). years_in b.parts) c.in_ok-tables.ensures.base);
-}
+returns-clause-stands c =
+    let is = c.in_ok-tables.ensures in record {
+      base = ap (λ (tables : Served). together tables.base.parts) is ∙ c.requires.base;
+      cut = ap (λ (tables : Served). tables.base.base_cut) is;
+      latest = subst (GoesTo c.args.meta.now (map arc_value c.args.changes.now) (arc_value c.args.base.now).base_cut c.args.number)
+          (sym (ap (λ (tables : Served). tables.latest) is ∙ c.in_ok-over.ensures.latest)) c.requires.over;
+      all = ap (λ (tables : Served). contents_in tables.all) is ∙ c.in_ok-over.ensures.all
+          ∙ ap (tables_of c.args.meta.now) (sym (take-map arc_value c.args.number c.args.changes.now));
+      years = ap (λ (tables : Served). tables.all.years) is ∙ c.in_ok-over.ensures.years ∙ sym (ap (λ (tables : Served). years_in tables.base.parts) is);
+    }
+
+pub returns-clause-base : goal.returns-clause-base
+returns-clause-base c = ap (λ (tables : Served). tables.base) c.in_ok-tables.ensures
+
+pub returns-clause-latest : goal.returns-clause-latest
+returns-clause-latest c = ap (λ (tables : Served). tables.latest) c.in_ok-tables.ensures ∙ c.in_ok-over.ensures.latest

@@ -1,6 +1,7 @@
 use Rattle.std.proofs.Common.{◌∙◌, length, map, take, refl, sym, ap, subst, arith}
 use Rattle.std.specs.Arc.{arc_value}
-use Rattle.std.proofs.lemmas.List.{length-map}
+use Rattle.std.specs.List.{drop-map}
+use Rattle.std.proofs.lemmas.List.{length-map, take_rest}
 use Rattle.dh_base.specs.declared.plain.CutKind.TheVariants.{Latest}
 use Rattle.engine.specs.declared.updates.Shown.{Shown}
 use Rattle.engine.specs.Seen.{state_of}
@@ -37,8 +38,11 @@ returns-clause-step c =
 
 pub returns-clause-given : goal.returns-clause-given
 returns-clause-given c =
-    cut_given c.args.meta.now (state_of (map arc_value c.args.changes.now) c.args.shown.now) Latest _ refl c.new.ensures c.in-Ok.ensures
-    c.requires.few c.requires.fits
+    let changes = c.args.changes.now in
+    let first = c.args.shown.now.base_cut in
+    let rest = ap (map arc_value) (take_rest changes first) ∙ sym (drop-map arc_value first changes) in
+    cut_given c.args.meta.now (state_of (map arc_value c.args.changes.now) c.args.shown.now) Latest _ refl c.new.ensures
+    (c.in-Ok.ensures ∙ rest) c.requires.few c.requires.fits
 
 pub returns-clause-shows : goal.returns-clause-shows
 returns-clause-shows c =

@@ -4,7 +4,7 @@ use Rattle.std.specs.Prelude.{option_map}
 use Rattle.dh_base.specs.declared.plain.CutKind.{CutKind}
 use Rattle.engine.specs.Machine.{by_kind}
 use Rattle.engine.specs.Seen.{state_of, staged_latest, refused_by, update_in, part_in, BeginsPart, Cuts, IsCutOf}
-use Rattle.engine.proofs.updates.begin.Goals as goal
+use Rattle.engine.proofs.updates.cut.Goals as goal
 
 pub begin_full-requires-clause-free : goal.begin_full-requires-clause-free
 begin_full-requires-clause-free c =

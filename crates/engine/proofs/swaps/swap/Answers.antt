@@ -1,7 +1,7 @@
 use Rattle.std.proofs.Common.{◌∙◌, length, sym}
 use Rattle.engine.specs.Seen.{staged_latest}
 use Rattle.engine.proofs.StandLemmas.{is-full, is-latest, not-full, number-full, number-latest}
-use Rattle.engine.proofs.swaps.swap_in.Goals as goal
+use Rattle.engine.proofs.swaps.swap.Goals as goal
 
 pub swap_full-requires-clause-begun : goal.swap_full-requires-clause-begun
 swap_full-requires-clause-begun c = is-full c.args.ticket c.args.shown.now.full (sym c.kind_of.ensures ∙ c.in-Full.is)
