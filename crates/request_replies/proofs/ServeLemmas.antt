@@ -1,6 +1,5 @@
 -- A run of the machine told as a session over metadata.
-use Rattle.std.proofs.Common.{◌≡◌, ◌≢◌, ◌∙◌, ℕ, ℤ, Bool, List, Option, Some, Result, Ok, Err, IfOk, subst}
-use Rattle.dh_base.specs.declared.memory.Memory.{Memory}
+use Rattle.std.proofs.Common.{◌≡◌, ◌≢◌, ◌∙◌, ℕ, ℤ, Bool, List, Option, Some, subst}
 use Rattle.http_wire.specs.declared.request.Request.{Request}
 use Rattle.dh_metadata.specs.declared.held.Records.{Records}
 use Rattle.change_log.specs.Log.{NeverFails}
@@ -63,10 +62,3 @@ pub served_over : (shows : ℤ → Type 0) (bytes : List ℕ) (left left' writte
     → Served shows left left' written written' meta how → ServedOver shows bytes written written' meta how
 served_over shows bytes left left' written written' meta how told other served =
     (served.0, over_all (SessionStep shows) most_requests bytes left left' written written' (started meta) served.0 how told other served.1)
-
-pub result_over : (shows : ℤ → Type 0) (left left' written written' : Option (List ℕ)) (meta : Records) (result : Result Ended Memory)
-    → IfOk result (Served shows left left' written written' meta)
-    → IfOk result (λ how. (bytes : List ℕ) → left ≡ Some bytes → how ≢ ReadFault → ServedOver shows bytes written written' meta how)
-result_over shows left left' written written' meta (Ok how) served =
-    λ bytes told other. served_over shows bytes left left' written written' meta how told other served
-result_over shows left left' written written' meta (Err wanting) served = tt

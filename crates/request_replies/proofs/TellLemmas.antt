@@ -1,6 +1,6 @@
 -- What is told, by what a call answered.
 use Rattle.std.proofs.Common.{◌≡◌, ℕ, Bool, List, Option, None, Some, Result, Ok, Err, IfOk, ap, sym, subst, ◌∙◌}
-use Rattle.std.specs.Prelude.{OnErr, take}
+use Rattle.std.specs.Prelude.{take}
 use Rattle.dh_base.specs.Memory.{IsCause}
 use Rattle.dh_base.specs.declared.memory.Memory.{Memory}
 use Rattle.dh_base.specs.declared.plain.CutKind.{CutKind}
@@ -14,9 +14,9 @@ use Rattle.table_rows.specs.Store.{Listed, Contents, contents_in}
 use Rattle.engine.specs.MetaAfter.{meta_after}
 use Rattle.engine.specs.Tables.{tables_of}
 use Rattle.engine.specs.Machine.{State, Step}
-use Rattle.engine.specs.Machine.Act.{swapped, dropped}
+use Rattle.engine.specs.Machine.Act.{dropped}
 use Rattle.engine.specs.declared.machine.Report.{Report}
-use Rattle.request_replies.specs.Texts.{told, IsTold, report_reply, update_reply}
+use Rattle.request_replies.specs.Texts.{told, IsTold, report_reply}
 use Rattle.request_replies.specs.Queries.{answer_by, answer_over}
 use Rattle.request_replies.specs.Checks.{check_reply, refused_text, check_by, check_over}
 use Rattle.request_replies.specs.Updates.{EndsUpdate}
@@ -65,15 +65,6 @@ check_told r meta after log user published all place keep listed number is same 
     (subst (λ (c : Contents). IfOk r (λ reply. text_in reply ≡ check_by (meta_after meta (take published log)) c user place keep published)) same
     (subst (λ (m : Records). IfOk r (λ reply. text_in reply ≡ check_by m (contents_in listed) user place keep published))
     (is ∙ ap (λ n. meta_after meta (take n log)) (sym number)) told_is))
-
-pub ends_of : (meta : Records) (limits : Limits) (kind : CutKind) (ticket published : ℕ) (keep : Bool) (later new : State) (text : List ℕ)
-    (r : Result Reply Memory)
-    → text ≡ update_reply published keep kind → IfOk r (λ _. Step meta limits later (swapped ticket (Ok published)) new)
-    → IfOk r (λ reply. text_in reply ≡ text) → OnErr r (Step meta limits later (dropped ticket) new)
-    → EndsUpdate meta limits kind ticket keep later (told r) new
-ends_of meta limits kind ticket published keep later new text (Ok reply) is swaps same drops =
-    record { published = published; swaps = swaps; tells = same ∙ is }
-ends_of meta limits kind ticket published keep later new text (Err e) is swaps same drops = drops
 
 pub dropped_of : (meta : Records) (limits : Limits) (kind : CutKind) (ticket : ℕ) (keep : Bool) (later new : State) (r : Result Reply Memory)
     → told r ≡ None → Step meta limits later (dropped ticket) new → EndsUpdate meta limits kind ticket keep later (told r) new

@@ -1,7 +1,6 @@
 -- Facts on updates.
 use Rattle.std.proofs.Common.{◌≡◌, ◌∙◌, ℕ, Bool, List, Ok, Err, Result, Option, Some, IfOk, sym, ap, subst, refl}
 use Rattle.std.specs.Prelude.{IsTrue, max}
-use Rattle.dh_base.specs.declared.memory.Memory.{Memory}
 use Rattle.dh_base.specs.declared.plain.CutKind.{CutKind}
 use Rattle.dh_base.specs.declared.plain.CutKind.TheVariants.{Full, Latest}
 use Rattle.dh_metadata.specs.declared.held.Records.{Records}
@@ -10,7 +9,7 @@ use Rattle.engine.specs.declared.machine.Staged.{Staged}
 use Rattle.engine.specs.declared.machine.Cut.{Cut}
 use Rattle.engine.specs.declared.machine.CutFault.{CutFault}
 use Rattle.engine.specs.Machine.{State, Step, staged_of, is_begun, number_of}
-use Rattle.engine.specs.Machine.Act.{begun, swapped, dropped}
+use Rattle.engine.specs.Machine.Act.{begun}
 use Rattle.engine.specs.Seen.{Seen, IsSound, update_in}
 use Rattle.engine.proofs.HistoryLaws.{staged-is-begun, number-is}
 use Rattle.request_replies.specs.Texts.{IsTold, cut_text}
@@ -18,17 +17,6 @@ use Rattle.request_replies.specs.Updates.{Ends, OwnUpdateReply}
 
 abbrev update-with : ℕ → ℕ → Staged
 update-with ticket number = record { ticket = ticket; number = number }
-
--- the number that the swap answers is known before it
-pub swaps_it : (meta : Records) (limits : Limits) (old new : State) (ticket published answered : ℕ) → published ≡ max old.published (number_of old ticket)
-    → Step meta limits old (swapped ticket (Ok answered)) new → Step meta limits old (swapped ticket (Ok published)) new
-swaps_it meta limits old new ticket published answered is step =
-    subst (λ (n : ℕ). Step meta limits old (swapped ticket (Ok n)) new) (step.0.1 ∙ sym is) step
-
--- what was dropped after a swap that lacked memory
-pub dropped_after : (old between new : Seen) (ticket : ℕ) (fault : Memory) → Step old.meta old.limits old.state (swapped ticket (Err fault)) between.state
-    → Step between.meta between.limits between.state (dropped ticket) new.state → Step old.meta old.limits old.state (dropped ticket) new.state
-dropped_after old between new ticket fault stays step = subst (λ (s : State). Step old.meta old.limits s (dropped ticket) new.state) stays step
 
 pub begun_by : (state : State) (kind : CutKind) (ticket number : ℕ) → staged_of state kind ≡ Some (record { ticket = ticket; number = number })
     → IsTrue (is_begun state ticket)

@@ -3,6 +3,7 @@ ghost use Rattle.std.specs.Prelude.{◌≡◌, ◌<◌, true, [], length, Some, 
 ghost use Rattle.request_session.specs.Heads.{is_reply_status};
 ghost use Rattle.change_log.specs.Log.{NeverFails};
 ghost use Rattle.engine.specs.Seen.{IsSound};
+ghost use Rattle.engine.specs.MetaAfter.{published_meta};
 ghost use Rattle.request_session.specs.Replies.{text_in};
 ghost use Rattle.request_replies.specs.Texts.{told, report_reply, IsTold, change_text, refusal_reply};
 ghost use Rattle.query_lang.specs.Given.{refusal};
@@ -60,7 +61,6 @@ pub fn tell(alloc: Global, found: Result<Report, ChangeFault>, keep: bool) -> Re
 }
 
 /// The reply to a change that a user asks for. A change that was made needs no memory to be told.
-#[tactic(auto, using(crate::proofs::Statuses::report_status))]
 pub(crate) fn reply_to_change<K: Keeper>(
     alloc: Global,
     engine: &mut Engine<K>,
@@ -69,7 +69,7 @@ pub(crate) fn reply_to_change<K: Keeper>(
     request: ChangeRequest,
     keep: bool,
 ) -> Result<Reply, Memory>
-    requires user { user < length engine.old.meta.users }
+    requires { user < length (published_meta engine.old).users }
     ensures replies { ChangeReply engine.old (asking moment user request) keep (told result) engine.new }
     ensures sound { IsSound engine.old → IsSound engine.new }
     ensures sure { NeverFails K.keeper_faults → engine.old.faults ≡ 0 → engine.new.faults ≡ 0 }

@@ -1,16 +1,12 @@
 //! The reply to a check.
-ghost use Rattle.std.specs.Prelude.{◌≡◌, ◌<◌, length, take, Some, Ok, Err, IfOk};
-ghost use Rattle.std.specs.Arc.{arc_value};
-ghost use Rattle.engine.specs.Seen.{published_in};
-ghost use Rattle.engine.specs.Tables.{tables_of};
+ghost use Rattle.std.specs.Prelude.{◌≡◌, ◌<◌, length, Some, Ok, Err, IfOk};
 ghost use Rattle.engine.specs.MetaAfter.{published_meta};
-ghost use Rattle.table_rows.specs.Store.{contents_in};
 ghost use Rattle.cell_values.specs.Seen.{contents_of};
 ghost use Rattle.std.specs.List.{All};
 ghost use Rattle.validation.specs.Run.{IsChecking, IsRuleOf, cause_of};
 ghost use Rattle.request_session.specs.Replies.{text_in};
-ghost use Rattle.request_replies.specs.Texts.{told, IsTold};
-ghost use Rattle.request_replies.specs.Checks.{CheckReply, place_of, check_reply, refused_text, check_by, check_text};
+ghost use Rattle.request_replies.specs.Texts.{told};
+ghost use Rattle.request_replies.specs.Checks.{CheckReply, place_of, check_reply, refused_text, check_by};
 
 use crate::texts::{number_reply, refusal_reply};
 use cell_values::{Seer, Source};
@@ -20,7 +16,7 @@ use dh_base::memory::Memory;
 use dh_base::uid::Uid;
 use dh_metadata::metadata::Metadata;
 use dh_outside::Keeper;
-use engine::{Engine, LookFault, View};
+use engine::{Engine, LookFault};
 use request_session::{Reply, whole_reply};
 use std::alloc::Global;
 use table_rows::RowStore;
@@ -132,39 +128,8 @@ pub fn by_user<S: RowStore>(
     over_rows(alloc, &source, place, published, keep)
 }
 
-// What the look at the tables came to is told.
-#[tactic(auto, using(crate::proofs::TellLemmas::is_told, crate::proofs::TellLemmas::check_told))]
-fn tell<K: Keeper>(
-    alloc: Global,
-    engine: &Engine<K>,
-    user: u32,
-    found: Result<View, LookFault>,
-    place: &Place,
-    keep: bool,
-) -> Result<Reply, Memory>
-    requires user { user < length (published_meta engine.now).users }
-    requires set { place.now.set < length (published_meta engine.now).data_sets }
-    requires unit { place.now.unit < length (published_meta engine.now).organisation_units }
-    requires published { IfOk found (λ view. view.published ≡ engine.now.state.published) }
-    requires tables { IfOk found (λ view. contents_in (arc_value view.tables).all ≡ tables_of engine.now.meta (take view.published engine.now.state.log)) }
-    ensures { IsTold (told result) (check_text engine.now.meta engine.now.state.log user place.now keep (published_in found)) }
-{
-    match found {
-        Ok(view) => by_user(
-            alloc,
-            engine.published_meta(),
-            user,
-            &*view.tables,
-            place,
-            view.published,
-            keep,
-        ),
-        Err(LookFault::NotYet { published }) => number_reply(alloc, keep, Code::F19, published),
-        Err(LookFault::Memory) => Err(Memory),
-    }
-}
-
 /// The reply to a check over the tables that are published.
+#[tactic(auto, using(crate::proofs::TellLemmas::is_told))]
 pub(crate) fn reply_to_check<K: Keeper>(
     alloc: Global,
     engine: &Engine<K>,
@@ -178,7 +143,18 @@ pub(crate) fn reply_to_check<K: Keeper>(
     requires unit { checked.now.unit < length (published_meta engine.now).organisation_units }
     ensures { CheckReply engine.now user asked (place_of checked.now) keep (told result) }
 {
-    let found = engine.look(asked);
     let place = place_of(checked);
-    tell(alloc, engine, user, found, &place, keep)
+    match engine.look(asked) {
+        Ok(view) => by_user(
+            alloc,
+            engine.published_meta(),
+            user,
+            &*view.tables,
+            &place,
+            view.published,
+            keep,
+        ),
+        Err(LookFault::NotYet { published }) => number_reply(alloc, keep, Code::F19, published),
+        Err(LookFault::Memory) => Err(Memory),
+    }
 }

@@ -17,7 +17,7 @@ use request_session::Ended;
 use std::alloc::Global;
 
 /// How a session over a metadata file ended.
-#[derive(Clone, Copy, Drop, PartialEq, Eq)]
+#[derive(Clone, Copy, Drop)]
 pub enum SessionEnd {
     /// The metadata are refused, and the line that tells why is written. The input isn't read.
     Refused,
@@ -86,30 +86,7 @@ fn over_metadata<S: Source, O: Sink, C: Clock>(
     }
 }
 
-// Reads the metadata and holds the session, or writes why they are refused.
-fn over_file<S: Source, O: Sink, C: Clock>(
-    alloc: Global,
-    file: &[u8],
-    input: &mut S,
-    output: &mut O,
-    clock: &C,
-) -> SessionEnd
-    ensures over { SessionOver (C.shows clock.now) file.now (S.left input.old) (S.left input.new) (O.written output.old) (O.written output.new) result }
-    ensures read_fault { result ≡ end.Ended ReadFault → Rose (S.source_faults input.old) (S.source_faults input.new) }
-    ensures write_fault { result ≡ end.Ended WriteFault → Rose (O.sink_faults output.old) (O.sink_faults output.new) }
-    ensures unwritten { result ≡ end.Unwritten → Rose (O.sink_faults output.old) (O.sink_faults output.new) }
-    ensures input { S.source_faults input.old ≤ S.source_faults input.new }
-    ensures output { O.sink_faults output.old ≤ O.sink_faults output.new }
-{
-    match read(alloc, file) {
-        Ok(meta) => over_metadata(alloc, meta, input, output, clock),
-        Err(MetaFault::Memory) => SessionEnd::Memory,
-        Err(fault) => refuse(alloc, output, &fault),
-    }
-}
-
 /// Holds a session over the metadata of a file, or writes why they are refused.
-#[tactic(auto, using(crate::proofs::OverLemmas::over_told))]
 pub fn session_over<S: Source, O: Sink, C: Clock>(
     alloc: Global,
     file: &[u8],
@@ -126,7 +103,11 @@ pub fn session_over<S: Source, O: Sink, C: Clock>(
     ensures input { S.source_faults input.old ≤ S.source_faults input.new }
     ensures output { O.sink_faults output.old ≤ O.sink_faults output.new }
 {
-    over_file(alloc, file, input, output, clock)
+    match read(alloc, file) {
+        Ok(meta) => over_metadata(alloc, meta, input, output, clock),
+        Err(MetaFault::Memory) => SessionEnd::Memory,
+        Err(fault) => refuse(alloc, output, &fault),
+    }
 }
 
 /// Writes that a metadata file of more than the most bytes is refused.

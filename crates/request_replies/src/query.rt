@@ -1,17 +1,13 @@
 //! The reply to a query.
-ghost use Rattle.std.specs.Prelude.{◌≡◌, ◌<◌, length, take, Some, None, IfOk};
-ghost use Rattle.std.specs.Arc.{arc_value};
-ghost use Rattle.engine.specs.Seen.{published_in};
-ghost use Rattle.engine.specs.Tables.{tables_of};
+ghost use Rattle.std.specs.Prelude.{◌≡◌, ◌<◌, length, Some, None, IfOk};
 ghost use Rattle.engine.specs.MetaAfter.{published_meta};
 ghost use Rattle.query_answer.specs.Asked.{CanAnswer};
 ghost use Rattle.query_lang.specs.Askable.{IsAskable};
 ghost use Rattle.query_lang.specs.Given.{refusal};
-ghost use Rattle.table_rows.specs.Store.{contents_in};
 ghost use Rattle.cell_values.specs.Seen.{contents_of};
 ghost use Rattle.request_session.specs.Replies.{text_in, reply_text};
-ghost use Rattle.request_replies.specs.Texts.{told, IsTold, refusal_reply};
-ghost use Rattle.request_replies.specs.Queries.{QueryReply, answer_by, look_text};
+ghost use Rattle.request_replies.specs.Texts.{told, refusal_reply};
+ghost use Rattle.request_replies.specs.Queries.{QueryReply, answer_by};
 ghost use Rattle.dh_base.specs.declared.codes.Code.TheVariants.{F18};
 
 use crate::texts::{number_reply, refusal_reply};
@@ -21,7 +17,7 @@ use dh_base::items::Items;
 use dh_base::memory::Memory;
 use dh_metadata::metadata::Metadata;
 use dh_outside::Keeper;
-use engine::{Engine, LookFault, View};
+use engine::{Engine, LookFault};
 use query_answer::{AnswerFault, answer};
 use query_lang::Query;
 use request_session::{Reply, whole_reply};
@@ -70,39 +66,8 @@ pub fn over_rows<S: RowStore>(
     }
 }
 
-// What the look at the tables came to is told.
-#[tactic(auto, using(crate::proofs::TellLemmas::is_told, crate::proofs::TellLemmas::answer_told))]
-fn tell<K: Keeper>(
-    alloc: Global,
-    engine: &Engine<K>,
-    user: u32,
-    found: Result<View, LookFault>,
-    query: &Query,
-    keep: bool,
-) -> Result<Reply, Memory>
-    requires user { user < length (published_meta engine.now).users }
-    requires query { CanAnswer (published_meta engine.now) query.now }
-    requires published { IfOk found (λ view. view.published ≡ engine.now.state.published) }
-    requires tables { IfOk found (λ view. contents_in (arc_value view.tables).all ≡ tables_of engine.now.meta (take view.published engine.now.state.log)) }
-    ensures { IsTold (told result) (look_text engine.now.meta engine.now.state.log user query.now keep (published_in found)) }
-{
-    match found {
-        Ok(view) => over_rows(
-            alloc,
-            engine.published_meta(),
-            user,
-            &*view.tables,
-            query,
-            view.published,
-            keep,
-        ),
-        Err(LookFault::NotYet { published }) => number_reply(alloc, keep, Code::F19, published),
-        Err(LookFault::Memory) => Err(Memory),
-    }
-}
-
 /// The reply to a query over the tables that are published.
-#[tactic(auto)]
+#[tactic(auto, using(crate::proofs::TellLemmas::is_told))]
 pub(crate) fn reply_to_query<K: Keeper>(
     alloc: Global,
     engine: &Engine<K>,
@@ -115,6 +80,17 @@ pub(crate) fn reply_to_query<K: Keeper>(
     requires query { IsAskable (published_meta engine.now) user query.now }
     ensures { QueryReply engine.now user asked query.now keep (told result) }
 {
-    let found = engine.look(asked);
-    tell(alloc, engine, user, found, query, keep)
+    match engine.look(asked) {
+        Ok(view) => over_rows(
+            alloc,
+            engine.published_meta(),
+            user,
+            &*view.tables,
+            query,
+            view.published,
+            keep,
+        ),
+        Err(LookFault::NotYet { published }) => number_reply(alloc, keep, Code::F19, published),
+        Err(LookFault::Memory) => Err(Memory),
+    }
 }

@@ -25,7 +25,6 @@ use web_routes::call::Call;
 use web_routes::routing::route;
 
 // The reply to a call at a moment.
-#[tactic(auto, using(engine::proofs::AfterLemmas::user_before))]
 fn reply_to_call<K: Keeper>(
     alloc: Global,
     engine: &mut Engine<K>,

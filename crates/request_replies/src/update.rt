@@ -1,9 +1,8 @@
 //! The reply to an update of the tables.
-ghost use Rattle.std.specs.Prelude.{◌≡◌, IsTrue, max, None, Some, Ok, IfOk, OnErr};
+ghost use Rattle.std.specs.Prelude.{◌≡◌, IsTrue, max, None, Some, Ok, IfOk};
 ghost use Rattle.engine.specs.Machine.{Step, is_begun, number_of, staged_of};
-ghost use Rattle.engine.specs.Machine.Act.{swapped, dropped};
+ghost use Rattle.engine.specs.Machine.Act.{dropped};
 ghost use Rattle.engine.specs.Seen.{IsSound, update_in};
-ghost use Rattle.request_session.specs.Replies.{text_in};
 ghost use Rattle.request_replies.specs.Texts.{told, IsTold, cut_text};
 ghost use Rattle.request_replies.specs.Updates.{OwnUpdateReply, EndsUpdate, Ends};
 
@@ -40,39 +39,8 @@ fn give_up<K: Keeper>(engine: &mut Engine<K>, ticket: u64) -> Result<Reply, Memo
     Err(Memory)
 }
 
-// Publishes the update, whose reply is made already. Out of memory the update is dropped.
-#[tactic(auto, using(crate::proofs::UpdateLemmas::swaps_it, crate::proofs::UpdateLemmas::dropped_after, crate::proofs::UpdateLemmas::same_twice))]
-fn publish<K: Keeper>(
-    alloc: Global,
-    engine: &mut Engine<K>,
-    ticket: u64,
-    published: u64,
-    reply: Reply,
-) -> Result<Reply, Memory>
-    requires begun { IsTrue (is_begun engine.old.state ticket) }
-    requires number { published ≡ max engine.old.state.published (number_of engine.old.state ticket) }
-    ensures swapped { IfOk result (λ made. Step engine.old.meta engine.old.limits engine.old.state (swapped ticket (Ok published)) engine.new.state) }
-    ensures text { IfOk result (λ made. text_in made ≡ text_in reply) }
-    ensures dropped { OnErr result (Step engine.old.meta engine.old.limits engine.old.state (dropped ticket) engine.new.state) }
-    ensures same { engine.new ≡ record engine.old { state = engine.new.state; tables = engine.new.tables; part = engine.new.part } }
-    ensures sound { IsSound engine.new }
-{
-    let _published = published;
-    match engine.swap(alloc, ticket) {
-        Ok(_swapped) => Ok(reply),
-        Err(_) => give_up(engine, ticket),
-    }
-}
-
-// How many changes are published after an update to so many is swapped in.
-fn published_with<K: Keeper>(engine: &Engine<K>, number: u64) -> u64
-    ensures { result ≡ max engine.now.state.published number }
-{
-    engine.standing().published.max(number)
-}
-
-// Swaps the update in that is begun. The reply is made before.
-#[tactic(auto, using(crate::proofs::TellLemmas::ends_of, crate::proofs::TellLemmas::dropped_of))]
+// Swaps the update in that is begun. The reply is made before. Out of memory the update is dropped.
+#[tactic(auto, using(crate::proofs::TellLemmas::dropped_of))]
 fn swap_in<K: Keeper>(
     alloc: Global,
     engine: &mut Engine<K>,
@@ -88,30 +56,12 @@ fn swap_in<K: Keeper>(
     ensures sound { IsSound engine.new }
 {
     match update_reply(alloc, published, keep, kind) {
-        Ok(reply) => publish(alloc, engine, ticket, published, reply),
+        Ok(reply) => match engine.swap(alloc, ticket) {
+            Ok(_swapped) => Ok(reply),
+            Err(_) => give_up(engine, ticket),
+        },
         Err(_) => give_up(engine, ticket),
     }
-}
-
-// Ends the update that is begun.
-#[tactic(auto, using(crate::proofs::UpdateLemmas::begun_by, crate::proofs::UpdateLemmas::swap_number))]
-fn finish<K: Keeper>(
-    alloc: Global,
-    engine: &mut Engine<K>,
-    ticket: u64,
-    number: u64,
-    kind: CutKind,
-    keep: bool,
-) -> Result<Reply, Memory>
-    requires staged { staged_of engine.old.state kind ≡ Some (record { ticket = ticket; number = number }) }
-    requires sound { IsSound engine.old }
-    ensures ends { Ends engine.old.meta engine.old.limits kind keep (Ok (record { ticket = ticket; number = number })) engine.old.state (told result)
-        engine.new.state }
-    ensures same { engine.new ≡ record engine.old { state = engine.new.state; tables = engine.new.tables; part = engine.new.part } }
-    ensures sound { IsSound engine.new }
-{
-    let published = published_with(engine, number);
-    swap_in(alloc, engine, ticket, published, kind, keep)
 }
 
 // Ends the update if it is begun, and else tells why it isn't.
@@ -130,7 +80,10 @@ fn end<K: Keeper>(
     ensures sound { IsSound engine.new }
 {
     match found {
-        Ok(begun) => finish(alloc, engine, begun.ticket, begun.number, kind, keep),
+        Ok(begun) => {
+            let published = engine.standing().published.max(begun.number);
+            swap_in(alloc, engine, begun.ticket, published, kind, keep)
+        }
         Err(fault) => not_begun(alloc, fault, keep),
     }
 }

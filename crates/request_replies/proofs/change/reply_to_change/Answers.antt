@@ -2,6 +2,8 @@ use Rattle.std.proofs.Common.{ℤ, w64, FitsSigned, subst}
 use Rattle.std.proofs.lemmas.Int.{to_z-of_z}
 use Rattle.request_replies.specs.Changes.{ChangeReply, asking}
 use Rattle.request_replies.specs.Texts.{told}
+use Rattle.engine.proofs.AfterLemmas.{user_before}
+use Rattle.request_replies.proofs.Statuses.{report_status}
 use Rattle.request_replies.proofs.change.reply_to_change.Goals as goal
 
 pub returns-clause-replies : goal.returns-clause-replies
@@ -16,3 +18,10 @@ returns-clause-replies g c =
       tells = c.tell.ensures.tells;
       sure = c.tell.ensures.sure;
     })
+
+pub change-found-requires : goal.change-found-requires
+change-found-requires g c = user_before c.args.engine.now.meta _ c.args.user c.requires
+
+pub tell-requires : goal.tell-requires
+tell-requires g c =
+    report_status c.args.engine.now.meta c.args.engine.now.limits c.args.engine.now.state _ c.change-found.result _ c.change-found.ensures.step
