@@ -131,28 +131,6 @@ fn trailer_step(end: Place, byte: u8) -> Step
     }
 }
 
-fn last_step(byte: u8) -> Step
-    ensures value { result ≡ expect 10 Ends byte }
-    ensures sound { GoesSound result }
-{
-    if byte == b'\n' {
-        Step::Ends
-    } else {
-        Step::Fails(Code::F4)
-    }
-}
-
-fn content_step(left: u64, byte: u8) -> Step
-    ensures value { result ≡ step (at.Content left) 0 byte }
-    ensures sound { GoesSound result }
-{
-    if left == 0 {
-        expect(b'\r', Place::Feed, byte)
-    } else {
-        Step::Goes(Place::Content(left - 1))
-    }
-}
-
 // One more byte at a place, where so many bytes of content stand before it.
 fn step_from(place: Place, held: u64, byte: u8) -> Step
     requires { IsSound place }
@@ -161,12 +139,19 @@ fn step_from(place: Place, held: u64, byte: u8) -> Step
 {
     match place {
         Place::Size(line) => line_step(line, held, byte),
-        Place::Content(left) => content_step(left, byte),
+        Place::Content(0) => expect(b'\r', Place::Feed, byte),
+        Place::Content(left) => Step::Goes(Place::Content(left - 1)),
         Place::Feed => expect(b'\n', Place::Size(SizePlace::Digits(0, 0)), byte),
         Place::Start => trailer_step(Place::LastEnd, byte),
         Place::Trailer => trailer_step(Place::TrailerEnd, byte),
         Place::TrailerEnd => expect(b'\n', Place::Start, byte),
-        Place::LastEnd => last_step(byte),
+        Place::LastEnd => {
+            if byte == b'\n' {
+                Step::Ends
+            } else {
+                Step::Fails(Code::F4)
+            }
+        }
     }
 }
 

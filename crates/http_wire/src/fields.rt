@@ -3,24 +3,16 @@ ghost use Rattle.std.specs.List.{list_all, list_any};
 ghost use Rattle.std.specs.Char.{is_ascii_digit};
 ghost use Rattle.std.specs.Str.{str_eq_ignore_ascii_case};
 ghost use Rattle.httparse.specs.Borrowed.{header_parts};
-ghost use Rattle.http_wire.specs.Fields.{is_named, count_named, last_named, is_length, gives_length, gives_bad_length, names_transfer, names_other_transfer};
-ghost use Rattle.http_wire.specs.Fields.{names_coding, is_json, names_other_media, asks_to_close, before, beyond, is_kept, is_no_space, path_of, query_of};
+ghost use Rattle.http_wire.specs.Fields.{is_named, count_named, last_named, is_length, is_json, before, beyond, is_kept, is_no_space, path_of, query_of};
 ghost use Rattle.http_wire.specs.Fields.{token_in, token_of, is_marked};
 
 use httparse::Header;
-
-// Whether two texts are the same but for the case of their letters.
-fn same_text(text: &[u8], other: &[u8]) -> bool
-    ensures { result ≡ str_eq_ignore_ascii_case text.now other.now }
-{
-    text.eq_ignore_ascii_case(other)
-}
 
 // Whether the name of a field is this one, in any case.
 fn is_named(header: &Header, name: &[u8]) -> bool
     ensures { result ≡ is_named name.now (header_parts header.now) }
 {
-    same_text(header.name.as_bytes(), name)
+    header.name.as_bytes().eq_ignore_ascii_case(name)
 }
 
 /// How many fields have a name, which is the same in any case.
@@ -90,12 +82,6 @@ pub fn query(target: &[u8]) -> &[u8]
     beyond(target, b'?')
 }
 
-fn has_digits(value: &[u8]) -> bool
-    ensures { result ≡ list_all is_ascii_digit value.now }
-{
-    value.iter().all(|byte| byte.is_ascii_digit())
-}
-
 // 1 to 18 digits.
 #[tactic(auto, unfolding(crate::specs::Fields::is_length))]
 pub(crate) fn is_length(value: &[u8]) -> bool
@@ -103,42 +89,15 @@ pub(crate) fn is_length(value: &[u8]) -> bool
     ensures digits { result ≡ true → list_all is_ascii_digit value.now ≡ true }
     ensures short { result ≡ true → length value.now ≤ 18 }
 {
-    0 < value.len() && (value.len() <= 18 && has_digits(value))
-}
-
-#[tactic(auto, unfolding(crate::specs::Fields::gives_length))]
-fn gives_length(header: &Header) -> bool
-    ensures { result ≡ gives_length (header_parts header.now) }
-{
-    is_named(header, b"content-length")
-}
-
-#[tactic(auto, unfolding(crate::specs::Fields::gives_bad_length))]
-fn gives_bad_length(header: &Header) -> bool
-    ensures { result ≡ gives_bad_length (header_parts header.now) }
-{
-    is_named(header, b"content-length") && !is_length(header.value)
-}
-
-#[tactic(auto, unfolding(crate::specs::Fields::names_transfer))]
-fn names_transfer(header: &Header) -> bool
-    ensures { result ≡ names_transfer (header_parts header.now) }
-{
-    is_named(header, b"transfer-encoding")
-}
-
-#[tactic(auto, unfolding(crate::specs::Fields::names_other_transfer))]
-fn names_other_transfer(header: &Header) -> bool
-    ensures { result ≡ names_other_transfer (header_parts header.now) }
-{
-    is_named(header, b"transfer-encoding") && !same_text(header.value, b"chunked")
-}
-
-#[tactic(auto, unfolding(crate::specs::Fields::names_coding))]
-fn names_coding(header: &Header) -> bool
-    ensures { result ≡ names_coding (header_parts header.now) }
-{
-    is_named(header, b"content-encoding") && header.value != b"identity".as_slice()
+    if value.is_empty() || value.len() > 18 {
+        return false;
+    }
+    for byte in value {
+        if !byte.is_ascii_digit() {
+            return false;
+        }
+    }
+    true
 }
 
 // Whether a text without its spaces is another one, but for the case of its letters.
@@ -167,26 +126,12 @@ fn is_json(value: &[u8]) -> bool
     is_spaced(before(value, b';'), b"application/json")
 }
 
-#[tactic(auto, unfolding(crate::specs::Fields::names_other_media))]
-fn names_other_media(header: &Header) -> bool
-    ensures { result ≡ names_other_media (header_parts header.now) }
-{
-    is_named(header, b"content-type") && !is_json(header.value)
-}
-
-#[tactic(auto, unfolding(crate::specs::Fields::asks_to_close))]
-fn asks_to_close(header: &Header) -> bool
-    ensures { result ≡ asks_to_close (header_parts header.now) }
-{
-    is_named(header, b"connection") && same_text(header.value, b"close")
-}
-
 // The text after `ApiToken `.
 #[tactic(auto, unfolding(crate::specs::Fields::token_in))]
 fn token_in(value: &[u8]) -> Option<&[u8]>
     ensures { option_map (λ token. token.now) result ≡ token_in value.now }
 {
-    if value.len() >= 9 && same_text(&value[..9], b"ApiToken ") {
+    if value.len() >= 9 && value[..9].eq_ignore_ascii_case(b"ApiToken ") {
         Some(&value[9..])
     } else {
         None
@@ -224,17 +169,24 @@ pub(crate) enum Mark {
 }
 
 // Whether a field says so.
+#[tactic(auto, unfolding(crate::specs::Fields::gives_length, crate::specs::Fields::gives_bad_length, crate::specs::Fields::names_transfer, crate::specs::Fields::names_other_transfer, crate::specs::Fields::names_coding, crate::specs::Fields::names_other_media, crate::specs::Fields::asks_to_close))]
 fn is_marked(header: &Header, mark: Mark) -> bool
     ensures { result ≡ is_marked mark (header_parts header.now) }
 {
     match mark {
-        Mark::Length => gives_length(header),
-        Mark::BadLength => gives_bad_length(header),
-        Mark::Transfer => names_transfer(header),
-        Mark::OtherTransfer => names_other_transfer(header),
-        Mark::Coding => names_coding(header),
-        Mark::OtherMedia => names_other_media(header),
-        Mark::Close => asks_to_close(header),
+        Mark::Length => is_named(header, b"content-length"),
+        Mark::BadLength => is_named(header, b"content-length") && !is_length(header.value),
+        Mark::Transfer => is_named(header, b"transfer-encoding"),
+        Mark::OtherTransfer => {
+            is_named(header, b"transfer-encoding") && !header.value.eq_ignore_ascii_case(b"chunked")
+        }
+        Mark::Coding => {
+            is_named(header, b"content-encoding") && header.value != b"identity".as_slice()
+        }
+        Mark::OtherMedia => is_named(header, b"content-type") && !is_json(header.value),
+        Mark::Close => {
+            is_named(header, b"connection") && header.value.eq_ignore_ascii_case(b"close")
+        }
     }
 }
 

@@ -49,13 +49,6 @@ fn skip_front(bytes: &mut Vec<u8>, from: usize) -> usize
     0
 }
 
-// The place of the last two bytes.
-fn last_two(bytes: &Vec<u8>) -> usize
-    ensures { result ≡ length bytes.now.items - 2 }
-{
-    bytes.as_slice().len().saturating_sub(2)
-}
-
 // Drops the empty lines at the front, and says what stands after them. The bytes before `from` were looked at
 // before; those before its new value are now.
 fn look(bytes: &mut Vec<u8>, from: &mut usize) -> Opening
@@ -66,7 +59,7 @@ fn look(bytes: &mut Vec<u8>, from: &mut usize) -> Opening
 {
     let passed = skip_front(bytes, *from);
     let opening = find_opening(bytes, passed);
-    *from = last_two(bytes);
+    *from = bytes.len().saturating_sub(2);
     opening
 }
 

@@ -108,22 +108,15 @@ pub fn find_opening(bytes: &[u8], from: usize) -> Opening
     }
 }
 
-// How many line feeds a text has.
-fn line_feeds(text: &[u8]) -> usize
-    ensures { result ≡ count_by (λ byte. nat_eq byte 10) text.now }
-{
-    let mut count = 0;
-    for byte in text {
-        if *byte == b'\n' {
-            count += 1;
-        }
-    }
-    count
-}
-
 /// How many lines stand between the first line of a head and the empty one.
 pub fn field_lines(head: &[u8]) -> usize
     ensures { result ≡ field_lines head.now }
 {
-    line_feeds(head).saturating_sub(2)
+    let mut feeds = 0usize;
+    for byte in head {
+        if *byte == b'\n' {
+            feeds += 1;
+        }
+    }
+    feeds.saturating_sub(2)
 }

@@ -1,10 +1,10 @@
-ghost use Rattle.std.specs.Prelude.{◌≡◌, ◌<◌, ◌≤◌, ◌^◌, map, true, length, codes, nat_lt};
+ghost use Rattle.std.specs.Prelude.{◌≡◌, ◌<◌, ◌≤◌, ◌^◌, map, true, length, codes};
 ghost use Rattle.std.specs.List.{list_all};
 ghost use Rattle.std.specs.Char.{is_ascii_digit};
 ghost use Rattle.std.specs.Str.Parse.{digits_value};
 ghost use Rattle.httparse.specs.Borrowed.{header_parts};
-ghost use Rattle.http_wire.specs.Fields.{count_named, last_named};
-ghost use Rattle.http_wire.specs.Plan.{length_in, length_by, announced, is_badly_framed, is_not_plain, has_body, is_too_long, plan_of};
+ghost use Rattle.http_wire.specs.Fields.{last_named};
+ghost use Rattle.http_wire.specs.Plan.{length_by, announced, is_badly_framed, is_not_plain, has_body, is_too_long, plan_of};
 
 use crate::fields::{self, Mark};
 use dh_base::codes::Code;
@@ -36,21 +36,17 @@ fn digits_value(text: &[u8]) -> u64
 }
 
 #[tactic(auto, unfolding(crate::specs::Plan::length_in))]
-fn length_in(value: &[u8]) -> u64
-    ensures { result ≡ length_in value.now }
-{
-    if fields::is_length(value) {
-        digits_value(value)
-    } else {
-        0
-    }
-}
-
 fn length_by(headers: &[Header]) -> u64
     ensures { result ≡ length_by (last_named (codes "content-length") (map header_parts headers.now)) }
 {
     match fields::last_named(headers, b"content-length") {
-        Some(value) => length_in(value),
+        Some(value) => {
+            if fields::is_length(value) {
+                digits_value(value)
+            } else {
+                0
+            }
+        }
         None => 0,
     }
 }
@@ -66,17 +62,11 @@ fn announced(headers: &[Header]) -> Plan
     }
 }
 
-fn has_two_lengths(headers: &[Header]) -> bool
-    ensures { result ≡ nat_lt 1 (count_named (codes "content-length") (map header_parts headers.now)) }
-{
-    1 < fields::count_named(headers, b"content-length")
-}
-
 #[tactic(auto, unfolding(crate::specs::Plan::is_badly_framed))]
 fn is_badly_framed(headers: &[Header]) -> bool
     ensures { result ≡ is_badly_framed (map header_parts headers.now) }
 {
-    has_two_lengths(headers)
+    1 < fields::count_named(headers, b"content-length")
         || (fields::has(headers, Mark::BadLength)
             || ((fields::has(headers, Mark::Length) && fields::has(headers, Mark::Transfer))
                 || fields::has(headers, Mark::OtherTransfer)))

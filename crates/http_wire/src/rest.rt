@@ -2,7 +2,7 @@
 ghost use Rattle.std.specs.Prelude.{◌≡◌, ◌≤◌, ◌^◌, ℕ, Ok, Err, [], length, take};
 ghost use Rattle.dh_base.specs.declared.codes.Code.{Code};
 ghost use Rattle.dh_outside.specs.Faults.{Rose};
-ghost use Rattle.http_wire.specs.Next.{request_of, whole, refused, IsNext};
+ghost use Rattle.http_wire.specs.Next.{whole, refused, IsNext};
 ghost use Rattle.http_wire.specs.declared.request.Request.{Request as Asked};
 ghost use Rattle.http_wire.specs.Reads.{Reads, ReadsBehind, seen};
 ghost use Rattle.http_wire.specs.Head.{Says, Tells};
@@ -13,7 +13,6 @@ use crate::body::read_body;
 use crate::fault::{WireFault, fault_of};
 use crate::front::find_head;
 use crate::head::{Head, HeadFault, read_head};
-use dh_base::items::Items;
 use dh_outside::Source;
 use std::alloc::Global;
 use std::marker::Model;
@@ -57,21 +56,6 @@ fn head_at(alloc: Global, bytes: &Vec<u8>, end: usize) -> Result<Head, HeadFault
     read_head(alloc, &bytes[..end])
 }
 
-// The request of a head and a body.
-fn request_of(head: Head, body: Items<u8>) -> Request
-    ensures { result ≡ request_of head body }
-{
-    Request {
-        method: head.method,
-        path: head.path,
-        query: head.query,
-        token: head.token,
-        asked: head.asked,
-        body,
-        keep: head.keep,
-    }
-}
-
 // Reads the body after a head of so many bytes.
 fn read_at_head<S: Source>(
     alloc: Global,
@@ -91,7 +75,15 @@ fn read_at_head<S: Source>(
     ensures keeps { S.source_faults source.old ≤ S.source_faults source.new }
 {
     match read_body(alloc, source, bytes, read, end, head.plan) {
-        Ok(body) => Ok(request_of(head, body)),
+        Ok(body) => Ok(Request {
+            method: head.method,
+            path: head.path,
+            query: head.query,
+            token: head.token,
+            asked: head.asked,
+            body,
+            keep: head.keep,
+        }),
         Err(error) => {
             drop(head);
             Err(error)

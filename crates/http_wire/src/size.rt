@@ -2,7 +2,7 @@
 ghost use Rattle.std.specs.Prelude.{◌≡◌, ◌<◌, ◌+◌, ◌*◌, ◌^◌};
 ghost use Rattle.std.specs.Char.{digit_value};
 ghost use Rattle.http_wire.specs.Size.{behind_digits, size_step, IsSized, GoesSized};
-ghost use Rattle.http_wire.specs.declared.size.SizePlace.TheVariants.{Digits, Extension, End};
+ghost use Rattle.http_wire.specs.declared.size.SizePlace.TheVariants.{Digits};
 
 use httparse::parse_hex_digit;
 
@@ -81,30 +81,6 @@ fn digits_step(count: u32, size: u64, byte: u8) -> SizeStep
     }
 }
 
-fn extension_step(size: u64, byte: u8) -> SizeStep
-    ensures value { result ≡ size_step (Extension size) byte }
-    ensures sound { GoesSized result }
-{
-    if byte == b'\r' {
-        SizeStep::Goes(SizePlace::End(size))
-    } else if byte == b'\n' {
-        SizeStep::Fails
-    } else {
-        SizeStep::Goes(SizePlace::Extension(size))
-    }
-}
-
-fn end_step(size: u64, byte: u8) -> SizeStep
-    ensures value { result ≡ size_step (End size) byte }
-    ensures sound { GoesSized result }
-{
-    if byte == b'\n' {
-        SizeStep::Gives(size)
-    } else {
-        SizeStep::Fails
-    }
-}
-
 /// One more byte of the line before a chunk.
 pub fn size_step(place: SizePlace, byte: u8) -> SizeStep
     requires { IsSized place }
@@ -114,7 +90,21 @@ pub fn size_step(place: SizePlace, byte: u8) -> SizeStep
     match place {
         SizePlace::Digits(count, size) => digits_step(count, size, byte),
         SizePlace::Pad(size) => behind_digits(size, byte),
-        SizePlace::Extension(size) => extension_step(size, byte),
-        SizePlace::End(size) => end_step(size, byte),
+        SizePlace::Extension(size) => {
+            if byte == b'\r' {
+                SizeStep::Goes(SizePlace::End(size))
+            } else if byte == b'\n' {
+                SizeStep::Fails
+            } else {
+                SizeStep::Goes(SizePlace::Extension(size))
+            }
+        }
+        SizePlace::End(size) => {
+            if byte == b'\n' {
+                SizeStep::Gives(size)
+            } else {
+                SizeStep::Fails
+            }
+        }
     }
 }
