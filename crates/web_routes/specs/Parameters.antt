@@ -13,6 +13,7 @@ use Rattle.dh_changes.specs.declared.outcome.ImportStrategy.{ImportStrategy}
 use Rattle.dh_changes.specs.declared.outcome.ImportStrategy.TheVariants as strategy
 use Rattle.import_forms.specs.declared.bundle.BundleParams.{BundleParams}
 use Rattle.import_forms.specs.declared.set.SetParams.{SetParams}
+use Rattle.dh_metadata.specs.Names.{named}
 use Rattle.query_lang.specs.Given.{and_then, refusal, or_refuse}
 
 -- the value under a name in the pairs that are left, where this one was found before
@@ -35,20 +36,24 @@ parameter name form default text = or_refuse code.F21 name (or_default form defa
 
 -- ---- forms of values
 
-unfoldable pub truth_of : List ℕ → Option Bool
-truth_of text =
-    if bytes_eq text (codes "true") then Some true
-    else (if bytes_eq text (codes "false") then Some false
-    else None)
+abbrev pub truths : List (List ℕ × Bool)
+truths = (codes "true", true) ∷ (codes "false", false) ∷ []
 
 -- NEW, UPDATES, NEW_AND_UPDATES and DELETES are older names
-unfoldable pub strategy_of : List ℕ → Option ImportStrategy
-strategy_of text =
-    if bytes_eq text (codes "CREATE") || bytes_eq text (codes "NEW") then Some strategy.Create
-    else (if bytes_eq text (codes "UPDATE") || bytes_eq text (codes "UPDATES") then Some strategy.Update
-    else (if bytes_eq text (codes "CREATE_AND_UPDATE") || bytes_eq text (codes "NEW_AND_UPDATES") then Some strategy.CreateAndUpdate
-    else (if bytes_eq text (codes "DELETE") || bytes_eq text (codes "DELETES") then Some strategy.Delete
-    else None)))
+abbrev pub strategies : List (List ℕ × ImportStrategy)
+strategies =
+    (codes "CREATE", strategy.Create) ∷ (codes "NEW", strategy.Create)
+    ∷ (codes "UPDATE", strategy.Update) ∷ (codes "UPDATES", strategy.Update)
+    ∷ (codes "CREATE_AND_UPDATE", strategy.CreateAndUpdate) ∷ (codes "NEW_AND_UPDATES", strategy.CreateAndUpdate)
+    ∷ (codes "DELETE", strategy.Delete) ∷ (codes "DELETES", strategy.Delete) ∷ []
+
+-- an update is of the latest part alone, or of all
+abbrev pub kinds : List (List ℕ × CutKind)
+kinds = (codes "true", cut.Latest) ∷ (codes "false", cut.Full) ∷ []
+
+-- one conflict leaves all objects of a tracker bundle unwritten, or each object stands for itself
+abbrev pub atomicities : List (List ℕ × Bool)
+atomicities = (codes "ALL", true) ∷ (codes "OBJECT", false) ∷ []
 
 -- a decimal of 1 to 18 digits
 unfoldable pub is_number : List ℕ → Bool
@@ -67,14 +72,9 @@ is_scheme text = bytes_eq text (codes "UID") || bytes_eq text (codes "uid")
 unfoldable pub asked_of : Option (List ℕ) → Result ℕ Refusal
 asked_of field = parameter (codes "X-Min-Change") number_of 0 field
 
--- what an update rebuilds: the latest part alone, or all
-abbrev pub kind_by : Bool → CutKind
-kind_by latest = if latest then cut.Latest else cut.Full
-
 -- an update is of all years unless `latest` is true
-unfoldable pub kind_of : List (List ℕ × List ℕ) → Result CutKind Refusal
-kind_of pairs =
-    and_then (parameter (codes "latest") truth_of false (value_of (codes "latest") pairs)) (λ latest. Ok (kind_by latest))
+abbrev pub kind_of : List (List ℕ × List ℕ) → Result CutKind Refusal
+kind_of pairs = parameter (codes "latest") (named kinds) cut.Full (value_of (codes "latest") pairs)
 
 abbrev pub scheme_names : List (List ℕ)
 scheme_names = codes "idScheme" ∷ codes "dataElementIdScheme" ∷ codes "orgUnitIdScheme" ∷ codes "categoryOptionComboIdScheme" ∷ []
@@ -93,20 +93,13 @@ unless_bad None value = Ok value
 -- how a set of values is to be imported
 unfoldable pub params_of : List (List ℕ × List ℕ) → Result SetParams Refusal
 params_of pairs =
-    and_then (parameter (codes "importStrategy") strategy_of strategy.CreateAndUpdate (value_of (codes "importStrategy") pairs)) (λ chosen.
-    and_then (parameter (codes "dryRun") truth_of false (value_of (codes "dryRun") pairs)) (λ dry.
+    and_then (parameter (codes "importStrategy") (named strategies) strategy.CreateAndUpdate (value_of (codes "importStrategy") pairs)) (λ chosen.
+    and_then (parameter (codes "dryRun") (named truths) false (value_of (codes "dryRun") pairs)) (λ dry.
     unless_bad (bad_scheme pairs) (record { strategy = chosen; dry = dry })))
-
--- one conflict leaves all objects of a tracker bundle unwritten, or each object stands for itself
-unfoldable pub atomic_of : List ℕ → Option Bool
-atomic_of text =
-    if bytes_eq text (codes "ALL") then Some true
-    else (if bytes_eq text (codes "OBJECT") then Some false
-    else None)
 
 -- how a tracker bundle is to be imported
 unfoldable pub bundle_params_of : List (List ℕ × List ℕ) → Result BundleParams Refusal
 bundle_params_of pairs =
-    and_then (parameter (codes "importStrategy") strategy_of strategy.CreateAndUpdate (value_of (codes "importStrategy") pairs)) (λ chosen.
-    and_then (parameter (codes "atomicMode") atomic_of true (value_of (codes "atomicMode") pairs)) (λ atomic.
+    and_then (parameter (codes "importStrategy") (named strategies) strategy.CreateAndUpdate (value_of (codes "importStrategy") pairs)) (λ chosen.
+    and_then (parameter (codes "atomicMode") (named atomicities) true (value_of (codes "atomicMode") pairs)) (λ atomic.
     Ok (record { strategy = chosen; atomic = atomic })))

@@ -2,16 +2,14 @@
 ghost use Rattle.std.specs.Prelude.{◌≡◌, ◌<◌, ◌≤◌, ◌==◌, codes, length, IfSome, IfOk};
 ghost use Rattle.std.specs.List.{position_from};
 ghost use Rattle.dh_metadata.specs.declared.kind.Kind.TheVariants.{Workflow};
-ghost use Rattle.dh_base.specs.declared.codes.Code.TheVariants as code;
 ghost use Rattle.dh_metadata.specs.Objects.{count_of};
 ghost use Rattle.dh_metadata.specs.BuiltIn.{default_option_combo};
-ghost use Rattle.query_lang.specs.Given.{or_refuse};
 ghost use Rattle.dh_base.specs.Memory.{Answers};
 ghost use Rattle.web_routes.specs.Given.{cause_of};
 ghost use Rattle.web_routes.specs.Parameters.{value_of, parameter};
-ghost use Rattle.web_routes.specs.Approvals.{named, if_typed, period_for, position_of, unit_for, attribute_for, needed, act_of};
+ghost use Rattle.web_routes.specs.Approvals.{named, period_for, position_of, unit_for, attribute_for, needed, act_of};
 
-use crate::fault::{RouteFault, refused};
+use crate::fault::{RouteFault, found, refused};
 use crate::pairs::value_of;
 use dh_approvals::{ApprovalAct, Verb};
 use dh_base::codes::Code;
@@ -33,19 +31,6 @@ fn named(meta: &Metadata, kind: Kind, text: &[u8]) -> Option<(u32, Uid)>
     let id = Uid::parse(text)?;
     let number = meta.find(kind, id)?;
     Some((number, id))
-}
-
-#[tactic(auto, unfolding(crate::specs::Approvals::period_for))]
-fn period_for(meta: &Metadata, workflow: u32, text: &[u8]) -> Option<Period>
-    requires { workflow < length meta.now.data_approval_workflows }
-    ensures { result ≡ period_for meta.now workflow text.now }
-{
-    let period = Period::parse(text)?;
-    if meta.workflow(workflow).period_type == period.kind() {
-        Some(period)
-    } else {
-        None
-    }
 }
 
 fn place_of(levels: &[u8], own: u8) -> Option<u8>
@@ -71,6 +56,7 @@ fn position_of(meta: &Metadata, workflow: u32, unit: u32) -> Option<u8>
     place_of(meta.positions(workflow), meta.tree().level(unit))
 }
 
+/// The unit that the text names, if it is at a level of the workflow: its identifier and the position of that level.
 #[tactic(auto, unfolding(crate::specs::Approvals::unit_for))]
 fn unit_for(meta: &Metadata, workflow: u32, text: &[u8]) -> Option<(Uid, u8)>
     requires { workflow < length meta.now.data_approval_workflows }
@@ -79,23 +65,6 @@ fn unit_for(meta: &Metadata, workflow: u32, text: &[u8]) -> Option<(Uid, u8)>
     let (unit, id) = named(meta, Kind::OrganisationUnit, text)?;
     let at = position_of(meta, workflow, unit)?;
     Some((id, at))
-}
-
-#[tactic(auto, unfolding(crate::specs::Approvals::attribute_for))]
-fn attribute_for(meta: &Metadata, text: &[u8]) -> Option<Uid>
-    ensures { result ≡ attribute_for meta.now text.now }
-{
-    let (_, id) = named(meta, Kind::CategoryOptionCombo, text)?;
-    Some(id)
-}
-
-fn found<A>(alloc: Global, name: &[u8], found: Option<A>) -> Result<A, RouteFault>
-    ensures { Answers cause_of (or_refuse code.F21 name.now found) result }
-{
-    match found {
-        Some(value) => Ok(value),
-        None => Err(refused(alloc, Code::F21, name)),
-    }
 }
 
 fn workflow_in(
@@ -107,11 +76,12 @@ fn workflow_in(
     ensures in_range { IfOk result (λ found. found.0 < length meta.now.data_approval_workflows) }
 {
     match value_of(pairs, b"wf") {
-        Some(text) => found(alloc, b"wf", named(meta, Kind::Workflow, text)),
+        Some(text) => found(alloc, Code::F21, b"wf", named(meta, Kind::Workflow, text)),
         None => Err(refused(alloc, Code::F21, b"wf")),
     }
 }
 
+#[tactic(auto, unfolding(crate::specs::Approvals::period_for))]
 fn period_in(
     alloc: Global,
     meta: &Metadata,
@@ -121,10 +91,14 @@ fn period_in(
     requires { workflow < length meta.now.data_approval_workflows }
     ensures { Answers cause_of (needed (codes "pe") (period_for meta.now workflow) (value_of (codes "pe") pairs.now)) result }
 {
-    match value_of(pairs, b"pe") {
-        Some(text) => found(alloc, b"pe", period_for(meta, workflow, text)),
-        None => Err(refused(alloc, Code::F21, b"pe")),
+    if let Some(text) = value_of(pairs, b"pe") {
+        if let Some(period) = Period::parse(text) {
+            if meta.workflow(workflow).period_type == period.kind() {
+                return Ok(period);
+            }
+        }
     }
+    Err(refused(alloc, Code::F21, b"pe"))
 }
 
 fn unit_in(
@@ -137,11 +111,12 @@ fn unit_in(
     ensures { Answers cause_of (needed (codes "ou") (unit_for meta.now workflow) (value_of (codes "ou") pairs.now)) result }
 {
     match value_of(pairs, b"ou") {
-        Some(text) => found(alloc, b"ou", unit_for(meta, workflow, text)),
+        Some(text) => found(alloc, Code::F21, b"ou", unit_for(meta, workflow, text)),
         None => Err(refused(alloc, Code::F21, b"ou")),
     }
 }
 
+#[tactic(auto, unfolding(crate::specs::Approvals::attribute_for))]
 fn attribute_in(
     alloc: Global,
     meta: &Metadata,
@@ -149,9 +124,12 @@ fn attribute_in(
 ) -> Result<Uid, RouteFault>
     ensures { Answers cause_of (parameter (codes "aoc") (attribute_for meta.now) default_option_combo (value_of (codes "aoc") pairs.now)) result }
 {
-    match value_of(pairs, b"aoc") {
-        Some(text) => found(alloc, b"aoc", attribute_for(meta, text)),
-        None => Ok(default_option_combo()),
+    let Some(text) = value_of(pairs, b"aoc") else {
+        return Ok(default_option_combo());
+    };
+    match named(meta, Kind::CategoryOptionCombo, text) {
+        Some((_, id)) => Ok(id),
+        None => Err(refused(alloc, Code::F21, b"aoc")),
     }
 }
 

@@ -1,20 +1,17 @@
 //! What a user asks for by a route.
 ghost use Rattle.std.specs.Prelude.{◌≡◌, ℕ, ◌≤ℤ◌, ◌<◌, length, IfOk};
 ghost use Rattle.dh_base.specs.declared.limits.TheConstants.{FIRST_QUERY_DAY, LAST_QUERY_DAY};
-ghost use Rattle.std.specs.Option.{option_copied};
 ghost use Rattle.dh_metadata.specs.declared.held.Records.{Records};
 ghost use Rattle.dh_base.specs.Memory.{Answers};
 ghost use Rattle.web_routes.specs.Given.{cause_of};
-ghost use Rattle.web_routes.specs.Routes.{authority_of};
-ghost use Rattle.web_routes.specs.Calls.{user_for, lacked, query_call, check_call, update_call, values_call, completions_call, uncompletion_call};
+ghost use Rattle.web_routes.specs.Calls.{user_for, query_call, check_call, update_call, values_call, completions_call, uncompletion_call};
 ghost use Rattle.web_routes.specs.Calls.{approval_call, tracker_call, call_of, allowed_call, IsBy};
 
 use crate::approval::act_of;
-use crate::body::{bundle_in, completions_in, query_in, set_in};
 use crate::call::Call;
 use crate::checked::checked_of;
-use crate::completion::{only, uncompletion_of};
-use crate::fault::{RouteFault, refused};
+use crate::completion::uncompletion_of;
+use crate::fault::{RouteFault, found, refused};
 use crate::form::{asked_of, bundle_params_of, kind_of, params_of};
 use crate::pairs::pairs_of;
 use crate::table::{Route, authority_of};
@@ -23,6 +20,10 @@ use dh_base::codes::Code;
 use dh_base::items::Items;
 use dh_metadata::metadata::Metadata;
 use http_wire::Request;
+use import_forms::bundle::read_bundle;
+use import_forms::completion::read_completions;
+use import_forms::set::read_set;
+use query_lang::{MOST_CELLS, read_query};
 use std::alloc::Global;
 
 /// The user whose token it is.
@@ -35,24 +36,9 @@ pub(crate) fn user_for(
     ensures value { Answers cause_of (user_for meta.now token.now) result }
     ensures in_range { IfOk result (λ user. user < length meta.now.users) }
 {
-    let Some(token) = token else {
-        return Err(refused(alloc, Code::F8, b""));
-    };
-    match meta.user_of(token.as_slice()) {
-        Some(user) => Ok(user),
+    match token {
+        Some(token) => found(alloc, Code::F8, b"", meta.user_of(token.as_slice())),
         None => Err(refused(alloc, Code::F8, b"")),
-    }
-}
-
-fn lacked(meta: &Metadata, user: u32, route: Route) -> Option<&'static [u8]>
-    requires { user < length meta.now.users }
-    ensures { option_copied result ≡ lacked meta.now user (authority_of route) }
-{
-    let authority = authority_of(route)?;
-    if meta.has_authority(user, authority) {
-        None
-    } else {
-        Some(authority)
     }
 }
 
@@ -71,7 +57,7 @@ fn query_call(
     ensures user { IfOk result (λ call. IsBy meta.now user call) }
 {
     let asked = asked_of(alloc, &request.asked)?;
-    let query = query_in(alloc, request.query.as_slice(), meta, user, day)?;
+    let query = read_query(alloc, request.query.as_slice(), meta, user, day, MOST_CELLS)?;
     Ok(Call::Query { user, asked, query })
 }
 
@@ -113,7 +99,7 @@ fn values_call(alloc: Global, request: &Request, user: u32) -> Result<Call, Rout
 {
     let pairs = pairs_of(alloc, request.query.as_slice())?;
     let params = params_of(alloc, &pairs)?;
-    let set = set_in(alloc, request.body.as_slice(), params)?;
+    let set = read_set(alloc, request.body.as_slice(), params)?;
     Ok(Call::Values { user, set })
 }
 
@@ -122,7 +108,7 @@ fn completions_call(alloc: Global, body: &[u8], user: u32) -> Result<Call, Route
     ensures value { Answers cause_of (completions_call user body.now) result }
     ensures user { (r : Records) → IfOk result (λ call. IsBy r user call) }
 {
-    let list = completions_in(alloc, body)?;
+    let list = read_completions(alloc, body)?;
     Ok(Call::Completion { user, list })
 }
 
@@ -138,7 +124,8 @@ fn uncompletion_call(
 {
     let pairs = pairs_of(alloc, text)?;
     let completion = uncompletion_of(alloc, meta, &pairs)?;
-    let list = only(alloc, completion)?;
+    let mut list = Items::new(alloc);
+    list.push(completion)?;
     Ok(Call::Completion { user, list })
 }
 
@@ -165,7 +152,7 @@ fn tracker_call(alloc: Global, request: &Request, user: u32) -> Result<Call, Rou
 {
     let pairs = pairs_of(alloc, request.query.as_slice())?;
     let params = bundle_params_of(alloc, &pairs)?;
-    let bundle = bundle_in(alloc, request.body.as_slice(), params)?;
+    let bundle = read_bundle(alloc, request.body.as_slice(), params)?;
     Ok(Call::Tracker { user, bundle })
 }
 
@@ -213,8 +200,10 @@ pub(crate) fn allowed_call(
     ensures value { Answers cause_of (allowed_call meta.now day user route request.now) result }
     ensures user { IfOk result (λ call. IsBy meta.now user call) }
 {
-    match lacked(meta, user, route) {
-        Some(authority) => Err(refused(alloc, Code::F31, authority)),
-        None => call_of(alloc, request, meta, user, route, day),
+    if let Some(authority) = authority_of(route) {
+        if !meta.has_authority(user, authority) {
+            return Err(refused(alloc, Code::F31, authority));
+        }
     }
+    call_of(alloc, request, meta, user, route, day)
 }

@@ -1,5 +1,6 @@
 //! What a check is of.
-ghost use Rattle.std.specs.Prelude.{◌≡◌, ◌<◌, codes, length, IfOk, IfSome};
+ghost use Rattle.std.specs.Prelude.{◌≡◌, ◌<◌, length, option_and_then, IfOk, IfSome};
+ghost use Rattle.dh_base.specs.Uid.{uid_of};
 ghost use Rattle.dh_base.specs.Memory.{Answers};
 ghost use Rattle.dh_metadata.specs.Approval.{unit_rows};
 ghost use Rattle.dh_metadata.specs.Linked.{AreBelow};
@@ -9,10 +10,9 @@ ghost use Rattle.query_lang.specs.Named.{readable};
 ghost use Rattle.query_lang.specs.Units.{unit_seen};
 ghost use Rattle.query_lang.specs.View.{is_under_any};
 ghost use Rattle.web_routes.specs.Given.{cause_of};
-ghost use Rattle.web_routes.specs.Checks.{set_text, set_for, period_in, unit_named, unit_in, checked_of};
-ghost use Rattle.web_routes.specs.Parameters.{value_of};
+ghost use Rattle.web_routes.specs.Checks.{set_text, period_in, unit_in, checked_of};
 
-use crate::fault::{RouteFault, refused};
+use crate::fault::{RouteFault, found, refused};
 use crate::pairs::value_of;
 use crate::path::rest_of;
 use dh_base::codes::Code;
@@ -53,12 +53,12 @@ fn set_text(path: &[u8]) -> &[u8]
 
 /// The data set of that identifier, where the user may read it.
 #[tactic(auto, unfolding(query_lang::specs::Named::readable))]
-fn readable_set(meta: &Metadata, user: u32, id: Uid) -> Option<u32>
+fn set_named(meta: &Metadata, user: u32, text: &[u8]) -> Option<u32>
     requires { user < length meta.now.users }
-    ensures value { result ≡ readable meta.now user DataSet id }
+    ensures value { result ≡ option_and_then (λ id. readable meta.now user DataSet id) (uid_of text.now) }
     ensures in_range { IfSome result (λ set. set < length meta.now.data_sets) }
 {
-    let number = meta.find(Kind::DataSet, id)?;
+    let number = meta.find(Kind::DataSet, Uid::parse(text)?)?;
     if meta.may(user, Right::Read, Kind::DataSet, number) {
         Some(number)
     } else {
@@ -66,30 +66,12 @@ fn readable_set(meta: &Metadata, user: u32, id: Uid) -> Option<u32>
     }
 }
 
-#[tactic(auto, unfolding(crate::specs::Checks::set_for))]
-fn set_for(alloc: Global, meta: &Metadata, user: u32, text: &[u8]) -> Result<u32, RouteFault>
-    requires { user < length meta.now.users }
-    ensures value { Answers cause_of (set_for meta.now user text.now) result }
-    ensures in_range { IfOk result (λ set. set < length meta.now.data_sets) }
-{
-    let Some(id) = Uid::parse(text) else {
-        return Err(refused(alloc, Code::F14, text));
-    };
-    match readable_set(meta, user, id) {
-        Some(set) => Ok(set),
-        None => Err(refused(alloc, Code::F14, text)),
-    }
-}
-
 #[tactic(auto, unfolding(crate::specs::Checks::period_in))]
 fn period_in(alloc: Global, pairs: &[(Items<u8>, Items<u8>)]) -> Result<Period, RouteFault>
     ensures { Answers cause_of (period_in pairs.now) result }
 {
-    let Some(text) = value_of(pairs, b"pe") else {
-        return Err(refused(alloc, Code::F21, b"pe"));
-    };
-    match Period::parse(text) {
-        Some(period) => Ok(period),
+    match value_of(pairs, b"pe") {
+        Some(text) => found(alloc, Code::F21, b"pe", Period::parse(text)),
         None => Err(refused(alloc, Code::F21, b"pe")),
     }
 }
@@ -108,31 +90,18 @@ fn is_under_any(meta: &Metadata, views: &[u32], unit: u32) -> bool
     false
 }
 
+/// The unit of that identifier, where the user sees it.
 #[tactic(auto, unfolding(query_lang::specs::Units::unit_seen))]
-fn unit_seen(meta: &Metadata, user: u32, id: Uid) -> Option<u32>
+fn unit_named(meta: &Metadata, user: u32, text: &[u8]) -> Option<u32>
     requires { user < length meta.now.users }
-    ensures value { result ≡ unit_seen meta.now user id }
+    ensures value { result ≡ option_and_then (λ id. unit_seen meta.now user id) (uid_of text.now) }
     ensures in_range { IfSome result (λ unit. unit < length meta.now.organisation_units) }
 {
-    let unit = meta.find(Kind::OrganisationUnit, id)?;
+    let unit = meta.find(Kind::OrganisationUnit, Uid::parse(text)?)?;
     if is_under_any(meta, meta.view_units(user), unit) {
         Some(unit)
     } else {
         None
-    }
-}
-
-fn unit_named(alloc: Global, meta: &Metadata, user: u32, text: &[u8]) -> Result<u32, RouteFault>
-    requires { user < length meta.now.users }
-    ensures value { Answers cause_of (unit_named meta.now user (Some text.now)) result }
-    ensures in_range { IfOk result (λ unit. unit < length meta.now.organisation_units) }
-{
-    let Some(id) = Uid::parse(text) else {
-        return Err(refused(alloc, Code::F15, text));
-    };
-    match unit_seen(meta, user, id) {
-        Some(unit) => Ok(unit),
-        None => Err(refused(alloc, Code::F15, text)),
     }
 }
 
@@ -149,12 +118,12 @@ fn unit_in(
 {
     match value_of(pairs, b"ou") {
         None => Err(refused(alloc, Code::F21, b"ou")),
-        Some(text) => unit_named(alloc, meta, user, text),
+        Some(text) => found(alloc, Code::F15, text, unit_named(meta, user, text)),
     }
 }
 
 /// What a check is of: F14 of the data set in the path, F21 of the period, F21 and F15 of the unit.
-#[tactic(auto, unfolding(crate::specs::Checks::checked_of))]
+#[tactic(auto, unfolding(crate::specs::Checks::checked_of, crate::specs::Checks::set_for))]
 pub(crate) fn checked_of(
     alloc: Global,
     meta: &Metadata,
@@ -167,7 +136,8 @@ pub(crate) fn checked_of(
     ensures set { IfOk result (λ checked. checked.set < length meta.now.data_sets) }
     ensures unit { IfOk result (λ checked. checked.unit < length meta.now.organisation_units) }
 {
-    let set = set_for(alloc, meta, user, set_text(path))?;
+    let text = set_text(path);
+    let set = found(alloc, Code::F14, text, set_named(meta, user, text))?;
     let period = period_in(alloc, pairs)?;
     let unit = unit_in(alloc, meta, user, pairs)?;
     Ok(Checked { set, period, unit })

@@ -1,5 +1,5 @@
 //! A registration that is taken away.
-ghost use Rattle.std.specs.Prelude.{◌≡◌, ◌∷◌, [], codes, IfOk};
+ghost use Rattle.std.specs.Prelude.{codes};
 ghost use Rattle.dh_base.specs.Memory.{Answers};
 ghost use Rattle.web_routes.specs.Given.{cause_of};
 ghost use Rattle.web_routes.specs.Parameters.{value_of};
@@ -9,7 +9,6 @@ use crate::fault::{RouteFault, refused};
 use crate::pairs::value_of;
 use dh_base::codes::Code;
 use dh_base::items::Items;
-use dh_base::memory::Memory;
 use dh_base::uid::Uid;
 use dh_changes::text::Text;
 use dh_metadata::kind::Kind;
@@ -18,24 +17,8 @@ use dh_periods::Period;
 use import_forms::completion::Completion;
 use std::alloc::Global;
 
-#[tactic(auto, unfolding(crate::specs::Completions::is_name))]
-fn is_name(meta: &Metadata, kind: Kind, text: &[u8]) -> bool
-    ensures { result ≡ is_name meta.now kind text.now }
-{
-    match Uid::parse(text) {
-        Some(id) => meta.find(kind, id).is_some(),
-        None => false,
-    }
-}
-
-#[tactic(auto, unfolding(crate::specs::Completions::is_period))]
-fn is_period(text: &[u8]) -> bool
-    ensures { result ≡ is_period text.now }
-{
-    Period::parse(text).is_some()
-}
-
 /// The parameter that has to name an object of a kind.
+#[tactic(auto, unfolding(crate::specs::Completions::is_name))]
 fn object_in(
     alloc: Global,
     meta: &Metadata,
@@ -45,27 +28,26 @@ fn object_in(
 ) -> Result<Text, RouteFault>
     ensures { Answers cause_of (needed name.now (is_name meta.now kind) (value_of name.now pairs.now)) result }
 {
-    let Some(text) = value_of(pairs, name) else {
-        return Err(refused(alloc, Code::F21, name));
-    };
-    if is_name(meta, kind, text) {
-        Ok(Text::of(alloc, text)?)
-    } else {
-        Err(refused(alloc, Code::F21, name))
+    if let Some(text) = value_of(pairs, name) {
+        if let Some(id) = Uid::parse(text) {
+            if meta.find(kind, id).is_some() {
+                return Ok(Text::of(alloc, text)?);
+            }
+        }
     }
+    Err(refused(alloc, Code::F21, name))
 }
 
+#[tactic(auto, unfolding(crate::specs::Completions::is_period))]
 fn period_in(alloc: Global, pairs: &[(Items<u8>, Items<u8>)]) -> Result<Text, RouteFault>
     ensures { Answers cause_of (needed (codes "pe") is_period (value_of (codes "pe") pairs.now)) result }
 {
-    let Some(text) = value_of(pairs, b"pe") else {
-        return Err(refused(alloc, Code::F21, b"pe"));
-    };
-    if is_period(text) {
-        Ok(Text::of(alloc, text)?)
-    } else {
-        Err(refused(alloc, Code::F21, b"pe"))
+    if let Some(text) = value_of(pairs, b"pe") {
+        if Period::parse(text).is_some() {
+            return Ok(Text::of(alloc, text)?);
+        }
     }
+    Err(refused(alloc, Code::F21, b"pe"))
 }
 
 /// The registration that is taken away.
@@ -88,12 +70,4 @@ pub(crate) fn uncompletion_of(
         date: None,
         done: false,
     })
-}
-
-pub(crate) fn only(alloc: Global, completion: Completion) -> Result<Items<Completion>, Memory>
-    ensures { IfOk result (λ list. list ≡ completion ∷ []) }
-{
-    let mut list = Items::new(alloc);
-    list.push(completion)?;
-    Ok(list)
 }

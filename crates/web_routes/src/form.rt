@@ -1,14 +1,13 @@
 //! The forms of parameters.
-ghost use Rattle.std.specs.Prelude.{◌≡◌, ◌<◌, ◌≤◌, ◌^◌, ◌||◌, true, false, bytes_eq, codes, length, IfOk, IfSome};
+ghost use Rattle.std.specs.Prelude.{◌≡◌, ◌<◌, ◌≤◌, ◌^◌, true, false, codes, find, length, map};
 ghost use Rattle.std.specs.Char.{is_ascii_digit};
 ghost use Rattle.std.specs.List.{list_all};
 ghost use Rattle.std.specs.Option.{option_copied};
 ghost use Rattle.std.specs.Str.Parse.{digits_value};
 ghost use Rattle.dh_base.specs.Memory.{Answers};
+ghost use Rattle.dh_metadata.specs.Names.{named};
 ghost use Rattle.web_routes.specs.Given.{cause_of};
-ghost use Rattle.web_routes.specs.Parameters.{value_of, or_default, parameter, truth_of, strategy_of, is_number, number_of, is_scheme, asked_of, kind_by};
-ghost use Rattle.web_routes.specs.Parameters.{kind_of};
-ghost use Rattle.web_routes.specs.Parameters.{is_bad_scheme, bad_scheme, params_of, atomic_of, bundle_params_of};
+ghost use Rattle.web_routes.specs.Parameters.{value_of, parameter, strategies, is_number, asked_of, kind_of, is_bad_scheme, params_of, bundle_params_of};
 
 use crate::fault::{RouteFault, refused};
 use crate::pairs::value_of;
@@ -21,43 +20,44 @@ use import_forms::bundle::BundleParams;
 use import_forms::set::SetParams;
 use std::alloc::Global;
 
-#[tactic(auto, unfolding(crate::specs::Parameters::truth_of))]
-fn truth_of(text: &[u8]) -> Option<bool>
-    ensures { result ≡ truth_of text.now }
+/// A parameter by the table of its texts, or what stands for an absent one. F21 with its name where the table hasn't its text.
+fn choice_in<A: Copy>(
+    alloc: Global,
+    pairs: &[(Items<u8>, Items<u8>)],
+    name: &[u8],
+    choices: &[(&[u8], A)],
+    default: A,
+) -> Result<A, RouteFault>
+    ensures { Answers cause_of (parameter name.now (named (map (λ choice. (choice.0.now, choice.1)) choices.now)) default
+        (value_of name.now pairs.now)) result }
 {
-    if text == b"true".as_slice() {
-        return Some(true);
+    let Some(text) = value_of(pairs, name) else {
+        return Ok(default);
+    };
+    for choice in choices {
+        if choice.0 == text {
+            return Ok(choice.1);
+        }
     }
-    if text == b"false".as_slice() {
-        return Some(false);
-    }
-    None
+    Err(refused(alloc, Code::F21, name))
 }
 
-fn is_either(text: &[u8], one: &[u8], other: &[u8]) -> bool
-    ensures { result ≡ (bytes_eq text.now one.now || bytes_eq text.now other.now) }
-{
-    text == one || text == other
-}
+const TRUTHS: [(&[u8], bool); 2] = [(b"true", true), (b"false", false)];
 
-#[tactic(auto, unfolding(crate::specs::Parameters::strategy_of))]
-fn strategy_of(text: &[u8]) -> Option<ImportStrategy>
-    ensures { result ≡ strategy_of text.now }
-{
-    if is_either(text, b"CREATE", b"NEW") {
-        return Some(ImportStrategy::Create);
-    }
-    if is_either(text, b"UPDATE", b"UPDATES") {
-        return Some(ImportStrategy::Update);
-    }
-    if is_either(text, b"CREATE_AND_UPDATE", b"NEW_AND_UPDATES") {
-        return Some(ImportStrategy::CreateAndUpdate);
-    }
-    if is_either(text, b"DELETE", b"DELETES") {
-        return Some(ImportStrategy::Delete);
-    }
-    None
-}
+const KINDS: [(&[u8], CutKind); 2] = [(b"true", CutKind::Latest), (b"false", CutKind::Full)];
+
+const STRATEGIES: [(&[u8], ImportStrategy); 8] = [
+    (b"CREATE", ImportStrategy::Create),
+    (b"NEW", ImportStrategy::Create),
+    (b"UPDATE", ImportStrategy::Update),
+    (b"UPDATES", ImportStrategy::Update),
+    (b"CREATE_AND_UPDATE", ImportStrategy::CreateAndUpdate),
+    (b"NEW_AND_UPDATES", ImportStrategy::CreateAndUpdate),
+    (b"DELETE", ImportStrategy::Delete),
+    (b"DELETES", ImportStrategy::Delete),
+];
+
+const ATOMICITIES: [(&[u8], bool); 2] = [(b"ALL", true), (b"OBJECT", false)];
 
 /// Whether the text is a decimal of 1 to 18 digits.
 #[tactic(auto, unfolding(crate::specs::Parameters::is_number))]
@@ -82,156 +82,86 @@ fn digits_value(text: &[u8]) -> u64
     value
 }
 
-#[tactic(auto, unfolding(crate::specs::Parameters::number_of))]
-fn number_of(text: &[u8]) -> Option<u64>
-    ensures { result ≡ number_of text.now }
-{
-    if is_number(text) {
-        Some(digits_value(text))
-    } else {
-        None
-    }
-}
-
-#[tactic(auto, unfolding(crate::specs::Parameters::is_scheme))]
-fn is_scheme(text: &[u8]) -> bool
-    ensures { result ≡ is_scheme text.now }
-{
-    text == b"UID".as_slice() || text == b"uid".as_slice()
-}
-
 /// The change that the tables have to have taken in, from the field `X-Min-Change`. F21 where it is no decimal of 1 to
 /// 18 digits.
-#[tactic(auto, unfolding(crate::specs::Parameters::asked_of))]
+#[tactic(auto, unfolding(crate::specs::Parameters::asked_of, crate::specs::Parameters::number_of))]
 pub fn asked_of(alloc: Global, field: &Option<Items<u8>>) -> Result<u64, RouteFault>
     ensures { Answers cause_of (asked_of field.now) result }
 {
     let Some(text) = field else {
         return Ok(0);
     };
-    match number_of(text.as_slice()) {
-        Some(number) => Ok(number),
-        None => Err(refused(alloc, Code::F21, b"X-Min-Change")),
-    }
-}
-
-fn truth_in(
-    alloc: Global,
-    pairs: &[(Items<u8>, Items<u8>)],
-    name: &[u8],
-) -> Result<bool, RouteFault>
-    ensures { Answers cause_of (parameter name.now truth_of false (value_of name.now pairs.now)) result }
-{
-    let Some(text) = value_of(pairs, name) else {
-        return Ok(false);
-    };
-    match truth_of(text) {
-        Some(truth) => Ok(truth),
-        None => Err(refused(alloc, Code::F21, name)),
-    }
-}
-
-fn kind_by(latest: bool) -> CutKind
-    ensures { result ≡ kind_by latest }
-{
-    if latest {
-        CutKind::Latest
+    if is_number(text.as_slice()) {
+        Ok(digits_value(text.as_slice()))
     } else {
-        CutKind::Full
+        Err(refused(alloc, Code::F21, b"X-Min-Change"))
     }
 }
 
 /// What an update rebuilds: the latest part alone where `latest` is `true`, else all. F21 where it is neither `true` nor
 /// `false`.
-#[tactic(auto, unfolding(crate::specs::Parameters::kind_of))]
 pub fn kind_of(alloc: Global, pairs: &[(Items<u8>, Items<u8>)]) -> Result<CutKind, RouteFault>
     ensures { Answers cause_of (kind_of pairs.now) result }
 {
-    let latest = truth_in(alloc, pairs, b"latest")?;
-    Ok(kind_by(latest))
+    choice_in(alloc, pairs, b"latest", &KINDS, CutKind::Full)
 }
 
+/// What an import may do with records that are there, or aren't.
 fn strategy_in(
     alloc: Global,
     pairs: &[(Items<u8>, Items<u8>)],
 ) -> Result<ImportStrategy, RouteFault>
-    ensures { Answers cause_of (parameter (codes "importStrategy") strategy_of ImportStrategy.CreateAndUpdate
+    ensures { Answers cause_of (parameter (codes "importStrategy") (named strategies) ImportStrategy.CreateAndUpdate
         (value_of (codes "importStrategy") pairs.now)) result }
 {
-    let Some(text) = value_of(pairs, b"importStrategy") else {
-        return Ok(ImportStrategy::CreateAndUpdate);
-    };
-    match strategy_of(text) {
-        Some(strategy) => Ok(strategy),
-        None => Err(refused(alloc, Code::F21, b"importStrategy")),
-    }
+    choice_in(
+        alloc,
+        pairs,
+        b"importStrategy",
+        &STRATEGIES,
+        ImportStrategy::CreateAndUpdate,
+    )
 }
 
-#[tactic(auto, unfolding(crate::specs::Parameters::is_bad_scheme))]
+#[tactic(auto, unfolding(crate::specs::Parameters::is_bad_scheme, crate::specs::Parameters::is_scheme))]
 fn is_bad_scheme(pairs: &[(Items<u8>, Items<u8>)], name: &[u8]) -> bool
     ensures { result ≡ is_bad_scheme pairs.now name.now }
 {
     match value_of(pairs, name) {
-        Some(text) => !is_scheme(text),
+        Some(text) => text != b"UID".as_slice() && text != b"uid".as_slice(),
         None => false,
     }
 }
 
-/// The first of the parameters that name objects otherwise than by their identifiers.
-#[tactic(auto, unfolding(crate::specs::Parameters::bad_scheme))]
-fn bad_scheme(pairs: &[(Items<u8>, Items<u8>)]) -> Option<&'static [u8]>
-    ensures { option_copied result ≡ bad_scheme pairs.now }
+const SCHEME_NAMES: [&[u8]; 4] = [
+    b"idScheme",
+    b"dataElementIdScheme",
+    b"orgUnitIdScheme",
+    b"categoryOptionComboIdScheme",
+];
+
+/// The first of the parameters of these names that names objects otherwise than by their identifiers.
+fn bad_scheme(names: &[&'static [u8]], pairs: &[(Items<u8>, Items<u8>)]) -> Option<&'static [u8]>
+    ensures { option_copied result ≡ find (is_bad_scheme pairs.now) (map (λ name. name.now) names.now) }
 {
-    if is_bad_scheme(pairs, b"idScheme") {
-        return Some(b"idScheme");
-    }
-    if is_bad_scheme(pairs, b"dataElementIdScheme") {
-        return Some(b"dataElementIdScheme");
-    }
-    if is_bad_scheme(pairs, b"orgUnitIdScheme") {
-        return Some(b"orgUnitIdScheme");
-    }
-    if is_bad_scheme(pairs, b"categoryOptionComboIdScheme") {
-        return Some(b"categoryOptionComboIdScheme");
+    for name in names {
+        if is_bad_scheme(pairs, name) {
+            return Some(name);
+        }
     }
     None
 }
 
 /// How a set of values is to be imported. F21 with the name of the first parameter that isn't of its form.
-#[tactic(auto, unfolding(crate::specs::Parameters::params_of))]
+#[tactic(auto, unfolding(crate::specs::Parameters::params_of, crate::specs::Parameters::bad_scheme))]
 pub fn params_of(alloc: Global, pairs: &[(Items<u8>, Items<u8>)]) -> Result<SetParams, RouteFault>
     ensures { Answers cause_of (params_of pairs.now) result }
 {
     let strategy = strategy_in(alloc, pairs)?;
-    let dry = truth_in(alloc, pairs, b"dryRun")?;
-    match bad_scheme(pairs) {
+    let dry = choice_in(alloc, pairs, b"dryRun", &TRUTHS, false)?;
+    match bad_scheme(&SCHEME_NAMES, pairs) {
         Some(name) => Err(refused(alloc, Code::F21, name)),
         None => Ok(SetParams { strategy, dry }),
-    }
-}
-
-#[tactic(auto, unfolding(crate::specs::Parameters::atomic_of))]
-fn atomic_of(text: &[u8]) -> Option<bool>
-    ensures { result ≡ atomic_of text.now }
-{
-    if text == b"ALL".as_slice() {
-        return Some(true);
-    }
-    if text == b"OBJECT".as_slice() {
-        return Some(false);
-    }
-    None
-}
-
-fn atomic_in(alloc: Global, pairs: &[(Items<u8>, Items<u8>)]) -> Result<bool, RouteFault>
-    ensures { Answers cause_of (parameter (codes "atomicMode") atomic_of true (value_of (codes "atomicMode") pairs.now)) result }
-{
-    let Some(text) = value_of(pairs, b"atomicMode") else {
-        return Ok(true);
-    };
-    match atomic_of(text) {
-        Some(atomic) => Ok(atomic),
-        None => Err(refused(alloc, Code::F21, b"atomicMode")),
     }
 }
 
@@ -244,6 +174,6 @@ pub fn bundle_params_of(
     ensures { Answers cause_of (bundle_params_of pairs.now) result }
 {
     let strategy = strategy_in(alloc, pairs)?;
-    let atomic = atomic_in(alloc, pairs)?;
+    let atomic = choice_in(alloc, pairs, b"atomicMode", &ATOMICITIES, true)?;
     Ok(BundleParams { strategy, atomic })
 }

@@ -3,7 +3,6 @@
 
 mod approval;
 mod asking;
-mod body;
 pub mod call;
 pub mod checked;
 mod completion;

@@ -1,9 +1,9 @@
 //! Paths of requests.
 ghost use Rattle.std.specs.Prelude.{◌≡◌};
 ghost use Rattle.std.specs.Char.{is_ascii_digit};
-ghost use Rattle.std.specs.List.{list_all, list_any};
+ghost use Rattle.std.specs.List.{list_all};
 ghost use Rattle.std.specs.Option.{option_copied};
-ghost use Rattle.web_routes.specs.Paths.{has_version, without_version, rest_of, is_slash, is_id, is_front_and_id};
+ghost use Rattle.web_routes.specs.Paths.{has_version, without_version, rest_of, is_front_and_id};
 
 pub(crate) fn all_digits(text: &[u8]) -> bool
     ensures { result ≡ list_all is_ascii_digit text.now }
@@ -54,31 +54,14 @@ pub fn rest_of(path: &[u8]) -> Option<&[u8]>
     None
 }
 
-fn has_slash(text: &[u8]) -> bool
-    ensures { result ≡ list_any is_slash text.now }
-{
-    for byte in text {
-        if *byte == b'/' {
-            return true;
-        }
-    }
-    false
-}
-
-#[tactic(auto, unfolding(crate::specs::Paths::is_id))]
-fn is_id(text: &[u8]) -> bool
-    ensures { result ≡ is_id text.now }
-{
-    !text.is_empty() && !has_slash(text)
-}
-
 /// Whether the text is the front with an identifier after it: one or more bytes without a slash.
-#[tactic(auto, unfolding(crate::specs::Paths::is_front_and_id))]
+#[tactic(auto, unfolding(crate::specs::Paths::is_front_and_id, crate::specs::Paths::is_id))]
 pub(crate) fn is_front_and_id(text: &[u8], front: &[u8]) -> bool
     ensures { result ≡ is_front_and_id front.now text.now }
 {
     if front.len() <= text.len() && &text[..front.len()] == front {
-        return is_id(&text[front.len()..]);
+        let id = &text[front.len()..];
+        return !id.is_empty() && !id.contains(&b'/');
     }
     false
 }

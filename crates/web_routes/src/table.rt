@@ -1,12 +1,12 @@
 //! The table of routes.
-ghost use Rattle.std.specs.Prelude.{◌≡◌, [], find};
+ghost use Rattle.std.specs.Prelude.{◌≡◌, find};
 ghost use Rattle.std.specs.List.{list_any};
 ghost use Rattle.std.specs.Option.{option_copied};
 ghost use Rattle.dh_base.specs.Memory.{Answers};
 ghost use Rattle.web_routes.specs.Given.{cause_of};
-ghost use Rattle.web_routes.specs.Routes.{name_of, other_name_of, method_of, authority_of, takes_id, is_named, has_rest, takes, route_at, route_of};
+ghost use Rattle.web_routes.specs.Routes.{name_of, other_name_of, method_of, authority_of, is_named, has_rest, takes, route_of};
 
-use crate::fault::{RouteFault, refused};
+use crate::fault::{RouteFault, found, refused};
 use crate::path::{is_front_and_id, rest_of};
 use dh_base::codes::Code;
 use std::alloc::Global;
@@ -125,24 +125,6 @@ pub fn authority_of(route: Route) -> Option<&'static [u8]>
     }
 }
 
-fn takes_id(route: Route) -> bool
-    ensures { result ≡ takes_id route }
-{
-    match route {
-        Route::Check => true,
-        Route::Query
-        | Route::Update
-        | Route::Values
-        | Route::Complete
-        | Route::Uncomplete
-        | Route::Tracker
-        | Route::Approve
-        | Route::Unapprove
-        | Route::Accept
-        | Route::Unaccept => false,
-    }
-}
-
 #[tactic(auto, unfolding(crate::specs::Routes::is_named))]
 fn is_named(route: Route, text: &[u8]) -> bool
     ensures { result ≡ is_named route text.now }
@@ -160,18 +142,19 @@ fn is_named(route: Route, text: &[u8]) -> bool
 fn has_rest(route: Route, rest: &[u8]) -> bool
     ensures { result ≡ has_rest rest.now route }
 {
-    if takes_id(route) {
-        is_front_and_id(rest, name_of(route))
-    } else {
-        is_named(route, rest)
+    match route {
+        Route::Check => is_front_and_id(rest, name_of(route)),
+        Route::Query
+        | Route::Update
+        | Route::Values
+        | Route::Complete
+        | Route::Uncomplete
+        | Route::Tracker
+        | Route::Approve
+        | Route::Unapprove
+        | Route::Accept
+        | Route::Unaccept => is_named(route, rest),
     }
-}
-
-#[tactic(auto, unfolding(crate::specs::Routes::takes))]
-fn takes(route: Route, method: &[u8], rest: &[u8]) -> bool
-    ensures { result ≡ takes method.now rest.now route }
-{
-    has_rest(route, rest) && method == method_of(route)
 }
 
 /// Whether one of the routes has this rest.
@@ -187,39 +170,30 @@ fn is_known(routes: &[Route], rest: &[u8]) -> bool
 }
 
 /// The first of the routes that takes the method at this rest.
+#[tactic(auto, unfolding(crate::specs::Routes::takes))]
 fn taken(routes: &[Route], method: &[u8], rest: &[u8]) -> Option<Route>
     ensures { result ≡ find (takes method.now rest.now) routes.now }
 {
     for route in routes {
-        if takes(*route, method, rest) {
+        if has_rest(*route, rest) && method == method_of(*route) {
             return Some(*route);
         }
     }
     None
 }
 
-#[tactic(auto, unfolding(crate::specs::Routes::route_at, crate::specs::Routes::all_routes))]
-fn route_at(alloc: Global, method: &[u8], rest: &[u8]) -> Result<Route, RouteFault>
-    ensures { Answers cause_of (route_at method.now rest.now) result }
-{
-    if is_known(&ALL_ROUTES, rest) {
-        match taken(&ALL_ROUTES, method, rest) {
-            Some(route) => Ok(route),
-            None => Err(refused(alloc, Code::F7, b"")),
-        }
-    } else {
-        Err(refused(alloc, Code::F6, b""))
-    }
-}
-
 /// The route of a method and a path. It is refused with F6 where no route has the path, with F7 where none of those
 /// that have it has the method.
-#[tactic(auto, unfolding(crate::specs::Routes::route_of))]
+#[tactic(auto, unfolding(crate::specs::Routes::route_of, crate::specs::Routes::route_at, crate::specs::Routes::all_routes))]
 pub fn route_of(alloc: Global, method: &[u8], path: &[u8]) -> Result<Route, RouteFault>
     ensures { Answers cause_of (route_of method.now path.now) result }
 {
-    match rest_of(path) {
-        Some(rest) => route_at(alloc, method, rest),
-        None => Err(refused(alloc, Code::F6, b"")),
+    let Some(rest) = rest_of(path) else {
+        return Err(refused(alloc, Code::F6, b""));
+    };
+    if is_known(&ALL_ROUTES, rest) {
+        found(alloc, Code::F7, b"", taken(&ALL_ROUTES, method, rest))
+    } else {
+        Err(refused(alloc, Code::F6, b""))
     }
 }
