@@ -9,9 +9,11 @@ use dh_base::uid::Uid;
 use std::alloc::Global;
 use std::collections::BTreeMap;
 
-fn by_id_map(alloc: Global, sets: &[DataSet]) -> Result<BTreeMap<Uid, u32>, Memory>
+/// The numbers of the data sets, in the order of the bytes of their identifiers.
+#[tactic(auto, unfolding(crate::specs::Sets::by_id))]
+pub fn by_id(alloc: Global, sets: &[DataSet]) -> Result<Vec<u32>, Memory>
     requires { length sets.now < 2 ^ 32 }
-    ensures { IfOk result (λ map. map.entries ≡ put_by_id [] 0 (set_ids sets.now)) }
+    ensures { IfOk result (λ order. order.items ≡ by_id (set_ids sets.now)) }
 {
     let mut map = BTreeMap::new(alloc);
     let mut number = 0;
@@ -19,15 +21,5 @@ fn by_id_map(alloc: Global, sets: &[DataSet]) -> Result<BTreeMap<Uid, u32>, Memo
         map.insert(set.id, number)?;
         number += 1;
     }
-    Ok(map)
-}
-
-/// The numbers of the data sets, in the order of the bytes of their identifiers.
-#[tactic(auto, unfolding(crate::specs::Sets::by_id))]
-pub fn by_id(alloc: Global, sets: &[DataSet]) -> Result<Vec<u32>, Memory>
-    requires { length sets.now < 2 ^ 32 }
-    ensures { IfOk result (λ order. order.items ≡ by_id (set_ids sets.now)) }
-{
-    let map = by_id_map(alloc, sets)?;
     Ok(map.values().copied().collect(alloc)?)
 }

@@ -15,13 +15,6 @@ use dh_base::memory::Memory;
 use dh_sharing::rule::UserFacts;
 use std::alloc::Global;
 
-#[tactic(auto, unfolding(crate::specs::Users::all_authority))]
-fn has_all(roles: &[Role], user: &User) -> bool
-    ensures { result ≡ is_granted roles.now user.now all_authority }
-{
-    is_granted(roles, user, b"ALL")
-}
-
 fn numbers(alloc: Global, count: usize) -> Result<Vec<u32>, Memory>
     requires { count < 2 ^ 32 }
     ensures { IfOk result (λ numbers. numbers.items ≡ range_with_len 0 count) }
@@ -44,6 +37,7 @@ fn groups_of(alloc: Global, groups: &[UserGroup], count: usize) -> Result<Vec<It
     Ok(all)
 }
 
+#[tactic(auto, unfolding(crate::specs::Users::all_authority))]
 fn fact_of(
     alloc: Global,
     records: &Records,
@@ -59,7 +53,7 @@ fn fact_of(
     Ok(UserFacts {
         number,
         groups: Items::from(groups),
-        all: has_all(records.user_roles.as_slice(), user),
+        all: is_granted(records.user_roles.as_slice(), user, b"ALL"),
     })
 }
 

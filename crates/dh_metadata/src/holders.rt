@@ -28,17 +28,6 @@ fn put_at(all: &mut Vec<Items<u32>>, numbers: &[u32], place: u32) -> Result<(), 
     Ok(())
 }
 
-/// Puts the place at the end of the lists of the numbers that stand there.
-fn put_place(all: &mut Vec<Items<u32>>, lists: &[Items<u32>], place: u32) -> Result<(), Memory>
-    requires { EachAscends lists.now }
-    ensures { OnOk result (IsPutAt place (slice_index_or lists.now place []) all.old.items all.new.items) }
-{
-    if (place as usize) < lists.len() {
-        return put_at(all, lists[place as usize].as_slice(), place);
-    }
-    Ok(())
-}
-
 fn empty_lists(alloc: Global, count: usize) -> Result<Vec<Items<u32>>, Memory>
     ensures { IfOk result (λ all. AreHolders [] [] count all.items) }
 {
@@ -61,7 +50,9 @@ pub fn holders(
 {
     let mut all = empty_lists(alloc, count)?;
     for place in order {
-        put_place(&mut all, lists, *place)?;
+        if (*place as usize) < lists.len() {
+            put_at(&mut all, lists[*place as usize].as_slice(), *place)?;
+        }
     }
     Ok(all)
 }

@@ -120,13 +120,13 @@ fn in_piece(from: usize, end: usize, place: Option<u32>) -> Option<u32>
     }
 }
 
-// The identifiers cut into lists if they differ.
-#[tactic(auto, using(crate::proofs::CutLemmas::joined_is))]
-fn indexed(alloc: Global, ids: Vec<Uid>, ends: Vec<usize>) -> Result<Ids, IndexFault>
-    requires ends { AreEnds 0 ends.items (length ids.items) }
-    requires number { vec_len ends ≡ 22 }
-    ensures { Finds index_cause (repeat_of (joined (cut 0 ends.items ids.items))) (λ made. made ≡ cut 0 ends.items ids.items) result }
+// The lists with numbers if all their identifiers differ.
+#[tactic(auto, using(crate::proofs::CutLemmas::joined_is, crate::proofs::CutLemmas::length_cut))]
+fn indexed(alloc: Global, lists: Lists) -> Result<Ids, IndexFault>
+    requires { length lists ≡ 22 }
+    ensures { Finds index_cause (repeat_of (joined lists)) (λ made. made ≡ lists) result }
 {
+    let Lists { ids, ends } = lists;
     if ids.len() >= 1 << 32 {
         return Err(IndexFault::Memory);
     }
@@ -137,22 +137,13 @@ fn indexed(alloc: Global, ids: Vec<Uid>, ends: Vec<usize>) -> Result<Ids, IndexF
     }
 }
 
-// The lists with numbers if all their identifiers differ.
-#[tactic(auto, using(crate::proofs::CutLemmas::length_cut))]
-fn indexed_lists(alloc: Global, lists: Lists) -> Result<Ids, IndexFault>
-    requires { length lists ≡ 22 }
-    ensures { Finds index_cause (repeat_of (joined lists)) (λ made. made ≡ lists) result }
-{
-    indexed(alloc, lists.ids, lists.ends)
-}
-
 // The identifiers of a file if they differ.
 #[tactic(auto, using(crate::proofs::PlaceLemmas::repeat_below, crate::proofs::PlaceLemmas::length_ids_of), unfolding(crate::specs::Ids::all_ids))]
 fn numbered(alloc: Global, parts: &MetaParts) -> Result<Ids, IdsFault>
     ensures { Finds ids_cause (repeated (all_ids parts.now)) (λ ids. ids ≡ ids_of parts.now) result }
 {
     let lists = lists_of(alloc, parts)?;
-    match indexed_lists(alloc, lists) {
+    match indexed(alloc, lists) {
         Ok(ids) => Ok(ids),
         Err(IndexFault::Twice(place)) => Err(IdsFault::Twice {
             uid: id_at(alloc, parts, place as usize)?,

@@ -7,18 +7,12 @@ use dh_base::items::Items;
 use dh_base::memory::Memory;
 use std::alloc::Global;
 
-fn tree_level(level: i64) -> u8
-    ensures { result ≡ tree_level level }
-{
-    level.unsigned_abs().min(255) as u8
-}
-
 fn tree_levels(alloc: Global, levels: &[i64]) -> Result<Items<u8>, Memory>
     ensures { IfOk result (λ small. small ≡ map tree_level levels.now) }
 {
     let mut small = Items::new(alloc);
     for level in levels {
-        small.push(tree_level(*level))?;
+        small.push(level.unsigned_abs().min(255) as u8)?;
     }
     Ok(small)
 }

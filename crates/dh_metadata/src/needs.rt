@@ -8,15 +8,6 @@ ghost use Rattle.dh_metadata.specs.Linked.{AreBelow};
 use dh_base::plain::Need;
 use org_tree::tree::Tree;
 
-fn lower(least: Option<u8>, level: u8) -> Option<u8>
-    ensures { result ≡ lower least level }
-{
-    match least {
-        None => Some(level),
-        Some(other) => Some(other.min(level)),
-    }
-}
-
 /// The least tree level of units, `None` where there is none.
 pub fn least_level(tree: &Tree, units: &[u32]) -> Option<u8>
     requires { AreBelow (length tree.now) units.now }
@@ -25,7 +16,10 @@ pub fn least_level(tree: &Tree, units: &[u32]) -> Option<u8>
     let mut least = None;
     for unit in units {
         let level = tree.level(*unit);
-        least = lower(least, level);
+        least = match least {
+            None => Some(level),
+            Some(other) => Some(other.min(level)),
+        };
     }
     least
 }
@@ -33,7 +27,12 @@ pub fn least_level(tree: &Tree, units: &[u32]) -> Option<u8>
 fn first_fit(levels: &[u8], least: u8) -> Option<usize>
     ensures { result ≡ position (λ level. nat_le least level) levels.now }
 {
-    levels.iter().position(|level| least <= *level)
+    for place in 0..levels.len() {
+        if least <= levels[place] {
+            return Some(place);
+        }
+    }
+    None
 }
 
 fn need_by(count: usize, first: Option<usize>) -> Need

@@ -5,10 +5,9 @@ ghost use Rattle.dh_metadata.specs.declared.ids.fault.IdsFault.TheVariants.{Memo
 
 use dh_base::memory::Memory;
 use dh_base::uid::Uid;
-use std::alloc::{AllocError, AllocFailed};
 
 /// Why the identifiers of a file weren't numbered.
-#[derive(Clone, Copy, Drop)]
+#[derive(Drop)]
 pub enum IdsFault {
     /// The first object, of whatever kind, that has the identifier of one before it. Where there is none: the
     /// user of the first token that is one of those before it.
@@ -21,22 +20,6 @@ impl From<Memory> for IdsFault {
     ghost from_gives = { λ _ fault. fault ≡ OutOfMemory };
 
     fn from(_error: Memory) -> IdsFault {
-        IdsFault::Memory
-    }
-}
-
-impl From<AllocError> for IdsFault {
-    ghost from_gives = { λ _ fault. fault ≡ OutOfMemory };
-
-    fn from(_error: AllocError) -> IdsFault {
-        IdsFault::Memory
-    }
-}
-
-impl<T: Drop> From<AllocFailed<T>> for IdsFault {
-    ghost from_gives = { λ _ fault. fault ≡ OutOfMemory };
-
-    fn from(_error: AllocFailed<T>) -> IdsFault {
         IdsFault::Memory
     }
 }

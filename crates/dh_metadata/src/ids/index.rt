@@ -13,7 +13,7 @@ use std::collections::HashMap;
 use std::marker::Model;
 
 /// Why no index was made.
-#[derive(Clone, Copy, Drop)]
+#[derive(Drop)]
 pub enum IndexFault {
     /// The identifier at this place stands earlier in the list too. It is the first such place.
     Twice(u32),

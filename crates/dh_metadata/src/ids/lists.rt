@@ -47,7 +47,8 @@ impl Lists {
         ensures { IfOk result (λ lists. lists ≡ self ++ (built_in.now ++ map T.id_of objects.now) ∷ []) }
     {
         let ids = grown(self.ids, built_in, objects.as_slice())?;
-        let ends = ended(self.ends, ids.len())?;
+        let mut ends = self.ends;
+        ends.push(ids.len())?;
         Ok(Lists { ids, ends })
     }
 
@@ -57,7 +58,7 @@ impl Lists {
         requires { place < length (joined self.now) }
         ensures { result ≡ get_or (joined self.now) place [] }
     {
-        item(&self.ids, place)
+        self.ids[place]
     }
 }
 
@@ -70,19 +71,4 @@ fn grown<T: HasId>(ids: Vec<Uid>, built_in: &[Uid], objects: &[T]) -> Result<Vec
         all.push(object.id())?;
     }
     Ok(all)
-}
-
-fn ended(ends: Vec<usize>, end: usize) -> Result<Vec<usize>, Memory>
-    ensures { IfOk result (λ all. all.items ≡ ends.items ++ end ∷ []) }
-{
-    let mut all = ends;
-    all.push(end)?;
-    Ok(all)
-}
-
-fn item(ids: &[Uid], place: usize) -> Uid
-    requires { place < length ids.now }
-    ensures { result ≡ get_or ids.now place [] }
-{
-    ids[place]
 }

@@ -16,16 +16,10 @@ pub fn user_of_repeated(alloc: Global, tokens: &[(Items<u8>, Uid)]) -> Result<Op
 {
     let mut seen = HashSet::new(alloc);
     for token in tokens {
-        let copy = copy_of(alloc, &token.0)?;
+        let copy = Items::from(token.0.as_slice().to_vec(alloc)?);
         if !seen.insert(copy)? {
             return Ok(Some(token.1));
         }
     }
     Ok(None)
-}
-
-fn copy_of(alloc: Global, token: &Items<u8>) -> Result<Items<u8>, Memory>
-    ensures { IfOk result (λ copy. copy ≡ token.now) }
-{
-    Ok(Items::from(token.as_slice().to_vec(alloc)?))
 }

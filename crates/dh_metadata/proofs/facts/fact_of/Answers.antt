@@ -8,6 +8,7 @@ use Rattle.dh_metadata.specs.Users.{all_authority, is_granted, groups_of}
 use Rattle.dh_metadata.proofs.facts.fact_of.Goals as goal
 
 pub returns : goal.returns
+unfolding all_authority
 returns c =
     let r = c.args.records.now in
     let n = c.args.number in
@@ -16,9 +17,9 @@ returns c =
     let within : n < length c.args.lists.now = subst (λ count. n < count) (sym c.requires.lists.same_length) c.requires.user in
     let found : slice_get r.users n ≡ Some user =
     slice_get_read r.users (length r.users) n user refl c.requires.user (c.index-as_slice-number.is ∙ ap (λ users. get_or users n user) c.as_slice-2.ensures) in
-    ap (λ groups. facts groups c.has_all.result)
+    ap (λ groups. facts groups c.is_granted.result)
     (c.from.ensures ∙ c.in_ok-groups.ensures.items ∙ c.as_slice.ensures
     ∙ get_or_read c.args.lists.now n c.index-lists-number.result within c.index-lists-number.is [] ∙ c.requires.lists.each n c.requires.user)
     ∙ ap (λ all. facts (groups_of r n) all)
-    (c.has_all.ensures ∙ ap (λ roles. is_granted roles user all_authority) c.as_slice-3.ensures
+    (c.is_granted.ensures ∙ ap (λ roles. is_granted roles user all_authority) c.as_slice-3.ensures
     ∙ ap (λ one. option_map_or (λ found. is_granted r.user_roles found all_authority) one false) (sym found))

@@ -14,9 +14,9 @@ returns-then-not-branch c =
     let token : List ℕ × List ℕ = c.token-item.result in
     let within : i < length tokens = c.loop-token-test.true in
     let before : List (List ℕ) = map (λ (each : List ℕ × List ℕ). each.0) (take i tokens) in
-    let key : c.in_ok-copy.copy ≡ token.0 = c.in_ok-copy.ensures in
-    let held : contains same_id c.loop-token.seen c.in_ok-copy.copy ≡ is_one_of before c.in_ok-copy.copy = c.loop-token.invariant.held c.in_ok-copy.copy in
-    let there : contains same_id c.loop-token.seen c.in_ok-copy.copy ≡ true =
+    let key : c.from-copy.result ≡ token.0 = c.from-copy.ensures ∙ c.in_ok-to_vec.ensures.items_if_clones_equal (λ x y same. same) ∙ c.as_slice.ensures in
+    let held : contains same_id c.loop-token.seen c.from-copy.result ≡ is_one_of before c.from-copy.result = c.loop-token.invariant.held c.from-copy.result in
+    let there : contains same_id c.loop-token.seen c.from-copy.result ≡ true =
     was_there c.in_ok-insert.field-0 _ c.in_ok-insert.ensures.added c.if-not-branch.true in
     let one : is_one_of before token.0 ≡ true = sym (held ∙ ap (is_one_of before) key) ∙ there in
     sym (c.loop-token.invariant.rest ∙ ap (user_behind before) (rest_at tokens i token within c.token-item.is)
@@ -29,9 +29,9 @@ loop-token-preserved c =
     let token : List ℕ × List ℕ = c.token-item.result in
     let within : i < length tokens = c.loop-token-test.true in
     let before : List (List ℕ) = map (λ (each : List ℕ × List ℕ). each.0) (take i tokens) in
-    let key : c.in_ok-copy.copy ≡ token.0 = c.in_ok-copy.ensures in
-    let held : contains same_id c.loop-token.seen c.in_ok-copy.copy ≡ is_one_of before c.in_ok-copy.copy = c.loop-token.invariant.held c.in_ok-copy.copy in
-    let absent : contains same_id c.loop-token.seen c.in_ok-copy.copy ≡ false =
+    let key : c.from-copy.result ≡ token.0 = c.from-copy.ensures ∙ c.in_ok-to_vec.ensures.items_if_clones_equal (λ x y same. same) ∙ c.as_slice.ensures in
+    let held : contains same_id c.loop-token.seen c.from-copy.result ≡ is_one_of before c.from-copy.result = c.loop-token.invariant.held c.from-copy.result in
+    let absent : contains same_id c.loop-token.seen c.from-copy.result ≡ false =
     was_absent c.in_ok-insert.field-0 _ c.in_ok-insert.ensures.added c.if-not-branch.false in
     let none : is_one_of before token.0 ≡ false = sym (held ∙ ap (is_one_of before) key) ∙ absent in
     let more : map (λ (each : List ℕ × List ℕ). each.0) (take (i + 1) tokens) ≡ before ++ token.0 ∷ [] = texts_more tokens i token within c.token-item.is in

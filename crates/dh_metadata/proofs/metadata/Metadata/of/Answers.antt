@@ -1,6 +1,4 @@
-use Rattle.std.proofs.Common.{◌≡◌, sym, subst}
 use Rattle.dh_metadata.specs.declared.kind.Kind.TheVariants.{DataSet, User, UserGroup}
-use Rattle.dh_metadata.specs.Known.{AreMade}
 use Rattle.dh_metadata.proofs.metadata.Metadata.of.Goals as goal
 
 pub make-requires-clause-sets : goal.make-requires-clause-sets

@@ -1,8 +1,8 @@
-use Rattle.std.proofs.Common.{◌∙◌, ◌+◌, ◌∷◌, drop, sym, ap}
+use Rattle.std.proofs.Common.{◌≡◌, ◌∙◌, ◌+◌, ◌∷◌, [], drop, map, sym, ap, rules}
 use Rattle.std.proofs.lemmas.List.{drop_more, drop_all}
 use Rattle.dh_metadata.specs.declared.records.DataSet.{DataSet}
-use Rattle.dh_metadata.specs.Sets.{put_by_id, set_ids}
-use Rattle.dh_metadata.proofs.by_id.by_id_map.Goals as goal
+use Rattle.dh_metadata.specs.Sets.{put_by_id, set_ids, by_id}
+use Rattle.dh_metadata.proofs.by_id.by_id.Goals as goal
 
 pub loop-set-preserved : goal.loop-set-preserved
 loop-set-preserved c =
@@ -17,6 +17,10 @@ loop-set-preserved c =
     )
 
 pub returns : goal.returns
+unfolding by_id
 returns c =
-    sym (c.loop-set.invariant.1
-    ∙ ap (λ left. put_by_id c.loop-set.map.entries c.loop-set.number (set_ids left)) (drop_all c.loop-set.set-index c.args.sets.now c.loop-set-test.false))
+    let held : put_by_id [] 0 (set_ids c.args.sets.now) ≡ c.loop-set.map.entries =
+    c.loop-set.invariant.1
+    ∙ ap (λ left. put_by_id c.loop-set.map.entries c.loop-set.number (set_ids left)) (drop_all c.loop-set.set-index c.args.sets.now c.loop-set-test.false) in
+    let all : c.in_ok-collect.field-0.items ≡ map (λ entry. entry.1) c.loop-set.map.entries = search rules in
+    all ∙ ap (map (λ entry. entry.1)) (sym held)
