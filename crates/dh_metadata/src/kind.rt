@@ -30,35 +30,38 @@ pub enum Kind {
 ghost use Rattle.std.specs.Prelude.{◌≡◌};
 ghost use Rattle.dh_metadata.specs.Keys.{key_of};
 
+// The keys, in the order of `Kind`, which the proof of `key` holds them to.
+const KEYS: [&str; 22] = [
+    "organisationUnits",
+    "organisationUnitGroups",
+    "categoryOptions",
+    "categories",
+    "categoryCombos",
+    "categoryOptionCombos",
+    "dataElements",
+    "dataApprovalLevels",
+    "dataApprovalWorkflows",
+    "dataSets",
+    "constants",
+    "indicatorTypes",
+    "indicators",
+    "validationRules",
+    "trackedEntityTypes",
+    "trackedEntityAttributes",
+    "programs",
+    "programStages",
+    "programIndicators",
+    "userRoles",
+    "users",
+    "userGroups",
+];
+
 impl Kind {
     /// The key of the metadata file under which the objects of this kind stand.
     #[tactic(auto, unfolding(crate::specs::Keys::key_of))]
     pub fn key(self) -> &'static str
         ensures { result.now ≡ key_of self }
     {
-        match self {
-            Kind::OrganisationUnit => "organisationUnits",
-            Kind::OrganisationUnitGroup => "organisationUnitGroups",
-            Kind::CategoryOption => "categoryOptions",
-            Kind::Category => "categories",
-            Kind::CategoryCombo => "categoryCombos",
-            Kind::CategoryOptionCombo => "categoryOptionCombos",
-            Kind::DataElement => "dataElements",
-            Kind::ApprovalLevel => "dataApprovalLevels",
-            Kind::Workflow => "dataApprovalWorkflows",
-            Kind::DataSet => "dataSets",
-            Kind::Constant => "constants",
-            Kind::IndicatorType => "indicatorTypes",
-            Kind::Indicator => "indicators",
-            Kind::ValidationRule => "validationRules",
-            Kind::TrackedEntityType => "trackedEntityTypes",
-            Kind::TrackedEntityAttribute => "trackedEntityAttributes",
-            Kind::Program => "programs",
-            Kind::ProgramStage => "programStages",
-            Kind::ProgramIndicator => "programIndicators",
-            Kind::UserRole => "userRoles",
-            Kind::User => "users",
-            Kind::UserGroup => "userGroups",
-        }
+        KEYS[self as usize]
     }
 }
