@@ -8,7 +8,7 @@ ghost use Rattle.dh_metadata.specs.Users.{all_authority, is_granted, user_lists,
 use crate::authorities::is_granted;
 use crate::held::Records;
 use crate::holders::holders;
-use crate::members::group_users;
+use crate::members::{GroupUsers, sorted_lists};
 use crate::records::{Role, User, UserGroup};
 use dh_base::items::Items;
 use dh_base::memory::Memory;
@@ -32,7 +32,7 @@ fn groups_of(alloc: Global, groups: &[UserGroup], count: usize) -> Result<Vec<It
     ensures { IfOk result (λ all. AreHolders (user_lists groups.now) (range_with_len 0 (length groups.now)) count all.items) }
 {
     let order = numbers(alloc, groups.len())?;
-    let lists = group_users(alloc, groups)?;
+    let lists = sorted_lists::<GroupUsers>(alloc, groups)?;
     let all = holders(alloc, &lists, &order, count)?;
     Ok(all)
 }

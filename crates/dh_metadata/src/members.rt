@@ -1,9 +1,8 @@
 //! Lists of numbers in ascending order, for binary search.
 
-ghost use Rattle.std.specs.Prelude.{◌≡◌, IfOk};
+ghost use Rattle.std.specs.Prelude.{◌≡◌, ℕ, List, IfOk, map};
 ghost use Rattle.std.specs.List.Sorted.{IsStrictlyIncreasing};
 ghost use Rattle.dh_metadata.specs.Members.{has, IsSortedCopy, AreSortedCopies};
-ghost use Rattle.dh_metadata.specs.Sets.{element_lists, unit_lists};
 
 use crate::records::{DataSet, UserGroup};
 use dh_base::items::Items;
@@ -28,37 +27,68 @@ pub fn has(sorted: &[u32], n: u32) -> bool
     sorted.binary_search(&n).is_ok()
 }
 
-ghost use Rattle.dh_metadata.specs.Users.{user_lists};
+/// A list of numbers that each object of a kind has.
+pub trait Listing {
+    /// An object of the kind.
+    type Object;
 
-/// The elements of each data set.
-pub fn set_elements(alloc: Global, sets: &[DataSet]) -> Result<Vec<Items<u32>>, Memory>
-    ensures { IfOk result (λ all. AreSortedCopies (element_lists sets.now) all.items) }
-{
-    let mut all = Vec::new(alloc);
-    for set in sets {
-        all.push(sorted(alloc, set.data_set_elements.as_slice())?)?;
-    }
-    Ok(all)
+    /// Its numbers.
+    ghost numbers: { Self.Object → List ℕ };
+
+    /// Its numbers.
+    fn numbers(object: &Self::Object) -> &[u32]
+        ensures { result.now ≡ numbers object.now };
 }
 
-/// The units of each data set.
-pub fn set_units(alloc: Global, sets: &[DataSet]) -> Result<Vec<Items<u32>>, Memory>
-    ensures { IfOk result (λ all. AreSortedCopies (unit_lists sets.now) all.items) }
-{
-    let mut all = Vec::new(alloc);
-    for set in sets {
-        all.push(sorted(alloc, set.organisation_units.as_slice())?)?;
+/// The elements of a data set.
+pub struct SetElements {}
+
+impl Listing for SetElements {
+    type Object = DataSet;
+
+    ghost numbers = { λ set. set.data_set_elements };
+
+    fn numbers(set: &DataSet) -> &[u32] {
+        set.data_set_elements.as_slice()
     }
-    Ok(all)
 }
 
-/// The users of each user group.
-pub fn group_users(alloc: Global, groups: &[UserGroup]) -> Result<Vec<Items<u32>>, Memory>
-    ensures { IfOk result (λ all. AreSortedCopies (user_lists groups.now) all.items) }
+/// The units of a data set.
+pub struct SetUnits {}
+
+impl Listing for SetUnits {
+    type Object = DataSet;
+
+    ghost numbers = { λ set. set.organisation_units };
+
+    fn numbers(set: &DataSet) -> &[u32] {
+        set.organisation_units.as_slice()
+    }
+}
+
+/// The users of a user group.
+pub struct GroupUsers {}
+
+impl Listing for GroupUsers {
+    type Object = UserGroup;
+
+    ghost numbers = { λ group. group.users };
+
+    fn numbers(group: &UserGroup) -> &[u32] {
+        group.users.as_slice()
+    }
+}
+
+/// The lists of these objects, each with its numbers once, ascending.
+pub fn sorted_lists<T: Listing>(
+    alloc: Global,
+    objects: &[T::Object],
+) -> Result<Vec<Items<u32>>, Memory>
+    ensures { IfOk result (λ all. AreSortedCopies (map T.numbers objects.now) all.items) }
 {
     let mut all = Vec::new(alloc);
-    for group in groups {
-        all.push(sorted(alloc, group.users.as_slice())?)?;
+    for object in objects {
+        all.push(sorted(alloc, T::numbers(object))?)?;
     }
     Ok(all)
 }

@@ -6,7 +6,7 @@ ghost use Rattle.dh_metadata.specs.Known.{AreSetLists};
 use crate::by_id::by_id;
 use crate::held::Records;
 use crate::holders::holders;
-use crate::members::{set_elements, set_units};
+use crate::members::{SetElements, SetUnits, sorted_lists};
 use dh_base::items::Items;
 use dh_base::memory::Memory;
 use std::alloc::Global;
@@ -27,8 +27,8 @@ pub fn set_lists(alloc: Global, records: &Records) -> Result<SetLists, Memory>
 {
     let sets = records.data_sets.as_slice();
     let order = by_id(alloc, sets)?;
-    let elements = set_elements(alloc, sets)?;
-    let units = set_units(alloc, sets)?;
+    let elements = sorted_lists::<SetElements>(alloc, sets)?;
+    let units = sorted_lists::<SetUnits>(alloc, sets)?;
     let having = holders(
         alloc,
         &elements,
