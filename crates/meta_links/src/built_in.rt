@@ -15,7 +15,7 @@ use dh_metadata::records::{CategoryCombo, OptionCombo};
 use std::alloc::Global;
 
 /// The category combinations of a file, the built-in one before them.
-#[derive(Clone, Copy)]
+#[derive(Drop)]
 pub struct AllCombos<'a> {
     pub named: &'a Items<RawCategoryCombo>,
 }
@@ -39,7 +39,7 @@ impl<'a> Link for AllCombos<'a> {
 }
 
 /// The option combinations of a file, the built-in one before them.
-#[derive(Clone, Copy)]
+#[derive(Drop)]
 pub struct AllOptionCombos<'a> {
     pub named: &'a Items<RawOptionCombo>,
 }

@@ -9,7 +9,7 @@ use dh_metadata::ids::Ids;
 use std::alloc::Global;
 
 /// A text.
-#[derive(Clone, Copy)]
+#[derive(Drop)]
 pub struct Text<'a> {
     pub text: &'a Items<u8>,
 }

@@ -71,7 +71,7 @@ impl<P: Place + Copy> Link for Optional<P> {
 }
 
 /// A list of references.
-#[derive(Clone, Copy)]
+#[derive(Drop)]
 pub struct Several<'a> {
     pub at: Field<'a>,
     pub of: Kind,
@@ -104,7 +104,7 @@ impl<'a> Entries for Several<'a> {
 }
 
 /// A list of objects with a reference under a name.
-#[derive(Clone, Copy)]
+#[derive(Drop)]
 pub struct SeveralIn<'a> {
     pub at: Field<'a>,
     pub name: &'a [u8],
@@ -143,7 +143,7 @@ impl<'a> Entries for SeveralIn<'a> {
 }
 
 /// The elements of a data set. The category combination of an element is looked up too.
-#[derive(Clone, Copy)]
+#[derive(Drop)]
 pub struct SetElements<'a> {
     pub at: Field<'a>,
 }

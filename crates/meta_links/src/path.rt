@@ -18,7 +18,7 @@ pub trait Place {
 }
 
 /// A list under a key of the file.
-#[derive(Clone, Copy)]
+#[derive(Drop)]
 pub struct Key<'a> {
     pub key: &'a [u8],
 }

@@ -20,7 +20,7 @@ use dh_sharing::rule::Sharing;
 use std::alloc::Global;
 
 /// How the object of a kind at a place is shared.
-#[derive(Clone, Copy)]
+#[derive(Drop)]
 pub struct Shared<'a> {
     pub kind: Kind,
     pub place: u32,
@@ -79,7 +79,7 @@ impl<'a> Link for Shared<'a> {
 }
 
 /// Users or user groups under their keys, with what each may do.
-#[derive(Clone, Copy)]
+#[derive(Drop)]
 struct SharedWith<'a> {
     at: Field<'a>,
     of: Kind,

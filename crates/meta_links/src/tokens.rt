@@ -19,7 +19,7 @@ use dh_metadata::kind::Kind;
 use std::alloc::Global;
 
 /// Tokens, each with its user.
-#[derive(Clone, Copy)]
+#[derive(Drop)]
 pub struct Tokens {}
 
 impl Entries for Tokens {
