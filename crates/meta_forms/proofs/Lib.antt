@@ -1,4 +1,2 @@
-pub mod BothLemmas
-pub mod DefaultLemmas
 pub mod MemberLemmas
 pub mod ObjectLemmas

@@ -1,26 +1,23 @@
 //! Data elements, approval, and data sets.
 
-ghost use Rattle.json_read.specs.Views.{data_of};
-ghost use Rattle.json_read.specs.Given.{Gives};
-ghost use Rattle.meta_forms.specs.Table.{set_content_of, set_rules_of};
-
-use crate::both::both;
-use crate::entry::set_elements;
-use crate::field::{optional_reference, reference_or, references, whole, whole_or};
-use crate::named::{named_at, named_else, named_or_else};
+use crate::entries::Entries;
+use crate::entry::SetElement;
+use crate::field::{ComboOrDefault, OptionalReference, Whole};
+use crate::named::{Name, NameOr};
 use crate::object::ReadObject;
-use crate::sharing::sharing;
+use crate::part::{Field, FieldOr, Json, Part};
+use crate::sharing::Shared;
 use dh_base::items::Items;
 use dh_base::plain::AggType;
 use dh_base::uid::Uid;
-use dh_metadata::built_in::default_combo;
 use dh_metadata::names::ValueType;
 use dh_metadata::raw::{RawApprovalLevel, RawDataSet, RawElement, RawSharing, RawWorkflow};
 use dh_periods::PeriodType;
 use json::Value;
 use json_read::fault::FormFault;
-use json_read::form::field_or;
+use json_read::reference::Reference;
 use std::alloc::Global;
+use std::marker::PhantomData;
 
 type ElementFields = ((((ValueType, AggType), Uid), bool), RawSharing);
 
@@ -33,18 +30,16 @@ impl ReadObject for RawElement {
 
     ghost made = { element_made };
 
+    #[tactic(auto, unfolding(crate::specs::Table::element_fields))]
     fn read(alloc: Global, value: &Value<'_>) -> Result<ElementFields, FormFault> {
-        let read = named_else(alloc, value, "valueType", ValueType::Text);
-        let read = both(
-            read,
-            named_or_else(alloc, value, "aggregationType", AggType::Sum, AggType::None),
+        let value_type = Field("valueType", NameOr(ValueType::Text));
+        let aggregation = FieldOr("aggregationType", NameOr(AggType::None), AggType::Sum);
+        let significant = FieldOr("zeroIsSignificant", Json::<bool>(PhantomData), false);
+        let fields = (
+            (((value_type, aggregation), ComboOrDefault {}), significant),
+            Shared {},
         );
-        let read = both(
-            read,
-            reference_or(alloc, value, "categoryCombo", default_combo()),
-        );
-        let read = both(read, field_or(alloc, value, "zeroIsSignificant", false));
-        both(read, sharing(alloc, value))
+        fields.read(alloc, value)
     }
 
     #[tactic(auto, unfolding(crate::specs::Table::element_made))]
@@ -73,9 +68,11 @@ impl ReadObject for RawApprovalLevel {
 
     ghost made = { approval_level_made };
 
+    #[tactic(auto, unfolding(crate::specs::Table::approval_level_fields))]
     fn read(alloc: Global, value: &Value<'_>) -> Result<(i64, i64), FormFault> {
-        let read = whole(alloc, value, "level", 1, 1000);
-        both(read, whole(alloc, value, "orgUnitLevel", 1, 12))
+        let level = Field("level", Whole(1, 1000));
+        let unit_level = Field("orgUnitLevel", Whole(1, 12));
+        (level, unit_level).read(alloc, value)
     }
 
     #[tactic(auto, unfolding(crate::specs::Table::approval_level_made))]
@@ -100,9 +97,11 @@ impl ReadObject for RawWorkflow {
 
     ghost made = { workflow_made };
 
+    #[tactic(auto, unfolding(crate::specs::Table::workflow_fields, crate::specs::Fields::references_at))]
     fn read(alloc: Global, value: &Value<'_>) -> Result<(PeriodType, Items<Uid>), FormFault> {
-        let read = named_at(alloc, value, "periodType");
-        both(read, references(alloc, value, "dataApprovalLevels"))
+        let period_type = Field("periodType", Name::<PeriodType>(PhantomData));
+        let levels = Entries::<Reference>("dataApprovalLevels", PhantomData);
+        (period_type, levels).read(alloc, value)
     }
 
     #[tactic(auto, unfolding(crate::specs::Table::workflow_made))]
@@ -126,32 +125,8 @@ impl ReadObject for RawWorkflow {
 // What a data set collects: its period type, elements and units, and its category combination.
 type SetContent = (((PeriodType, Items<(Uid, Option<Uid>)>), Items<Uid>), Uid);
 
-fn read_set_content(alloc: Global, value: &Value<'_>) -> Result<SetContent, FormFault>
-    ensures { Gives (set_content_of (data_of value.now)) result }
-{
-    let read = named_at(alloc, value, "periodType");
-    let read = both(read, set_elements(alloc, value));
-    let read = both(read, references(alloc, value, "organisationUnits"));
-    both(
-        read,
-        reference_or(alloc, value, "categoryCombo", default_combo()),
-    )
-}
-
 // How a data set is approved, and when it may be written: its workflow, periods ahead, days to expire, days to be timely.
 type SetRules = (((Option<Uid>, i64), i64), i64);
-
-fn read_set_rules(alloc: Global, value: &Value<'_>) -> Result<SetRules, FormFault>
-    ensures { Gives (set_rules_of (data_of value.now)) result }
-{
-    let read = optional_reference(alloc, value, "workflow");
-    let read = both(
-        read,
-        whole_or(alloc, value, "openFuturePeriods", 0, 100_000, 0),
-    );
-    let read = both(read, whole_or(alloc, value, "expiryDays", 0, 100_000, 0));
-    both(read, whole_or(alloc, value, "timelyDays", 0, 100_000, 15))
-}
 
 impl ReadObject for RawDataSet {
     type Fields = ((SetContent, SetRules), RawSharing);
@@ -166,9 +141,16 @@ impl ReadObject for RawDataSet {
         alloc: Global,
         value: &Value<'_>,
     ) -> Result<((SetContent, SetRules), RawSharing), FormFault> {
-        let read = read_set_content(alloc, value);
-        let read = both(read, read_set_rules(alloc, value));
-        both(read, sharing(alloc, value))
+        let period_type = Field("periodType", Name::<PeriodType>(PhantomData));
+        let elements = Entries::<SetElement>("dataSetElements", PhantomData);
+        let units = Entries::<Reference>("organisationUnits", PhantomData);
+        let content = (((period_type, elements), units), ComboOrDefault {});
+        let workflow = OptionalReference("workflow");
+        let ahead = FieldOr("openFuturePeriods", Whole(0, 100_000), 0);
+        let expiry = FieldOr("expiryDays", Whole(0, 100_000), 0);
+        let timely = FieldOr("timelyDays", Whole(0, 100_000), 15);
+        let rules = (((workflow, ahead), expiry), timely);
+        ((content, rules), Shared {}).read(alloc, value)
     }
 
     #[tactic(auto, unfolding(crate::specs::Table::data_set_made))]

@@ -1,15 +1,15 @@
 //! Lists of entries that are held as plainer values.
 
 ghost use Rattle.std.specs.Prelude.{◌≡◌, IfOk, Ok, map};
-ghost use Rattle.json_read.specs.Views.{data_of};
 ghost use Rattle.json_read.specs.Forms.{and_then, listed_of};
-ghost use Rattle.json_read.specs.Given.{Gives};
 
+use crate::part::Part;
 use dh_base::items::Items;
 use json::Value;
 use json_read::fault::FormFault;
 use json_read::form::{ReadJson, listed};
 use std::alloc::{AllocError, Global};
+use std::marker::PhantomData;
 
 /// An entry of a list as it is read.
 pub trait Entry: ReadJson {
@@ -36,14 +36,17 @@ fn held<T: Entry>(alloc: Global, entries: Items<T>) -> Result<Items<T::Held>, Al
     })
 }
 
-/// The entries of the list under a key, empty where the key is absent.
-pub fn entries<T: Entry>(
-    alloc: Global,
-    value: &Value<'_>,
-    key: &str,
-) -> Result<Items<T::Held>, FormFault>
-    ensures { Gives (and_then (listed_of key.now T.form (data_of value.now)) (λ found. Ok (map T.held found))) result }
-{
-    let found: Items<T> = listed(alloc, value, key)?;
-    Ok(held(alloc, found)?)
+/// The entries of the list under a key, none where the key is absent.
+#[derive(Drop)]
+pub struct Entries<'a, T>(pub &'a str, pub PhantomData<T>);
+
+impl<'a, T: Entry> Part for Entries<'a, T> {
+    type Read = Items<T::Held>;
+
+    ghost form = { λ list json. and_then (listed_of list.0.now T.form json) (λ found. Ok (map T.held found)) };
+
+    fn read(&self, alloc: Global, value: &Value<'_>) -> Result<Items<T::Held>, FormFault> {
+        let found: Items<T> = listed(alloc, value, self.0)?;
+        Ok(held(alloc, found)?)
+    }
 }

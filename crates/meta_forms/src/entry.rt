@@ -1,20 +1,17 @@
 //! What stands inside objects: elements of data sets and stages, attributes of programs, sides of rules,
 //! values of constants, tokens and settings.
 
-ghost use Rattle.std.specs.Prelude.{◌≡◌, ℕ, ℤ, IfOk, codes, map, option_map};
+ghost use Rattle.std.specs.Prelude.{◌≡◌, IfOk, option_map};
 ghost use Rattle.std.specs.Fmt.{signed_decimal};
 ghost use Rattle.std.specs.List.{list_all};
 ghost use Rattle.json_read.specs.Views.{data_of};
-ghost use Rattle.json_read.specs.Forms.{text_of, listed_of, field_or_of};
-ghost use Rattle.json_read.specs.Given.{Gives};
 ghost use Rattle.dh_base.specs.Decimals.{decimal_of};
-ghost use Rattle.meta_forms.specs.Entries.{is_visible, is_token, token_in, constant_of, acceptance_of, set_elements_of, attributes_of, stage_elements_of};
-ghost use Rattle.meta_forms.specs.Entries.{side_of, tokens_of};
+ghost use Rattle.meta_forms.specs.Entries.{is_visible, token_in, constant_of, acceptance_of, side_of};
 
-use crate::entries::{Entry, entries};
-use crate::field::{optional_reference, reference};
-use crate::named::named_or;
-use crate::part::Part;
+use crate::entries::Entry;
+use crate::field::{OptionalReference, ReferenceAt};
+use crate::named::Name;
+use crate::part::{FieldOr, Part};
 use dh_base::decimal::{Micros, read_decimal};
 use dh_base::items::Items;
 use dh_base::plain::Strategy;
@@ -25,22 +22,23 @@ use json_read::form::{ReadJson, field, field_or, require_object};
 use json_read::look::{integer, text};
 use json_read::path::here;
 use std::alloc::{AllocError, Global};
+use std::marker::PhantomData;
 
 /// An element of a data set, and the category combination that is named beside it.
-#[derive(Clone, Copy, Drop)]
+#[derive(Drop)]
 pub struct SetElement {
     pub element: Uid,
     pub combo: Option<Uid>,
 }
 
 /// An attribute of a program.
-#[derive(Clone, Copy, Drop)]
+#[derive(Drop)]
 pub struct ProgramAttribute {
     pub attribute: Uid,
 }
 
 /// An element of a program stage.
-#[derive(Clone, Copy, Drop)]
+#[derive(Drop)]
 pub struct StageElement {
     pub element: Uid,
 }
@@ -53,7 +51,7 @@ pub struct Side {
 }
 
 /// The value of a constant.
-#[derive(Clone, Copy, Drop)]
+#[derive(Drop)]
 pub struct ConstantValue {
     pub value: Micros,
 }
@@ -72,7 +70,7 @@ pub struct Token {
 }
 
 /// The settings of the system.
-#[derive(Clone, Copy, Drop)]
+#[derive(Drop)]
 pub struct Settings {
     pub acceptance_required: bool,
 }
@@ -85,8 +83,8 @@ impl ReadJson for SetElement {
     #[tactic(auto, unfolding(crate::specs::Entries::set_element_of))]
     fn read(alloc: Global, value: &Value<'_>) -> Result<SetElement, FormFault> {
         require_object(alloc, value)?;
-        let element = reference(alloc, value, "dataElement")?;
-        let combo = optional_reference(alloc, value, "categoryCombo")?;
+        let element = ReferenceAt("dataElement").read(alloc, value)?;
+        let combo = OptionalReference("categoryCombo").read(alloc, value)?;
         Ok(SetElement { element, combo })
     }
 }
@@ -109,7 +107,7 @@ impl ReadJson for ProgramAttribute {
     #[tactic(auto, unfolding(crate::specs::Entries::attribute_of))]
     fn read(alloc: Global, value: &Value<'_>) -> Result<ProgramAttribute, FormFault> {
         require_object(alloc, value)?;
-        let attribute = reference(alloc, value, "trackedEntityAttribute")?;
+        let attribute = ReferenceAt("trackedEntityAttribute").read(alloc, value)?;
         Ok(ProgramAttribute { attribute })
     }
 }
@@ -132,7 +130,7 @@ impl ReadJson for StageElement {
     #[tactic(auto, unfolding(crate::specs::Entries::stage_element_of))]
     fn read(alloc: Global, value: &Value<'_>) -> Result<StageElement, FormFault> {
         require_object(alloc, value)?;
-        let element = reference(alloc, value, "dataElement")?;
+        let element = ReferenceAt("dataElement").read(alloc, value)?;
         Ok(StageElement { element })
     }
 }
@@ -156,7 +154,8 @@ impl ReadJson for Side {
     fn read(alloc: Global, value: &Value<'_>) -> Result<Side, FormFault> {
         require_object(alloc, value)?;
         let expression = field(alloc, value, "expression")?;
-        let strategy = named_or(alloc, value, "missingValueStrategy", Strategy::Never)?;
+        let names = Name::<Strategy>(PhantomData);
+        let strategy = FieldOr("missingValueStrategy", names, Strategy::Never).read(alloc, value)?;
         Ok(Side {
             expression,
             strategy,
@@ -164,16 +163,10 @@ impl ReadJson for Side {
     }
 }
 
-fn text_of(alloc: Global, number: i64) -> Result<Vec<u8>, AllocError>
-    ensures { IfOk result (λ text. text.items ≡ signed_decimal number) }
-{
-    Ok(format!(in alloc; "{number}")?.into_bytes())
-}
-
 fn number_read(alloc: Global, number: i64) -> Result<Option<Micros>, AllocError>
     ensures { IfOk result (λ value. value ≡ decimal_of (signed_decimal number)) }
 {
-    let text = text_of(alloc, number)?;
+    let text = format!(in alloc; "{number}")?.into_bytes();
     Ok(read_decimal(&text))
 }
 
@@ -203,30 +196,27 @@ impl ReadJson for ConstantValue {
     }
 }
 
-fn is_visible(byte: u8) -> bool
-    ensures { result ≡ is_visible byte }
-{
-    33 <= byte && byte <= 126
-}
-
 fn all_visible(text: &[u8]) -> bool
     ensures { result ≡ list_all is_visible text.now }
 {
-    text.iter().all(|byte| is_visible(*byte))
+    for byte in text {
+        if !(33 <= *byte && *byte <= 126) {
+            return false;
+        }
+    }
+    true
 }
 
 #[tactic(auto, unfolding(crate::specs::Entries::is_token))]
-fn is_token(text: &[u8]) -> bool
-    ensures { result ≡ is_token text.now }
-{
-    1 <= text.len() && text.len() <= 64 && all_visible(text)
-}
-
 fn token_in<'a>(value: &'a Value<'_>) -> Option<&'a [u8]>
     ensures { option_map (λ text. text.now) result ≡ token_in (data_of value.now) }
 {
     let token = text(value)?.as_bytes();
-    if is_token(token) { Some(token) } else { None }
+    if 1 <= token.len() && token.len() <= 64 && all_visible(token) {
+        Some(token)
+    } else {
+        None
+    }
 }
 
 impl ReadJson for TokenText {
@@ -253,7 +243,7 @@ impl ReadJson for Token {
     fn read(alloc: Global, value: &Value<'_>) -> Result<Token, FormFault> {
         require_object(alloc, value)?;
         let token = field(alloc, value, "token")?;
-        let user = reference(alloc, value, "user")?;
+        let user = ReferenceAt("user").read(alloc, value)?;
         Ok(Token { token, user })
     }
 }
@@ -288,63 +278,24 @@ impl ReadJson for Settings {
     }
 }
 
-/// The elements of a data set.
-#[tactic(auto, unfolding(crate::specs::Entries::set_elements_of))]
-pub fn set_elements(
-    alloc: Global,
-    value: &Value<'_>,
-) -> Result<Items<(Uid, Option<Uid>)>, FormFault>
-    ensures { Gives (set_elements_of (data_of value.now)) result }
-{
-    entries::<SetElement>(alloc, value, "dataSetElements")
-}
-
-/// The attributes of a program.
-#[tactic(auto, unfolding(crate::specs::Entries::attributes_of))]
-pub fn attributes(alloc: Global, value: &Value<'_>) -> Result<Items<Uid>, FormFault>
-    ensures { Gives (attributes_of (data_of value.now)) result }
-{
-    entries::<ProgramAttribute>(alloc, value, "programTrackedEntityAttributes")
-}
-
-/// The elements of a program stage.
-#[tactic(auto, unfolding(crate::specs::Entries::stage_elements_of))]
-pub fn stage_elements(alloc: Global, value: &Value<'_>) -> Result<Items<Uid>, FormFault>
-    ensures { Gives (stage_elements_of (data_of value.now)) result }
-{
-    entries::<StageElement>(alloc, value, "programStageDataElements")
-}
-
 /// A side of a validation rule: its expression and its missing-value strategy.
-#[tactic(auto, unfolding(crate::specs::Entries::side_of))]
-pub fn rule_side(
-    alloc: Global,
-    value: &Value<'_>,
-    key: &str,
-) -> Result<(Items<u8>, Strategy), FormFault>
-    ensures { Gives (side_of key.now (data_of value.now)) result }
-{
-    let side: Side = field(alloc, value, key)?;
-    Ok((side.expression, side.strategy))
-}
+#[derive(Drop)]
+pub struct RuleSide<'a>(pub &'a str);
 
-/// The tokens, each with the identifier of its user.
-#[derive(Clone, Copy)]
-pub struct Tokens {}
+impl<'a> Part for RuleSide<'a> {
+    type Read = (Items<u8>, Strategy);
 
-impl Part for Tokens {
-    type Read = Items<(Items<u8>, Uid)>;
+    ghost form = { λ field. side_of field.0.now };
 
-    ghost form = { λ _. tokens_of };
-
-    #[tactic(auto, unfolding(crate::specs::Entries::tokens_of))]
-    fn read(&self, alloc: Global, value: &Value<'_>) -> Result<Items<(Items<u8>, Uid)>, FormFault> {
-        entries::<Token>(alloc, value, "apiTokens")
+    #[tactic(auto, unfolding(crate::specs::Entries::side_of))]
+    fn read(&self, alloc: Global, value: &Value<'_>) -> Result<(Items<u8>, Strategy), FormFault> {
+        let side: Side = field(alloc, value, self.0)?;
+        Ok((side.expression, side.strategy))
     }
 }
 
 /// Whether an approval has to be accepted before the level above may approve.
-#[derive(Clone, Copy)]
+#[derive(Drop)]
 pub struct AcceptanceRequired {}
 
 impl Part for AcceptanceRequired {

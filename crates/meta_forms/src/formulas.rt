@@ -1,15 +1,11 @@
 //! Constants, indicators and validation rules.
 
-ghost use Rattle.json_read.specs.Views.{data_of};
-ghost use Rattle.json_read.specs.Given.{Gives};
-ghost use Rattle.meta_forms.specs.Table.{ratio_of};
-
-use crate::both::both;
-use crate::entry::{ConstantValue, rule_side};
-use crate::field::{reference, whole, whole_or};
-use crate::named::named_at;
+use crate::entry::{ConstantValue, RuleSide};
+use crate::field::{ReferenceAt, Whole};
+use crate::named::Name;
 use crate::object::ReadObject;
-use crate::sharing::sharing;
+use crate::part::{Field, FieldOr, Json, Part};
+use crate::sharing::Shared;
 use dh_base::items::Items;
 use dh_base::plain::Strategy;
 use dh_base::uid::Uid;
@@ -18,8 +14,9 @@ use dh_metadata::raw::{RawConstant, RawIndicator, RawIndicatorType, RawRule, Raw
 use dh_periods::PeriodType;
 use json::Value;
 use json_read::fault::FormFault;
-use json_read::form::{field, field_or};
+use json_read::form::field;
 use std::alloc::Global;
+use std::marker::PhantomData;
 
 impl ReadObject for RawConstant {
     type Fields = ConstantValue;
@@ -61,7 +58,7 @@ impl ReadObject for RawIndicatorType {
     ghost made = { indicator_type_made };
 
     fn read(alloc: Global, value: &Value<'_>) -> Result<i64, FormFault> {
-        whole(alloc, value, "factor", -1_000_000_000, 1_000_000_000)
+        Field("factor", Whole(-1_000_000_000, 1_000_000_000)).read(alloc, value)
     }
 
     #[tactic(auto, unfolding(crate::specs::Table::indicator_type_made))]
@@ -78,15 +75,6 @@ impl ReadObject for RawIndicatorType {
 // What an indicator computes: its numerator and denominator, its type, and whether it is of a year.
 type Ratio = (((Items<u8>, Items<u8>), Uid), bool);
 
-fn read_ratio(alloc: Global, value: &Value<'_>) -> Result<Ratio, FormFault>
-    ensures { Gives (ratio_of (data_of value.now)) result }
-{
-    let read = field(alloc, value, "numerator");
-    let read = both(read, field(alloc, value, "denominator"));
-    let read = both(read, reference(alloc, value, "indicatorType"));
-    both(read, field_or(alloc, value, "annualized", false))
-}
-
 impl ReadObject for RawIndicator {
     type Fields = ((Ratio, i64), RawSharing);
 
@@ -96,10 +84,15 @@ impl ReadObject for RawIndicator {
 
     ghost made = { indicator_made };
 
+    #[tactic(auto, unfolding(crate::specs::Table::indicator_fields, crate::specs::Table::ratio_of))]
     fn read(alloc: Global, value: &Value<'_>) -> Result<((Ratio, i64), RawSharing), FormFault> {
-        let read = read_ratio(alloc, value);
-        let read = both(read, whole_or(alloc, value, "decimals", 0, 5, 1));
-        both(read, sharing(alloc, value))
+        let numerator = Field("numerator", Json::<Items<u8>>(PhantomData));
+        let denominator = Field("denominator", Json::<Items<u8>>(PhantomData));
+        let of_type = ReferenceAt("indicatorType");
+        let annualized = FieldOr("annualized", Json::<bool>(PhantomData), false);
+        let ratio = (((numerator, denominator), of_type), annualized);
+        let decimals = FieldOr("decimals", Whole(0, 5), 1);
+        ((ratio, decimals), Shared {}).read(alloc, value)
     }
 
     #[tactic(auto, unfolding(crate::specs::Table::indicator_made))]
@@ -142,12 +135,14 @@ impl ReadObject for RawRule {
 
     ghost made = { rule_made };
 
+    #[tactic(auto, unfolding(crate::specs::Table::rule_fields))]
     fn read(alloc: Global, value: &Value<'_>) -> Result<RuleFields, FormFault> {
-        let read = named_at(alloc, value, "operator");
-        let read = both(read, named_at(alloc, value, "periodType"));
-        let read = both(read, rule_side(alloc, value, "leftSide"));
-        let read = both(read, rule_side(alloc, value, "rightSide"));
-        both(read, sharing(alloc, value))
+        let operator = Field("operator", Name::<Operator>(PhantomData));
+        let period_type = Field("periodType", Name::<PeriodType>(PhantomData));
+        let left_side = RuleSide("leftSide");
+        let right_side = RuleSide("rightSide");
+        let rule = (((operator, period_type), left_side), right_side);
+        (rule, Shared {}).read(alloc, value)
     }
 
     #[tactic(auto, unfolding(crate::specs::Table::rule_made))]

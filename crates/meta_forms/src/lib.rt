@@ -3,7 +3,6 @@
 #![tactic(auto)]
 
 mod aggregate;
-mod both;
 mod entries;
 mod entry;
 mod field;
@@ -12,7 +11,6 @@ mod named;
 mod object;
 mod part;
 pub mod parts;
-mod path;
 mod people;
 mod sharing;
 mod structure;

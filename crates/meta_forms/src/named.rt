@@ -1,13 +1,9 @@
 //! Fields whose texts are names of a table.
 
-ghost use Rattle.std.specs.Prelude.{◌≡◌, ℕ, List, Option, option_and_then, option_map};
-ghost use Rattle.json_read.specs.Views.{data_of};
-ghost use Rattle.serde_json.specs.Find.{as_str};
-ghost use Rattle.json_read.specs.Forms.{field_of, field_or_of};
-ghost use Rattle.json_read.specs.Given.{Gives};
-ghost use Rattle.meta_forms.specs.Fields.{named_in, name_of_table, listed_or, name_or_other};
+ghost use Rattle.std.specs.Prelude.{◌≡◌, ℕ, List, Option};
+ghost use Rattle.meta_forms.specs.Fields.{name_of_table, name_or_other};
 
-use crate::path::found_at;
+use crate::part::Part;
 use dh_base::plain::{AggType, Strategy};
 use dh_metadata::names::{
     AnalyticsType, Operator, ProgramType, ValueType, aggregation_named, analytics_type_named,
@@ -17,9 +13,10 @@ use dh_periods::PeriodType;
 use dh_sharing::access::Access;
 use json::Value;
 use json_read::fault::FormFault;
-use json_read::look::{member, text};
-use json_read::path::at_key;
+use json_read::look::text;
+use json_read::path::here;
 use std::alloc::Global;
+use std::marker::PhantomData;
 
 /// A value that a file writes as a name of a table.
 pub trait Named: Sized + Drop {
@@ -111,79 +108,41 @@ impl Named for Access {
     }
 }
 
-fn name_of<T: Named>(value: &Value<'_>) -> Option<T>
-    ensures { result ≡ named_in T.meaning (data_of value.now) }
-{
-    match text(value) {
-        Some(name) => T::of_name(name.as_bytes()),
-        None => None,
+/// A text that is a name of a table.
+#[derive(Drop)]
+pub struct Name<T>(pub PhantomData<T>);
+
+impl<T: Named> Part for Name<T> {
+    type Read = T;
+
+    ghost form = { λ _. name_of_table T.meaning };
+
+    fn read(&self, alloc: Global, value: &Value<'_>) -> Result<T, FormFault> {
+        if let Some(name) = text(value) {
+            if let Some(found) = T::of_name(name.as_bytes()) {
+                return Ok(found);
+            }
+        }
+        Err(here(alloc))
     }
 }
 
-/// A name that has to be there.
-pub fn named_at<T: Named>(alloc: Global, value: &Value<'_>, key: &str) -> Result<T, FormFault>
-    ensures { Gives (field_of key.now (name_of_table T.meaning) (data_of value.now)) result }
-{
-    match member(value, key) {
-        Some(found) => found_at(alloc, key, name_of(found)),
-        None => Err(at_key(alloc, key)),
-    }
-}
+/// A text that is a name of a table; one that the table doesn't have means this.
+#[derive(Drop)]
+pub struct NameOr<T>(pub T);
 
-/// A name that has a default.
-pub fn named_or<T: Named>(
-    alloc: Global,
-    value: &Value<'_>,
-    key: &str,
-    default: T,
-) -> Result<T, FormFault>
-    ensures { Gives (field_or_of key.now (name_of_table T.meaning) default (data_of value.now)) result }
-{
-    match member(value, key) {
-        Some(found) => found_at(alloc, key, name_of(found)),
-        None => Ok(default),
-    }
-}
+impl<T: Named + Copy> Part for NameOr<T> {
+    type Read = T;
 
-fn name_or<T: Named>(value: &Value<'_>, other: T) -> Option<T>
-    ensures { result ≡ listed_or T.meaning other (data_of value.now) }
-{
-    match text(value) {
-        Some(name) => match T::of_name(name.as_bytes()) {
-            Some(found) => Some(found),
-            None => Some(other),
-        },
-        None => None,
-    }
-}
+    ghost form = { λ name. name_or_other T.meaning name.0 };
 
-/// A name that has to be there; one that the table doesn't have means `other`.
-pub fn named_else<T: Named>(
-    alloc: Global,
-    value: &Value<'_>,
-    key: &str,
-    other: T,
-) -> Result<T, FormFault>
-    ensures { Gives (field_of key.now (name_or_other T.meaning other) (data_of value.now)) result }
-{
-    match member(value, key) {
-        Some(found) => found_at(alloc, key, name_or(found, other)),
-        None => Err(at_key(alloc, key)),
-    }
-}
-
-/// A name that has a default; one that the table doesn't have means `other`.
-pub fn named_or_else<T: Named>(
-    alloc: Global,
-    value: &Value<'_>,
-    key: &str,
-    default: T,
-    other: T,
-) -> Result<T, FormFault>
-    ensures { Gives (field_or_of key.now (name_or_other T.meaning other) default (data_of value.now)) result }
-{
-    match member(value, key) {
-        Some(found) => found_at(alloc, key, name_or(found, other)),
-        None => Ok(default),
+    fn read(&self, alloc: Global, value: &Value<'_>) -> Result<T, FormFault> {
+        match text(value) {
+            Some(name) => match T::of_name(name.as_bytes()) {
+                Some(found) => Ok(found),
+                None => Ok(self.0),
+            },
+            None => Err(here(alloc)),
+        }
     }
 }

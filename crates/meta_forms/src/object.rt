@@ -9,14 +9,13 @@ ghost use Rattle.json_read.specs.Forms.{at_step, field_or_of};
 ghost use Rattle.json_read.specs.Given.{Gives};
 ghost use Rattle.meta_forms.specs.Objects.{IsPlace, named_form, object_of, objects_of, list_of, objects_at};
 
-use crate::field::name;
 use crate::part::Part;
 use dh_base::items::Items;
 use dh_base::uid::Uid;
 use dh_metadata::built_in::is_built_in;
 use json::Value;
 use json_read::fault::FormFault;
-use json_read::form::{field, require_object};
+use json_read::form::{field, field_or, require_object};
 use json_read::look::{items, member};
 use json_read::path::{here, seen_from};
 use std::alloc::{AllocError, Global};
@@ -53,7 +52,7 @@ fn place_of(place: usize) -> Result<u32, FormFault>
 }
 
 // The object of a place and an identifier.
-#[tactic(auto, unfolding(crate::specs::Objects::named_form))]
+#[tactic(auto, unfolding(crate::specs::Objects::named_form, crate::specs::Fields::name_of))]
 fn read_named<T: ReadObject>(
     alloc: Global,
     place: u32,
@@ -62,7 +61,9 @@ fn read_named<T: ReadObject>(
 ) -> Result<T, FormFault>
     ensures { Gives (named_form T.form T.made place id (data_of value.now)) result }
 {
-    let name = name(alloc, id, value)?;
+    // by default it is the identifier
+    let default = id.bytes().to_vec(alloc)?;
+    let name = field_or(alloc, value, "name", Items::from(default))?;
     match T::read(alloc, value) {
         Ok(fields) => Ok(T::from_fields(place, id, name, fields)),
         Err(fault) => Err(fault),

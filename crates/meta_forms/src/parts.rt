@@ -5,7 +5,8 @@ ghost use Rattle.json_read.specs.Views.{data_of};
 ghost use Rattle.json_read.specs.Given.{Gives};
 ghost use Rattle.meta_forms.specs.Parts.{groups_of, joined, parts_of};
 
-use crate::entry::{AcceptanceRequired, Tokens};
+use crate::entries::Entries;
+use crate::entry::{AcceptanceRequired, Token};
 use crate::object::Objects;
 use crate::part::Part;
 use dh_base::items::Items;
@@ -125,7 +126,8 @@ fn read_groups(alloc: Global, value: &Value<'_>) -> Result<Groups, FormFault>
     let tracking = (programs, (program_stages, (program_indicators, user_roles)));
     let users = Objects::<RawUser>("users", PhantomData);
     let user_groups = Objects::<RawUserGroup>("userGroups", PhantomData);
-    let people = (users, (user_groups, (Tokens {}, AcceptanceRequired {})));
+    let tokens = Entries::<Token>("apiTokens", PhantomData);
+    let people = (users, (user_groups, (tokens, AcceptanceRequired {})));
     let groups = (hierarchy, (elements, (sets, (rules, (tracking, people)))));
     groups.read(alloc, value)
 }

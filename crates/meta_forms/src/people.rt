@@ -1,15 +1,17 @@
 //! Users, their roles and groups.
 
-use crate::both::both;
-use crate::field::references;
+use crate::entries::Entries;
 use crate::object::ReadObject;
+use crate::part::Part;
 use dh_base::items::Items;
 use dh_base::uid::Uid;
 use dh_metadata::raw::{RawRole, RawUser, RawUserGroup};
 use json::Value;
 use json_read::fault::FormFault;
 use json_read::form::listed;
+use json_read::reference::Reference;
 use std::alloc::Global;
+use std::marker::PhantomData;
 
 impl ReadObject for RawRole {
     type Fields = Items<Items<u8>>;
@@ -46,13 +48,15 @@ impl ReadObject for RawUser {
 
     ghost made = { user_made };
 
+    #[tactic(auto, unfolding(crate::specs::Table::user_fields, crate::specs::Fields::references_at))]
     fn read(
         alloc: Global,
         value: &Value<'_>,
     ) -> Result<((Items<Uid>, Items<Uid>), Items<Uid>), FormFault> {
-        let read = references(alloc, value, "organisationUnits");
-        let read = both(read, references(alloc, value, "dataViewOrganisationUnits"));
-        both(read, references(alloc, value, "userRoles"))
+        let units = Entries::<Reference>("organisationUnits", PhantomData);
+        let view_units = Entries::<Reference>("dataViewOrganisationUnits", PhantomData);
+        let roles = Entries::<Reference>("userRoles", PhantomData);
+        ((units, view_units), roles).read(alloc, value)
     }
 
     #[tactic(auto, unfolding(crate::specs::Table::user_made))]
@@ -85,8 +89,9 @@ impl ReadObject for RawUserGroup {
 
     ghost made = { user_group_made };
 
+    #[tactic(auto, unfolding(crate::specs::Fields::references_at))]
     fn read(alloc: Global, value: &Value<'_>) -> Result<Items<Uid>, FormFault> {
-        references(alloc, value, "users")
+        Entries::<Reference>("users", PhantomData).read(alloc, value)
     }
 
     #[tactic(auto, unfolding(crate::specs::Table::user_group_made))]

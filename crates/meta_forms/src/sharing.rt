@@ -4,10 +4,10 @@ ghost use Rattle.std.specs.Prelude.{◌≡◌, IfOk, codes};
 ghost use Rattle.json_read.specs.Views.{data_of, members_data};
 ghost use Rattle.json_read.specs.Forms.{at_step};
 ghost use Rattle.json_read.specs.Given.{Gives};
-ghost use Rattle.meta_forms.specs.Sharing.{open_access, open_sharing, member_of, step_of, members_of, members_in, members_at, sharing_fields_of};
-ghost use Rattle.meta_forms.specs.Sharing.{sharing_form, sharing_of};
+ghost use Rattle.meta_forms.specs.Sharing.{open_access, member_of, step_of, members_of, members_at, sharing_fields_of, sharing_form, sharing_of};
 
-use crate::named::{named_at, named_or};
+use crate::named::Name;
+use crate::part::{Field, FieldOr, Part};
 use dh_base::items::Items;
 use dh_base::uid::Uid;
 use dh_metadata::raw::RawSharing;
@@ -19,6 +19,7 @@ use json_read::look::{self, member};
 use json_read::path::{at_key, seen_from};
 use std::alloc::{AllocError, Global};
 use std::collections::BTreeMap;
+use std::marker::PhantomData;
 
 // The access `rwrw----`.
 fn open_access() -> Access
@@ -42,7 +43,7 @@ fn read_member(
 {
     require_object(alloc, value)?;
     let id = field(alloc, value, "id")?;
-    let access = named_at(alloc, value, "access")?;
+    let access = Field("access", Name::<Access>(PhantomData)).read(alloc, value)?;
     let key = key.as_bytes().to_vec(alloc)?;
     Ok((Items::from(key), id, access))
 }
@@ -88,30 +89,28 @@ fn read_members(
     Ok(Items::from(all))
 }
 
-fn read_object(
-    alloc: Global,
-    outer: &str,
-    value: &Value<'_>,
-) -> Result<Items<(Items<u8>, Uid, Access)>, FormFault>
-    ensures { Gives (members_in outer.now (data_of value.now)) result }
-{
-    match look::members(alloc, value) {
-        Ok(Some(map)) => read_members(alloc, outer, &map),
-        Ok(None) => Err(at_key(alloc, outer)),
-        Err(_) => Err(FormFault::Memory),
-    }
-}
+/// The members of the object under a key, none where the key is absent.
+#[derive(Drop)]
+struct Members<'a>(&'a str);
 
-fn members(
-    alloc: Global,
-    value: &Value<'_>,
-    key: &str,
-) -> Result<Items<(Items<u8>, Uid, Access)>, FormFault>
-    ensures { Gives (members_at key.now (data_of value.now)) result }
-{
-    match member(value, key) {
-        Some(found) => read_object(alloc, key, found),
-        None => Ok(Items::new(alloc)),
+impl<'a> Part for Members<'a> {
+    type Read = Items<(Items<u8>, Uid, Access)>;
+
+    ghost form = { λ members. members_at members.0.now };
+
+    fn read(
+        &self,
+        alloc: Global,
+        value: &Value<'_>,
+    ) -> Result<Items<(Items<u8>, Uid, Access)>, FormFault> {
+        match member(value, self.0) {
+            Some(found) => match look::members(alloc, found) {
+                Ok(Some(map)) => read_members(alloc, self.0, &map),
+                Ok(None) => Err(at_key(alloc, self.0)),
+                Err(_) => Err(FormFault::Memory),
+            },
+            None => Ok(Items::new(alloc)),
+        }
     }
 }
 
@@ -120,9 +119,10 @@ fn read_fields(alloc: Global, value: &Value<'_>) -> Result<RawSharing, FormFault
     ensures { Gives (sharing_fields_of (data_of value.now)) result }
 {
     let owner = optional(alloc, value, "owner")?;
-    let public = named_or(alloc, value, "public", open_access())?;
-    let users = members(alloc, value, "users")?;
-    let groups = members(alloc, value, "userGroups")?;
+    let names = Name::<Access>(PhantomData);
+    let public = FieldOr("public", names, open_access()).read(alloc, value)?;
+    let users = Members("users").read(alloc, value)?;
+    let groups = Members("userGroups").read(alloc, value)?;
     Ok(RawSharing {
         owner,
         public,
@@ -138,27 +138,28 @@ fn read_sharing(alloc: Global, value: &Value<'_>) -> Result<RawSharing, FormFaul
     read_fields(alloc, value)
 }
 
-fn open_sharing(alloc: Global) -> RawSharing
-    ensures { result ≡ open_sharing }
-{
-    RawSharing {
-        owner: None,
-        public: open_access(),
-        users: Items::new(alloc),
-        groups: Items::new(alloc),
-    }
-}
-
 /// How an object is shared; without a sharing object everyone has the access `rwrw----`.
-#[tactic(auto, unfolding(crate::specs::Sharing::sharing_of))]
-pub fn sharing(alloc: Global, value: &Value<'_>) -> Result<RawSharing, FormFault>
-    ensures { Gives (sharing_of (data_of value.now)) result }
-{
-    match member(value, "sharing") {
-        Some(found) => match read_sharing(alloc, found) {
-            Ok(read) => Ok(read),
-            Err(fault) => Err(seen_from(alloc, b"sharing", fault)),
-        },
-        None => Ok(open_sharing(alloc)),
+#[derive(Drop)]
+pub struct Shared {}
+
+impl Part for Shared {
+    type Read = RawSharing;
+
+    ghost form = { λ _. sharing_of };
+
+    #[tactic(auto, unfolding(crate::specs::Sharing::sharing_of))]
+    fn read(&self, alloc: Global, value: &Value<'_>) -> Result<RawSharing, FormFault> {
+        match member(value, "sharing") {
+            Some(found) => match read_sharing(alloc, found) {
+                Ok(read) => Ok(read),
+                Err(fault) => Err(seen_from(alloc, b"sharing", fault)),
+            },
+            None => Ok(RawSharing {
+                owner: None,
+                public: open_access(),
+                users: Items::new(alloc),
+                groups: Items::new(alloc),
+            }),
+        }
     }
 }

@@ -1,9 +1,10 @@
 //! Organisation units, their groups, and categories.
 
-use crate::both::both;
-use crate::field::{optional_reference, reference, references};
+use crate::entries::Entries;
+use crate::field::{OptionalReference, ReferenceAt};
 use crate::object::ReadObject;
-use crate::sharing::sharing;
+use crate::part::Part;
+use crate::sharing::Shared;
 use dh_base::items::Items;
 use dh_base::uid::Uid;
 use dh_metadata::raw::{
@@ -12,7 +13,9 @@ use dh_metadata::raw::{
 };
 use json::Value;
 use json_read::fault::FormFault;
+use json_read::reference::Reference;
 use std::alloc::Global;
+use std::marker::PhantomData;
 
 impl ReadObject for RawUnit {
     type Fields = Option<Uid>;
@@ -26,7 +29,7 @@ impl ReadObject for RawUnit {
     ghost made = { unit_made };
 
     fn read(alloc: Global, value: &Value<'_>) -> Result<Option<Uid>, FormFault> {
-        optional_reference(alloc, value, "parent")
+        OptionalReference("parent").read(alloc, value)
     }
 
     #[tactic(auto, unfolding(crate::specs::Table::unit_made))]
@@ -51,8 +54,9 @@ impl ReadObject for RawUnitGroup {
 
     ghost made = { unit_group_made };
 
+    #[tactic(auto, unfolding(crate::specs::Fields::references_at))]
     fn read(alloc: Global, value: &Value<'_>) -> Result<Items<Uid>, FormFault> {
-        references(alloc, value, "organisationUnits")
+        Entries::<Reference>("organisationUnits", PhantomData).read(alloc, value)
     }
 
     #[tactic(auto, unfolding(crate::specs::Table::unit_group_made))]
@@ -82,7 +86,7 @@ impl ReadObject for RawCategoryOption {
     ghost made = { category_option_made };
 
     fn read(alloc: Global, value: &Value<'_>) -> Result<RawSharing, FormFault> {
-        sharing(alloc, value)
+        Shared {}.read(alloc, value)
     }
 
     #[tactic(auto, unfolding(crate::specs::Table::category_option_made))]
@@ -107,8 +111,9 @@ impl ReadObject for RawCategory {
 
     ghost made = { category_made };
 
+    #[tactic(auto, unfolding(crate::specs::Fields::references_at))]
     fn read(alloc: Global, value: &Value<'_>) -> Result<Items<Uid>, FormFault> {
-        references(alloc, value, "categoryOptions")
+        Entries::<Reference>("categoryOptions", PhantomData).read(alloc, value)
     }
 
     #[tactic(auto, unfolding(crate::specs::Table::category_made))]
@@ -138,8 +143,9 @@ impl ReadObject for RawCategoryCombo {
 
     ghost made = { category_combo_made };
 
+    #[tactic(auto, unfolding(crate::specs::Fields::references_at))]
     fn read(alloc: Global, value: &Value<'_>) -> Result<Items<Uid>, FormFault> {
-        references(alloc, value, "categories")
+        Entries::<Reference>("categories", PhantomData).read(alloc, value)
     }
 
     #[tactic(auto, unfolding(crate::specs::Table::category_combo_made))]
@@ -167,9 +173,11 @@ impl ReadObject for RawOptionCombo {
 
     ghost made = { option_combo_made };
 
+    #[tactic(auto, unfolding(crate::specs::Table::option_combo_fields, crate::specs::Fields::references_at))]
     fn read(alloc: Global, value: &Value<'_>) -> Result<(Uid, Items<Uid>), FormFault> {
-        let read = reference(alloc, value, "categoryCombo");
-        both(read, references(alloc, value, "categoryOptions"))
+        let combo = ReferenceAt("categoryCombo");
+        let options = Entries::<Reference>("categoryOptions", PhantomData);
+        (combo, options).read(alloc, value)
     }
 
     #[tactic(auto, unfolding(crate::specs::Table::option_combo_made))]

@@ -1,15 +1,12 @@
 //! Tracked entities and programs.
 
-ghost use Rattle.json_read.specs.Views.{data_of};
-ghost use Rattle.json_read.specs.Given.{Gives};
-ghost use Rattle.meta_forms.specs.Table.{formula_of, figure_of};
-
-use crate::both::both;
-use crate::entry::{attributes, stage_elements};
-use crate::field::{optional_reference, reference, whole_or};
-use crate::named::{named_at, named_else, named_or};
+use crate::entries::Entries;
+use crate::entry::{ProgramAttribute, StageElement};
+use crate::field::{OptionalReference, ReferenceAt, Whole};
+use crate::named::{Name, NameOr};
 use crate::object::ReadObject;
-use crate::sharing::sharing;
+use crate::part::{Field, FieldOr, Json, OptionalField, Part};
+use crate::sharing::Shared;
 use dh_base::items::Items;
 use dh_base::plain::AggType;
 use dh_base::uid::Uid;
@@ -19,8 +16,8 @@ use dh_metadata::raw::{
 };
 use json::Value;
 use json_read::fault::FormFault;
-use json_read::form::{field, optional};
 use std::alloc::Global;
+use std::marker::PhantomData;
 
 impl ReadObject for RawEntityType {
     type Fields = RawSharing;
@@ -33,7 +30,7 @@ impl ReadObject for RawEntityType {
     ghost made = { entity_type_made };
 
     fn read(alloc: Global, value: &Value<'_>) -> Result<RawSharing, FormFault> {
-        sharing(alloc, value)
+        Shared {}.read(alloc, value)
     }
 
     #[tactic(auto, unfolding(crate::specs::Table::entity_type_made))]
@@ -62,7 +59,7 @@ impl ReadObject for RawAttribute {
     ghost made = { tracked_attribute_made };
 
     fn read(alloc: Global, value: &Value<'_>) -> Result<ValueType, FormFault> {
-        named_else(alloc, value, "valueType", ValueType::Text)
+        Field("valueType", NameOr(ValueType::Text)).read(alloc, value)
     }
 
     #[tactic(auto, unfolding(crate::specs::Table::tracked_attribute_made))]
@@ -87,11 +84,12 @@ impl ReadObject for RawProgram {
 
     ghost made = { program_made };
 
+    #[tactic(auto, unfolding(crate::specs::Table::program_fields, crate::specs::Entries::attributes_of))]
     fn read(alloc: Global, value: &Value<'_>) -> Result<ProgramFields, FormFault> {
-        let read = named_at(alloc, value, "programType");
-        let read = both(read, optional_reference(alloc, value, "trackedEntityType"));
-        let read = both(read, attributes(alloc, value));
-        both(read, sharing(alloc, value))
+        let program_type = Field("programType", Name::<ProgramType>(PhantomData));
+        let entity_type = OptionalReference("trackedEntityType");
+        let attributes = Entries::<ProgramAttribute>("programTrackedEntityAttributes", PhantomData);
+        (((program_type, entity_type), attributes), Shared {}).read(alloc, value)
     }
 
     #[tactic(auto, unfolding(crate::specs::Table::program_made))]
@@ -119,9 +117,11 @@ impl ReadObject for RawStage {
 
     ghost made = { stage_made };
 
+    #[tactic(auto, unfolding(crate::specs::Table::stage_fields, crate::specs::Entries::stage_elements_of))]
     fn read(alloc: Global, value: &Value<'_>) -> Result<(Uid, Items<Uid>), FormFault> {
-        let read = reference(alloc, value, "program");
-        both(read, stage_elements(alloc, value))
+        let program = ReferenceAt("program");
+        let elements = Entries::<StageElement>("programStageDataElements", PhantomData);
+        (program, elements).read(alloc, value)
     }
 
     #[tactic(auto, unfolding(crate::specs::Table::stage_made))]
@@ -140,27 +140,8 @@ impl ReadObject for RawStage {
 // What a program indicator computes of an event: its program, expression and filter.
 type Formula = ((Uid, Items<u8>), Option<Items<u8>>);
 
-fn read_formula(alloc: Global, value: &Value<'_>) -> Result<Formula, FormFault>
-    ensures { Gives (formula_of (data_of value.now)) result }
-{
-    let read = reference(alloc, value, "program");
-    let read = both(read, field(alloc, value, "expression"));
-    both(read, optional(alloc, value, "filter"))
-}
-
 // How the figures of a program indicator are made into one: by its aggregation, of events or enrollments, with its decimals.
 type Figure = ((AggType, AnalyticsType), i64);
-
-fn read_figure(alloc: Global, value: &Value<'_>) -> Result<Figure, FormFault>
-    ensures { Gives (figure_of (data_of value.now)) result }
-{
-    let read = named_or(alloc, value, "aggregationType", AggType::Sum);
-    let read = both(
-        read,
-        named_or(alloc, value, "analyticsType", AnalyticsType::Event),
-    );
-    both(read, whole_or(alloc, value, "decimals", 0, 5, 1))
-}
 
 impl ReadObject for RawProgramIndicator {
     type Fields = ((Formula, Figure), RawSharing);
@@ -171,13 +152,22 @@ impl ReadObject for RawProgramIndicator {
 
     ghost made = { program_indicator_made };
 
+    #[tactic(auto, unfolding(crate::specs::Table::program_indicator_fields, crate::specs::Table::formula_of, crate::specs::Table::figure_of))]
     fn read(
         alloc: Global,
         value: &Value<'_>,
     ) -> Result<((Formula, Figure), RawSharing), FormFault> {
-        let read = read_formula(alloc, value);
-        let read = both(read, read_figure(alloc, value));
-        both(read, sharing(alloc, value))
+        let program = ReferenceAt("program");
+        let expression = Field("expression", Json::<Items<u8>>(PhantomData));
+        let filter = OptionalField("filter", Json::<Items<u8>>(PhantomData));
+        let formula = ((program, expression), filter);
+        let sums = Name::<AggType>(PhantomData);
+        let aggregation = FieldOr("aggregationType", sums, AggType::Sum);
+        let kinds = Name::<AnalyticsType>(PhantomData);
+        let analytics = FieldOr("analyticsType", kinds, AnalyticsType::Event);
+        let decimals = FieldOr("decimals", Whole(0, 5), 1);
+        let figure = ((aggregation, analytics), decimals);
+        ((formula, figure), Shared {}).read(alloc, value)
     }
 
     #[tactic(auto, unfolding(crate::specs::Table::program_indicator_made))]
