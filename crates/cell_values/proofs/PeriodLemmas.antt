@@ -1,6 +1,6 @@
 -- The days on which periods begin that lie in others.
 use Rattle.std.proofs.Common.{◌≡◌, ◌∙◌, ℕ, ◌+◌, ◌<◌, ◌≤◌, Bool, true, false, ◌&&◌, ◌||◌, List, [], ◌∷◌, ◌++◌, length, take, get_or, ℤ, pos, neg_ℤ, ◌+ℤ◌}
-use Rattle.std.proofs.Common.{◌-ℤ◌, ◌≤ℤ◌, ◌<ℤ◌, FitsSigned, to_z, of_z, to_z-of_z, Option, Some, None, inl, inr, refl, sym, ap, subst, arith}
+use Rattle.std.proofs.Common.{append-nil, cond, ◌-ℤ◌, ◌≤ℤ◌, ◌<ℤ◌, FitsSigned, to_z, of_z, to_z-of_z, Option, Some, None, inl, inr, refl, sym, ap, subst, arith}
 use Rattle.std.specs.Prelude.{nat_lt, nat_eq, int_le}
 use Rattle.std.specs.Int.{w32}
 use Rattle.std.specs.Option.{option_map_or}
@@ -21,7 +21,7 @@ use Rattle.dh_sharing.specs.Ranges.{is_in_range, is_within, AreApart, HoldsTheSa
 use Rattle.dh_sharing.proofs.RangeLemmas.{within-push}
 use Rattle.org_tree.proofs.CountLemmas.{count_below-agree, count_below-le}
 use Rattle.cell_values.specs.Reporting.{begins_in, begins_in_some, periods_due}
-use Rattle.cell_values.specs.Counts.{covered, with_day, AreBegins, AddsBegins}
+use Rattle.cell_values.specs.Counts.{covered, AreBegins, AddsBegins}
 use Rattle.cell_values.proofs.PlaceLemmas.{one_number}
 use Rattle.cell_values.proofs.SpanLemmas.{covered-count}
 
@@ -165,12 +165,12 @@ Begins-no kind p old new a here before = record {
       ∙ ap (λ b. is_within old n || b) (sym (upto_next (begins_in kind p) a n));
 }
 
-pub Begins-more : (kind : PeriodType) (p : PeriodName) (old new after : List (ℕ × ℕ)) (a : ℕ) (b : Bool) → b ≡ begins_in kind p a → after ≡ with_day b new a
-    → Begins kind p old a new → Begins kind p old (a + 1) after
+pub Begins-more : (kind : PeriodType) (p : PeriodName) (old new after : List (ℕ × ℕ)) (a : ℕ) (b : Bool) → b ≡ begins_in kind p a
+    → after ≡ new ++ cond b ((a, a + 1) ∷ []) [] → Begins kind p old a new → Begins kind p old (a + 1) after
 Begins-more kind p old new after a true here is before =
     subst (Begins kind p old (a + 1)) (sym is) (Begins-yes kind p old new a (sym here) before)
 Begins-more kind p old new after a false here is before =
-    subst (Begins kind p old (a + 1)) (sym is) (Begins-no kind p old new a (sym here) before)
+    subst (Begins kind p old (a + 1)) (sym (is ∙ append-nil new)) (Begins-no kind p old new a (sym here) before)
 
 pub Begins-end : (kind : PeriodType) (p : PeriodName) (old new : List (ℕ × ℕ)) (l place : ℕ) → pos l ≡ last_day p +ℤ pos 25567 → l + 1 ≤ place
     → Begins kind p old place new → AddsBegins kind p old new

@@ -7,7 +7,6 @@ use Rattle.std.proofs.lemmas.Bool.{and_parts, eqb-true}
 use Rattle.dh_periods.specs.Keys.{same_period}
 use Rattle.dh_periods.proofs.KeyLemmas.{same_period-Decides}
 use Rattle.std.specs.List.{filter}
-use Rattle.dh_base.specs.Fractions.{Fraction}
 use Rattle.dh_base.specs.declared.plain.Rate.{Rate}
 use Rattle.dh_periods.specs.declared.name.PeriodName.{PeriodName}
 use Rattle.dh_metadata.specs.declared.held.Records.{Records}

@@ -1,10 +1,11 @@
 -- The rate from what was worked out before.
-use Rattle.std.proofs.Common.{◌≡◌, ◌∙◌, ℕ, ◌*◌, Bool, ◌&&◌, List, length, map, sym, ap}
+use Rattle.std.proofs.Common.{◌≡◌, ◌∙◌, ℕ, ◌+◌, ◌*◌, ◌<◌, Bool, true, false, ◌&&◌, cond, List, [], ◌∷◌, ◌++◌, length, map, take, get_or, refl, sym, ap}
 use Rattle.std.specs.Prelude.{IsPermutation, option_and_then}
 use Rattle.std.specs.List.{filter}
 use Rattle.std.specs.List.Sorted.{IsSorted}
 use Rattle.std.specs.Ordering.{nat_cmp}
 use Rattle.std.proofs.lemmas.Bool.{and_parts}
+use Rattle.std.proofs.lemmas.List.{map-append}
 use Rattle.dh_base.specs.declared.plain.Rate.{Rate}
 use Rattle.dh_periods.specs.declared.name.PeriodName.{PeriodName}
 use Rattle.dh_sharing.specs.Ranges.{is_within}
@@ -22,12 +23,28 @@ use Rattle.cell_values.specs.Cells.{is_in_some}
 use Rattle.cell_values.specs.Reporting.{is_assigned_at, is_counted, is_report_in, periods_due, units_due, reports_of, reported, rate_with, rate_of}
 use Rattle.cell_values.specs.Prepared.{AreAssigned, AreOrders, AreReports, IsDue, IsPrepared, rate_within}
 use Rattle.cell_values.proofs.CountLemmas.{count-agree, count-map, count-permutation, ascending-from_sort}
+use Rattle.cell_values.proofs.PlanLemmas.{kept-more}
 use Rattle.cell_values.proofs.ReportLemmas.{AreOf}
 
 -- ---- the orders of reports
 
 abbrev pub orders_upto : List PeriodName → List Report → List ℕ
 orders_upto periods reports = map (λ (report : Report). report.order) (filter (λ (report : Report). is_in_some periods report.period) reports)
+
+map-kept : {X Y : Type 0} (f : X → Y) (xs : List X) (x : X) (b : Bool) → map f xs ++ cond b (f x ∷ []) [] ≡ map f (xs ++ cond b (x ∷ []) [])
+map-kept f xs x true = sym (map-append f xs (x ∷ []))
+map-kept f xs x false = sym (map-append f xs [])
+
+-- the order of one report more, if its period lies in some of these
+pub orders-more : (periods : List PeriodName) (reports : List Report) (found more : List ℕ) (i : ℕ) (x : Report) (b : Bool) → i < length reports
+    → x ≡ get_or reports i x → found ≡ orders_upto periods (take i reports) → more ≡ found ++ cond b (x.order ∷ []) [] → b ≡ is_in_some periods x.period
+    → more ≡ orders_upto periods (take (i + 1) reports)
+orders-more periods reports found more i x b within at before is lies =
+    let order : Report → ℕ = λ report. report.order in
+    let test : Report → Bool = λ report. is_in_some periods report.period in
+    let kept = filter test (take i reports) in
+    is ∙ ap (λ l. l ++ cond b (x.order ∷ []) []) before ∙ map-kept order kept x b
+    ∙ ap (map order) (kept-more test reports kept (kept ++ cond b (x ∷ []) []) i x b within at refl refl lies)
 
 pub orders-sorted : (periods : List PeriodName) (reports : List Report) (orders sorted : List ℕ) → orders ≡ orders_upto periods reports
     → IsPermutation orders sorted → IsSorted nat_cmp sorted → AreOrders periods reports sorted

@@ -1,5 +1,5 @@
 -- Numbers in ranges: how many of an ascending list, and of all.
-use Rattle.std.specs.Prelude.{◌≡◌, ℕ, ◌+◌, ◌-◌, ◌<◌, ◌≤◌, nat_lt, Bool, ◌||◌, cond, List, [], ◌∷◌, ◌++◌, length, get_or}
+use Rattle.std.specs.Prelude.{◌≡◌, ℕ, ◌+◌, ◌-◌, ◌<◌, ◌≤◌, nat_lt, ◌||◌, List, [], ◌∷◌, length, get_or}
 use Rattle.std.specs.List.{filter}
 use Rattle.dh_sharing.specs.Ranges.{is_in_range, is_within}
 use Rattle.dh_periods.specs.declared.kind.PeriodType.{PeriodType}
@@ -27,10 +27,6 @@ covered (range ∷ ranges) = (range.1 - range.0) + covered ranges
 -- the ranges hold exactly the days on which periods of the type begin that lie in some of these
 pub record AreBegins (kind : PeriodType) (periods : List PeriodName) (ranges : List (ℕ × ℕ)) : Type 0 where
   pub members : (n : ℕ) → is_within ranges n ≡ begins_in_some kind periods n
-
--- a day more, where a period begins on it
-abbrev pub with_day : Bool → List (ℕ × ℕ) → ℕ → List (ℕ × ℕ)
-with_day begins days place = cond begins (days ++ (place, place + 1) ∷ []) days
 
 -- the days of one period more
 pub record AddsBegins (kind : PeriodType) (period : PeriodName) (old new : List (ℕ × ℕ)) : Type 0 where

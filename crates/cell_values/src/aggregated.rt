@@ -30,6 +30,6 @@ pub(crate) fn aggregated(
     ensures { IfOk result (λ value. value ≡ value_by kind samples.items days) }
 {
     let mut sorted = samples;
-    sorted.sort_by_key(|sample| key_of(sample))?;
+    sorted.sort_by_key(key_of)?;
     Ok(aggregate(kind, &sorted, days))
 }

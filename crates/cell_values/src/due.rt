@@ -2,11 +2,11 @@
 ghost use Rattle.std.specs.Prelude.{◌≡◌, ◌<◌, ◌≤◌, ◌*◌, ◌^◌, length, IfOk};
 ghost use Rattle.dh_sharing.specs.Ranges.{AreApart};
 ghost use Rattle.dh_base.specs.declared.limits.TheConstants.{COUNTED_DAYS};
-ghost use Rattle.cell_values.specs.Reporting.{whole, percentage, rate_by, rate_with};
+ghost use Rattle.cell_values.specs.Reporting.{whole, percentage, rate_with};
 ghost use Rattle.cell_values.specs.Prepared.{AreOrders, IsPrepared, rate_within};
 
 use crate::counts::how_many_within;
-use crate::groups::is_in_some;
+use crate::groups::{is_in_some, push_if};
 use crate::reports::{Report, Reports};
 use dh_base::frac::Frac;
 use dh_base::items::Items;
@@ -43,9 +43,8 @@ pub(crate) fn orders_in(
 {
     let mut orders = Vec::new(alloc);
     for report in reports {
-        if is_in_some(periods, &report.period) {
-            orders.push(report.order)?;
-        }
+        let lies = is_in_some(periods, &report.period);
+        push_if(&mut orders, &report.order, lies)?;
     }
     orders.sort()?;
     Ok(Items::from(orders))
@@ -65,25 +64,17 @@ fn percentage(due: u64, registered: u64) -> Frac
     Frac::of(100 * i128::from(registered), i128::from(due))
 }
 
-fn rate_by(which: Rate, due: u64, registered: u64) -> Frac
-    requires { 0 < due }
-    ensures { result ≡ rate_by which due registered }
-{
-    match which {
-        Rate::Expected => whole(due),
-        Rate::Actual | Rate::OnTime => whole(registered),
-        Rate::Reported | Rate::ReportedOnTime => percentage(due, registered),
-    }
-}
-
 fn rate_with(which: Rate, due: u64, registered: u64) -> Option<Frac>
     ensures { result ≡ rate_with which due registered }
 {
     if due == 0 {
-        None
-    } else {
-        Some(rate_by(which, due, registered))
+        return None;
     }
+    Some(match which {
+        Rate::Expected => whole(due),
+        Rate::Actual | Rate::OnTime => whole(registered),
+        Rate::Reported | Rate::ReportedOnTime => percentage(due, registered),
+    })
 }
 
 /// How many reports are due of so many units in so many periods.

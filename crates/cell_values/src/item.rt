@@ -3,12 +3,11 @@ ghost use Rattle.std.specs.Prelude.{◌≡◌, ◌<◌, length, map, pos, option
 ghost use Rattle.std.specs.List.{All};
 ghost use Rattle.dh_base.specs.Fractions.{fraction_of};
 ghost use Rattle.dh_metadata.specs.declared.kind.Kind.TheVariants as kind;
-ghost use Rattle.dh_metadata.specs.Linked.{AreBelow};
 ghost use Rattle.dh_metadata.specs.Objects.{find_of};
 ghost use Rattle.cell_values.specs.Held.{IsSeer, AreCellUnits};
 ghost use Rattle.cell_values.specs.Seen.{seen_of, contents_of};
 ghost use Rattle.cell_values.specs.Items.{named_combo, units_in, constant_value, group_value, item_value_of};
-ghost use Rattle.cell_values.specs.Plans.{named_operand, operand_of, rate_asked_of, other_value_of, IsWay, IsItemPlan, groups_inside, planned_value};
+ghost use Rattle.cell_values.specs.Plans.{operand_of, rate_asked_of, other_value_of, IsWay, IsItemPlan, groups_inside, planned_value};
 
 use crate::cell::{CellPeriods, CellUnits, Operand, Source};
 use crate::counts::covered;
@@ -61,31 +60,6 @@ fn named_combo(meta: &Metadata, id: &Option<Uid>) -> Option<Option<u32>>
     }
 }
 
-fn named_operand(
-    meta: &Metadata,
-    element: &Uid,
-    combo: &Option<Uid>,
-    attribute: &Option<Uid>,
-) -> Option<Operand>
-    ensures value { result ≡ named_operand meta.now element.now combo.now attribute.now }
-    ensures there { IfSome result (λ operand. operand.element < length meta.now.data_elements) }
-{
-    let Some(element) = meta.find(Kind::DataElement, *element) else {
-        return None;
-    };
-    let Some(combo) = named_combo(meta, combo) else {
-        return None;
-    };
-    let Some(attribute) = named_combo(meta, attribute) else {
-        return None;
-    };
-    Some(Operand {
-        element,
-        combo,
-        attribute,
-    })
-}
-
 fn operand_of(meta: &Metadata, item: &Item) -> Option<Operand>
     ensures value { result ≡ operand_of meta.now item.now }
     ensures there { IfSome result (λ operand. operand.element < length meta.now.data_elements) }
@@ -95,7 +69,16 @@ fn operand_of(meta: &Metadata, item: &Item) -> Option<Operand>
             element,
             combo,
             attribute,
-        } => named_operand(meta, element, combo, attribute),
+        } => {
+            let element = meta.find(Kind::DataElement, *element)?;
+            let combo = named_combo(meta, combo)?;
+            let attribute = named_combo(meta, attribute)?;
+            Some(Operand {
+                element,
+                combo,
+                attribute,
+            })
+        }
         _ => None,
     }
 }
@@ -113,21 +96,6 @@ fn rate_asked_of(meta: &Metadata, item: &Item) -> Option<RateAsked>
     }
 }
 
-fn other_way<S: RowStore>(alloc: Global, source: &Source<'_, S>, item: &Item) -> Result<Way, Memory>
-    requires seer { IsSeer source.now.meta.now source.now.seer.now }
-    requires no_operand { operand_of source.now.meta.now item.now ≡ None }
-    ensures { IfOk result (λ way. IsWay source.now.meta.now source.now.seer.now.user
-        (contents_of (S.rows source.now.store.now) (S.events source.now.store.now) (S.regs source.now.store.now)) item.now way) }
-{
-    match rate_asked_of(source.meta, item) {
-        Some(asked) => {
-            let plan = rate_plan(alloc, source, asked)?;
-            Ok(Way::Rate(plan))
-        }
-        None => Ok(Way::Other),
-    }
-}
-
 fn way_of<S: RowStore>(alloc: Global, source: &Source<'_, S>, item: &Item) -> Result<Way, Memory>
     requires { IsSeer source.now.meta.now source.now.seer.now }
     ensures { IfOk result (λ way. IsWay source.now.meta.now source.now.seer.now.user
@@ -138,22 +106,14 @@ fn way_of<S: RowStore>(alloc: Global, source: &Source<'_, S>, item: &Item) -> Re
             let plan = element_plan(alloc, source, &operand)?;
             Ok(Way::Element(plan))
         }
-        None => other_way(alloc, source, item),
+        None => match rate_asked_of(source.meta, item) {
+            Some(asked) => {
+                let plan = rate_plan(alloc, source, asked)?;
+                Ok(Way::Rate(plan))
+            }
+            None => Ok(Way::Other),
+        },
     }
-}
-
-fn item_plan<S: RowStore>(
-    alloc: Global,
-    source: &Source<'_, S>,
-    item: &Item,
-) -> Result<ItemPlan, Memory>
-    requires { IsSeer source.now.meta.now source.now.seer.now }
-    ensures plan { IfOk result (IsItemPlan source.now.meta.now source.now.seer.now.user
-        (contents_of (S.rows source.now.store.now) (S.events source.now.store.now) (S.regs source.now.store.now))) }
-    ensures item { IfOk result (λ plan. plan.item ≡ item.now) }
-{
-    let way = way_of(alloc, source, item)?;
-    Ok(ItemPlan { item: *item, way })
 }
 
 /// The plans of items, in their order.
@@ -169,8 +129,8 @@ pub fn item_plans<S: RowStore>(
 {
     let mut plans = Vec::new(alloc);
     for item in items {
-        let plan = item_plan(alloc, source, item)?;
-        plans.push(plan)?;
+        let way = way_of(alloc, source, item)?;
+        plans.push(ItemPlan { item: *item, way })?;
     }
     Ok(Items::from(plans))
 }
@@ -199,44 +159,16 @@ pub fn item_groups(
     Ok(Items::from(groups))
 }
 
-fn constant_at(meta: &Metadata, n: u32) -> Option<Frac>
-    requires { n < length meta.now.constants }
-    ensures { result ≡ constant_value meta.now n }
+fn constant_item(meta: &Metadata, id: &Uid) -> Option<Frac>
+    ensures { result ≡ option_and_then (constant_value meta.now) (find_of meta.now kind.Constant id.now) }
 {
+    let n = meta.find(Kind::Constant, *id)?;
     let micros = meta.constant(n).value.value();
     Some(Frac::of(i128::from(micros), 1_000_000))
 }
 
-fn constant_item(meta: &Metadata, id: &Uid) -> Option<Frac>
-    ensures { result ≡ option_and_then (constant_value meta.now) (find_of meta.now kind.Constant id.now) }
-{
-    match meta.find(Kind::Constant, *id) {
-        None => None,
-        Some(n) => constant_at(meta, n),
-    }
-}
-
-/// How many of some units are under those of a cell.
+/// How many units of a group are under those of a cell.
 #[tactic(auto, unfolding(crate::specs::Items::units_in))]
-fn units_in(
-    alloc: Global,
-    meta: &Metadata,
-    seer: &Seer,
-    group: &[u32],
-    units: &CellUnits,
-) -> Result<u32, Memory>
-    requires group { AreBelow (length meta.now.organisation_units) group.now }
-    requires units { AreCellUnits meta.now seer.now.user units.now }
-    ensures { IfOk result (λ count. count ≡ units_in meta.now group.now units.now.units units.now.alone) }
-{
-    let tree = seer.tree(meta);
-    // the count says that it is a tree
-    let _units = tree.count();
-    let own = unit_ranges(alloc, tree, group, true)?;
-    let both = cut(alloc, &own, &units.asked)?;
-    Ok(covered(both.parts()))
-}
-
 fn group_item(
     alloc: Global,
     meta: &Metadata,
@@ -252,14 +184,12 @@ fn group_item(
         return Ok(None);
     };
     let group = meta.unit_group(n);
-    let count = units_in(
-        alloc,
-        meta,
-        seer,
-        group.organisation_units.as_slice(),
-        units,
-    )?;
-    Ok(Some(whole(u64::from(count))))
+    let tree = seer.tree(meta);
+    // the count says that it is a tree
+    let _units = tree.count();
+    let own = unit_ranges(alloc, tree, group.organisation_units.as_slice(), true)?;
+    let both = cut(alloc, &own, &units.asked)?;
+    Ok(Some(whole(u64::from(covered(both.parts())))))
 }
 
 fn other_value<S: RowStore>(

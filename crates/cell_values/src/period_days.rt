@@ -1,13 +1,13 @@
 //! The days of periods.
 ghost use Rattle.std.specs.Prelude.{◌≡◌, ◌<◌, ◌≤◌, ◌+ℤ◌, ◌≤ℤ◌, pos, neg_ℤ, length, IfOk};
 ghost use Rattle.cell_values.specs.Cells.{days_in};
-ghost use Rattle.cell_values.specs.Spans.{IsDayRange, AreDayRanges};
+ghost use Rattle.cell_values.specs.Spans.{IsDayRange};
 
 use crate::counts::covered;
 use dh_base::memory::Memory;
 use dh_periods::Period;
 use dh_sharing::ranges::ViewRanges;
-use std::alloc::{AllocError, Global};
+use std::alloc::Global;
 
 /// How many days the day lies after 1 January 1900.
 pub(crate) fn place_of(day: i32) -> u32
@@ -28,16 +28,6 @@ fn day_range(period: &Period) -> (u32, u32)
     (first, last + 1)
 }
 
-fn day_ranges(alloc: Global, periods: &[Period]) -> Result<Vec<(u32, u32)>, AllocError>
-    ensures { IfOk result (λ ranges. AreDayRanges periods.now ranges.items) }
-{
-    let mut ranges = Vec::new(alloc);
-    for period in periods {
-        ranges.push(day_range(period))?;
-    }
-    Ok(ranges)
-}
-
 /// How many different days the periods have.
 pub fn days(alloc: Global, periods: &[Period]) -> Result<u32, Memory>
     requires { 0 < length periods.now }
@@ -46,7 +36,10 @@ pub fn days(alloc: Global, periods: &[Period]) -> Result<u32, Memory>
 {
     // its first day is there
     let _day = periods[0].first();
-    let ranges = day_ranges(alloc, periods)?;
+    let mut ranges = Vec::new(alloc);
+    for period in periods {
+        ranges.push(day_range(period))?;
+    }
     let joined = ViewRanges::of(alloc, &ranges)?;
     Ok(covered(joined.parts()))
 }

@@ -4,9 +4,10 @@ ghost use Rattle.dh_sharing.specs.Ranges.{is_within};
 ghost use Rattle.dh_base.specs.declared.limits.TheConstants.{COUNTED_DAYS};
 ghost use Rattle.dh_periods.specs.Calendar.{unix_day};
 ghost use Rattle.cell_values.specs.Reporting.{begins_in, periods_due};
-ghost use Rattle.cell_values.specs.Counts.{with_day, AreBegins, AddsBegins};
+ghost use Rattle.cell_values.specs.Counts.{AddsBegins};
 
 use crate::counts::covered;
+use crate::groups::push_if;
 use crate::period_days::place_of;
 use dh_base::memory::Memory;
 use dh_periods::{Period, PeriodType, containing};
@@ -34,17 +35,6 @@ fn begins_in(kind: PeriodType, period: &Period, place: u32) -> bool
     }
 }
 
-/// Adds the day where a period begins on it.
-fn add_day(days: &mut Vec<(u32, u32)>, place: u32, begins: bool) -> Result<(), AllocError>
-    requires { place < COUNTED_DAYS }
-    ensures { OnOk result (days.new.items ≡ with_day begins days.old.items place) }
-{
-    if begins {
-        days.push((place, place + 1))?;
-    }
-    Ok(())
-}
-
 /// Adds the days of the period on which such a one begins.
 fn add_begins(
     begins: &mut Vec<(u32, u32)>,
@@ -57,23 +47,9 @@ fn add_begins(
     let last = place_of(period.last());
     for place in first..last + 1 {
         let here = begins_in(kind, period, place);
-        add_day(begins, place, here)?;
+        push_if(begins, &(place, place + 1), here)?;
     }
     Ok(())
-}
-
-fn begins_of(
-    alloc: Global,
-    kind: PeriodType,
-    periods: &[Period],
-) -> Result<Vec<(u32, u32)>, AllocError>
-    ensures { IfOk result (λ begins. AreBegins kind periods.now begins.items) }
-{
-    let mut begins = Vec::new(alloc);
-    for period in periods {
-        add_begins(&mut begins, kind, period)?;
-    }
-    Ok(begins)
 }
 
 /// How many periods of the type lie in some of these.
@@ -85,7 +61,10 @@ pub(crate) fn periods_due(
     ensures value { IfOk result (λ count. count ≡ periods_due kind periods.now) }
     ensures few { IfOk result (λ count. count ≤ COUNTED_DAYS) }
 {
-    let begins = begins_of(alloc, kind, periods)?;
+    let mut begins = Vec::new(alloc);
+    for period in periods {
+        add_begins(&mut begins, kind, period)?;
+    }
     let joined = ViewRanges::of(alloc, &begins)?;
     Ok(covered(joined.parts()))
 }

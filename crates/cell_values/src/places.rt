@@ -7,7 +7,7 @@ ghost use Rattle.cell_values.specs.Places.{IsRangeAt, AreOrdersAt};
 use dh_base::memory::Memory;
 use dh_sharing::ranges::ViewRanges;
 use org_tree::tree::Tree;
-use std::alloc::{AllocError, Global};
+use std::alloc::Global;
 
 /// The orders of the unit and of all under it, or of the unit alone.
 fn range_of(tree: &Tree, unit: u32, alone: bool) -> (u32, u32)
@@ -23,23 +23,6 @@ fn range_of(tree: &Tree, unit: u32, alone: bool) -> (u32, u32)
     }
 }
 
-fn ranges_of(
-    alloc: Global,
-    tree: &Tree,
-    units: &[u32],
-    alone: bool,
-) -> Result<Vec<(u32, u32)>, AllocError>
-    requires tree { IsTree tree.now }
-    requires units { AreBelow (length tree.now) units.now }
-    ensures { IfOk result (λ ranges. AreOrdersAt tree.now alone units.now ranges.items) }
-{
-    let mut ranges = Vec::new(alloc);
-    for unit in units {
-        ranges.push(range_of(tree, *unit, alone))?;
-    }
-    Ok(ranges)
-}
-
 /// The orders of the units and of all under them, as ranges. With `alone` a unit has only itself
 /// under it.
 pub fn unit_ranges(
@@ -53,7 +36,10 @@ pub fn unit_ranges(
 {
     // the count says that it is a tree
     let _units = tree.count();
-    let ranges = ranges_of(alloc, tree, units, alone)?;
+    let mut ranges = Vec::new(alloc);
+    for unit in units {
+        ranges.push(range_of(tree, *unit, alone))?;
+    }
     let joined = ViewRanges::of(alloc, &ranges)?;
     Ok(joined)
 }

@@ -5,7 +5,7 @@ ghost use Rattle.dh_metadata.specs.Linked.{AreBelow};
 ghost use Rattle.table_rows.specs.declared.event.RegRow.{RegRow};
 ghost use Rattle.table_rows.specs.Events.{reg_cmp};
 ghost use Rattle.table_rows.specs.Store.{rises};
-ghost use Rattle.cell_values.specs.Reporting.{is_timely, asks_timely, is_in_time, is_counted, report_of, reports_of, rate_of};
+ghost use Rattle.cell_values.specs.Reporting.{is_timely, is_in_time, is_counted, report_of, reports_of, rate_of};
 ghost use Rattle.cell_values.specs.Prepared.{differs_from_last, with_report, AreReports, IsDue, IsPrepared};
 
 use crate::assigned::{assigned, is_assigned_at};
@@ -42,15 +42,6 @@ pub struct Reports {
     pub reports: Items<Report>,
 }
 
-fn asks_timely(which: Rate) -> bool
-    ensures { result ≡ asks_timely which }
-{
-    match which {
-        Rate::Expected | Rate::Actual | Rate::Reported => false,
-        Rate::OnTime | Rate::ReportedOnTime => true,
-    }
-}
-
 fn ahead(day: i32, last: i32) -> i64
     ensures { result ≡ day -ℤ last }
 {
@@ -75,10 +66,9 @@ fn is_timely(days: i64, reg: &RegRow) -> bool
 fn is_in_time(which: Rate, days: i64, reg: &RegRow) -> bool
     ensures { result ≡ is_in_time which days reg.now }
 {
-    if asks_timely(which) {
-        is_timely(days, reg)
-    } else {
-        true
+    match which {
+        Rate::Expected | Rate::Actual | Rate::Reported => true,
+        Rate::OnTime | Rate::ReportedOnTime => is_timely(days, reg),
     }
 }
 

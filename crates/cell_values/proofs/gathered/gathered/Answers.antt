@@ -1,4 +1,4 @@
-use Rattle.std.proofs.Common.{◌∙◌, List, [], ◌++◌, append-nil, map, sym, ap}
+use Rattle.std.proofs.Common.{◌∙◌, List, ◌++◌, append-nil, map, sym, ap}
 use Rattle.std.proofs.lemmas.List.{drop_all, map-append}
 use Rattle.table_rows.specs.declared.row.Group.{Group}
 use Rattle.table_rows.specs.Cells.{gathered}

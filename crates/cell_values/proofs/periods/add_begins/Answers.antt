@@ -25,9 +25,8 @@ loop-place-init c =
 
 pub loop-place-preserved : goal.loop-place-preserved
 loop-place-preserved c =
-    Begins-more c.args.kind c.args.period.now c.args.begins.now.items c.loop-place.begins.items c.add_day.new.days.items c.loop-place.place
-    c.begins_in-here.result
-    c.begins_in-here.ensures c.in_ok-add_day.ensures c.loop-place.invariant
+    Begins-more c.args.kind c.args.period.now c.args.begins.now.items c.loop-place.begins.items c.push_if.new.list.items c.loop-place.place
+    c.begins_in-here.result c.begins_in-here.ensures c.in_ok-push_if.ensures c.loop-place.invariant
 
 pub returns : goal.returns
 returns c =

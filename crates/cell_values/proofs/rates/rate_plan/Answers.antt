@@ -1,5 +1,5 @@
-use Rattle.std.proofs.Common.{◌≡◌, ◌∙◌, true, ap}
-use Rattle.table_rows.specs.Events.{reg_cmp, regs_of}
+use Rattle.std.proofs.Common.{◌∙◌, ap}
+use Rattle.table_rows.specs.Events.{reg_cmp}
 use Rattle.table_rows.specs.Store.{rises}
 use Rattle.table_rows.proofs.StoreLemmas.{store-holds, true_from}
 use Rattle.cell_values.proofs.SeenLemmas.{kept-rises}

@@ -1,10 +1,10 @@
-use Rattle.std.proofs.Common.{◌≡◌, ◌≤◌, ◌+◌, ◌*◌, ◌∙◌, pos, ◌+ℤ◌, ◌*ℤ◌, unsigned_abs, refl, ap, subst, arith, rules, of_z, to_z, to_z-of_z, FitsSigned}
+use Rattle.std.proofs.Common.{◌≡◌, ◌≤◌, ◌+◌, ◌*◌, ◌∙◌, pos, ◌+ℤ◌, ◌*ℤ◌, unsigned_abs, refl, sym, ap, subst, arith, rules, of_z, to_z, to_z-of_z, FitsSigned}
 use Rattle.std.specs.Int.{w128}
 use Rattle.table_rows.specs.declared.sum.Sum.{Sum}
 use Rattle.table_rows.specs.Samples.{days_of}
 use Rattle.cell_values.specs.Parts.{group_sum, group_weight}
-use Rattle.cell_values.proofs.PartLemmas.{sums-more, sums-fit}
-use Rattle.cell_values.proofs.WeightLemmas.{weights-more}
+use Rattle.cell_values.proofs.PartLemmas.{sums-end, sums-fit, sums-more}
+use Rattle.cell_values.proofs.WeightLemmas.{weights-end, weights-more}
 use Rattle.cell_values.proofs.totals.totals_of.Goals as goal
 
 pub loop-group-preserved : goal.loop-group-preserved
@@ -42,3 +42,29 @@ loop-group-preserved g c =
           ∙ sum) c.loop-group.invariant.weighted;
       small = rw (to_z-of_z fits) small;
     }
+
+pub plus-weighted-requires-clause-sum : goal.plus-weighted-requires-clause-sum
+plus-weighted-requires-clause-sum g c = omega (arith, c.loop-group.invariant.small, c.loop-group.invariant.few)
+
+pub plus-weighted-requires-clause-more : goal.plus-weighted-requires-clause-more
+plus-weighted-requires-clause-more g c =
+    let f = group_sum (g.S.RowStore.rows c.args.store.now) c.args.need c.args.ranges.now in
+    let fits : FitsSigned w128 c.weight.result = search rules in
+    let room =
+    sums-fit f c.args.groups.now c.loop-group.group-index c.group-item.result c.loop-group.sum c.group_sum-more.result 4194304 c.loop-group-test.true
+    c.group-item.is c.group_sum-more.ensures.sum c.requires.all c.loop-group.invariant.is in
+    subst (λ z. unsigned_abs z ≤ 332306998946228968225951765070086144) (sym (to_z-of_z fits)) (omega (arith, room, c.weight.ensures.size))
+
+pub returns-clause-sum : goal.returns-clause-sum
+returns-clause-sum g c =
+    let f = group_sum (g.S.RowStore.rows c.args.store.now) c.args.need c.args.ranges.now in
+    sums-end f c.args.groups.now c.loop-group.group-index c.loop-group.sum c.loop-group-test.false c.loop-group.invariant.is
+
+pub returns-clause-weighted : goal.returns-clause-weighted
+returns-clause-weighted g c =
+    let w = group_weight (g.S.RowStore.rows c.args.store.now) c.args.need c.args.ranges.now in
+    weights-end w c.args.groups.now c.loop-group.group-index (to_z w128 c.loop-group.weighted-bits) c.loop-group-test.false
+    c.loop-group.invariant.weighted
+
+pub returns-clause-fits : goal.returns-clause-fits
+returns-clause-fits g c = omega (arith, c.loop-group.invariant.small, c.loop-group.invariant.few)

@@ -1,8 +1,9 @@
-use Rattle.std.proofs.Common.{◌+◌, ℕ, take, get_or, sym, subst}
+use Rattle.std.proofs.Common.{◌∙◌, ◌+◌, ℕ, take, get_or, sym, ap, subst}
 use Rattle.std.proofs.lemmas.List.{take_all, get_or_default}
+use Rattle.dh_sharing.specs.Ranges.{is_within}
 use Rattle.cell_values.specs.Places.{AreOrdersAt}
 use Rattle.cell_values.proofs.PlaceLemmas.{ranges-more}
-use Rattle.cell_values.proofs.places.ranges_of.Goals as goal
+use Rattle.cell_values.proofs.places.unit_ranges.Goals as goal
 
 pub loop-unit-preserved : goal.loop-unit-preserved
 loop-unit-preserved c =
@@ -15,5 +16,7 @@ loop-unit-preserved c =
 
 pub returns : goal.returns
 returns c =
+    let are =
     subst (λ us. AreOrdersAt c.args.tree.now c.args.alone us c.loop-unit.ranges.items)
-    (take_all c.loop-unit.unit-index c.args.units.now c.loop-unit-test.false) c.loop-unit.invariant
+    (take_all c.loop-unit.unit-index c.args.units.now c.loop-unit-test.false) c.loop-unit.invariant in
+    record { members = λ order. c.in_ok-joined.ensures.members.members order ∙ ap (λ v. is_within v order) c.deref.ensures.value ∙ are.members order }
