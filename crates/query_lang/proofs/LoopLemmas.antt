@@ -3,11 +3,12 @@ use Rattle.std.proofs.Common.{◌≡◌, ◌∙◌, ℕ, ◌+◌, ◌<◌, ◌�
 use Rattle.std.proofs.Common.{Option, Some, None, Result, Ok, Err, refl, sym, ap, append_assoc}
 use Rattle.std.proofs.lemmas.List.{drop_all, drop_more, take_more, append-nil}
 use Rattle.std.proofs.lemmas.List.Folds.{list_any-append}
+use Rattle.std.specs.Prelude.{IfOk}
 use Rattle.std.specs.List.{flat_map, filter_map, cons_option}
 use Rattle.std.specs.Option.{option_to_list}
 use Rattle.dh_base.specs.Memory.{IsCause}
 use Rattle.dh_base.specs.declared.codes.Refusal.{Refusal}
-use Rattle.dh_sharing.specs.Ranges.{is_in_range, is_within}
+use Rattle.dh_sharing.specs.Ranges.{is_in_range, is_within, HoldsTheSame}
 use Rattle.org_tree.specs.Laws.{HasInterval}
 use Rattle.org_tree.specs.Units.{UnitRow, order_of, is_under}
 use Rattle.query_lang.specs.Given.{and_then}
@@ -94,6 +95,13 @@ covers-more us units found more i one within interval put before = record {
       ∙ sym (list_any-append (λ y. is_under us x y) (take i units) (unit ∷ []))
       ∙ ap (λ (l : List ℕ). is_under_any us l x) (sym (take_more units i 0 within));
 }
+
+-- ranges that hold the same
+pub covers-joined : {E : Type 0} (us : List UnitRow) (units : List ℕ) (found : List (ℕ × ℕ)) (result : Result (List (ℕ × ℕ)) E)
+    → IfOk result (λ ranges. HoldsTheSame ranges found) → Covers us units found → IfOk result (λ ranges. Covers us units ranges)
+covers-joined us units found (Ok ranges) same before =
+    record { members = λ x inside. same.members (order_of us x) ∙ before.members x inside }
+covers-joined us units found (Err fault) same before = tt
 
 -- a table is read up to the entry of a name
 pub beside-past : {E T : Type 0} (table : List E) (view : E → List ℕ × T) (i : ℕ) (entry : E) (name : List ℕ) (found : Bool) (whole : Option T)

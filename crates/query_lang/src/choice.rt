@@ -1,11 +1,11 @@
 //! The units that all items choose together.
-ghost use Rattle.std.specs.Prelude.{◌≡◌, ◌<◌, ◌==◌, ◌||◌, not, filter, length, IfOk};
+ghost use Rattle.std.specs.Prelude.{◌≡◌, ◌<◌, ◌==◌, ◌||◌, filter, length, IfOk};
 ghost use Rattle.org_tree.specs.Units.{level_of};
 ghost use Rattle.std.specs.List.{list_any, list_all};
 ghost use Rattle.query_lang.specs.Walk.{Knows, AreIn, has, walk_of};
 ghost use Rattle.query_lang.specs.View.{Covers};
 ghost use Rattle.query_lang.specs.Parts.{is_group, is_narrowing};
-ghost use Rattle.query_lang.specs.Choice.{listed_units, bounds_of, is_chosen, narrowed_units, chosen_units};
+ghost use Rattle.query_lang.specs.Choice.{bounds_of, is_chosen, narrowed_units, chosen_units};
 
 use crate::part::Part;
 use crate::parts::{levels_of, parts_units};
@@ -50,26 +50,6 @@ fn only_narrows(parts: &[Part]) -> bool
     true
 }
 
-#[tactic(auto, using(crate::proofs::SetLemmas::contained))]
-fn has_level(levels: &[u8], level: u8) -> bool
-    ensures { result ≡ has levels.now level }
-{
-    levels.contains(&level)
-}
-
-#[tactic(auto, unfolding(crate::specs::Choice::listed_units))]
-fn listed_units(
-    alloc: Global,
-    tree: &Tree,
-    views: &[u32],
-    parts: &[Part],
-) -> Result<Vec<u32>, Memory>
-    ensures { IfOk result (λ units. units.items ≡ listed_units tree.now views.now parts.now) }
-{
-    let all = parts_units(alloc, tree, views, parts)?;
-    once(alloc, &all)
-}
-
 #[tactic(auto, unfolding(crate::specs::Choice::bounds_of), using(crate::proofs::RangeLemmas::parts_in))]
 fn bounds_of(alloc: Global, tree: &Tree, views: &[u32], parts: &[Part]) -> Result<Vec<u32>, Memory>
     requires { AreIn (length tree.now) views.now }
@@ -82,18 +62,12 @@ fn bounds_of(alloc: Global, tree: &Tree, views: &[u32], parts: &[Part]) -> Resul
     parts_units(alloc, tree, views, parts)
 }
 
+#[tactic(auto, using(crate::proofs::SetLemmas::contained))]
 fn fits_level(tree: &Tree, levels: &[u8], unit: u32) -> bool
     requires { unit < length tree.now }
     ensures { result ≡ ((length levels.now == 0) || has levels.now (level_of tree.now unit)) }
 {
-    levels.len() == 0 || has_level(levels, tree.level(unit))
-}
-
-fn fits_group(grouped: bool, members: &[u32], seen: &HashSet<u32>, unit: u32) -> bool
-    requires { Knows seen.now members.now }
-    ensures { result ≡ (not grouped || has members.now unit) }
-{
-    !grouped || seen.contains(&unit)
+    levels.len() == 0 || levels.contains(&tree.level(unit))
 }
 
 /// Which units are left: those under a bound, at a level if one is named, in a group if one is named.
@@ -121,7 +95,7 @@ fn is_chosen(
 {
     is_covered(tree, ranges, narrowing.bounds, unit)
         && fits_level(tree, narrowing.levels, unit)
-        && fits_group(narrowing.grouped, narrowing.members, seen, unit)
+        && (!narrowing.grouped || seen.contains(&unit))
 }
 
 #[tactic(auto, unfolding(crate::specs::Walk::walk_of))]
@@ -165,7 +139,7 @@ fn narrowed_units(
 }
 
 /// The units of a query, where the groups that it names have these members.
-#[tactic(auto, unfolding(crate::specs::Choice::chosen_units))]
+#[tactic(auto, unfolding(crate::specs::Choice::chosen_units, crate::specs::Choice::listed_units))]
 pub fn chosen_units(
     alloc: Global,
     tree: &Tree,
@@ -179,6 +153,7 @@ pub fn chosen_units(
     if names_narrowing(parts) {
         narrowed_units(alloc, tree, views, members, parts)
     } else {
-        listed_units(alloc, tree, views, parts)
+        let all = parts_units(alloc, tree, views, parts)?;
+        once(alloc, &all)
     }
 }

@@ -1,7 +1,6 @@
 //! The items of dimensions.
-ghost use Rattle.std.specs.Prelude.{◌≡◌, ◌≤◌, ◌^◌, ◌<◌, ℕ, List, length, map, take, drop, option_map};
-ghost use Rattle.query_lang.specs.Items.{beside, rate_named, part_form, pair_form, dx_form, level_number, group_form, single_form, group_or_unit, named_unit};
-ghost use Rattle.query_lang.specs.Items.{unit_form};
+ghost use Rattle.std.specs.Prelude.{◌≡◌, ◌≤◌, ◌^◌, ◌<◌, ℕ, List, length, map};
+ghost use Rattle.query_lang.specs.Items.{beside, rate_named, part_form, pair_form, dx_form, level_number, group_or_unit, named_unit, unit_form};
 ghost use Rattle.dh_periods.specs.Texts.{number_of_one, number_of_two};
 
 use dh_base::items::Items;
@@ -151,36 +150,13 @@ fn level_number(digits: &[u8]) -> Option<u8>
     None
 }
 
-fn level_form(digits: &[u8]) -> Option<UnitForm>
-    ensures { result ≡ option_map (λ n. UnitForm.Level n) (level_number digits.now) }
-{
-    let level = level_number(digits)?;
-    Some(UnitForm::Level(level))
-}
-
-#[tactic(auto, unfolding(crate::specs::Items::group_form))]
-fn group_form(text: &[u8]) -> Option<UnitForm>
-    ensures { result ≡ group_form text.now }
-{
-    let group = Uid::parse(text)?;
-    Some(UnitForm::Group(group))
-}
-
-#[tactic(auto, unfolding(crate::specs::Items::single_form))]
-fn single_form(text: &[u8]) -> Option<UnitForm>
-    ensures { result ≡ single_form text.now }
-{
-    let unit = Uid::parse(text)?;
-    Some(UnitForm::Unit(unit))
-}
-
-#[tactic(auto, unfolding(crate::specs::Items::group_or_unit))]
+#[tactic(auto, unfolding(crate::specs::Items::group_or_unit, crate::specs::Items::group_form, crate::specs::Items::single_form))]
 fn group_or_unit(text: &[u8]) -> Option<UnitForm>
     ensures { result ≡ group_or_unit text.now }
 {
     match text.strip_prefix(b"OU_GROUP-".as_slice()) {
-        Some(group) => group_form(group),
-        None => single_form(text),
+        Some(group) => Some(UnitForm::Group(Uid::parse(group)?)),
+        None => Some(UnitForm::Unit(Uid::parse(text)?)),
     }
 }
 
@@ -189,7 +165,7 @@ fn named_unit(text: &[u8]) -> Option<UnitForm>
     ensures { result ≡ named_unit text.now }
 {
     match text.strip_prefix(b"LEVEL-".as_slice()) {
-        Some(level) => level_form(level),
+        Some(level) => Some(UnitForm::Level(level_number(level)?)),
         None => group_or_unit(text),
     }
 }

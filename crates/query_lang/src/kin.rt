@@ -1,6 +1,5 @@
 //! View units, their children and grandchildren.
 ghost use Rattle.std.specs.Prelude.{◌≡◌, ◌<◌, ◌++◌, length, OnOk};
-ghost use Rattle.org_tree.specs.Units.{climb};
 ghost use Rattle.query_lang.specs.Walk.{Knows};
 ghost use Rattle.query_lang.specs.Parts.{is_kin, kin_of};
 
@@ -10,27 +9,19 @@ use org_tree::tree::Tree;
 use std::alloc::Global;
 use std::collections::HashSet;
 
-/// The unit so many steps above.
+/// Whether the unit so many steps above is one of the view units.
 #[tactic(auto, using(crate::proofs::WalkLemmas::steps_above))]
-fn above(tree: &Tree, unit: u32, degree: u8) -> Option<u32>
-    requires { unit < length tree.now }
-    ensures { result ≡ climb degree tree.now unit }
-{
-    let _count = tree.count();
-    let level = tree.level(unit);
-    if level > degree {
-        tree.ancestor_at(unit, level - degree)
-    } else {
-        None
-    }
-}
-
 fn is_kin(tree: &Tree, views: &[u32], seen: &HashSet<u32>, degree: u8, unit: u32) -> bool
     requires seen { Knows seen.now views.now }
     requires unit { unit < length tree.now }
     ensures { result ≡ is_kin tree.now views.now degree unit }
 {
-    match above(tree, unit, degree) {
+    let _count = tree.count();
+    let level = tree.level(unit);
+    if level <= degree {
+        return false;
+    }
+    match tree.ancestor_at(unit, level - degree) {
         Some(upper) => seen.contains(&upper),
         None => false,
     }

@@ -5,14 +5,13 @@ ghost use Rattle.dh_metadata.specs.Objects.{count_of, is_shared};
 ghost use Rattle.dh_base.specs.Memory.{Answers};
 ghost use Rattle.query_lang.specs.Given.{cause_of};
 ghost use Rattle.query_lang.specs.Each.{each_of};
-ghost use Rattle.query_lang.specs.Named.{readable, alone, object_named, is_combo_of, combo_named, operand_named, named, dx_of};
+ghost use Rattle.query_lang.specs.Named.{readable, alone, object_named, combo_named, operand_named, named, dx_of};
 
 use crate::fault::refused;
 use crate::item::{DxForm, DxItem};
 use crate::{Dx, DxKind, QueryFault};
 use dh_base::codes::Code;
 use dh_base::items::Items;
-use dh_base::plain::Rate;
 use dh_base::uid::Uid;
 use dh_metadata::kind::Kind;
 use dh_metadata::metadata::Metadata;
@@ -71,23 +70,13 @@ fn object_named(meta: &Metadata, user: u32, id: Uid) -> Option<Found>
     None
 }
 
-#[tactic(auto, unfolding(crate::specs::Named::is_combo_of))]
-fn is_combo_of(meta: &Metadata, element: u32, part: u32) -> bool
-    requires element { element < length meta.now.data_elements }
-    requires part { part < length meta.now.category_option_combos }
-    ensures { result ≡ is_combo_of meta.now element part }
-{
-    let combo = meta.option_combo(part).category_combo;
-    combo == meta.element(element).category_combo
-}
-
-#[tactic(auto, unfolding(crate::specs::Named::combo_named))]
+#[tactic(auto, unfolding(crate::specs::Named::combo_named, crate::specs::Named::is_combo_of))]
 fn combo_named(meta: &Metadata, element: u32, id: Uid) -> Option<u32>
     requires { element < length meta.now.data_elements }
     ensures { result ≡ combo_named meta.now element id }
 {
     let part = meta.find(Kind::CategoryOptionCombo, id)?;
-    if is_combo_of(meta, element, part) {
+    if meta.option_combo(part).category_combo == meta.element(element).category_combo {
         Some(part)
     } else {
         None
@@ -108,14 +97,6 @@ fn operand_named(meta: &Metadata, user: u32, element: Uid, combo: Uid) -> Option
     })
 }
 
-fn rate_named(meta: &Metadata, user: u32, set: Uid, figure: Rate) -> Option<Found>
-    requires { user < length meta.now.users }
-    ensures { result ≡ named meta.now user (DxForm.Rate set figure) }
-{
-    let number = readable(meta, user, Kind::DataSet, set)?;
-    Some(alone(DxKind::Rate(figure), number))
-}
-
 fn named(meta: &Metadata, user: u32, form: &DxForm) -> Option<Found>
     requires { user < length meta.now.users }
     ensures { result ≡ named meta.now user form.now }
@@ -123,7 +104,10 @@ fn named(meta: &Metadata, user: u32, form: &DxForm) -> Option<Found>
     match form {
         DxForm::Object(id) => object_named(meta, user, *id),
         DxForm::Operand(element, combo) => operand_named(meta, user, *element, *combo),
-        DxForm::Rate(set, figure) => rate_named(meta, user, *set, *figure),
+        DxForm::Rate(set, figure) => {
+            let number = readable(meta, user, Kind::DataSet, *set)?;
+            Some(alone(DxKind::Rate(*figure), number))
+        }
     }
 }
 

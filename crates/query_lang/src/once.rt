@@ -1,7 +1,6 @@
 //! Items that stand once.
-ghost use Rattle.std.specs.Prelude.{◌≡◌, false, [], ◌∷◌, ◌++◌, IfOk, OnOk};
-ghost use Rattle.std.specs.List.{list_any};
-ghost use Rattle.query_lang.specs.Once.{with_new, once_from, same_bytes, texts_once, pieces, KnowsTexts};
+ghost use Rattle.std.specs.Prelude.{◌≡◌, IfOk, OnOk};
+ghost use Rattle.query_lang.specs.Once.{with_new, same_bytes, texts_once, pieces, KnowsTexts};
 ghost use Rattle.query_lang.specs.Items.{item_texts};
 
 use dh_base::items::Items;
@@ -34,25 +33,6 @@ fn copied(alloc: Global, text: &[u8]) -> Result<Vec<u8>, Memory>
     Ok(Vec::from_slice(alloc, text)?)
 }
 
-/// Puts a text that isn't there at the end.
-fn put(
-    alloc: Global,
-    kept: &mut Vec<Items<u8>>,
-    seen: &mut HashSet<Vec<u8>>,
-    text: &[u8],
-) -> Result<(), Memory>
-    requires known { KnowsTexts seen.old kept.old.items }
-    requires new { list_any (same_bytes text.now) kept.old.items ≡ false }
-    ensures kept { OnOk result (kept.new.items ≡ kept.old.items ++ text.now ∷ []) }
-    ensures seen { OnOk result (KnowsTexts seen.new kept.new.items) }
-{
-    let item = Items::from(copied(alloc, text)?);
-    kept.push(item)?;
-    let key = copied(alloc, text)?;
-    seen.insert(key)?;
-    Ok(())
-}
-
 /// Puts a text at the end unless it is there.
 fn put_new(
     alloc: Global,
@@ -67,21 +47,10 @@ fn put_new(
     if seen.contains(text) {
         return Ok(());
     }
-    put(alloc, kept, seen, text)
-}
-
-fn put_all(
-    alloc: Global,
-    kept: &mut Vec<Items<u8>>,
-    seen: &mut HashSet<Vec<u8>>,
-    texts: &[Items<u8>],
-) -> Result<(), Memory>
-    requires { KnowsTexts seen.old kept.old.items }
-    ensures { OnOk result (kept.new.items ≡ once_from same_bytes kept.old.items texts.now) }
-{
-    for text in texts {
-        put_new(alloc, kept, seen, text.as_slice())?;
-    }
+    let item = Items::from(copied(alloc, text)?);
+    kept.push(item)?;
+    let key = copied(alloc, text)?;
+    seen.insert(key)?;
     Ok(())
 }
 
@@ -92,7 +61,9 @@ fn texts_once(alloc: Global, texts: &[Items<u8>]) -> Result<Vec<Items<u8>>, Memo
 {
     let mut kept = Vec::new(alloc);
     let mut seen = HashSet::new(alloc);
-    put_all(alloc, &mut kept, &mut seen, texts)?;
+    for text in texts {
+        put_new(alloc, &mut kept, &mut seen, text.as_slice())?;
+    }
     Ok(kept)
 }
 

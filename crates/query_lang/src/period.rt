@@ -1,5 +1,5 @@
 //! The periods of the dimension `pe`.
-ghost use Rattle.std.specs.Prelude.{◌≡◌, [], ◌∷◌, ◌≤ℤ◌, IfOk, OnOk, Some, None, if◌then◌else◌, option_map};
+ghost use Rattle.std.specs.Prelude.{◌≡◌, [], ◌≤ℤ◌, IfOk, OnOk, Some, None, if◌then◌else◌, option_map};
 ghost use Rattle.dh_base.specs.declared.limits.TheConstants.{FIRST_QUERY_DAY, LAST_QUERY_DAY};
 ghost use Rattle.dh_periods.specs.Keys.{same_period};
 ghost use Rattle.query_lang.specs.Once.{with_new, once_from, KnowsPeriods};
@@ -19,17 +19,9 @@ fn period_form(alloc: Global, text: &[u8], day: i32) -> Result<Option<Vec<Period
     ensures { IfOk result (λ found. option_map (λ periods. periods.items) found ≡ period_form day text.now) }
 {
     match Period::parse(text) {
-        Some(period) => Ok(Some(one(alloc, period)?)),
+        Some(period) => Ok(Some(Vec::from_slice(alloc, &[period])?)),
         None => relative(alloc, text, day),
     }
-}
-
-fn one(alloc: Global, period: Period) -> Result<Vec<Period>, Memory>
-    ensures { IfOk result (λ periods. periods.items ≡ period ∷ []) }
-{
-    let mut periods = Vec::new(alloc);
-    periods.push(period)?;
-    Ok(periods)
 }
 
 /// Puts a period at the end unless it is there.

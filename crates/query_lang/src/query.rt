@@ -1,12 +1,12 @@
 //! A query of its text.
-ghost use Rattle.std.specs.Prelude.{◌≡◌, ◌<◌, length, ◌≤ℤ◌, IfOk};
+ghost use Rattle.std.specs.Prelude.{◌<◌, length, ◌≤ℤ◌, IfOk};
 ghost use Rattle.dh_base.specs.declared.limits.TheConstants.{FIRST_QUERY_DAY, LAST_QUERY_DAY};
 ghost use Rattle.query_lang.specs.Askable.{IsAskable};
 ghost use Rattle.dh_base.specs.Memory.{Answers};
 ghost use Rattle.query_lang.specs.Given.{cause_of};
 ghost use Rattle.query_lang.specs.Each.{each_of};
 ghost use Rattle.query_lang.specs.Units.{part_of};
-ghost use Rattle.query_lang.specs.Query.{named_in, assembled, query_from, query_of};
+ghost use Rattle.query_lang.specs.Query.{named_in, query_from, query_of};
 
 use crate::cells::within;
 use crate::form::Form;
@@ -54,20 +54,6 @@ fn named_in(
     Ok((dx, units))
 }
 
-fn assembled(form: Form, dx: Items<Dx>, units: Items<u32>) -> Query
-    ensures { result ≡ assembled form dx units }
-{
-    Query {
-        dx,
-        periods: form.periods,
-        units: Axis {
-            items: units,
-            filter: form.units.filter,
-        },
-        meta: form.meta,
-    }
-}
-
 #[tactic(auto, unfolding(crate::specs::Query::query_from))]
 fn query_from(
     alloc: Global,
@@ -80,29 +66,21 @@ fn query_from(
     ensures { Answers cause_of (query_from meta.now user cells form) result }
 {
     let (dx, units) = named_in(alloc, meta, user, &form)?;
-    within(alloc, assembled(form, dx, units), cells)
-}
-
-#[tactic(auto, unfolding(crate::specs::Query::query_of))]
-fn query_of(
-    alloc: Global,
-    text: &[u8],
-    meta: &Metadata,
-    user: u32,
-    day: i32,
-    cells: u64,
-) -> Result<Query, QueryFault>
-    requires user { user < length meta.now.users }
-    requires from { FIRST_QUERY_DAY ≤ℤ day }
-    requires to { day ≤ℤ LAST_QUERY_DAY }
-    ensures { Answers cause_of (query_of meta.now user day cells text.now) result }
-{
-    let form = form_of(alloc, text, day)?;
-    query_from(alloc, meta, user, cells, form)
+    let query = Query {
+        dx,
+        periods: form.periods,
+        units: Axis {
+            items: units,
+            filter: form.units.filter,
+        },
+        meta: form.meta,
+    };
+    within(alloc, query, cells)
 }
 
 /// The query of a text, for a user, on a day from 1 January 1910 to 31 December 2099, with at most
 /// so many cells.
+#[tactic(auto, unfolding(crate::specs::Query::query_of))]
 pub fn read_query(
     alloc: Global,
     text: &[u8],
@@ -117,5 +95,6 @@ pub fn read_query(
     ensures value { Answers cause_of (query_of meta.now user day cells text.now) result }
     ensures askable { IfOk result (λ query. IsAskable meta.now user query) }
 {
-    query_of(alloc, text, meta, user, day, cells)
+    let form = form_of(alloc, text, day)?;
+    query_from(alloc, meta, user, cells, form)
 }

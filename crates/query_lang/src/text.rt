@@ -1,27 +1,22 @@
 //! The pairs of a query's text.
 ghost use Rattle.std.specs.Prelude.{◌≡◌, [], true, false, not, bytes_eq, codes, ◌≤ℤ◌, ◌<◌, IfOk, IfSome, length, position, option_map};
 ghost use Rattle.dh_base.specs.declared.limits.TheConstants.{FIRST_QUERY_DAY, LAST_QUERY_DAY};
-ghost use Rattle.std.specs.Prelude.{option_and_then};
 ghost use Rattle.std.specs.List.{list_any};
 ghost use Rattle.std.specs.Option.{option_copied};
 ghost use Rattle.dh_base.specs.Memory.{Answers, IsFirst};
 ghost use Rattle.query_lang.specs.Given.{cause_of, left_in, refusal};
-ghost use Rattle.query_lang.specs.Items.{dx_items, unit_items, period_items};
 ghost use Rattle.query_lang.specs.Form.{is_colon, pairs_of, decoded, is_unsupported};
-ghost use Rattle.query_lang.specs.Form.{head_of, tail_of, fresh, with_dx, with_periods, with_units, with_dimension, with_pair, with_pairs, nothing, whole};
+ghost use Rattle.query_lang.specs.Form.{head_of, fresh, with_dx, with_periods, with_units, with_dimension, with_pair, with_pairs, nothing, whole};
 ghost use Rattle.query_lang.specs.Form.{form_of};
 
 use crate::Axis;
 use crate::dimension::{dx_items, unit_items};
 use crate::fault::refused;
 use crate::form::{Draft, Form};
-use crate::item::{DxItem, UnitItem};
 use crate::period::period_items;
 use crate::plain::QueryFault;
 use dh_base::codes::Code;
-use dh_base::items::Items;
 use dh_base::memory::Memory;
-use dh_periods::Period;
 use form_urlencoded::{decode, raw_pairs};
 use std::alloc::Global;
 
@@ -96,25 +91,17 @@ fn head_of(value: &[u8]) -> &[u8]
     }
 }
 
+/// The items of a dimension that wasn't named before.
 #[tactic(auto, unfolding(crate::specs::Form::tail_of))]
-fn tail_of(value: &[u8]) -> Option<&[u8]>
-    ensures { option_copied result ≡ tail_of value.now }
+fn fresh<'a, T>(named: &Option<T>, value: &'a [u8]) -> Option<&'a [u8]>
+    ensures { option_copied result ≡ fresh named.now value.now }
 {
+    if named.is_some() {
+        return None;
+    }
     match colon(value) {
         Some(at) => Some(&value[at + 1..]),
         None => None,
-    }
-}
-
-fn fresh_dx(alloc: Global, draft: &Draft, value: &[u8]) -> Result<Option<Items<DxItem>>, Memory>
-    ensures { IfOk result (λ items. items ≡ option_and_then dx_items (fresh draft.now.dx value.now)) }
-{
-    if draft.dx.is_some() {
-        return Ok(None);
-    }
-    match tail_of(value) {
-        Some(tail) => dx_items(alloc, tail),
-        None => Ok(None),
     }
 }
 
@@ -122,32 +109,13 @@ fn fresh_dx(alloc: Global, draft: &Draft, value: &[u8]) -> Result<Option<Items<D
 fn with_dx(alloc: Global, draft: &mut Draft, value: &[u8]) -> Result<(), QueryFault>
     ensures { Answers cause_of (with_dx draft.old value.now) (left_in draft.new result) }
 {
-    match fresh_dx(alloc, draft, value)? {
-        Some(items) => {
+    if let Some(tail) = fresh(&draft.dx, value) {
+        if let Some(items) = dx_items(alloc, tail)? {
             draft.dx = Some(items);
-            Ok(())
+            return Ok(());
         }
-        None => Err(refused(alloc, Code::F10, value)),
     }
-}
-
-fn fresh_periods(
-    alloc: Global,
-    draft: &Draft,
-    value: &[u8],
-    day: i32,
-) -> Result<Option<Items<Period>>, Memory>
-    requires from { FIRST_QUERY_DAY ≤ℤ day }
-    requires to { day ≤ℤ LAST_QUERY_DAY }
-    ensures { IfOk result (λ items. items ≡ option_and_then (period_items day) (fresh draft.now.periods value.now)) }
-{
-    if draft.periods.is_some() {
-        return Ok(None);
-    }
-    match tail_of(value) {
-        Some(tail) => period_items(alloc, tail, day),
-        None => Ok(None),
-    }
+    Err(refused(alloc, Code::F10, value))
 }
 
 #[tactic(auto, unfolding(crate::specs::Form::with_periods))]
@@ -162,29 +130,13 @@ fn with_periods(
     requires to { day ≤ℤ LAST_QUERY_DAY }
     ensures { Answers cause_of (with_periods day draft.old filter value.now) (left_in draft.new result) }
 {
-    match fresh_periods(alloc, draft, value, day)? {
-        Some(items) => {
+    if let Some(tail) = fresh(&draft.periods, value) {
+        if let Some(items) = period_items(alloc, tail, day)? {
             draft.periods = Some(Axis { items, filter });
-            Ok(())
+            return Ok(());
         }
-        None => Err(refused(alloc, Code::F10, value)),
     }
-}
-
-fn fresh_units(
-    alloc: Global,
-    draft: &Draft,
-    value: &[u8],
-) -> Result<Option<Items<UnitItem>>, Memory>
-    ensures { IfOk result (λ items. items ≡ option_and_then unit_items (fresh draft.now.units value.now)) }
-{
-    if draft.units.is_some() {
-        return Ok(None);
-    }
-    match tail_of(value) {
-        Some(tail) => unit_items(alloc, tail),
-        None => Ok(None),
-    }
+    Err(refused(alloc, Code::F10, value))
 }
 
 #[tactic(auto, unfolding(crate::specs::Form::with_units))]
@@ -196,13 +148,13 @@ fn with_units(
 ) -> Result<(), QueryFault>
     ensures { Answers cause_of (with_units draft.old filter value.now) (left_in draft.new result) }
 {
-    match fresh_units(alloc, draft, value)? {
-        Some(items) => {
+    if let Some(tail) = fresh(&draft.units, value) {
+        if let Some(items) = unit_items(alloc, tail)? {
             draft.units = Some(Axis { items, filter });
-            Ok(())
+            return Ok(());
         }
-        None => Err(refused(alloc, Code::F10, value)),
     }
+    Err(refused(alloc, Code::F10, value))
 }
 
 #[tactic(auto, unfolding(crate::specs::Form::with_dimension))]

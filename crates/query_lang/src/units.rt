@@ -5,9 +5,9 @@ ghost use Rattle.dh_metadata.specs.Users.{view_units_of};
 ghost use Rattle.dh_metadata.specs.Linked.{IsBelow};
 ghost use Rattle.dh_base.specs.Memory.{Answers};
 ghost use Rattle.query_lang.specs.Given.{cause_of};
-ghost use Rattle.query_lang.specs.View.{is_under_any, Covers};
+ghost use Rattle.query_lang.specs.View.{Covers};
 ghost use Rattle.query_lang.specs.Each.{each_of};
-ghost use Rattle.query_lang.specs.Units.{unit_seen, part_by, part_of, group_units, part_members, members_of, units_of};
+ghost use Rattle.query_lang.specs.Units.{unit_seen, part_of, part_members, members_of, units_of};
 
 use crate::QueryFault;
 use crate::choice::chosen_units;
@@ -33,60 +33,17 @@ pub(crate) fn view_of(alloc: Global, meta: &Metadata, user: u32) -> Result<ViewR
     ranges_under(alloc, meta.tree(), meta.view_units(user))
 }
 
-#[tactic(auto, using(crate::proofs::ViewLemmas::unit_in))]
-fn is_seen(meta: &Metadata, user: u32, view: &ViewRanges, unit: u32) -> bool
-    requires user { user < length meta.now.users }
-    requires view { Covers (unit_rows meta.now) (view_units_of meta.now user) view.now }
-    requires unit { unit < length meta.now.organisation_units }
-    ensures { result ≡ is_under_any (unit_rows meta.now) (view_units_of meta.now user) unit }
-{
-    is_covered(meta.tree(), view, meta.view_units(user), unit)
-}
-
-#[tactic(auto, unfolding(crate::specs::Units::unit_seen))]
+#[tactic(auto, unfolding(crate::specs::Units::unit_seen), using(crate::proofs::ViewLemmas::unit_in))]
 fn unit_seen(meta: &Metadata, user: u32, view: &ViewRanges, id: Uid) -> Option<u32>
     requires user { user < length meta.now.users }
     requires view { Covers (unit_rows meta.now) (view_units_of meta.now user) view.now }
     ensures { result ≡ unit_seen meta.now user id }
 {
     let unit = meta.find(Kind::OrganisationUnit, id)?;
-    if is_seen(meta, user, view, unit) {
+    if is_covered(meta.tree(), view, meta.view_units(user), unit) {
         Some(unit)
     } else {
         None
-    }
-}
-
-fn unit_part(
-    alloc: Global,
-    meta: &Metadata,
-    user: u32,
-    view: &ViewRanges,
-    id: Uid,
-    text: &[u8],
-) -> Result<Part, QueryFault>
-    requires user { user < length meta.now.users }
-    requires view { Covers (unit_rows meta.now) (view_units_of meta.now user) view.now }
-    ensures { Answers cause_of (part_by meta.now user text.now (UnitForm.Unit id)) result }
-{
-    match unit_seen(meta, user, view, id) {
-        Some(unit) => Ok(Part::Unit(unit)),
-        None => Err(refused(alloc, Code::F15, text)),
-    }
-}
-
-fn group_part(
-    alloc: Global,
-    meta: &Metadata,
-    user: u32,
-    id: Uid,
-    text: &[u8],
-) -> Result<Part, QueryFault>
-    ensures { Answers cause_of (part_by meta.now user text.now (UnitForm.Group id)) result }
-{
-    match meta.find(Kind::OrganisationUnitGroup, id) {
-        Some(group) => Ok(Part::Group(group)),
-        None => Err(refused(alloc, Code::F14, text)),
     }
 }
 
@@ -103,12 +60,18 @@ fn part_of(
     ensures { Answers cause_of (part_of meta.now user item.now) result }
 {
     match &item.form {
-        UnitForm::Unit(id) => unit_part(alloc, meta, user, view, *id, item.text.as_slice()),
+        UnitForm::Unit(id) => match unit_seen(meta, user, view, *id) {
+            Some(unit) => Ok(Part::Unit(unit)),
+            None => Err(refused(alloc, Code::F15, item.text.as_slice())),
+        },
         UnitForm::User => Ok(Part::User),
         UnitForm::Children => Ok(Part::Children),
         UnitForm::Grandchildren => Ok(Part::Grandchildren),
         UnitForm::Level(level) => Ok(Part::Level(*level)),
-        UnitForm::Group(id) => group_part(alloc, meta, user, *id, item.text.as_slice()),
+        UnitForm::Group(id) => match meta.find(Kind::OrganisationUnitGroup, *id) {
+            Some(group) => Ok(Part::Group(group)),
+            None => Err(refused(alloc, Code::F14, item.text.as_slice())),
+        },
     }
 }
 
@@ -133,26 +96,15 @@ pub(crate) fn each_part(
 }
 
 #[tactic(auto, unfolding(crate::specs::Units::group_units))]
-fn push_group(units: &mut Vec<u32>, meta: &Metadata, group: u32) -> Result<(), Memory>
-    ensures { OnOk result (units.new.items ≡ units.old.items ++ group_units meta.now group) }
-{
-    if group < meta.count(Kind::OrganisationUnitGroup) {
-        units.extend_from_slice(meta.unit_group(group).organisation_units.as_slice())?;
-    }
-    Ok(())
-}
-
 fn push_members(units: &mut Vec<u32>, meta: &Metadata, part: Part) -> Result<(), Memory>
     ensures { OnOk result (units.new.items ≡ units.old.items ++ part_members meta.now part) }
 {
-    match part {
-        Part::Group(group) => push_group(units, meta, group),
-        Part::Unit(_) => Ok(()),
-        Part::User => Ok(()),
-        Part::Children => Ok(()),
-        Part::Grandchildren => Ok(()),
-        Part::Level(_) => Ok(()),
+    if let Part::Group(group) = part {
+        if group < meta.count(Kind::OrganisationUnitGroup) {
+            units.extend_from_slice(meta.unit_group(group).organisation_units.as_slice())?;
+        }
     }
+    Ok(())
 }
 
 #[tactic(auto, unfolding(crate::specs::Units::members_of))]

@@ -10,23 +10,15 @@ use dh_sharing::ranges::ViewRanges;
 use org_tree::tree::Tree;
 use std::alloc::Global;
 
-fn intervals(alloc: Global, tree: &Tree, units: &[u32]) -> Result<Vec<(u32, u32)>, Memory>
-    requires { AreIn (length tree.now) units.now }
-    ensures { IfOk result (λ intervals. Covers tree.now units.now intervals.items) }
-{
-    let mut intervals = Vec::new(alloc);
-    for unit in units {
-        intervals.push(tree.interval(*unit))?;
-    }
-    Ok(intervals)
-}
-
 /// The ranges of the units that are under one of these.
 pub fn ranges_under(alloc: Global, tree: &Tree, units: &[u32]) -> Result<ViewRanges, Memory>
     requires { AreIn (length tree.now) units.now }
     ensures { IfOk result (λ ranges. Covers tree.now units.now ranges) }
 {
-    let intervals = intervals(alloc, tree, units)?;
+    let mut intervals = Vec::new(alloc);
+    for unit in units {
+        intervals.push(tree.interval(*unit))?;
+    }
     ViewRanges::of(alloc, &intervals)
 }
 
