@@ -1,6 +1,6 @@
 -- A word whose first letter isn't the text's first byte has no part in what is read.
 use Rattle.std.proofs.Common.{◌≡◌, ℕ, zero, suc, ◌+◌, ◌<◌, Bool, true, false, cond, List, [], ◌∷◌, length, map, drop, refl, sym, ap, ◌∙◌, arith}
-use Rattle.std.specs.Prelude.{◌||◌, ◌&&◌, not, nat_eq, nat_lt, slice_index}
+use Rattle.std.specs.Prelude.{⊤, ◌||◌, ◌&&◌, not, nat_eq, nat_lt, slice_index}
 use Rattle.std.proofs.lemmas.Bool.Decides.{nat_tests}
 use Rattle.std.proofs.lemmas.List.{length-map}
 use Rattle.dh_base.specs.declared.plain.Rate.TheVariants as rates
@@ -12,7 +12,12 @@ use Rattle.expr_lang.specs.declared.words.ItemForm.TheVariants as form
 use Rattle.expr_lang.specs.declared.token.Allowed.{Allowed}
 use Rattle.expr_lang.specs.declared.token.Front.{Front}
 use Rattle.expr_lang.specs.Token.{is_allowed_of, fits_of, front_of, better_of, longest_from}
-use Rattle.expr_lang.specs.Words.{text_of, letter_of}
+use Rattle.expr_lang.specs.Words.{text_of, letter_of, start_of, operands_of, items_of_place, followers, marks_of, bracket_of, nothing_of}
+
+-- what is unfolded to compute the lists of words and their letters
+unfoldable pub all_words : ⊤
+unfolding text_of start_of operands_of items_of_place followers marks_of bracket_of nothing_of
+all_words = tt
 
 -- whether a word begins with a letter of its own
 abbrev literal : List ℕ → Bool

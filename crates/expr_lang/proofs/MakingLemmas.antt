@@ -1,5 +1,5 @@
 -- One step of making an expression, and all of them.
-use Rattle.std.proofs.Common.{◌≡◌, ℕ, ◌+◌, ◌-◌, ◌<◌, ◌≤◌, List, [], ◌∷◌, ◌++◌, length, get_or, drop, Option, Some, None, refl, sym, ap, subst, ◌∙◌, inl, inr}
+use Rattle.std.proofs.Common.{◌≡◌, ℕ, ◌+◌, ◌<◌, ◌≤◌, List, [], ◌∷◌, ◌++◌, length, get_or, drop, Option, Some, None, refl, sym, ap, subst, ◌∙◌, inl, inr}
 use Rattle.std.proofs.Common.{Result, Ok, Err}
 use Rattle.std.specs.Prelude.{OnOk}
 use Rattle.std.proofs.Common.{arith}
@@ -22,7 +22,7 @@ use Rattle.expr_lang.specs.Build.{top_shape, under_shape, shapes_behind, built}
 use Rattle.expr_lang.specs.Items.{item_of_leaf_of, occurrences, ListsOne, Lists}
 use Rattle.expr_lang.specs.Making.{top_waiting, under_waiting, knowns, shapes_on, with_top, with_branch, with_unary, with_binary, with_choice, new_making}
 use Rattle.expr_lang.specs.Making.{AreWithin, IsMaking, IsListed, IsNext, IsNextLeaf}
-use Rattle.expr_lang.specs.Shape.{Shape, Operand, One, Two, Choice}
+use Rattle.expr_lang.specs.Shape.{Operand, One, Two, Choice}
 use Rattle.expr_lang.specs.Survey.{leaf_known_of, unary_known_of, binary_known_of, if_known_of, topmost, below, known_behind, survey_of}
 use Rattle.expr_lang.proofs.BranchLemmas.{shape_kept, sound_kept, IsLonger, longer_same, longer_one, last_shape, earlier_shape, sound_more}
 use Rattle.expr_lang.proofs.Listing.{Listed, listed_none, listed_more, listed_all}

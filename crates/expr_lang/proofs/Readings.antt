@@ -1,11 +1,10 @@
 -- One step of reading.
-use Rattle.std.proofs.Common.{◌≡◌, ℕ, zero, suc, ◌+◌, ◌-◌, ◌<◌, ◌≤◌, Bool, true, false, cond, eqb, List, [], ◌∷◌, length, drop, Option, Some, None, Result}
-use Rattle.std.proofs.Common.{Ok, Err, refl, sym, ap, subst, ◌∙◌, arith}
-use Rattle.std.specs.Prelude.{◌&&◌, nat_eq, if◌then◌else◌}
+use Rattle.std.proofs.Common.{◌≡◌, ℕ, suc, ◌+◌, ◌<◌, ◌≤◌, Bool, true, false, cond, List, [], ◌∷◌, length, drop, Result}
+use Rattle.std.proofs.Common.{refl, sym, ap, ◌∙◌, arith}
+use Rattle.std.specs.Prelude.{nat_eq}
 use Rattle.std.proofs.lemmas.Bool.Decides.{nat_tests}
 use Rattle.std.proofs.lemmas.List.{drop-drop, length-drop}
 use Rattle.expr_lang.specs.declared.tree.Place.{Place}
-use Rattle.expr_lang.specs.declared.tree.Binary.{Binary}
 use Rattle.expr_lang.specs.declared.words.Symbol.{Symbol}
 use Rattle.expr_lang.specs.declared.words.Symbol.TheVariants as symbol
 use Rattle.expr_lang.specs.declared.reading.Spot.{Spot}
@@ -15,7 +14,6 @@ use Rattle.expr_lang.specs.declared.reading.Found.{Found}
 use Rattle.expr_lang.specs.declared.reading.Token.{Token}
 use Rattle.expr_lang.specs.declared.reading.Token.TheVariants as token
 use Rattle.expr_lang.specs.declared.reading.Reader.{Reader}
-use Rattle.expr_lang.specs.declared.reading.Nodes.{Nodes}
 use Rattle.expr_lang.specs.Reading.{frames_reduced, nodes_reduced, comma_in, is_quote, with_leaf, with_sign, with_operator, with_open, with_call, with_comma}
 use Rattle.expr_lang.specs.Reading.{with_close, with_quote, with_word, with_exponent, with_token, blank_count, ended, go_on, read_rest, token_from}
 

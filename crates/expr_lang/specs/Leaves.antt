@@ -3,7 +3,6 @@ use Rattle.std.specs.Prelude.{ℕ, List, drop, Option, Some, None}
 use Rattle.expr_lang.specs.declared.tree.Item.{Item}
 use Rattle.expr_lang.specs.declared.tree.Leaf.{Leaf}
 use Rattle.expr_lang.specs.declared.tree.Leaf.TheVariants as leaf
-use Rattle.expr_lang.specs.declared.reading.Spot.{Spot}
 use Rattle.expr_lang.specs.declared.reading.Node.{Node}
 use Rattle.expr_lang.specs.declared.reading.Node.TheVariants as node
 use Rattle.expr_lang.specs.Item.{item_from, leaf_from}

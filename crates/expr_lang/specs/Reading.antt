@@ -2,8 +2,8 @@
 --
 -- A reader keeps what it has opened or begun, the last of these first, and the nodes of the tree that are whole, each
 -- after its operands. What may come next decides on the next word.
-use Rattle.std.specs.Prelude.{◌≡◌, ℕ, zero, suc, ◌+◌, ◌-◌, Bool, true, false, ◌||◌, ◌&&◌, not, List, [], ◌∷◌, ◌++◌, Option, Some, None, Result, Ok, Err}
-use Rattle.std.specs.Prelude.{length, take, drop, slice_index, nat_eq, nat_lt, nat_le, if◌then◌else◌, is_some, is_none, option_map}
+use Rattle.std.specs.Prelude.{ℕ, zero, suc, ◌+◌, ◌-◌, Bool, true, false, ◌||◌, ◌&&◌, not, List, [], ◌∷◌, ◌++◌, Option, Some, None, Result, Ok, Err}
+use Rattle.std.specs.Prelude.{length, drop, slice_index, nat_eq, nat_lt, nat_le, if◌then◌else◌, is_none}
 use Rattle.std.specs.Char.{is_ascii_digit}
 use Rattle.expr_lang.specs.declared.tree.Binary.{Binary}
 use Rattle.expr_lang.specs.declared.tree.Binary.TheVariants as binary
@@ -29,11 +29,9 @@ use Rattle.expr_lang.specs.declared.reading.Token.TheVariants as token
 use Rattle.expr_lang.specs.declared.reading.Found.{Found}
 use Rattle.expr_lang.specs.declared.reading.Reader.{Reader}
 use Rattle.expr_lang.specs.declared.reading.Nodes.{Nodes}
-use Rattle.expr_lang.specs.declared.fault.ReadFault.{ReadFault}
-use Rattle.expr_lang.specs.declared.fault.ReadFault.TheVariants as fault
 use Rattle.expr_lang.specs.Stack.{top_of, rest_of}
 use Rattle.expr_lang.specs.Words.{operands_of, start_of, items_of_place, followers, marks_of, bracket_of, nothing_of}
-use Rattle.expr_lang.specs.Token.{is_comparison_of, longest_of, number_of, exponent_of}
+use Rattle.expr_lang.specs.Token.{longest_of, number_of, exponent_of}
 
 -- how tightly an operator binds
 abbrev pub level_of : Binary → ℕ

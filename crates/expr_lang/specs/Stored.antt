@@ -2,7 +2,6 @@
 --
 -- There a call of one function is a unary operator, and its arguments are a chain of commas. What lies so and is of no text, as a
 -- comma outside of a call's arguments, gets a tree that no text has either: one with a wrong number of arguments.
-use Rattle.std.specs.Prelude.{ℕ}
 use Rattle.expr_lang.specs.declared.tree.Unary.{Unary}
 use Rattle.expr_lang.specs.declared.tree.Unary.TheVariants as unary
 use Rattle.expr_lang.specs.declared.tree.Binary.{Binary}

@@ -113,21 +113,12 @@ fn mark(item: &Item) -> u8
     }
 }
 
-fn is_equal(one: &Item, other: &Item) -> bool
-    ensures { IsTrue result ↔ (one.now ≡ other.now) }
-{
-    one == other
-}
-
 /// Most items that differ are told apart by one byte.
 fn is_same(one: &Item, other: &Item, own: u8) -> bool
     requires { own ≡ mark_of other.now }
     ensures { IsTrue result ↔ (one.now ≡ other.now) }
 {
-    if mark(one) != own {
-        return false;
-    }
-    is_equal(one, other)
+    mark(one) == own && one == other
 }
 
 /// The place of an item in a list.

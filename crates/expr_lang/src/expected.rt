@@ -1,39 +1,33 @@
 //! Which token comes next, by what is expected and what is open.
 
 ghost use Rattle.std.specs.Prelude.{◌≡◌, ◌≤◌, ◌<◌, length, map, MatchResult};
-ghost use Rattle.expr_lang.specs.Reading.{least_arguments, most_arguments, allow, allowed_in, allowed_after, words_for, allowed_for, takes_number};
+ghost use Rattle.expr_lang.specs.Reading.{least_arguments, most_arguments, allow, allowed_after, words_for, allowed_for, takes_number};
 ghost use Rattle.expr_lang.specs.Reading.{token_from, number_found as specs_number_found, exponent_found as specs_exponent_found};
 ghost use Rattle.expr_lang.specs.Reading.{word_found as specs_word_found};
-ghost use Rattle.expr_lang.specs.Quick.{name_of, other_of, mark_after, follower_of, item_at_of, item_word, operand_of, bracket_of_call};
-ghost use Rattle.expr_lang.specs.Quick.{quick_word_of};
+ghost use Rattle.expr_lang.specs.Quick.{name_of, follower_of, operand_of, quick_word_of};
 ghost use Rattle.expr_lang.specs.Words.{letter_of};
 ghost use Rattle.expr_lang.specs.Token.{number_of, exponent_of};
 
-use crate::quick::{call_at, item_at, sole_operator};
+use crate::quick::{call_at, item_at};
 use crate::reading::{Expect, Found, Frame, Token, enclosing};
 use crate::stack::Stack;
 use crate::token::{Allowed, Front, exponent_at, longest, number_at};
-use crate::tree::Place;
-use crate::words::{self, Call, Symbol};
+use crate::tree::{Binary, Place};
+use crate::words::{
+    AFTER_OPERANDS, AGGREGATE_ITEMS, AGGREGATE_OPERANDS, BRACKET, Call, MARKS, PROGRAM_ITEMS,
+    PROGRAM_OPERANDS, PROGRAM_START, Symbol,
+};
 
-fn least(call: Call) -> usize
-    ensures { result ≡ least_arguments call }
+/// How many arguments a call has at least, and how many at most.
+fn arguments(call: Call) -> (usize, usize)
+    ensures least { result.0 ≡ least_arguments call }
+    ensures most { result.1 ≡ most_arguments call }
 {
     match call {
-        Call::If | Call::Condition => 3,
-        Call::DaysBetween => 2,
-        _ => 1,
-    }
-}
-
-fn most(call: Call) -> usize
-    ensures { result ≡ most_arguments call }
-{
-    match call {
-        Call::If | Call::Condition => 3,
-        Call::DaysBetween => 2,
-        Call::FirstNonNull | Call::Greatest | Call::Least => 4096,
-        _ => 1,
+        Call::If | Call::Condition => (3, 3),
+        Call::DaysBetween => (2, 2),
+        Call::FirstNonNull | Call::Greatest | Call::Least => (1, 4096),
+        _ => (1, 1),
     }
 }
 
@@ -49,56 +43,41 @@ fn allowing(caret: bool, close: bool, comma: bool, quote: bool, comparison: bool
     }
 }
 
-fn allowed_within(frame: Option<Frame>, caret: bool, comparison: bool) -> Allowed
-    ensures { result ≡ allowed_in frame caret comparison }
-{
-    match frame {
-        Some(Frame::Bracket) => allowing(caret, true, false, false, comparison),
-        Some(Frame::Quote) => allowing(caret, false, false, true, comparison),
-        Some(Frame::Call(frame)) => {
-            let close = least(frame.call) <= frame.count.saturating_add(1);
-            let comma = frame.count.saturating_add(1) < most(frame.call);
-            allowing(caret, close, comma, false, comparison)
-        }
-        _ => allowing(caret, false, false, false, comparison),
-    }
-}
-
 #[tactic(auto, unfolding(crate::specs::Reading::allowed_after))]
 fn allowed_at(frames: &Stack<Frame>, caret: bool) -> Allowed
     ensures { result ≡ allowed_after frames.now caret }
 {
     let (frame, comparison) = enclosing(frames);
-    allowed_within(frame, caret, !comparison)
-}
-
-/// The words of which the next may be one.
-fn words_at(expect: Expect, place: Place) -> &'static [Symbol]
-    ensures { result.now ≡ words_for expect place }
-{
-    match expect {
-        Expect::Start => words::start(place),
-        Expect::Operand => words::operands(place),
-        Expect::Item | Expect::Plain => words::items(place),
-        Expect::Bracket => words::bracket(),
-        Expect::Operator(_) => words::after_operands(),
-        Expect::Quote | Expect::Comma | Expect::Close | Expect::More => words::marks(),
-        Expect::Exponent(_) | Expect::End => words::none(),
+    match frame {
+        Some(Frame::Bracket) => allowing(caret, true, false, false, !comparison),
+        Some(Frame::Quote) => allowing(caret, false, false, true, !comparison),
+        Some(Frame::Call(frame)) => {
+            let (least, most) = arguments(frame.call);
+            let count = frame.count.saturating_add(1);
+            allowing(caret, least <= count, count < most, false, !comparison)
+        }
+        _ => allowing(caret, false, false, false, !comparison),
     }
 }
 
-/// The first letters of these.
-fn letters_at(expect: Expect, place: Place) -> &'static [u8]
-    ensures { result.now ≡ map letter_of (words_for expect place) }
+/// The words of which the next may be one, after their first letters.
+#[tactic(auto, unfolding(crate::proofs::Letters::all_words))]
+fn words_at(expect: Expect, place: Place) -> (&'static [u8], &'static [Symbol])
+    ensures letters { result.0.now ≡ map letter_of (words_for expect place) }
+    ensures words { result.1.now ≡ words_for expect place }
 {
-    match expect {
-        Expect::Start => words::start_letters(place),
-        Expect::Operand => words::operand_letters(place),
-        Expect::Item | Expect::Plain => words::item_letters(place),
-        Expect::Bracket => words::bracket_letters(),
-        Expect::Operator(_) => words::follower_letters(),
-        Expect::Quote | Expect::Comma | Expect::Close | Expect::More => words::mark_letters(),
-        Expect::Exponent(_) | Expect::End => words::no_letters(),
+    match (expect, place) {
+        (Expect::Start | Expect::Operand, Place::Aggregate) => {
+            (b"-!(iiifgl###CO[RRRRR", &AGGREGATE_OPERANDS)
+        }
+        (Expect::Start, Place::Program) => (b"-!(iglddddd#ACVVVVV", &PROGRAM_START),
+        (Expect::Operand, Place::Program) => (b"-!(iglddddd#ACVV", &PROGRAM_OPERANDS),
+        (Expect::Item | Expect::Plain, Place::Aggregate) => (b"###CO[RRRRR", &AGGREGATE_ITEMS),
+        (Expect::Item | Expect::Plain, Place::Program) => (b"#ACVV", &PROGRAM_ITEMS),
+        (Expect::Bracket, _) => (b"(", &BRACKET),
+        (Expect::Operator(_), _) => (b"^),'|&=!<<>>+-*/%", &AFTER_OPERANDS),
+        (Expect::Quote | Expect::Comma | Expect::Close | Expect::More, _) => (b"),'", &MARKS),
+        (Expect::Exponent(_) | Expect::End, _) => (b"", &MARKS[..0]),
     }
 }
 
@@ -156,36 +135,20 @@ fn word_found(front: Front) -> Result<Found, usize>
     }
 }
 
-/// A mark after an operand, where it may stand.
-#[tactic(auto, unfolding(crate::specs::Quick::mark_after))]
-fn mark_at(frames: &Stack<Frame>, caret: bool, byte: u8) -> Option<(Symbol, usize)>
-    ensures { result ≡ mark_after frames.now caret byte }
-{
-    if byte == b')' && allowed_at(frames, caret).close {
-        return Some((Symbol::Close, 1));
-    }
-    if byte == b',' && allowed_at(frames, caret).comma {
-        return Some((Symbol::Comma, 1));
-    }
-    None
-}
-
-#[tactic(auto, unfolding(crate::specs::Quick::follower_of))]
+/// An operator of one byte that may follow every operand, or a mark where it may stand.
+#[tactic(auto, unfolding(crate::specs::Quick::follower_of, crate::specs::Quick::sole_operator_of, crate::specs::Quick::mark_after))]
 fn follower_at(frames: &Stack<Frame>, caret: bool, byte: u8) -> Option<(Symbol, usize)>
     ensures { result ≡ follower_of frames.now caret byte }
 {
-    match sole_operator(byte) {
-        Some(operator) => Some((Symbol::Operator(operator), 1)),
-        None => mark_at(frames, caret, byte),
-    }
-}
-
-fn item_word_at(place: Place, bytes: &[u8]) -> Option<(Symbol, usize)>
-    ensures { result ≡ item_word (item_at_of place bytes.now) }
-{
-    match item_at(place, bytes) {
-        Some((form, len)) => Some((Symbol::Item(form), len)),
-        None => None,
+    match byte {
+        b'+' => Some((Symbol::Operator(Binary::Add), 1)),
+        b'-' => Some((Symbol::Operator(Binary::Subtract), 1)),
+        b'*' => Some((Symbol::Operator(Binary::Multiply), 1)),
+        b'/' => Some((Symbol::Operator(Binary::Divide), 1)),
+        b'%' => Some((Symbol::Operator(Binary::Remainder), 1)),
+        b')' if allowed_at(frames, caret).close => Some((Symbol::Close, 1)),
+        b',' if allowed_at(frames, caret).comma => Some((Symbol::Comma, 1)),
+        _ => None,
     }
 }
 
@@ -203,41 +166,23 @@ fn operand_at(place: Place, bytes: &[u8]) -> Option<(Symbol, usize)>
     }
 }
 
-fn other_at(expect: Expect, place: Place, bytes: &[u8]) -> Option<(Symbol, usize)>
-    requires { 0 < length bytes.now }
-    ensures { result ≡ other_of expect place bytes.now }
-{
-    match expect {
-        Expect::Start | Expect::Operand => operand_at(place, bytes),
-        _ => None,
-    }
-}
-
 /// An item, or else what may open an operand that isn't one.
 #[tactic(auto, unfolding(crate::specs::Quick::name_of))]
 fn name_at(expect: Expect, place: Place, bytes: &[u8]) -> Option<(Symbol, usize)>
     requires { 0 < length bytes.now }
     ensures { result ≡ name_of expect place bytes.now }
 {
-    match item_word_at(place, bytes) {
-        Some(found) => Some(found),
-        None => other_at(expect, place, bytes),
+    if let Some((form, len)) = item_at(place, bytes) {
+        return Some((Symbol::Item(form), len));
     }
-}
-
-#[tactic(auto, unfolding(crate::specs::Quick::bracket_of_call))]
-fn bracket_at(byte: u8) -> Option<(Symbol, usize)>
-    ensures { result ≡ bracket_of_call byte }
-{
-    if byte == b'(' {
-        Some((Symbol::Open, 1))
-    } else {
-        None
+    match expect {
+        Expect::Start | Expect::Operand => operand_at(place, bytes),
+        _ => None,
     }
 }
 
 /// The next word and its length, where its first bytes tell which it is.
-#[tactic(auto, unfolding(crate::specs::Quick::quick_word_of))]
+#[tactic(auto, unfolding(crate::specs::Quick::quick_word_of, crate::specs::Quick::bracket_of_call))]
 fn quick_word(
     expect: Expect,
     frames: &Stack<Frame>,
@@ -254,7 +199,7 @@ fn quick_word(
         Expect::Start | Expect::Operand | Expect::Item | Expect::Plain => {
             name_at(expect, place, bytes)
         }
-        Expect::Bracket => bracket_at(bytes[0]),
+        Expect::Bracket if bytes[0] == b'(' => Some((Symbol::Open, 1)),
         _ => None,
     }
 }
@@ -283,10 +228,6 @@ pub fn token_at(
             len,
         });
     }
-    word_found(longest(
-        allowed(expect, frames, quoted),
-        letters_at(expect, place),
-        words_at(expect, place),
-        bytes,
-    ))
+    let (letters, symbols) = words_at(expect, place);
+    word_found(longest(allowed(expect, frames, quoted), letters, symbols, bytes))
 }

@@ -6,7 +6,7 @@ use dh_base::memory::Memory;
 use thiserror::Error;
 
 /// Why a text isn't an expression that may stand in its place. Each place counts bytes from 0.
-#[derive(Clone, Copy, Debug, PartialEq, Eq, Error)]
+#[derive(Clone, Copy, Debug, Error)]
 pub enum ExprFault {
     /// The first byte at which no text of the language goes on so, or the text's length.
     #[error("syntax at byte {at}")]

@@ -1,6 +1,6 @@
 //! Reading expressions.
 
-ghost use Rattle.std.specs.Prelude.{◌≡◌, Some, None, IfOk};
+ghost use Rattle.std.specs.Prelude.{Some, None};
 ghost use Rattle.dh_base.specs.Memory.{Answers};
 ghost use Rattle.expr_lang.specs.Causes.{cause_of, stop_of};
 ghost use Rattle.expr_lang.specs.Expr.{IsOf, IsJudged, parse_of};
@@ -14,7 +14,6 @@ use crate::fault::{ExprFault, ReadFault};
 use crate::reading::{Nodes, read};
 use crate::survey::{Known, misfit_as};
 use crate::tree::{Place, Sort};
-use dh_base::memory::Memory;
 use std::alloc::Global;
 
 const MOST_BYTES: usize = 4096;
@@ -51,19 +50,6 @@ fn judge(nodes: &Nodes, known: Known, wanted: Option<Sort>) -> Result<(), ExprFa
     Ok(())
 }
 
-/// The expression with these nodes, and what is known of it.
-fn with_nodes(
-    alloc: Global,
-    text: &[u8],
-    days: &DayItems,
-    nodes: &Nodes,
-) -> Result<(Known, Expr), Memory>
-    ensures known { IfOk result (λ made. made.0 ≡ survey_of text.now days.now nodes.now.nodes) }
-    ensures value { IfOk result (λ made. IsOf text.now days.now made.1 nodes.now) }
-{
-    build(alloc, text, days, nodes.nodes.as_slice())
-}
-
 /// The expression with these nodes, unless it is too deep or its sorts don't fit.
 fn judged_with(
     alloc: Global,
@@ -74,7 +60,7 @@ fn judged_with(
 ) -> Result<Expr, ExprFault>
     ensures { Accepts (λ expr nodes. IsOf text.now days.now expr nodes) result (judged (survey_of text.now days.now nodes.now.nodes) wanted nodes.now) }
 {
-    let (known, expr) = with_nodes(alloc, text, days, nodes)?;
+    let (known, expr) = build(alloc, text, days, nodes.nodes.as_slice())?;
     judge(nodes, known, wanted)?;
     Ok(expr)
 }

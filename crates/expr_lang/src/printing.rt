@@ -1,9 +1,9 @@
 //! Expressions as text.
 
-ghost use Rattle.std.specs.Prelude.{◌≡◌, ◌++◌, ◌<◌, ◌≤◌, ◌^◌, ◌+◌, [], if◌then◌else◌, OnOk, IfOk, codes, length, nat_eq};
+ghost use Rattle.std.specs.Prelude.{◌≡◌, ◌++◌, ◌<◌, ◌≤◌, ◌^◌, ◌+◌, [], if◌then◌else◌, OnOk, IfOk, codes, length};
 ghost use Rattle.std.specs.Fmt.{decimal};
 ghost use Rattle.expr_lang.specs.Print.{decimals_text, number_text, rate_name_of, more_text, named_text, item_text, unary_level_of};
-ghost use Rattle.expr_lang.specs.Print.{binary_level_of, exponent_text, before_of, behind_of, inner_level_of, opening_of, between_of, closing_of};
+ghost use Rattle.expr_lang.specs.Print.{binary_level_of, before_of, behind_of, inner_level_of, opening_of, between_of, closing_of};
 ghost use Rattle.expr_lang.specs.Print.{left_level_of, right_level_of, text_from, IsPrintOf};
 ghost use Rattle.expr_lang.specs.Branches.{shape_in, AreSound};
 ghost use Rattle.expr_lang.specs.Words.{operator_text_of};
@@ -26,6 +26,7 @@ pub fn print(alloc: Global, expr: &Expr) -> Result<Vec<u8>, Memory>
     put_tree(
         alloc,
         &mut out,
+        b"",
         0,
         expr.items(),
         branches,
@@ -34,58 +35,40 @@ pub fn print(alloc: Global, expr: &Expr) -> Result<Vec<u8>, Memory>
     Ok(out)
 }
 
-fn unary_level(unary: Unary) -> u8
-    ensures { result ≡ unary_level_of unary }
+/// How tightly an operator binds, and how tightly its operand has to.
+fn unary_levels(unary: Unary) -> (u8, u8)
+    ensures own { result.0 ≡ unary_level_of unary }
+    ensures inner { result.1 ≡ inner_level_of unary }
 {
     match unary {
-        Unary::Negate | Unary::Not => 6,
-        Unary::Power(_) => 7,
-        _ => 8,
+        Unary::Negate | Unary::Not => (6, 6),
+        Unary::Power(_) => (7, 8),
+        _ => (8, 0),
     }
 }
 
-fn inner_level(unary: Unary) -> u8
-    ensures { result ≡ inner_level_of unary }
+/// The same of two operands. Comparisons form no chains, and other chains group to the left.
+fn binary_levels(binary: Binary) -> (u8, u8, u8)
+    ensures own { result.0 ≡ binary_level_of binary }
+    ensures left { result.1 ≡ left_level_of binary }
+    ensures right { result.2 ≡ right_level_of binary }
 {
-    match unary {
-        Unary::Negate | Unary::Not => 6,
-        Unary::Power(_) => 8,
-        _ => 0,
+    match (binary, level(binary)) {
+        (Binary::DaysBetween, _) => (8, 0, 0),
+        (_, 3) => (3, 4, 4),
+        (_, own) => (own, own, own + 1),
     }
 }
 
-fn binary_level(binary: Binary) -> u8
-    ensures { result ≡ binary_level_of binary }
+/// What stands before two operands, between them and after them.
+fn binary_texts(binary: Binary) -> (&'static [u8], &'static [u8], &'static [u8])
+    ensures before { result.0.now ≡ opening_of binary }
+    ensures between { result.1.now ≡ between_of binary }
+    ensures behind { result.2.now ≡ closing_of binary }
 {
     match binary {
-        Binary::DaysBetween => 8,
-        other => level(other),
-    }
-}
-
-fn above_comparisons(own: u8) -> u8
-    ensures { result ≡ (if nat_eq own 3 then 4 else own) }
-{
-    if own == 3 { 4 } else { own }
-}
-
-/// Comparisons form no chains.
-fn left_level(binary: Binary) -> u8
-    ensures { result ≡ left_level_of binary }
-{
-    match binary {
-        Binary::DaysBetween => 0,
-        other => above_comparisons(level(other)),
-    }
-}
-
-/// Chains group to the left.
-fn right_level(binary: Binary) -> u8
-    ensures { result ≡ right_level_of binary }
-{
-    match binary {
-        Binary::DaysBetween => 0,
-        other => level(other) + 1,
+        Binary::DaysBetween => (b"d2:daysBetween(", b",", b")"),
+        other => (b"", operator_text(other), b""),
     }
 }
 
@@ -120,54 +103,24 @@ fn put_behind(out: &mut Vec<u8>, unary: Unary) -> Result<(), Memory>
     match unary {
         Unary::Negate | Unary::Not => Ok(()),
         Unary::Power(exponent) => {
-            put(out, b"^")?;
-            put_exponent(out, exponent)
+            if exponent < 10 {
+                put(out, &[b'^', b'0' + exponent])
+            } else {
+                put(
+                    out,
+                    &[b'^', b'0' + exponent / 10 % 10, b'0' + exponent % 10],
+                )
+            }
         }
         _ => put(out, b")"),
     }
 }
 
-fn put_exponent(out: &mut Vec<u8>, exponent: u8) -> Result<(), Memory>
-    ensures { OnOk result (out.new.items ≡ out.old.items ++ exponent_text exponent) }
-{
-    if exponent < 10 {
-        put(out, &[b'0' + exponent])
-    } else {
-        put(out, &[b'0' + exponent / 10 % 10, b'0' + exponent % 10])
-    }
-}
-
-fn opening(binary: Binary) -> &'static [u8]
-    ensures { result.now ≡ opening_of binary }
-{
-    match binary {
-        Binary::DaysBetween => b"d2:daysBetween(",
-        _ => b"",
-    }
-}
-
-fn between(binary: Binary) -> &'static [u8]
-    ensures { result.now ≡ between_of binary }
-{
-    match binary {
-        Binary::DaysBetween => b",",
-        other => operator_text(other),
-    }
-}
-
-fn closing(binary: Binary) -> &'static [u8]
-    ensures { result.now ≡ closing_of binary }
-{
-    match binary {
-        Binary::DaysBetween => b")",
-        _ => b"",
-    }
-}
-
-/// The text of the tree at a place where it has to bind at least so tightly.
+/// Puts what stands before the tree at a place, and its text where it has to bind at least so tightly.
 fn put_tree(
     alloc: Global,
     out: &mut Vec<u8>,
+    start: &[u8],
     least: u8,
     items: &[Item],
     branches: &[Branch],
@@ -175,51 +128,38 @@ fn put_tree(
 ) -> Result<(), Memory>
     requires within { n < length branches.now }
     requires sound { AreSound (length items.now) branches.now }
-    ensures { OnOk result (out.new.items ≡ out.old.items ++ text_from least (shape_in items.now branches.now n)) }
+    ensures { OnOk result (out.new.items ≡ out.old.items ++ start.now ++ text_from least (shape_in items.now branches.now n)) }
 {
+    put(out, start)?;
     match branch_at(items, branches, n) {
         Branch::Number(number) => put_number(alloc, out, number),
         Branch::Item(k) => put_item(out, &items[k]),
         Branch::Day(k) => put_item(out, &items[k]),
         Branch::Unary(unary, operand) => {
-            let inside = unary_level(unary) < least;
-            put_opening(out, inside, before(unary))?;
-            put_tree(alloc, out, inner_level(unary), items, branches, operand)?;
+            let (own, inner) = unary_levels(unary);
+            let inside = own < least;
+            put_if(out, inside, b"(")?;
+            put_tree(alloc, out, before(unary), inner, items, branches, operand)?;
             put_behind(out, unary)?;
             put_if(out, inside, b")")
         }
         Branch::Binary(binary, left, right) => {
-            let inside = binary_level(binary) < least;
-            put_opening(out, inside, opening(binary))?;
-            put_tree(alloc, out, left_level(binary), items, branches, left)?;
-            put(out, between(binary))?;
-            put_tree(alloc, out, right_level(binary), items, branches, right)?;
-            put_closing(out, inside, closing(binary))
+            let (own, least_left, least_right) = binary_levels(binary);
+            let (before, between, behind) = binary_texts(binary);
+            let inside = own < least;
+            put_if(out, inside, b"(")?;
+            put_tree(alloc, out, before, least_left, items, branches, left)?;
+            put_tree(alloc, out, between, least_right, items, branches, right)?;
+            put(out, behind)?;
+            put_if(out, inside, b")")
         }
         Branch::If(test, one, other) => {
-            put(out, b"if(")?;
-            put_tree(alloc, out, 0, items, branches, test)?;
-            put(out, b",")?;
-            put_tree(alloc, out, 0, items, branches, one)?;
-            put(out, b",")?;
-            put_tree(alloc, out, 0, items, branches, other)?;
+            put_tree(alloc, out, b"if(", 0, items, branches, test)?;
+            put_tree(alloc, out, b",", 0, items, branches, one)?;
+            put_tree(alloc, out, b",", 0, items, branches, other)?;
             put(out, b")")
         }
     }
-}
-
-fn put_opening(out: &mut Vec<u8>, inside: bool, text: &[u8]) -> Result<(), Memory>
-    ensures { OnOk result (out.new.items ≡ out.old.items ++ (if inside then codes "(" else []) ++ text.now) }
-{
-    put_if(out, inside, b"(")?;
-    put(out, text)
-}
-
-fn put_closing(out: &mut Vec<u8>, inside: bool, text: &[u8]) -> Result<(), Memory>
-    ensures { OnOk result (out.new.items ≡ out.old.items ++ text.now ++ (if inside then codes ")" else [])) }
-{
-    put(out, text)?;
-    put_if(out, inside, b")")
 }
 
 fn put_if(out: &mut Vec<u8>, needed: bool, text: &[u8]) -> Result<(), Memory>
@@ -350,16 +290,6 @@ fn put_rate(out: &mut Vec<u8>, set: Uid, rate: Rate) -> Result<(), Memory>
     put(out, b"}")
 }
 
-fn put_stage_element(out: &mut Vec<u8>, stage: Uid, element: Uid) -> Result<(), Memory>
-    ensures { OnOk result (out.new.items ≡ out.old.items ++ codes "#{" ++ stage ++ codes "." ++ element ++ codes "}") }
-{
-    put(out, b"#{")?;
-    put_uid(out, stage)?;
-    put(out, b".")?;
-    put_uid(out, element)?;
-    put(out, b"}")
-}
-
 #[tactic(auto, unfolding(crate::specs::Print::item_text))]
 fn put_item(out: &mut Vec<u8>, item: &Item) -> Result<(), Memory>
     ensures { OnOk result (out.new.items ≡ out.old.items ++ item_text item.now) }
@@ -374,7 +304,8 @@ fn put_item(out: &mut Vec<u8>, item: &Item) -> Result<(), Memory>
         Item::Group(uid) => put_named(out, b"OUG{", *uid),
         Item::Days => put(out, b"[days]"),
         Item::Rate { set, rate } => put_rate(out, *set, *rate),
-        Item::StageElement { stage, element } => put_stage_element(out, *stage, *element),
+        // Written like an element with a combination.
+        Item::StageElement { stage, element } => put_element(out, *stage, Some(*element), None),
         Item::Attribute(uid) => put_named(out, b"A{", *uid),
         Item::EventDate => put(out, b"V{event_date}"),
         Item::EnrollmentDate => put(out, b"V{enrollment_date}"),

@@ -2,27 +2,12 @@
 
 ghost use Rattle.std.specs.Prelude.{◌≡◌, ◌≤◌, length};
 ghost use Rattle.expr_lang.specs.Token.{front_of};
-ghost use Rattle.expr_lang.specs.Quick.{sole_operator_of, is_identifier_of, pair_of, element_of, closed_of, braced_of, item_at_of, dollars};
-ghost use Rattle.expr_lang.specs.Quick.{likely_call_of, whole_call_of, call_at_of};
+ghost use Rattle.expr_lang.specs.Quick.{is_identifier_of, pair_of, element_of, closed_of, braced_of, item_at_of, dollars};
+ghost use Rattle.expr_lang.specs.Quick.{likely_call_of, call_at_of};
 
 use crate::token::front_len;
-use crate::tree::{Binary, Place};
+use crate::tree::Place;
 use crate::words::{Call, ItemForm, Symbol, call_text};
-
-/// The operator of one byte that may follow every operand.
-#[tactic(auto, unfolding(crate::specs::Quick::sole_operator_of))]
-pub fn sole_operator(byte: u8) -> Option<Binary>
-    ensures { result ≡ sole_operator_of byte }
-{
-    match byte {
-        b'+' => Some(Binary::Add),
-        b'-' => Some(Binary::Subtract),
-        b'*' => Some(Binary::Multiply),
-        b'/' => Some(Binary::Divide),
-        b'%' => Some(Binary::Remainder),
-        _ => None,
-    }
-}
 
 /// How many letters and digits stand at the front, counting at most so many.
 fn alphanumerics(bytes: &[u8], most: usize) -> usize
@@ -140,28 +125,19 @@ fn likely_call(place: Place, first: u8, second: u8) -> Option<Call>
     }
 }
 
-#[tactic(auto, unfolding(crate::specs::Quick::whole_call_of))]
-fn whole_call(call: Call, bytes: &[u8]) -> Option<(Symbol, usize)>
-    ensures { result ≡ whole_call_of call bytes.now }
-{
-    let word = call_text(call);
-    if front_len(word, bytes) == word.len() {
-        Some((Symbol::Call(call), word.len()))
-    } else {
-        None
-    }
-}
-
 /// A call's name and its length, where its first letters tell which it is and all of it stands there.
-#[tactic(auto, unfolding(crate::specs::Quick::call_at_of))]
+#[tactic(auto, unfolding(crate::specs::Quick::call_at_of, crate::specs::Quick::whole_call_of))]
 pub fn call_at(place: Place, bytes: &[u8]) -> Option<(Symbol, usize)>
     ensures { result ≡ call_at_of place bytes.now }
 {
     if bytes.len() < 2 {
         return None;
     }
-    match likely_call(place, bytes[0], bytes[1]) {
-        Some(call) => whole_call(call, bytes),
-        None => None,
+    let call = likely_call(place, bytes[0], bytes[1])?;
+    let word = call_text(call);
+    if front_len(word, bytes) == word.len() {
+        Some((Symbol::Call(call), word.len()))
+    } else {
+        None
     }
 }

@@ -4,8 +4,8 @@ ghost use Rattle.std.specs.Prelude.{◌≡◌, ◌≤◌, ◌<◌, ◌^◌, leng
 ghost use Rattle.dh_base.specs.Memory.{Answers, IsCause};
 ghost use Rattle.expr_lang.specs.Causes.{stop_of};
 ghost use Rattle.expr_lang.specs.Reading.{level_of, node_level, enclosing_of, compares, binding_of, frames_reduced, nodes_reduced, after_leaf_of};
-ghost use Rattle.expr_lang.specs.Reading.{is_count_of, with_leaf, with_sign, with_operator, first_argument, after_open_of, with_open, with_call};
-ghost use Rattle.expr_lang.specs.Reading.{is_list_of, counted_of, joined, node_of_call, with_comma, with_close, with_quote, with_word, with_exponent};
+ghost use Rattle.expr_lang.specs.Reading.{with_leaf, with_sign, with_operator, after_open_of, with_open, with_call};
+ghost use Rattle.expr_lang.specs.Reading.{counted_of, joined, node_of_call, with_comma, with_close, with_quote, with_word, with_exponent};
 ghost use Rattle.expr_lang.specs.Reading.{with_token, is_blank_of, blank_count, may_end_in, new_reader, ended, read_text, most_words as words_limit};
 ghost use Rattle.expr_lang.specs.Stack.{top_of};
 
@@ -197,28 +197,13 @@ impl Reader {
 fn after_leaf(expect: Expect, leaf: Node) -> Expect
     ensures { result ≡ after_leaf_of expect leaf }
 {
-    match expect {
-        Expect::Item => Expect::Close,
-        Expect::Plain => Expect::More,
-        _ => {
-            if is_count(leaf) {
-                Expect::End
-            } else {
-                Expect::Operator(true)
-            }
-        }
+    match (expect, leaf) {
+        (Expect::Item, _) => Expect::Close,
+        (Expect::Plain, _) => Expect::More,
+        (_, Node::Item(ItemForm::EventCount | ItemForm::EnrollmentCount | ItemForm::EntityCount)) =>
+            { Expect::End }
+        _ => Expect::Operator(true),
     }
-}
-
-fn is_count(leaf: Node) -> bool
-    ensures { result ≡ is_count_of leaf }
-{
-    matches!(
-        leaf,
-        Node::Item(ItemForm::EventCount)
-            | Node::Item(ItemForm::EnrollmentCount)
-            | Node::Item(ItemForm::EntityCount)
-    )
 }
 
 #[tactic(auto, unfolding(crate::specs::Reading::with_leaf))]
@@ -255,23 +240,17 @@ fn put_operator(reader: &mut Reader, at: usize, operator: Binary) -> Result<(), 
     Ok(())
 }
 
-/// What a call's first argument has to be.
-fn first_of(call: Call) -> Expect
-    ensures { result ≡ first_argument call }
-{
-    match call {
-        Call::Condition => Expect::Quote,
-        Call::IsNull | Call::IsNotNull | Call::HasValue => Expect::Item,
-        Call::FirstNonNull => Expect::Plain,
-        _ => Expect::Operand,
-    }
-}
-
+/// What has to come after the bracket of a call: its first argument.
 fn after_open(frames: &Stack<Frame>) -> Expect
     ensures { result ≡ after_open_of (top_of frames.now) }
 {
-    match frames.get(0) {
-        Some(Frame::Call(frame)) => first_of(frame.call),
+    let Some(Frame::Call(frame)) = frames.get(0) else {
+        return Expect::Operand;
+    };
+    match frame.call {
+        Call::Condition => Expect::Quote,
+        Call::IsNull | Call::IsNotNull | Call::HasValue => Expect::Item,
+        Call::FirstNonNull => Expect::Plain,
         _ => Expect::Operand,
     }
 }
@@ -309,19 +288,17 @@ fn put_call(reader: &mut Reader, at: usize, call: Call) -> Result<(), Memory>
 fn join(nodes: &mut Items<Spot>, frame: CallFrame) -> Result<(), Memory>
     ensures { OnOk result (nodes.new ≡ joined frame nodes.old) }
 {
-    if frame.count > 0 && is_list(frame.call) {
+    let is_list = matches!(
+        frame.call,
+        Call::FirstNonNull | Call::Greatest | Call::Least
+    );
+    if frame.count > 0 && is_list {
         nodes.push(Spot {
             at: frame.at,
             node: Node::Binary(Binary::Comma),
         })?;
     }
     Ok(())
-}
-
-fn is_list(call: Call) -> bool
-    ensures { result ≡ is_list_of call }
-{
-    matches!(call, Call::FirstNonNull | Call::Greatest | Call::Least)
 }
 
 fn call_node(call: Call) -> Node

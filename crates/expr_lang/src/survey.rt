@@ -2,7 +2,7 @@
 
 ghost use Rattle.std.specs.Prelude.{◌≡◌};
 ghost use Rattle.expr_lang.specs.Leaves.{leaf_of_node};
-ghost use Rattle.expr_lang.specs.Survey.{same_sort, leaf_sort_of, is_literal_of, taken_by_of, given_by_of, taken_by_two, given_by_two, first_of_two, edge_of};
+ghost use Rattle.expr_lang.specs.Survey.{same_sort, taken_by_of, given_by_of, taken_by_two, given_by_two, first_of_two, edge_of};
 ghost use Rattle.expr_lang.specs.Survey.{one_deeper, edge_if_taken, leaf_known_of, unary_known_of, deeper_of, binary_known_of, if_known_of};
 ghost use Rattle.expr_lang.specs.Survey.{nothing_known, misfit_of};
 
@@ -49,69 +49,32 @@ pub fn leaf_at(text: &[u8], days: &DayItems, at: usize, node: Node) -> Leaf
     }
 }
 
-fn leaf_sort(leaf: &Leaf) -> Sort
-    ensures { result ≡ leaf_sort_of leaf.now }
-{
-    match leaf {
-        Leaf::Number(_) => Sort::Number,
-        Leaf::Item(_) => Sort::Number,
-        Leaf::Day(_) => Sort::Day,
-    }
-}
-
-fn is_literal(leaf: &Leaf) -> bool
-    ensures { result ≡ is_literal_of leaf.now }
-{
-    match leaf {
-        Leaf::Number(_) => true,
-        Leaf::Item(_) => false,
-        Leaf::Day(_) => false,
-    }
-}
-
-/// The sort that an operator takes, where it isn't any.
-fn taken_by(unary: Unary) -> Option<Sort>
-    ensures { result ≡ taken_by_of unary }
+/// The sort that an operator takes, where it isn't any, and the one that it gives.
+fn sorts_of(unary: Unary) -> (Option<Sort>, Sort)
+    ensures taken { result.0 ≡ taken_by_of unary }
+    ensures given { result.1 ≡ given_by_of unary }
 {
     match unary {
-        Unary::Not => Some(Sort::Truth),
-        Unary::IsNull | Unary::IsNotNull | Unary::HasValue => None,
-        _ => Some(Sort::Number),
+        Unary::Not => (Some(Sort::Truth), Sort::Truth),
+        Unary::IsNull | Unary::IsNotNull | Unary::HasValue => (None, Sort::Truth),
+        _ => (Some(Sort::Number), Sort::Number),
     }
 }
 
-fn given_by(unary: Unary) -> Sort
-    ensures { result ≡ given_by_of unary }
-{
-    match unary {
-        Unary::Not | Unary::IsNull | Unary::IsNotNull | Unary::HasValue => Sort::Truth,
-        _ => Sort::Number,
-    }
-}
-
-fn taken_by_binary(binary: Binary) -> Sort
-    ensures { result ≡ taken_by_two binary }
+fn sorts_of_binary(binary: Binary) -> (Sort, Sort)
+    ensures taken { result.0 ≡ taken_by_two binary }
+    ensures given { result.1 ≡ given_by_two binary }
 {
     match binary {
-        Binary::Or | Binary::And => Sort::Truth,
-        Binary::DaysBetween => Sort::Day,
-        _ => Sort::Number,
-    }
-}
-
-fn given_by_binary(binary: Binary) -> Sort
-    ensures { result ≡ given_by_two binary }
-{
-    match binary {
-        Binary::Or
-        | Binary::And
-        | Binary::Equal
+        Binary::Or | Binary::And => (Sort::Truth, Sort::Truth),
+        Binary::Equal
         | Binary::NotEqual
         | Binary::Less
         | Binary::AtMost
         | Binary::Greater
-        | Binary::AtLeast => Sort::Truth,
-        _ => Sort::Number,
+        | Binary::AtLeast => (Sort::Number, Sort::Truth),
+        Binary::DaysBetween => (Sort::Day, Sort::Number),
+        _ => (Sort::Number, Sort::Number),
     }
 }
 
@@ -150,11 +113,16 @@ fn edge_at(at: usize, taken: Option<Sort>, operand: Known) -> Option<usize>
 pub fn leaf_known(at: usize, leaf: &Leaf) -> Known
     ensures { result ≡ leaf_known_of at leaf.now }
 {
+    let (sort, literal) = match leaf {
+        Leaf::Number(_) => (Sort::Number, true),
+        Leaf::Item(_) => (Sort::Number, false),
+        Leaf::Day(_) => (Sort::Day, false),
+    };
     Known {
         depth: 1,
-        sort: leaf_sort(leaf),
+        sort,
         at,
-        literal: is_literal(leaf),
+        literal,
         misfit: None,
     }
 }
@@ -169,12 +137,13 @@ fn deepened(depth: u64) -> u64
 pub fn unary_known(at: usize, unary: Unary, operand: Known) -> Known
     ensures { result ≡ unary_known_of at unary operand }
 {
+    let (taken, given) = sorts_of(unary);
     Known {
         depth: deepened(operand.depth),
-        sort: given_by(unary),
+        sort: given,
         at,
         literal: false,
-        misfit: first(edge_at(at, taken_by(unary), operand), operand.misfit),
+        misfit: first(edge_at(at, taken, operand), operand.misfit),
     }
 }
 
@@ -190,11 +159,11 @@ fn deeper(binary: Binary, depth: u64) -> u64
 pub fn binary_known(at: usize, binary: Binary, left: Known, right: Known) -> Known
     ensures { result ≡ binary_known_of at binary left right }
 {
-    let taken = taken_by_binary(binary);
+    let (taken, given) = sorts_of_binary(binary);
     let edges = first(edge(at, taken, left), edge(at, taken, right));
     Known {
         depth: deeper(binary, left.depth.max(right.depth)),
-        sort: given_by_binary(binary),
+        sort: given,
         at,
         literal: false,
         misfit: first(edges, first(left.misfit, right.misfit)),

@@ -100,28 +100,20 @@ fn falls_short(len: usize, word: &[u8], bytes: &[u8]) -> bool
     len > 0 && len <= word.len() && len <= bytes.len() && !fits(word[len - 1], bytes[len - 1])
 }
 
-/// The same as `better`, but by one byte where that decides.
+/// The better of a front and that of a word, if the word is allowed: by one byte where that decides.
 #[tactic(auto, using(crate::proofs::Shorter::short_stays))]
-fn better_sooner(best: Front, symbol: Symbol, bytes: &[u8]) -> Front
-    ensures value { result ≡ better_of best symbol bytes.now }
+fn better_if_allowed(best: Front, allowed: Allowed, symbol: Symbol, bytes: &[u8]) -> Front
+    ensures value { result ≡ (if is_allowed_of allowed symbol then better_of best symbol bytes.now else best) }
     ensures within { best.len ≤ length bytes.now → result.len ≤ length bytes.now }
 {
+    if !is_allowed(allowed, symbol) {
+        return best;
+    }
     let word = words::text(symbol);
     if falls_short(best.len, word, bytes) {
         best
     } else {
         better(best, symbol, word, bytes)
-    }
-}
-
-fn better_if_allowed(best: Front, allowed: Allowed, symbol: Symbol, bytes: &[u8]) -> Front
-    ensures value { result ≡ (if is_allowed_of allowed symbol then better_of best symbol bytes.now else best) }
-    ensures within { best.len ≤ length bytes.now → result.len ≤ length bytes.now }
-{
-    if is_allowed(allowed, symbol) {
-        better_sooner(best, symbol, bytes)
-    } else {
-        best
     }
 }
 

@@ -1,11 +1,9 @@
 //! The words of the language, and which of them may come where.
 
-ghost use Rattle.std.specs.Prelude.{◌≡◌, map};
-ghost use Rattle.expr_lang.specs.Words.{letter_of};
-ghost use Rattle.expr_lang.specs.Words.{text_of, operator_text_of, call_text_of, item_text_of, rate_text_of, operands_of, start_of, items_of_place};
-ghost use Rattle.expr_lang.specs.Words.{followers, marks_of, bracket_of, nothing_of};
+ghost use Rattle.std.specs.Prelude.{◌≡◌};
+ghost use Rattle.expr_lang.specs.Words.{text_of, operator_text_of, call_text_of, item_text_of};
 
-use crate::tree::{Binary, Place};
+use crate::tree::Binary;
 use dh_base::plain::Rate;
 
 /// What a word stands for.
@@ -128,7 +126,11 @@ fn item_text(form: ItemForm) -> &'static [u8]
         ItemForm::Constant => b"C{@$$$$$$$$$$}",
         ItemForm::Group => b"OUG{@$$$$$$$$$$}",
         ItemForm::Days => b"[days]",
-        ItemForm::Rate(rate) => rate_text(rate),
+        ItemForm::Rate(Rate::Expected) => b"R{@$$$$$$$$$$.EXPECTED_REPORTS}",
+        ItemForm::Rate(Rate::Actual) => b"R{@$$$$$$$$$$.ACTUAL_REPORTS}",
+        ItemForm::Rate(Rate::OnTime) => b"R{@$$$$$$$$$$.ACTUAL_REPORTS_ON_TIME}",
+        ItemForm::Rate(Rate::Reported) => b"R{@$$$$$$$$$$.REPORTING_RATE}",
+        ItemForm::Rate(Rate::ReportedOnTime) => b"R{@$$$$$$$$$$.REPORTING_RATE_ON_TIME}",
         ItemForm::StageElement => b"#{@$$$$$$$$$$.@$$$$$$$$$$}",
         ItemForm::Attribute => b"A{@$$$$$$$$$$}",
         ItemForm::EventDate => b"V{event_date}",
@@ -139,19 +141,8 @@ fn item_text(form: ItemForm) -> &'static [u8]
     }
 }
 
-fn rate_text(rate: Rate) -> &'static [u8]
-    ensures { result.now ≡ rate_text_of rate }
-{
-    match rate {
-        Rate::Expected => b"R{@$$$$$$$$$$.EXPECTED_REPORTS}",
-        Rate::Actual => b"R{@$$$$$$$$$$.ACTUAL_REPORTS}",
-        Rate::OnTime => b"R{@$$$$$$$$$$.ACTUAL_REPORTS_ON_TIME}",
-        Rate::Reported => b"R{@$$$$$$$$$$.REPORTING_RATE}",
-        Rate::ReportedOnTime => b"R{@$$$$$$$$$$.REPORTING_RATE_ON_TIME}",
-    }
-}
-
-const AGGREGATE_OPERANDS: [Symbol; 20] = [
+/// The words with which an operand may begin over aggregate data, and a whole expression too.
+pub const AGGREGATE_OPERANDS: [Symbol; 20] = [
     Symbol::Minus,
     Symbol::Bang,
     Symbol::Open,
@@ -174,7 +165,8 @@ const AGGREGATE_OPERANDS: [Symbol; 20] = [
     Symbol::Item(ItemForm::Rate(Rate::ReportedOnTime)),
 ];
 
-const AGGREGATE_ITEMS: [Symbol; 11] = [
+/// The items among them.
+pub const AGGREGATE_ITEMS: [Symbol; 11] = [
     Symbol::Item(ItemForm::Element),
     Symbol::Item(ItemForm::ElementCombo),
     Symbol::Item(ItemForm::ElementCombos),
@@ -188,7 +180,8 @@ const AGGREGATE_ITEMS: [Symbol; 11] = [
     Symbol::Item(ItemForm::Rate(Rate::ReportedOnTime)),
 ];
 
-const PROGRAM_OPERANDS: [Symbol; 16] = [
+/// The words with which an operand may begin over an event.
+pub const PROGRAM_OPERANDS: [Symbol; 16] = [
     Symbol::Minus,
     Symbol::Bang,
     Symbol::Open,
@@ -207,7 +200,8 @@ const PROGRAM_OPERANDS: [Symbol; 16] = [
     Symbol::Item(ItemForm::EnrollmentDate),
 ];
 
-const PROGRAM_START: [Symbol; 19] = [
+/// Those with which a whole expression may begin.
+pub const PROGRAM_START: [Symbol; 19] = [
     Symbol::Minus,
     Symbol::Bang,
     Symbol::Open,
@@ -229,7 +223,8 @@ const PROGRAM_START: [Symbol; 19] = [
     Symbol::Item(ItemForm::EntityCount),
 ];
 
-const PROGRAM_ITEMS: [Symbol; 5] = [
+/// The items that may stand beside others.
+pub const PROGRAM_ITEMS: [Symbol; 5] = [
     Symbol::Item(ItemForm::StageElement),
     Symbol::Item(ItemForm::Attribute),
     Symbol::Item(ItemForm::Constant),
@@ -237,7 +232,8 @@ const PROGRAM_ITEMS: [Symbol; 5] = [
     Symbol::Item(ItemForm::EnrollmentDate),
 ];
 
-const AFTER_OPERANDS: [Symbol; 17] = [
+/// The words that may follow an operand.
+pub const AFTER_OPERANDS: [Symbol; 17] = [
     Symbol::Caret,
     Symbol::Close,
     Symbol::Comma,
@@ -257,130 +253,6 @@ const AFTER_OPERANDS: [Symbol; 17] = [
     Symbol::Operator(Binary::Remainder),
 ];
 
-/// The words with which an operand may begin.
-#[tactic(auto, unfolding(crate::specs::Words::operands_of))]
-pub fn operands(place: Place) -> &'static [Symbol]
-    ensures { result.now ≡ operands_of place }
-{
-    match place {
-        Place::Aggregate => &AGGREGATE_OPERANDS,
-        Place::Program => &PROGRAM_OPERANDS,
-    }
-}
+pub const MARKS: [Symbol; 3] = [Symbol::Close, Symbol::Comma, Symbol::Quote];
 
-/// The words with which a whole expression may begin.
-#[tactic(auto, unfolding(crate::specs::Words::start_of))]
-pub fn start(place: Place) -> &'static [Symbol]
-    ensures { result.now ≡ start_of place }
-{
-    match place {
-        Place::Aggregate => &AGGREGATE_OPERANDS,
-        Place::Program => &PROGRAM_START,
-    }
-}
-
-/// The items.
-#[tactic(auto, unfolding(crate::specs::Words::items_of_place))]
-pub fn items(place: Place) -> &'static [Symbol]
-    ensures { result.now ≡ items_of_place place }
-{
-    match place {
-        Place::Aggregate => &AGGREGATE_ITEMS,
-        Place::Program => &PROGRAM_ITEMS,
-    }
-}
-
-/// The words that may follow an operand.
-#[tactic(auto, unfolding(crate::specs::Words::followers))]
-pub fn after_operands() -> &'static [Symbol]
-    ensures { result.now ≡ followers }
-{
-    &AFTER_OPERANDS
-}
-
-const MARKS: [Symbol; 3] = [Symbol::Close, Symbol::Comma, Symbol::Quote];
-
-#[tactic(auto, unfolding(crate::specs::Words::marks_of))]
-pub fn marks() -> &'static [Symbol]
-    ensures { result.now ≡ marks_of }
-{
-    &MARKS
-}
-
-const BRACKET: [Symbol; 1] = [Symbol::Open];
-
-#[tactic(auto, unfolding(crate::specs::Words::bracket_of))]
-pub fn bracket() -> &'static [Symbol]
-    ensures { result.now ≡ bracket_of }
-{
-    &BRACKET
-}
-
-#[tactic(auto, unfolding(crate::specs::Words::nothing_of))]
-pub fn none() -> &'static [Symbol]
-    ensures { result.now ≡ nothing_of }
-{
-    &MARKS[..0]
-}
-
-/// The first letters of the words with which an operand may begin.
-#[tactic(auto, unfolding(crate::specs::Words::operands_of, crate::specs::Words::text_of))]
-pub fn operand_letters(place: Place) -> &'static [u8]
-    ensures { result.now ≡ map letter_of (operands_of place) }
-{
-    match place {
-        Place::Aggregate => b"-!(iiifgl###CO[RRRRR",
-        Place::Program => b"-!(iglddddd#ACVV",
-    }
-}
-
-/// Those of the words with which a whole expression may begin.
-#[tactic(auto, unfolding(crate::specs::Words::start_of, crate::specs::Words::text_of))]
-pub fn start_letters(place: Place) -> &'static [u8]
-    ensures { result.now ≡ map letter_of (start_of place) }
-{
-    match place {
-        Place::Aggregate => b"-!(iiifgl###CO[RRRRR",
-        Place::Program => b"-!(iglddddd#ACVVVVV",
-    }
-}
-
-/// Those of the items.
-#[tactic(auto, unfolding(crate::specs::Words::items_of_place, crate::specs::Words::text_of))]
-pub fn item_letters(place: Place) -> &'static [u8]
-    ensures { result.now ≡ map letter_of (items_of_place place) }
-{
-    match place {
-        Place::Aggregate => b"###CO[RRRRR",
-        Place::Program => b"#ACVV",
-    }
-}
-
-/// Those of the words that may follow an operand.
-#[tactic(auto, unfolding(crate::specs::Words::followers, crate::specs::Words::text_of))]
-pub fn follower_letters() -> &'static [u8]
-    ensures { result.now ≡ map letter_of followers }
-{
-    b"^),'|&=!<<>>+-*/%"
-}
-
-#[tactic(auto, unfolding(crate::specs::Words::marks_of, crate::specs::Words::text_of))]
-pub fn mark_letters() -> &'static [u8]
-    ensures { result.now ≡ map letter_of marks_of }
-{
-    b"),'"
-}
-
-#[tactic(auto, unfolding(crate::specs::Words::bracket_of, crate::specs::Words::text_of))]
-pub fn bracket_letters() -> &'static [u8]
-    ensures { result.now ≡ map letter_of bracket_of }
-{
-    b"("
-}
-
-#[tactic(auto, unfolding(crate::specs::Words::nothing_of))]
-pub fn no_letters() -> &'static [u8]
-    ensures { result.now ≡ map letter_of nothing_of }
-{
-    b""
-}
+pub const BRACKET: [Symbol; 1] = [Symbol::Open];

@@ -1,4 +1,4 @@
-use Rattle.std.proofs.Common.{◌≡◌, ℕ, suc, ◌+◌, ◌-◌, ◌%◌, ◌^◌, ◌<◌, List, [], ◌∷◌, ◌++◌, ap, subst, ◌∙◌, sym, arith}
+use Rattle.std.proofs.Common.{ℕ, ◌-◌, ◌%◌, ◌^◌, ◌<◌, List, [], ◌∷◌, ◌++◌, ap, subst, ◌∙◌, sym, arith}
 use Rattle.expr_lang.specs.Print.{decimals_text}
 use Rattle.expr_lang.proofs.Decimals.{digits_on, part_below}
 use Rattle.expr_lang.proofs.printing.put_decimals.Goals as goal

@@ -1,4 +1,4 @@
-use Rattle.std.proofs.Common.{◌≡◌, ◌-◌, drop}
+use Rattle.std.proofs.Common.{◌≡◌, drop}
 use Rattle.std.specs.Prelude.{◌||◌}
 use Rattle.expr_lang.specs.Reading.{enclosing_of, compares}
 use Rattle.expr_lang.proofs.reading.enclosing.Given as goal

@@ -1,8 +1,8 @@
-use Rattle.std.proofs.Common.{◌≡◌, ℕ, ◌+◌, ◌-◌, ◌*◌, ◌^◌, ◌<◌, ◌≤◌, length, get_or, take, drop, ap, ◌∙◌, sym, subst, arith}
+use Rattle.std.proofs.Common.{◌≡◌, ℕ, get_or, take, ap, ◌∙◌, sym, arith}
 use Rattle.std.specs.Str.Parse.{digits_value}
 use Rattle.std.proofs.lemmas.Int.Digits.{digits_value_more}
 use Rattle.expr_lang.specs.Token.{digit_count}
-use Rattle.expr_lang.proofs.Digits.{digit_is, count_at, count_stop, count_end, count_most, ten_more, tens_below}
+use Rattle.expr_lang.proofs.Digits.{digit_is, count_at, count_stop, count_end, ten_more, tens_below}
 use Rattle.expr_lang.proofs.token.digits_at.Goals as goal
 
 pub overflow_mul-value : goal.overflow_mul-value

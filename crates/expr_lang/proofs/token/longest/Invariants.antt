@@ -1,4 +1,4 @@
-use Rattle.std.proofs.Common.{◌≡◌, ◌+◌, ◌≤◌, length, drop}
+use Rattle.std.proofs.Common.{◌≡◌, ◌≤◌, length, drop}
 use Rattle.expr_lang.specs.Token.{longest_from, no_front}
 use Rattle.expr_lang.proofs.token.longest.Given as goal
 

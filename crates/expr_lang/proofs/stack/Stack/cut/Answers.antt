@@ -1,4 +1,4 @@
-use Rattle.std.proofs.Common.{◌-◌, ℕ, List, take, drop, reverse, ap, ◌∙◌}
+use Rattle.std.proofs.Common.{◌-◌, ℕ, take, drop, reverse, ap, ◌∙◌}
 use Rattle.expr_lang.proofs.Stacks.{cut_off}
 use Rattle.expr_lang.proofs.stack.Stack.cut.Goals as goal
 
