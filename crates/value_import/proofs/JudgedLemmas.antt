@@ -20,6 +20,16 @@ pub judged-refused : (names more : List Condition) (code : Code) (taken : Judged
     → judged.Refused code ≡ judged_by (first_of (names ++ more)) taken
 judged-refused names more code taken is = ap (λ o. judged_by o taken) (first-here names more code (sym is))
 
+-- none of the first conditions holds, and one of the others does
+pub judged-refused-there : (first more : List Condition) (code : Code) (taken : Judged) → None ≡ first_of first → Some code ≡ first_of more
+    → judged.Refused code ≡ judged_by (first_of (first ++ more)) taken
+judged-refused-there first more code taken none is = ap (λ o. judged_by o taken) (first-there first more (Some code) none is)
+
+-- none of both holds
+pub judged-taken : (first more : List Condition) (taken j : Judged) → None ≡ first_of first → None ≡ first_of more → j ≡ taken
+    → j ≡ judged_by (first_of (first ++ more)) taken
+judged-taken first more taken j none beyond is = is ∙ ap (λ o. judged_by o taken) (first-there first more None none beyond)
+
 -- no condition on the names holds, and all of them are there
 pub judged-there : {P : Type 0} (names : List Condition) (place : Option P) (there : P → List Condition) (taken : P → Judged) (p : P) (j : Judged)
     → first_of names ≡ None → place ≡ Some p → j ≡ judged_by (first_of (there p)) (taken p)

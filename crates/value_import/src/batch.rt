@@ -1,13 +1,12 @@
 //! The verdict so far, and what its writes say.
 
-ghost use Rattle.std.specs.Prelude.{◌≡◌, ◌+◌, ◌<◌, ◌^◌, ℕ, ◌++◌, ◌∷◌, [], IfOk, OnOk, is_some};
+ghost use Rattle.std.specs.Prelude.{◌≡◌, ◌+◌, ◌<◌, ◌^◌, ◌++◌, ◌∷◌, [], OnOk, is_some};
 ghost use Rattle.dh_changes.specs.World.{facts};
 ghost use Rattle.value_import.specs.Outcomes.{nothing, taken, AreAtMost};
 ghost use Rattle.value_import.specs.Said as says;
 ghost use Rattle.value_import.specs.Said.{AreSaid, IsNoted};
 
 use crate::judged::Judged;
-use dh_base::codes::Code;
 use dh_base::items::Items;
 use dh_base::memory::Memory;
 use dh_changes::change::Write;
@@ -23,20 +22,6 @@ pub struct Batch {
     pub verdict: Verdict,
     pub values: HashMap<ValueKey, bool>,
     pub registrations: HashMap<RegKey, bool>,
-}
-
-/// No writes, with room for so many.
-pub fn room_for(alloc: Global, count: usize) -> Result<Items<Write>, Memory>
-    ensures { IfOk result (λ writes. writes ≡ []) }
-{
-    Ok(Items::from(Vec::with_capacity(alloc, count)?))
-}
-
-/// Gives back the room that is left over. A log keeps the writes as long as it stands.
-pub fn trim(writes: &mut Items<Write>)
-    ensures { writes.new ≡ writes.old }
-{
-    writes.items.shrink_to_fit();
 }
 
 /// Nothing is accepted. What will be accepted comes to these writes, of which there are none.
@@ -60,15 +45,6 @@ pub fn empty_batch(alloc: Global, writes: Items<Write>) -> Batch
     }
 }
 
-fn is_stored(world: &World, key: &ValueKey) -> bool
-    ensures { result ≡ is_some ((facts world.now).value key.now) }
-{
-    match world.value(key) {
-        Some(_) => true,
-        None => false,
-    }
-}
-
 /// Whether the key holds a value, after the log and the writes accepted so far.
 pub fn holds_value(world: &World, batch: &Batch, key: &ValueKey) -> bool
     requires { AreSaid batch.now.values batch.now.registrations batch.now.verdict.writes }
@@ -76,14 +52,8 @@ pub fn holds_value(world: &World, batch: &Batch, key: &ValueKey) -> bool
 {
     match batch.values.get(key) {
         Some(held) => *held,
-        None => is_stored(world, key),
+        None => world.value(key).is_some(),
     }
-}
-
-fn is_registered(world: &World, key: &RegKey) -> bool
-    ensures { result ≡ is_some ((facts world.now).registration key.now) }
-{
-    world.registration(key).is_some()
 }
 
 /// Whether the key holds a registration, after the log and the writes accepted so far.
@@ -93,7 +63,7 @@ pub fn holds_registration(world: &World, batch: &Batch, key: &RegKey) -> bool
 {
     match batch.registrations.get(key) {
         Some(held) => *held,
-        None => is_registered(world, key),
+        None => world.registration(key).is_some(),
     }
 }
 
@@ -143,20 +113,6 @@ fn accept(batch: &mut Batch, write: Write) -> Result<(), Memory>
     Ok(())
 }
 
-fn refuse(verdict: &mut Verdict, index: u64, code: Code) -> Result<(), Memory>
-    requires { verdict.old.ignored + 1 < 2 ^ 64 }
-    ensures { OnOk result (verdict.new ≡ taken index (Judged.Refused code) verdict.old) }
-{
-    let conflict = Conflict {
-        code,
-        index,
-        uid: None,
-    };
-    verdict.conflicts.push(conflict)?;
-    verdict.ignored += 1;
-    Ok(())
-}
-
 /// Takes in what the value or completion at an index comes to.
 pub fn take_in(batch: &mut Batch, index: u64, judged: Judged) -> Result<(), Memory>
     requires said { AreSaid batch.old.values batch.old.registrations batch.old.verdict.writes }
@@ -167,7 +123,15 @@ pub fn take_in(batch: &mut Batch, index: u64, judged: Judged) -> Result<(), Memo
     ensures counts { OnOk result (AreAtMost (index + 1) batch.new.verdict) }
 {
     match judged {
-        Judged::Refused(code) => refuse(&mut batch.verdict, index, code),
+        Judged::Refused(code) => {
+            let conflict = Conflict {
+                code,
+                index,
+                uid: None,
+            };
+            batch.verdict.ignored += 1;
+            batch.verdict.conflicts.push(conflict)
+        }
         Judged::Ignored => {
             batch.verdict.ignored += 1;
             Ok(())

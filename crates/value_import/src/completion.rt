@@ -1,11 +1,10 @@
 //! How a completion is judged.
 
-ghost use Rattle.std.specs.Prelude.{◌≡◌, ◌<◌, length, IfOk, unwrap_or, pos, is_some};
-ghost use Rattle.dh_metadata.specs.Linked.{IsBelow};
+ghost use Rattle.std.specs.Prelude.{◌≡◌, ◌<◌, IfOk, unwrap_or, pos, is_some};
 ghost use Rattle.dh_changes.specs.World.{facts};
 ghost use Rattle.value_import.specs.Completions as asks;
-ghost use Rattle.value_import.specs.Completions.{typed_set, reg_names_of, reg_name_conditions, reg_place_of, set_id, reg_key_of, reg_conditions};
-ghost use Rattle.value_import.specs.Completions.{placed_reg_conditions, registered, completed, judged_completion, uncounted};
+ghost use Rattle.value_import.specs.Completions.{typed_set, reg_names_of, reg_name_conditions, reg_place_of, reg_key_of, reg_conditions};
+ghost use Rattle.value_import.specs.Completions.{placed_reg_conditions, registered, judged_completion, uncounted};
 ghost use Rattle.value_import.specs.Dates.{day_told};
 ghost use Rattle.value_import.specs.Outcomes.{IsKnown};
 ghost use Rattle.value_import.specs.Ranges.{IsWithin, AreRegWithin, Finds};
@@ -25,29 +24,14 @@ use dh_base::codes::Code;
 use dh_base::memory::Memory;
 use dh_changes::change::Write;
 use dh_changes::keys::RegKey;
-use dh_changes::outcome::Who;
 use dh_changes::text::Text;
-use dh_changes::world::World;
 use dh_metadata::kind::Kind;
 use dh_metadata::metadata::Metadata;
-use dh_periods::Period;
 use import_forms::completion::Completion;
 use import_forms::set::ValueSet;
 use std::alloc::Global;
 
-#[tactic(auto, unfolding(crate::specs::Completions::typed_set))]
-fn typed_set(meta: &Metadata, set: Option<u32>, period: &Option<Period>) -> Option<u32>
-    requires { IsBelow (length meta.now.data_sets) set }
-    ensures value { result ≡ typed_set meta.now set period.now }
-    ensures in_range { IsBelow (length meta.now.data_sets) result }
-{
-    match period {
-        Some(period) => typed(meta, period.kind(), set),
-        None => None,
-    }
-}
-
-#[tactic(auto, unfolding(crate::specs::Completions::reg_names_of))]
+#[tactic(auto, unfolding(crate::specs::Completions::reg_names_of, crate::specs::Completions::typed_set))]
 fn reg_names_of(meta: &Metadata, asked: &Completion) -> RegNames
     ensures value { result ≡ reg_names_of meta.now asked.now }
     ensures in_range { AreRegWithin meta.now result }
@@ -55,7 +39,10 @@ fn reg_names_of(meta: &Metadata, asked: &Completion) -> RegNames
     let unit = object_named(meta, Kind::OrganisationUnit, &asked.unit);
     let period = period_named(&asked.period);
     let set = object_named(meta, Kind::DataSet, &asked.data_set);
-    let found = typed_set(meta, set, &period);
+    let found = match period {
+        Some(period) => typed(meta, period.kind(), set),
+        None => None,
+    };
     let attribute = attribute_of(meta, &asked.attribute, found);
     RegNames {
         unit,
@@ -66,12 +53,11 @@ fn reg_names_of(meta: &Metadata, asked: &Completion) -> RegNames
     }
 }
 
-fn reg_place_of(meta: &Metadata, names: &RegNames) -> Result<Place, Code>
-    requires { AreRegWithin meta.now names.now }
-    ensures found { Finds (reg_name_conditions names.now) (reg_place_of names.now) result }
+fn placed(meta: &Metadata, asked: &Completion) -> Result<Place, Code>
+    ensures found { Finds (reg_name_conditions (reg_names_of meta.now asked.now)) (reg_place_of (reg_names_of meta.now asked.now)) result }
     ensures in_range { IfOk result (IsWithin meta.now) }
 {
-    let _meta = meta;
+    let names = reg_names_of(meta, asked);
     let Some(unit) = names.unit else {
         return Err(Code::C2);
     };
@@ -93,14 +79,6 @@ fn reg_place_of(meta: &Metadata, names: &RegNames) -> Result<Place, Code>
         set,
         attribute,
     })
-}
-
-fn placed(meta: &Metadata, asked: &Completion) -> Result<Place, Code>
-    ensures found { Finds (reg_name_conditions (reg_names_of meta.now asked.now)) (reg_place_of (reg_names_of meta.now asked.now)) result }
-    ensures in_range { IfOk result (IsWithin meta.now) }
-{
-    let names = reg_names_of(meta, asked);
-    reg_place_of(meta, &names)
 }
 
 #[tactic(auto, unfolding(crate::specs::Completions::reg_key_of, crate::specs::Values::unit_id, crate::specs::Values::option_combo_id))]
@@ -129,70 +107,19 @@ fn reg_condition(day: Option<i32>, done: bool, held: bool) -> Option<Code>
     None
 }
 
-fn condition(
-    asking: &Asking<'_>,
-    day: Option<i32>,
-    done: bool,
-    held: bool,
-    place: &Place,
-) -> Option<Code>
-    requires who { IsKnown asking.now.meta.now asking.now.who }
-    requires place { IsWithin asking.now.meta.now place.now }
-    ensures { result ≡ first_of (placed_reg_conditions (facts asking.now.world.now) asking.now.meta.now asking.now.who day done held place.now) }
+fn registered(key: RegKey, day: i32, done: bool, held: bool) -> Judged
+    ensures { result ≡ registered key day done held }
 {
-    match place_condition(asking.world, asking.meta, asking.who, place) {
-        Some(code) => Some(code),
-        None => reg_condition(day, done, held),
-    }
-}
-
-fn completed(key: RegKey, day: i32, held: bool) -> Judged
-    ensures { result ≡ completed key day held }
-{
-    if held {
+    if !done {
+        Judged::Deleted(Write::Uncomplete { key })
+    } else if held {
         Judged::Updated(Write::Complete { key, day })
     } else {
         Judged::Imported(Write::Complete { key, day })
     }
 }
 
-fn registered(key: RegKey, day: i32, done: bool, held: bool) -> Judged
-    ensures { result ≡ registered key day done held }
-{
-    if done {
-        completed(key, day, held)
-    } else {
-        Judged::Deleted(Write::Uncomplete { key })
-    }
-}
-
-fn day_or_first(day: Option<i32>) -> i32
-    ensures { result ≡ unwrap_or day (pos 0) }
-{
-    day.unwrap_or(0)
-}
-
-// What a completion comes to, where it is there or isn't.
-fn judge_held(
-    asking: &Asking<'_>,
-    day: Option<i32>,
-    done: bool,
-    key: RegKey,
-    held: bool,
-    place: &Place,
-) -> Judged
-    requires who { IsKnown asking.now.meta.now asking.now.who }
-    requires place { IsWithin asking.now.meta.now place.now }
-    ensures { result ≡ judged_by
-        (first_of (placed_reg_conditions (facts asking.now.world.now) asking.now.meta.now asking.now.who day done held place.now))
-        (registered key (unwrap_or day (pos 0)) done held) }
-{
-    match condition(asking, day, done, held, place) {
-        Some(code) => Judged::Refused(code),
-        None => registered(key, day_or_first(day), done, held),
-    }
-}
-
+// What a completion comes to in its place.
 fn judge_placed(
     asking: &Asking<'_>,
     day: Option<i32>,
@@ -211,7 +138,13 @@ fn judge_placed(
 {
     let key = key_of(asking.meta, place);
     let held = holds_registration(asking.world, batch, &key);
-    judge_held(asking, day, done, key, held, place)
+    if let Some(code) = place_condition(asking.world, asking.meta, asking.who, place) {
+        return Judged::Refused(code);
+    }
+    match reg_condition(day, done, held) {
+        Some(code) => Judged::Refused(code),
+        None => registered(key, day.unwrap_or(0), done, held),
+    }
 }
 
 /// What a completion comes to, after the writes accepted so far.

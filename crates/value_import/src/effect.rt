@@ -1,17 +1,17 @@
 //! What a data value comes to.
 
-ghost use Rattle.std.specs.Prelude.{◌≡◌, ◌<◌, length, unwrap_or, [], IfOk, not, ◌&&◌};
+ghost use Rattle.std.specs.Prelude.{◌≡◌, ◌<◌, length, unwrap_or, [], IfOk};
 ghost use Rattle.dh_changes.specs.World.{facts};
 ghost use Rattle.value_import.specs.Outcomes.{IsKnown};
 ghost use Rattle.value_import.specs.Ranges.{IsValueWithin};
-ghost use Rattle.value_import.specs.Rules.{first_of, of_user};
+ghost use Rattle.value_import.specs.Rules.{first_of};
 ghost use Rattle.value_import.specs.Values.{is_delete, has_value, is_summed, is_zero, is_idle_zero};
-ghost use Rattle.value_import.specs.Values.{is_approved, value_conditions, stored, zeroed, accepted};
+ghost use Rattle.value_import.specs.Values.{is_approved, value_conditions, stored, accepted};
 
 use crate::asking::Asking;
 use crate::judged::Judged;
 use crate::place::ValuePlace;
-use crate::rules::{is_too_early, is_too_late};
+use crate::rules::{is_expired, is_future};
 use crate::strategy::{is_delete_all, is_misplaced};
 use dh_base::codes::Code;
 use dh_base::memory::Memory;
@@ -103,23 +103,6 @@ fn is_approved(world: &World, meta: &Metadata, place: &ValuePlace) -> bool
     position.is_some()
 }
 
-fn is_closed(world: &World, meta: &Metadata, who: Who, place: &ValuePlace) -> bool
-    requires { IsValueWithin meta.now place.now }
-    ensures { result ≡ of_user (λ _user. is_approved (facts world.now) meta.now place.now) who }
-{
-    match who {
-        Who::User(_) => is_approved(world, meta, place),
-        Who::Loader => false,
-    }
-}
-
-fn is_unfit(meta: &Metadata, strategy: ImportStrategy, place: &ValuePlace, value: &SetValue) -> bool
-    requires { place.now.element < length meta.now.data_elements }
-    ensures { result ≡ (not (is_delete strategy value.now) && not (has_value meta.now place.now.element value.now.value)) }
-{
-    !is_delete(strategy, value) && !has_value(meta, place.element, &value.value)
-}
-
 /// The first condition on a value in its place that holds; `held` says whether its key holds a value.
 #[tactic(auto, unfolding(crate::specs::Values::value_conditions))]
 pub fn value_condition(
@@ -134,19 +117,22 @@ pub fn value_condition(
     ensures { result ≡ first_of (value_conditions (facts asking.now.world.now) asking.now.meta.now asking.now.who asking.now.today
         strategy held place.now value.now) }
 {
-    if is_unfit(asking.meta, strategy, place, value) {
+    let deletes = is_delete(strategy, value);
+    if !deletes && !has_value(asking.meta, place.element, &value.value) {
         return Some(Code::C11);
     }
-    if is_too_early(asking.meta, asking.who, asking.today, &place.at) {
-        return Some(Code::C12);
+    if let Who::User(user) = asking.who {
+        if is_future(asking.meta, asking.today, &place.at) {
+            return Some(Code::C12);
+        }
+        if is_expired(asking.meta, asking.today, &place.at, user) {
+            return Some(Code::C13);
+        }
+        if is_approved(asking.world, asking.meta, place) {
+            return Some(Code::C14);
+        }
     }
-    if is_too_late(asking.meta, asking.who, asking.today, &place.at) {
-        return Some(Code::C13);
-    }
-    if is_closed(asking.world, asking.meta, asking.who, place) {
-        return Some(Code::C14);
-    }
-    if is_misplaced(strategy, is_delete(strategy, value), held) {
+    if is_misplaced(strategy, deletes, held) {
         return Some(Code::C15);
     }
     None
@@ -173,16 +159,6 @@ fn stored(alloc: Global, key: ValueKey, held: bool, text: &[u8]) -> Result<Judge
     }
 }
 
-fn zeroed(key: ValueKey, held: bool) -> Judged
-    ensures { result ≡ zeroed key held }
-{
-    if held {
-        Judged::Deleted(Write::ValueCleared { key })
-    } else {
-        Judged::Ignored
-    }
-}
-
 /// What a value without a conflict comes to.
 #[tactic(auto, unfolding(crate::specs::Values::accepted))]
 pub fn accepted(
@@ -201,7 +177,11 @@ pub fn accepted(
     }
     let text = text_of(&value.value);
     if is_idle_zero(meta, element, text) {
-        return Ok(zeroed(slot.key, slot.held));
+        return Ok(if slot.held {
+            Judged::Deleted(Write::ValueCleared { key: slot.key })
+        } else {
+            Judged::Ignored
+        });
     }
     stored(alloc, slot.key, slot.held, text)
 }

@@ -15,52 +15,12 @@ use crate::judged::Judged;
 use crate::place::ValuePlace;
 use crate::rules::place_condition;
 use crate::value::{key_of, placed};
-use dh_base::codes::Code;
 use dh_base::memory::Memory;
 use dh_changes::outcome::ImportStrategy;
 use import_forms::set::{SetValue, ValueSet};
 use std::alloc::Global;
 
-fn condition(
-    asking: &Asking<'_>,
-    strategy: ImportStrategy,
-    held: bool,
-    place: &ValuePlace,
-    value: &SetValue,
-) -> Option<Code>
-    requires who { IsKnown asking.now.meta.now asking.now.who }
-    requires place { IsValueWithin asking.now.meta.now place.now }
-    ensures { result ≡ first_of (placed_conditions (facts asking.now.world.now) asking.now.meta.now asking.now.who asking.now.today
-        strategy held place.now value.now) }
-{
-    match place_condition(asking.world, asking.meta, asking.who, &place.at) {
-        Some(code) => Some(code),
-        None => value_condition(asking, strategy, held, place, value),
-    }
-}
-
-// What a value comes to, where its key holds a value or doesn't.
-fn judge_held(
-    alloc: Global,
-    asking: &Asking<'_>,
-    strategy: ImportStrategy,
-    slot: Slot,
-    place: &ValuePlace,
-    value: &SetValue,
-) -> Result<Judged, Memory>
-    requires who { IsKnown asking.now.meta.now asking.now.who }
-    requires place { IsValueWithin asking.now.meta.now place.now }
-    ensures { IfOk result (λ judged. judged ≡ judged_by
-        (first_of (placed_conditions (facts asking.now.world.now) asking.now.meta.now asking.now.who asking.now.today
-        strategy slot.held place.now value.now))
-        (accepted asking.now.meta.now strategy slot.key slot.held place.now.element value.now)) }
-{
-    match condition(asking, strategy, slot.held, place, value) {
-        Some(code) => Ok(Judged::Refused(code)),
-        None => accepted(alloc, asking.meta, strategy, slot, place.element, value),
-    }
-}
-
+// What a value comes to in its place.
 fn judge_placed(
     alloc: Global,
     asking: &Asking<'_>,
@@ -80,7 +40,14 @@ fn judge_placed(
 {
     let key = key_of(asking.meta, place);
     let held = holds_value(asking.world, batch, &key);
-    judge_held(alloc, asking, strategy, Slot { key, held }, place, value)
+    if let Some(code) = place_condition(asking.world, asking.meta, asking.who, &place.at) {
+        return Ok(Judged::Refused(code));
+    }
+    if let Some(code) = value_condition(asking, strategy, held, place, value) {
+        return Ok(Judged::Refused(code));
+    }
+    let slot = Slot { key, held };
+    accepted(alloc, asking.meta, strategy, slot, place.element, value)
 }
 
 /// What a value comes to, after the writes accepted so far.

@@ -1,14 +1,13 @@
 //! What texts name.
 
-ghost use Rattle.std.specs.Prelude.{◌≡◌, ◌<◌, length, find, option_and_then};
-ghost use Rattle.std.specs.Option.{option_or, option_to_list};
-ghost use Rattle.dh_base.specs.Uid.{uid_of};
+ghost use Rattle.std.specs.Prelude.{◌≡◌, ◌<◌, false, length, find};
+ghost use Rattle.std.specs.Option.{option_map_or, option_or, option_to_list};
 ghost use Rattle.dh_metadata.specs.declared.kind.Kind.TheVariants.{DataSet};
 ghost use Rattle.dh_metadata.specs.Linked.{AreBelow, IsBelow};
 ghost use Rattle.dh_metadata.specs.Objects.{count_of};
 ghost use Rattle.dh_metadata.specs.Sets as sets;
-ghost use Rattle.value_import.specs.Names.{object_named, period_named, if_so, has_type, candidates, chosen_set, is_of, chosen_combo};
-ghost use Rattle.value_import.specs.Values.{has_candidate};
+ghost use Rattle.value_import.specs.Names.{object_named, period_named, if_so, has_type, chosen_combo};
+ghost use Rattle.value_import.specs.Values.{has_candidate, set_of};
 
 use dh_base::uid::Uid;
 use dh_changes::text::Text;
@@ -26,23 +25,17 @@ pub fn either<'a>(own: &'a Option<Text>, other: &'a Option<Text>) -> &'a Option<
     }
 }
 
-fn id_in(text: &Option<Text>) -> Option<Uid>
-    ensures { result ≡ option_and_then uid_of text.now }
-{
-    match text {
-        Some(text) => Uid::parse(text.as_slice()),
-        None => None,
-    }
-}
-
 /// The object of a kind that a text names.
 #[tactic(auto, unfolding(crate::specs::Names::object_named))]
 pub fn object_named(meta: &Metadata, kind: Kind, text: &Option<Text>) -> Option<u32>
     ensures value { result ≡ object_named meta.now kind text.now }
     ensures in_range { IsBelow (count_of meta.now kind) result }
 {
-    match id_in(text) {
-        Some(id) => meta.find(kind, id),
+    match text {
+        Some(text) => match Uid::parse(text.as_slice()) {
+            Some(id) => meta.find(kind, id),
+            None => None,
+        },
         None => None,
     }
 }
@@ -116,12 +109,23 @@ pub fn typed(meta: &Metadata, kind: PeriodType, found: Option<u32>) -> Option<u3
 }
 
 /// The data set of a value: the first of the candidates for periods of the type.
-#[tactic(auto, unfolding(crate::specs::Names::chosen_set, crate::specs::Names::candidates))]
-pub fn chosen_set(meta: &Metadata, name: &Option<Text>, element: u32, period: Period) -> Option<u32>
-    requires { element < length meta.now.data_elements }
-    ensures value { result ≡ chosen_set meta.now name.now element period }
+#[tactic(auto, unfolding(crate::specs::Values::set_of, crate::specs::Names::chosen_set, crate::specs::Names::candidates))]
+pub fn set_of(
+    meta: &Metadata,
+    name: &Option<Text>,
+    element: Option<u32>,
+    period: &Option<Period>,
+) -> Option<u32>
+    requires { IsBelow (length meta.now.data_elements) element }
+    ensures value { result ≡ set_of meta.now name.now element period.now }
     ensures in_range { IsBelow (length meta.now.data_sets) result }
 {
+    let Some(element) = element else {
+        return None;
+    };
+    let Some(period) = period else {
+        return None;
+    };
     match name {
         None => first_typed(meta, period.kind(), meta.sets_with(element)),
         Some(_) => typed(meta, period.kind(), named_candidate(meta, name, element)),
@@ -130,54 +134,37 @@ pub fn chosen_set(meta: &Metadata, name: &Option<Text>, element: u32, period: Pe
 
 /// Whether there is a data set to which a value of the element may belong.
 #[tactic(auto, unfolding(crate::specs::Values::has_candidate, crate::specs::Names::candidates))]
-pub fn has_candidate(meta: &Metadata, name: &Option<Text>, element: u32) -> bool
-    requires { element < length meta.now.data_elements }
-    ensures { result ≡ has_candidate meta.now name.now element }
+pub fn has_candidate(meta: &Metadata, name: &Option<Text>, element: Option<u32>) -> bool
+    requires { IsBelow (length meta.now.data_elements) element }
+    ensures { result ≡ option_map_or (has_candidate meta.now name.now) element false }
 {
+    let Some(element) = element else {
+        return false;
+    };
     match name {
         None => meta.sets_with(element).len() != 0,
         Some(_) => named_candidate(meta, name, element).is_some(),
     }
 }
 
-#[tactic(auto, unfolding(crate::specs::Names::is_of))]
-fn is_of(meta: &Metadata, combo: u32, option_combo: u32) -> bool
-    requires { option_combo < length meta.now.category_option_combos }
-    ensures { result ≡ is_of meta.now combo option_combo }
-{
-    meta.option_combo(option_combo).category_combo == combo
-}
-
-fn named_combo(meta: &Metadata, combo: u32, found: Option<u32>) -> Option<u32>
-    requires { IsBelow (length meta.now.category_option_combos) found }
-    ensures value { result ≡ if_so (is_of meta.now combo) found }
+/// The option combination of a category combination: the named one, if it is of it, or without a name
+/// the only one.
+#[tactic(auto, unfolding(crate::specs::Names::chosen_combo, crate::specs::Names::is_of), using(crate::proofs::NameLemmas::only_below))]
+pub fn chosen_combo(meta: &Metadata, name: &Option<Text>, combo: u32) -> Option<u32>
+    ensures value { result ≡ chosen_combo meta.now name.now combo }
     ensures in_range { IsBelow (length meta.now.category_option_combos) result }
 {
-    match found {
-        Some(option_combo) => {
-            if is_of(meta, combo, option_combo) {
-                Some(option_combo)
+    if name.is_none() {
+        return meta.combos().only(combo);
+    }
+    match object_named(meta, Kind::CategoryOptionCombo, name) {
+        Some(named) => {
+            if meta.option_combo(named).category_combo == combo {
+                Some(named)
             } else {
                 None
             }
         }
         None => None,
-    }
-}
-
-/// The option combination of a category combination: the named one, if it is of it, or without a name
-/// the only one.
-#[tactic(auto, unfolding(crate::specs::Names::chosen_combo), using(crate::proofs::NameLemmas::only_below))]
-pub fn chosen_combo(meta: &Metadata, name: &Option<Text>, combo: u32) -> Option<u32>
-    ensures value { result ≡ chosen_combo meta.now name.now combo }
-    ensures in_range { IsBelow (length meta.now.category_option_combos) result }
-{
-    match name {
-        None => meta.combos().only(combo),
-        Some(_) => named_combo(
-            meta,
-            combo,
-            object_named(meta, Kind::CategoryOptionCombo, name),
-        ),
     }
 }

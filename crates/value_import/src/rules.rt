@@ -5,7 +5,7 @@ ghost use Rattle.std.specs.Ordering.{int_eq};
 ghost use Rattle.dh_changes.specs.World.{facts};
 ghost use Rattle.value_import.specs.Outcomes.{IsKnown};
 ghost use Rattle.value_import.specs.Ranges.{IsWithin};
-ghost use Rattle.value_import.specs.Rules.{first_of, of_user, may_write, is_captured, place_conditions, is_beyond, is_future, is_past, is_expired};
+ghost use Rattle.value_import.specs.Rules.{first_of, place_conditions, is_beyond, is_future, is_past, is_expired};
 
 use crate::place::Place;
 use crate::rights::{is_captured, may_write};
@@ -14,28 +14,6 @@ use dh_changes::outcome::Who;
 use dh_changes::world::World;
 use dh_metadata::metadata::Metadata;
 use dh_periods::{Period, containing};
-
-fn may_not_write(world: &World, meta: &Metadata, who: Who, place: &Place) -> bool
-    requires who { IsKnown meta.now who }
-    requires place { IsWithin meta.now place.now }
-    ensures { result ≡ of_user (λ user. not (may_write (facts world.now) meta.now place.now user)) who }
-{
-    match who {
-        Who::User(user) => !may_write(world, meta, place, user),
-        Who::Loader => false,
-    }
-}
-
-fn is_out_of_scope(world: &World, meta: &Metadata, who: Who, place: &Place) -> bool
-    requires who { IsKnown meta.now who }
-    requires place { IsWithin meta.now place.now }
-    ensures { result ≡ of_user (λ user. not (is_captured (facts world.now) meta.now place.now.unit user)) who }
-{
-    match who {
-        Who::User(user) => !is_captured(world, meta, place.unit, user),
-        Who::Loader => false,
-    }
-}
 
 /// The first condition on the place that holds.
 #[tactic(auto, unfolding(crate::specs::Rules::place_conditions))]
@@ -47,10 +25,13 @@ pub fn place_condition(world: &World, meta: &Metadata, who: Who, place: &Place) 
     if !meta.is_assigned(place.set, place.unit) {
         return Some(Code::C8);
     }
-    if may_not_write(world, meta, who, place) {
+    let Who::User(user) = who else {
+        return None;
+    };
+    if !may_write(world, meta, place, user) {
         return Some(Code::C9);
     }
-    if is_out_of_scope(world, meta, who, place) {
+    if !is_captured(world, meta, place.unit, user) {
         return Some(Code::C10);
     }
     None
@@ -84,8 +65,9 @@ fn is_beyond(today: i32, most: i64, period: Period) -> bool
     }
 }
 
+/// Whether the period is too far in the future.
 #[tactic(auto, unfolding(crate::specs::Rules::is_future, crate::specs::Rules::open_periods))]
-fn is_future(meta: &Metadata, today: i32, place: &Place) -> bool
+pub fn is_future(meta: &Metadata, today: i32, place: &Place) -> bool
     requires { IsWithin meta.now place.now }
     ensures { result ≡ is_future meta.now today place.now }
 {
@@ -96,17 +78,6 @@ fn is_future(meta: &Metadata, today: i32, place: &Place) -> bool
     )
 }
 
-/// Whether the period is too far in the future for who asks.
-pub fn is_too_early(meta: &Metadata, who: Who, today: i32, place: &Place) -> bool
-    requires { IsWithin meta.now place.now }
-    ensures { result ≡ of_user (λ _user. is_future meta.now today place.now) who }
-{
-    match who {
-        Who::User(_) => is_future(meta, today, place),
-        Who::Loader => false,
-    }
-}
-
 #[tactic(auto, unfolding(crate::specs::Rules::is_past))]
 fn is_past(today: i32, days: i64, period: Period) -> bool
     ensures { result ≡ is_past today days period }
@@ -114,24 +85,13 @@ fn is_past(today: i32, days: i64, period: Period) -> bool
     is_some_days(days) && is_more(ahead(today, period.last()), days)
 }
 
+/// Whether the period is past, and the user may not write there any more.
 #[tactic(auto, unfolding(crate::specs::Rules::is_expired, crate::specs::Rules::expiry_days, crate::specs::Rules::edit_expired))]
-fn is_expired(meta: &Metadata, today: i32, place: &Place, user: u32) -> bool
+pub fn is_expired(meta: &Metadata, today: i32, place: &Place, user: u32) -> bool
     requires user { user < length meta.now.users }
     requires place { IsWithin meta.now place.now }
     ensures { result ≡ is_expired meta.now today place.now user }
 {
     is_past(today, meta.data_set(place.set).expiry_days, place.period)
         && !meta.has_authority(user, b"F_EDIT_EXPIRED")
-}
-
-/// Whether the period is past for who asks.
-pub fn is_too_late(meta: &Metadata, who: Who, today: i32, place: &Place) -> bool
-    requires who { IsKnown meta.now who }
-    requires place { IsWithin meta.now place.now }
-    ensures { result ≡ of_user (λ user. is_expired meta.now today place.now user) who }
-{
-    match who {
-        Who::User(user) => is_expired(meta, today, place, user),
-        Who::Loader => false,
-    }
 }

@@ -1,52 +1,19 @@
 //! What a data value names, and where it belongs.
 
-ghost use Rattle.std.specs.Prelude.{◌≡◌, ◌<◌, false, length, IfOk};
-ghost use Rattle.std.specs.Option.{option_map_or};
+ghost use Rattle.std.specs.Prelude.{◌≡◌, length, IfOk};
 ghost use Rattle.dh_metadata.specs.Linked.{IsBelow};
 ghost use Rattle.value_import.specs.Ranges.{IsValueWithin, AreWithin, Finds};
-ghost use Rattle.value_import.specs.Values as values;
-ghost use Rattle.value_import.specs.Values.{set_of, combo_of, attribute_of, names_of, name_conditions, place_of, unit_id, option_combo_id, element_id};
+ghost use Rattle.value_import.specs.Values.{combo_of, attribute_of, names_of, name_conditions, place_of, unit_id, option_combo_id, element_id};
 ghost use Rattle.value_import.specs.Values.{key_of, set_combo, element_combo};
 
-use crate::names::{chosen_combo, chosen_set, either, has_candidate, object_named, period_named};
+use crate::names::{chosen_combo, either, has_candidate, object_named, period_named, set_of};
 use crate::place::{Place, ValueNames, ValuePlace};
 use dh_base::codes::Code;
 use dh_changes::keys::ValueKey;
 use dh_changes::text::Text;
 use dh_metadata::kind::Kind;
 use dh_metadata::metadata::Metadata;
-use dh_periods::Period;
 use import_forms::set::{SetValue, ValueSet};
-
-#[tactic(auto, unfolding(crate::specs::Values::set_of))]
-fn set_of(
-    meta: &Metadata,
-    name: &Option<Text>,
-    element: Option<u32>,
-    period: &Option<Period>,
-) -> Option<u32>
-    requires { IsBelow (length meta.now.data_elements) element }
-    ensures value { result ≡ set_of meta.now name.now element period.now }
-    ensures in_range { IsBelow (length meta.now.data_sets) result }
-{
-    match element {
-        Some(element) => match period {
-            Some(period) => chosen_set(meta, name, element, *period),
-            None => None,
-        },
-        None => None,
-    }
-}
-
-fn is_candidate(meta: &Metadata, name: &Option<Text>, element: Option<u32>) -> bool
-    requires { IsBelow (length meta.now.data_elements) element }
-    ensures { result ≡ option_map_or (values.has_candidate meta.now name.now) element false }
-{
-    match element {
-        Some(element) => has_candidate(meta, name, element),
-        None => false,
-    }
-}
 
 #[tactic(auto, unfolding(crate::specs::Values::combo_of, crate::specs::Values::element_combo))]
 fn combo_of(meta: &Metadata, name: &Option<Text>, element: Option<u32>) -> Option<u32>
@@ -87,19 +54,19 @@ fn names_of(meta: &Metadata, set: &ValueSet, value: &SetValue) -> ValueNames
         element,
         unit,
         period,
-        has_candidate: is_candidate(meta, &set.data_set, element),
+        has_candidate: has_candidate(meta, &set.data_set, element),
         set: chosen,
         combo: combo_of(meta, &value.combo, element),
         attribute: attribute_of(meta, either(&value.attribute, &set.attribute), chosen),
     }
 }
 
-fn place_of(meta: &Metadata, names: &ValueNames) -> Result<ValuePlace, Code>
-    requires { AreWithin meta.now names.now }
-    ensures found { Finds (name_conditions names.now) (place_of names.now) result }
+/// Where a value belongs, or the first conflict of what it names.
+pub fn placed(meta: &Metadata, set: &ValueSet, value: &SetValue) -> Result<ValuePlace, Code>
+    ensures found { Finds (name_conditions (names_of meta.now set.now value.now)) (place_of (names_of meta.now set.now value.now)) result }
     ensures in_range { IfOk result (IsValueWithin meta.now) }
 {
-    let _meta = meta;
+    let names = names_of(meta, set, value);
     let Some(element) = names.element else {
         return Err(Code::C1);
     };
@@ -131,15 +98,6 @@ fn place_of(meta: &Metadata, names: &ValueNames) -> Result<ValuePlace, Code>
             attribute,
         },
     })
-}
-
-/// Where a value belongs, or the first conflict of what it names.
-pub fn placed(meta: &Metadata, set: &ValueSet, value: &SetValue) -> Result<ValuePlace, Code>
-    ensures found { Finds (name_conditions (names_of meta.now set.now value.now)) (place_of (names_of meta.now set.now value.now)) result }
-    ensures in_range { IfOk result (IsValueWithin meta.now) }
-{
-    let names = names_of(meta, set, value);
-    place_of(meta, &names)
 }
 
 /// The key of a value.

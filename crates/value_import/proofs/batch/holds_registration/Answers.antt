@@ -1,4 +1,4 @@
-use Rattle.std.proofs.Common.{◌∙◌, map}
+use Rattle.std.proofs.Common.{◌∙◌, map, is_some, ap}
 use Rattle.dh_changes.specs.Said.{said_by, last_said, of_registration}
 use Rattle.dh_changes.specs.World.{facts}
 use Rattle.value_import.specs.Said.{holds_registration}
@@ -15,7 +15,7 @@ returns-in-Some c =
 pub returns-in-None : goal.returns-in-None
 unfolding holds_registration
 returns-in-None c =
-    c.is_registered.ensures
+    c.is_some.ensures ∙ ap is_some c.registration.ensures
     ∙ held-else (last_said (of_registration c.args.key.now) (map said_by c.args.batch.now.verdict.writes))
     ((facts c.args.world.now).registration c.args.key.now)
     (c.in-None.ensures.value ∙ c.requires.registrations c.args.key.now)

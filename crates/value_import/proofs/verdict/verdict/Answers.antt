@@ -1,20 +1,17 @@
-use Rattle.std.proofs.Common.{FitsSigned, to_z-of_z, w64}
+use Rattle.std.proofs.Common.{◌≡◌, rules, Ok}
 use Rattle.dh_changes.specs.World.{facts}
-use Rattle.value_import.proofs.WriteLemmas.{set-writes, set-fits, set-dry}
+use Rattle.value_import.specs.Verdicts.{verdict_of}
+use Rattle.value_import.proofs.WriteLemmas.{set-writes, set-fits}
 use Rattle.value_import.proofs.verdict.verdict.Goals as goal
+
+value : (c : goal.After-finished) → c.finished.result ≡ verdict_of (facts c.args.world.now) c.args.meta.now c.args.who c.args.moment c.args.set.now
+unfolding verdict_of
+value c = search rules
 
 pub returns-clause-writes : goal.returns-clause-writes
 returns-clause-writes c =
-    let fits : FitsSigned w64 c.args.moment = c.ranges.moment in
-    set-writes (facts c.args.world.now) c.args.meta.now c.args.who c.args.moment c.args.set.now c.judged_set.result
-    (rw (to_z-of_z fits) at c.judged_set.ensures)
+    set-writes (facts c.args.world.now) c.args.meta.now c.args.who c.args.moment c.args.set.now (Ok c.finished.result) (value c)
 
 pub returns-clause-fits : goal.returns-clause-fits
 returns-clause-fits c =
-    let fits : FitsSigned w64 c.args.moment = c.ranges.moment in
-    set-fits (facts c.args.world.now) c.args.meta.now c.args.who c.args.moment c.args.set.now c.judged_set.result (rw (to_z-of_z fits) at c.judged_set.ensures)
-
-pub returns-clause-dry : goal.returns-clause-dry
-returns-clause-dry c =
-    let fits : FitsSigned w64 c.args.moment = c.ranges.moment in
-    set-dry (facts c.args.world.now) c.args.meta.now c.args.who c.args.moment c.args.set.now c.judged_set.result (rw (to_z-of_z fits) at c.judged_set.ensures)
+    set-fits (facts c.args.world.now) c.args.meta.now c.args.who c.args.moment c.args.set.now (Ok c.finished.result) (value c)

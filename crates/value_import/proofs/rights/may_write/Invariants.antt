@@ -4,7 +4,7 @@ use Rattle.dh_sharing.specs.declared.access.Right.TheVariants.{DataWrite}
 use Rattle.dh_metadata.specs.declared.kind.Kind.TheVariants.{CategoryOption}
 use Rattle.dh_changes.specs.World.{facts}
 use Rattle.dh_records.specs.Access.{access}
-use Rattle.value_import.proofs.rights.may_write_options.Given as goal
+use Rattle.value_import.proofs.rights.may_write.Given as goal
 
 abbrev pub invariant-loop-option : goal.invariant-loop-option
 invariant-loop-option l =

@@ -3,7 +3,7 @@ use Rattle.dh_changes.specs.World.{facts}
 use Rattle.value_import.specs.Outcomes.{AreAtMost}
 use Rattle.value_import.specs.Said.{AreSaid}
 use Rattle.value_import.specs.Verdicts as verdicts
-use Rattle.value_import.proofs.verdict.with_values.Given as goal
+use Rattle.value_import.proofs.verdict.with_set.Given as goal
 
 abbrev pub invariant-loop-value : goal.invariant-loop-value
 invariant-loop-value l = record {
