@@ -1,7 +1,7 @@
 ghost use Rattle.std.specs.Prelude.{◌≡◌, ◌||◌, ◌==◌};
 ghost use Rattle.change_log.specs.Given.{Gives};
-ghost use Rattle.change_log.specs.Reading.{value_set_at, complete_at, is_deletion, value_write_at, tracker_write_at, deletion_at, approval_at};
-ghost use Rattle.change_log.specs.Reading.{registration_at, fields_at, change_at};
+ghost use Rattle.change_log.specs.Reading.{is_deletion, value_write_at, tracker_write_at, deletion_at, approval_at};
+ghost use Rattle.change_log.specs.Reading.{registration_at, change_at};
 
 use crate::decode_fields::read_given_day;
 use crate::fault::ReadFault;
@@ -13,29 +13,15 @@ use dh_changes::change::{Change, Write};
 use dh_changes::keys::ApprovalKey;
 use std::alloc::Global;
 
-#[tactic(auto, unfolding(crate::specs::Reading::value_set_at))]
-fn read_value_set(alloc: Global, rest: &mut &[u8]) -> Result<Write, ReadFault>
-    ensures { Gives (value_set_at rest.old.now) result rest.new.now }
-{
-    let (key, value) = Field::read(alloc, rest)?;
-    Ok(Write::ValueSet { key, value })
-}
-
-#[tactic(auto, unfolding(crate::specs::Reading::complete_at))]
-fn read_complete(alloc: Global, rest: &mut &[u8]) -> Result<Write, ReadFault>
-    ensures { Gives (complete_at rest.old.now) result rest.new.now }
-{
-    let key = Field::read(alloc, rest)?;
-    let day = read_given_day(rest)?;
-    Ok(Write::Complete { key, day })
-}
-
-#[tactic(auto, unfolding(crate::specs::Reading::value_write_at))]
+#[tactic(auto, unfolding(crate::specs::Reading::value_write_at, crate::specs::Reading::value_set_at))]
 fn read_value_write(alloc: Global, kind: u8, rest: &mut &[u8]) -> Result<Write, ReadFault>
     ensures { Gives (value_write_at kind rest.old.now) result rest.new.now }
 {
     match kind {
-        1 => read_value_set(alloc, rest),
+        1 => {
+            let (key, value) = Field::read(alloc, rest)?;
+            Ok(Write::ValueSet { key, value })
+        }
         2 => Ok(Write::ValueCleared {
             key: Field::read(alloc, rest)?,
         }),
@@ -82,12 +68,16 @@ fn read_approval(alloc: Global, kind: u8, rest: &mut &[u8]) -> Result<Write, Rea
     }
 }
 
-#[tactic(auto, unfolding(crate::specs::Reading::registration_at))]
+#[tactic(auto, unfolding(crate::specs::Reading::registration_at, crate::specs::Reading::complete_at))]
 fn read_registration(alloc: Global, kind: u8, rest: &mut &[u8]) -> Result<Write, ReadFault>
     ensures { Gives (registration_at kind rest.old.now) result rest.new.now }
 {
     match kind {
-        13 => read_complete(alloc, rest),
+        13 => {
+            let key = Field::read(alloc, rest)?;
+            let day = read_given_day(rest)?;
+            Ok(Write::Complete { key, day })
+        }
         14 => Ok(Write::Uncomplete {
             key: Field::read(alloc, rest)?,
         }),
@@ -101,35 +91,27 @@ fn is_deletion(kind: u8) -> bool
     kind == 4 || kind == 6 || kind == 8
 }
 
-// The fields of a write of that kind.
-#[tactic(auto, unfolding(crate::specs::Reading::fields_at))]
-fn read_fields(alloc: Global, kind: u8, rest: &mut &[u8]) -> Result<Write, ReadFault>
-    ensures { Gives (fields_at kind rest.old.now) result rest.new.now }
-{
-    if kind < 3 {
-        return read_value_write(alloc, kind, rest);
-    }
-    if is_deletion(kind) {
-        return read_deletion(alloc, kind, rest);
-    }
-    if kind < 9 {
-        return read_tracker_write(alloc, kind, rest);
-    }
-    if kind < 13 {
-        return read_approval(alloc, kind, rest);
-    }
-    read_registration(alloc, kind, rest)
-}
-
 impl Field for Write {
     ghost use Rattle.change_log.specs.Reading.{write_at};
 
     ghost form = { write_at };
 
-    #[tactic(auto, unfolding(crate::specs::Reading::write_at))]
+    #[tactic(auto, unfolding(crate::specs::Reading::write_at, crate::specs::Reading::fields_at))]
     fn read(alloc: Global, rest: &mut &[u8]) -> Result<Write, ReadFault> {
         let kind = read_u8(rest)?;
-        read_fields(alloc, kind, rest)
+        if kind < 3 {
+            return read_value_write(alloc, kind, rest);
+        }
+        if is_deletion(kind) {
+            return read_deletion(alloc, kind, rest);
+        }
+        if kind < 9 {
+            return read_tracker_write(alloc, kind, rest);
+        }
+        if kind < 13 {
+            return read_approval(alloc, kind, rest);
+        }
+        read_registration(alloc, kind, rest)
     }
 }
 

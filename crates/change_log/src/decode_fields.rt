@@ -3,7 +3,7 @@ ghost use Rattle.dh_periods.specs.Texts.{period_text, period_of};
 ghost use Rattle.dh_base.specs.Limits.{is_day};
 ghost use Rattle.change_log.specs.Given.{Gives};
 ghost use Rattle.change_log.specs.Forms.{event_statuses, enrollment_statuses};
-ghost use Rattle.change_log.specs.Reading.{canonical_of, day_of, given_day_at};
+ghost use Rattle.change_log.specs.Reading.{canonical_of, given_day_at};
 
 use crate::fault::ReadFault;
 use crate::field::Field;
@@ -44,18 +44,6 @@ impl Field for Period {
     }
 }
 
-fn day_of(number: i32) -> Option<Option<i32>>
-    ensures { result ≡ day_of number }
-{
-    if number == i32::MIN {
-        Some(None)
-    } else if is_day(number) {
-        Some(Some(number))
-    } else {
-        None
-    }
-}
-
 /// A day, or none.
 impl Field for Option<i32> {
     ghost use Rattle.change_log.specs.Reading.{day_at};
@@ -65,9 +53,12 @@ impl Field for Option<i32> {
     #[tactic(auto, unfolding(crate::specs::Reading::day_at))]
     fn read(_alloc: Global, rest: &mut &[u8]) -> Result<Option<i32>, ReadFault> {
         let number = read_i32(rest)?;
-        match day_of(number) {
-            Some(day) => Ok(day),
-            None => Err(ReadFault::Bad),
+        if number == i32::MIN {
+            Ok(None)
+        } else if is_day(number) {
+            Ok(Some(number))
+        } else {
+            Err(ReadFault::Bad)
         }
     }
 }

@@ -16,32 +16,22 @@ use std::alloc::Global;
 
 // The change that all of the bytes after a length are, if they are one.
 #[tactic(auto, unfolding(crate::specs::Reading::change_of))]
-fn read_all(alloc: Global, body: &[u8], number: u64) -> Result<Option<Change>, Memory>
-    ensures { IfOk result (λ found. found ≡ change_of number body.now) }
+fn decode_body(alloc: Global, body: &[u8], number: u64) -> Result<Decoded, Memory>
+    ensures { IfOk result (λ found. found ≡ read_as body.now (change_of number body.now)) }
 {
     let mut rest = body;
     match read_change(alloc, number, &mut rest) {
         Ok(change) => {
-            if rest.is_empty() {
-                Ok(Some(change))
-            } else {
-                Ok(None)
+            if !rest.is_empty() {
+                return Ok(Decoded::Bad);
             }
+            Ok(Decoded::Whole {
+                change,
+                used: 4 + body.len(),
+            })
         }
-        Err(ReadFault::Bad) => Ok(None),
+        Err(ReadFault::Bad) => Ok(Decoded::Bad),
         Err(ReadFault::Memory) => Err(Memory),
-    }
-}
-
-fn decode_body(alloc: Global, body: &[u8], number: u64) -> Result<Decoded, Memory>
-    ensures { IfOk result (λ found. found ≡ read_as body.now (change_of number body.now)) }
-{
-    match read_all(alloc, body, number)? {
-        Some(change) => Ok(Decoded::Whole {
-            change,
-            used: 4 + body.len(),
-        }),
-        None => Ok(Decoded::Bad),
     }
 }
 

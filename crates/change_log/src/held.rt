@@ -70,18 +70,6 @@ pub(crate) fn limit_passed(held: &Held, limits: &Limits, change: &Change) -> Opt
     limit_over(limits, held.writes, held.bytes, change)
 }
 
-// Makes room for a change.
-fn make_room(alloc: Global, held: &mut Held, change: &Change) -> Result<(), Memory>
-    requires held { IsHeld held.old }
-    ensures held { IsHeld held.new }
-    ensures same { held.new.changes.items ≡ held.old.changes.items }
-    ensures room { OnOk result (HasRoom held.new change.now) }
-{
-    held.world.reserve(alloc, change.writes.as_slice())?;
-    held.changes.reserve(1)?;
-    Ok(())
-}
-
 // Puts a change last for which there is room. It takes no memory.
 fn put_last(held: &mut Held, entry: Arc<Change>, len: u64)
     requires held { IsHeld held.old }
@@ -131,7 +119,8 @@ fn prepare(alloc: Global, held: &mut Held, change: &Change, number: u64) -> Resu
     ensures room { OnOk result (HasRoom held.new change.now) }
     ensures bytes { IfOk result (λ bytes. bytes.items ≡ change_bytes number change.now) }
 {
-    make_room(alloc, held, change)?;
+    held.world.reserve(alloc, change.writes.as_slice())?;
+    held.changes.reserve(1)?;
     encode(alloc, change, number)
 }
 
