@@ -2,16 +2,12 @@
 use Rattle.std.specs.Prelude.{ℕ, List, [], Option, map, option_map, slice_get}
 use Rattle.std.specs.Option.{option_map_or}
 use Rattle.dh_categories.specs.Combos.{first_bad}
-use Rattle.dh_categories.specs.declared.fault.ComboFault.{ComboFault}
-use Rattle.dh_categories.specs.declared.fault.ComboFault.TheVariants.{Bad, Memory}
 use Rattle.dh_metadata.specs.declared.records.Category.{Category}
 use Rattle.dh_metadata.specs.declared.records.CategoryCombo.{CategoryCombo}
 use Rattle.dh_metadata.specs.declared.records.OptionCombo.{OptionCombo}
 use Rattle.dh_metadata.specs.Rows.{option_combo_rows}
 use Rattle.meta_rules.specs.declared.fault.BrokenRule.TheVariants as rule
 use Rattle.meta_rules.specs.declared.fault.RuleFault.{RuleFault}
-use Rattle.meta_rules.specs.declared.fault.RuleError.{RuleError}
-use Rattle.meta_rules.specs.declared.fault.RuleError.TheVariants as error
 use Rattle.meta_rules.specs.Faults.{breaks}
 
 -- the options of a category
@@ -24,10 +20,6 @@ combo_lists categories combos = map (λ (combo : CategoryCombo). map (options_of
 
 abbrev pub option_combo_id : List OptionCombo → ℕ → Option (List ℕ)
 option_combo_id option_combos place = option_map (λ (option_combo : OptionCombo). option_combo.id) (slice_get option_combos place)
-
-abbrev pub combo_error : List OptionCombo → ComboFault → RuleError
-combo_error option_combos (Bad place) = error.Broken (breaks rule.Combo (option_combo_id option_combos place))
-combo_error option_combos Memory = error.Memory
 
 -- one of these isn't one option of each category of its combination
 unfoldable pub rows_broken : List (List (List ℕ)) → List (ℕ × List ℕ) → List OptionCombo → Option RuleFault

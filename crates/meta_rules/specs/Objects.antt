@@ -6,6 +6,8 @@ use Rattle.expr_lang.specs.declared.tree.Place.TheVariants.{Aggregate, Program}
 use Rattle.expr_lang.specs.declared.tree.Sort.{Sort}
 use Rattle.expr_lang.specs.declared.tree.Sort.TheVariants.{Number, Truth}
 use Rattle.expr_lang.specs.declared.expr.Expr.{Expr}
+use Rattle.expr_lang.specs.declared.fault.ExprFault as language
+use Rattle.expr_lang.specs.declared.fault.ExprFault.TheVariants as syntax_fault
 use Rattle.dh_metadata.specs.declared.raw.RawIndicator.{RawIndicator}
 use Rattle.dh_metadata.specs.declared.raw.RawRule.{RawRule}
 use Rattle.dh_metadata.specs.declared.raw.RawProgramIndicator.{RawProgramIndicator}
@@ -19,12 +21,17 @@ use Rattle.meta_rules.specs.declared.expr_fault.ExprFault.{ExprFault}
 use Rattle.meta_rules.specs.declared.expr_fault.ExprError.{ExprError}
 use Rattle.meta_rules.specs.declared.expr_fault.ExprError.TheVariants.{Unread, Memory}
 use Rattle.meta_rules.specs.Names.{KindIds}
-use Rattle.meta_rules.specs.Read.{Meaning, unread_at, expr_in}
+use Rattle.meta_rules.specs.Read.{Meaning, byte_of, unread_at, expr_in}
 
 -- what a fault carries; running out of memory carries nothing
 abbrev pub expr_cause : ExprError → Option ExprFault
 expr_cause (Unread fault) = Some fault
 expr_cause Memory = None
+
+-- the object's fault where the language finds one in its text
+abbrev pub text_error : List ℕ → language.ExprFault → ExprError
+text_error uid syntax_fault.Memory = Memory
+text_error uid fault = Unread (record { uid = uid; at = byte_of fault })
 
 -- a text of an object isn't read
 unfoldable pub unread : Meaning → KindIds → List (List ℕ) → List ℕ → Place → Sort → List ℕ → Option ExprFault

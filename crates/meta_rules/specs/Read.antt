@@ -8,8 +8,6 @@ use Rattle.expr_lang.specs.declared.fault.ExprFault.TheVariants as syntax_fault
 use Rattle.expr_lang.specs.declared.tree.Leaf.TheVariants as leaf
 use Rattle.expr_lang.specs.Expression.{Expression}
 use Rattle.expr_lang.specs.Syntax.{Operand}
-use Rattle.meta_rules.specs.declared.expr_fault.TextFault.{TextFault}
-use Rattle.meta_rules.specs.declared.expr_fault.TextFault.TheVariants.{At, Memory}
 use Rattle.meta_rules.specs.Names.{KindIds, is_missing}
 
 -- What texts mean: in a place, where items of these identifiers are days, and an expression of a sort is wanted or one of any.
@@ -22,10 +20,6 @@ byte_of (syntax_fault.Syntax at) = at
 byte_of (syntax_fault.TooDeep at) = at
 byte_of (syntax_fault.Sort at) = at
 byte_of syntax_fault.Memory = 0
-
-abbrev pub text_fault_of : ExprFault → TextFault
-text_fault_of syntax_fault.Memory = Memory
-text_fault_of fault = At (byte_of fault)
 
 -- the place of the first item that passes a test
 abbrev pub missing_place : (Item → Bool) → List Item → List ℕ → Option ℕ
@@ -41,11 +35,6 @@ wrong_at ids (Ok expression) = missing_place (is_missing ids) expression.items e
 -- the byte at which a text isn't an expression of this place and sort, or at which it names an object that isn't there
 unfoldable pub unread_at : Meaning → KindIds → List (List ℕ) → Place → Sort → List ℕ → Option ℕ
 unread_at meaning ids days place wanted text = wrong_at ids (meaning place days (Some wanted) text)
-
--- what a fault carries; running out of memory carries nothing
-abbrev pub text_cause : TextFault → Option ℕ
-text_cause (At at) = Some at
-text_cause Memory = None
 
 -- the number 0 if nothing is read
 abbrev pub read_or_zero : Result Expression ExprFault → Expression

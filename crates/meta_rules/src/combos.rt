@@ -6,12 +6,11 @@ ghost use Rattle.dh_categories.specs.Single.{CombosBelow};
 ghost use Rattle.dh_base.specs.Memory.{Finds};
 ghost use Rattle.meta_rules.specs.Faults.{rule_cause};
 ghost use Rattle.dh_metadata.specs.Rows.{option_combo_rows};
-ghost use Rattle.meta_rules.specs.Categories.{options_of, combo_lists, option_combo_id, combo_error, rows_broken, combo_broken};
+ghost use Rattle.meta_rules.specs.Categories.{options_of, combo_lists, rows_broken, combo_broken};
 
 use crate::fault::{BrokenRule, RuleError, RuleFault};
 use crate::item::item_at;
 use dh_base::memory::Memory;
-use dh_base::uid::Uid;
 use dh_categories::combos::Combos;
 use dh_categories::fault::ComboFault;
 use dh_metadata::records::{Category, CategoryCombo, OptionCombo};
@@ -62,27 +61,6 @@ fn rows(alloc: Global, option_combos: &[OptionCombo]) -> Result<Vec<(u32, Vec<u3
     Ok(rows)
 }
 
-fn id_at(option_combos: &[OptionCombo], place: u32) -> Option<Uid>
-    ensures { result ≡ option_combo_id option_combos.now place }
-{
-    match item_at(option_combos, place as usize) {
-        Some(option_combo) => Some(option_combo.id),
-        None => None,
-    }
-}
-
-fn told(option_combos: &[OptionCombo], fault: ComboFault) -> RuleError
-    ensures { result ≡ combo_error option_combos.now fault }
-{
-    match fault {
-        ComboFault::Bad { place } => RuleError::Broken(RuleFault {
-            uid: id_at(option_combos, place),
-            which: BrokenRule::Combo,
-        }),
-        ComboFault::Memory => RuleError::Memory,
-    }
-}
-
 #[tactic(auto, unfolding(crate::specs::Categories::rows_broken))]
 fn built(
     alloc: Global,
@@ -97,7 +75,17 @@ fn built(
 {
     match Combos::build(alloc, lists, rows) {
         Ok(held) => Ok(held),
-        Err(fault) => Err(told(option_combos, fault)),
+        Err(ComboFault::Bad { place }) => {
+            let uid = match item_at(option_combos, place as usize) {
+                Some(option_combo) => Some(option_combo.id),
+                None => None,
+            };
+            Err(RuleError::Broken(RuleFault {
+                uid,
+                which: BrokenRule::Combo,
+            }))
+        }
+        Err(ComboFault::Memory) => Err(RuleError::Memory),
     }
 }
 

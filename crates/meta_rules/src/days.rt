@@ -33,19 +33,12 @@ fn add_attributes(days: &mut Vec<Uid>, attributes: &[RawAttribute]) -> Result<()
     Ok(())
 }
 
-fn listed(alloc: Global, parts: &MetaParts) -> Result<Vec<Uid>, Memory>
-    ensures { IfOk result (λ days. days.items ≡ days_of parts.now) }
-{
-    let mut days = Vec::new(alloc);
-    add_elements(&mut days, parts.data_elements.as_slice())?;
-    add_attributes(&mut days, parts.tracked_entity_attributes.as_slice())?;
-    Ok(days)
-}
-
 /// The elements and attributes of value type DATE.
 pub fn days_of(alloc: Global, parts: &MetaParts) -> Result<DayItems, Memory>
     ensures { IfOk result (λ days. days ≡ days_of parts.now) }
 {
-    let listed = listed(alloc, parts)?;
-    DayItems::of(alloc, &listed)
+    let mut days = Vec::new(alloc);
+    add_elements(&mut days, parts.data_elements.as_slice())?;
+    add_attributes(&mut days, parts.tracked_entity_attributes.as_slice())?;
+    DayItems::of(alloc, &days)
 }

@@ -7,10 +7,9 @@ ghost use Rattle.meta_rules.specs.Faults.{rule_text};
 use dh_base::memory::Memory;
 use dh_base::uid::Uid;
 use std::alloc::{AllocError, AllocFailed};
-use thiserror::Error;
 
 /// A rule between objects.
-#[derive(Clone, Copy, Debug)]
+#[derive(Clone, Copy)]
 pub enum BrokenRule {
     /// The organisation units aren't a tree of at most 12 levels.
     Tree,
@@ -47,18 +46,16 @@ impl BrokenRule {
 }
 
 /// A rule that is broken, and the object that breaks it. It is `None` where no unit is the root.
-#[derive(Clone, Copy, Debug)]
+#[derive(Clone, Copy)]
 pub struct RuleFault {
     pub uid: Option<Uid>,
     pub which: BrokenRule,
 }
 
 /// Why objects are refused.
-#[derive(Clone, Copy, Debug, Error)]
+#[derive(Clone, Copy)]
 pub enum RuleError {
-    #[error("a rule of the metadata is broken")]
     Broken(RuleFault),
-    #[error("out of memory")]
     Memory,
 }
 

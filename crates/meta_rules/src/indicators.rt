@@ -3,13 +3,10 @@
 ghost use Rattle.std.specs.Prelude.{◌≡◌, length};
 ghost use Rattle.dh_base.specs.Memory.{Finds};
 ghost use Rattle.expr_grammar.specs.Answer.{Reading};
-ghost use Rattle.expr_lang.specs.declared.tree.Place.TheVariants.{Aggregate};
-ghost use Rattle.expr_lang.specs.declared.tree.Sort.TheVariants.{Number};
-ghost use Rattle.meta_rules.specs.Read.{expr_in};
 ghost use Rattle.meta_rules.specs.Objects.{expr_cause, first_unread, indicator_unread, indicator_with, indicator_in, made_of};
 
 use crate::expr_fault::ExprError;
-use crate::object::{copied, read_numbers};
+use crate::object::read_named;
 use crate::waiting::{next, waiting};
 use dh_base::items::Items;
 use dh_metadata::ids::Ids;
@@ -17,34 +14,6 @@ use dh_metadata::raw::RawIndicator;
 use dh_metadata::records::{Indicator, IndicatorLinks};
 use expr_lang::{DayItems, Expr};
 use std::alloc::Global;
-
-fn texts(
-    alloc: Global,
-    ids: &Ids,
-    days: &DayItems,
-    raw: &RawIndicator,
-) -> Result<(Items<u8>, (Expr, Expr)), ExprError>
-    ghost reading: { Reading }
-    ensures { Finds expr_cause (indicator_unread reading.answer ids.now days.now raw.now) (λ texts. (texts.0 ≡ raw.now.name)
-        × (texts.1.0 ≡ expr_in reading.answer days.now Aggregate Number raw.now.numerator)
-        × (texts.1.1 ≡ expr_in reading.answer days.now Aggregate Number raw.now.denominator)) result }
-{
-    let name = copied(alloc, raw.name.as_slice())?;
-    match read_numbers(
-        alloc,
-        ids,
-        days,
-        raw.id,
-        raw.numerator.as_slice(),
-        raw.denominator.as_slice(),
-    ) {
-        Ok(read) => Ok((name, read)),
-        Err(fault) => {
-            drop(name);
-            Err(fault)
-        }
-    }
-}
 
 fn with_links(
     raw: &RawIndicator,
@@ -78,7 +47,15 @@ pub fn indicator(
     ensures { Finds expr_cause (indicator_unread reading.answer ids.now days.now raw.now)
         (λ made. made ≡ indicator_in reading.answer days.now raw.now links) result }
 {
-    match texts(alloc, ids, days, raw) {
+    match read_named(
+        alloc,
+        ids,
+        days,
+        raw.id,
+        raw.name.as_slice(),
+        raw.numerator.as_slice(),
+        raw.denominator.as_slice(),
+    ) {
         Ok(texts) => Ok(with_links(raw, texts, links)),
         Err(fault) => {
             drop(links);

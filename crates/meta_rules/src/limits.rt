@@ -112,7 +112,12 @@ fn most(kind: Kind) -> usize
 fn are_many(positions: &[Items<i64>]) -> bool
     ensures { result ≡ list_any (λ own. nat_lt 8 (length own)) positions.now }
 {
-    positions.iter().any(|own| own.len() > MOST_LEVELS)
+    for own in positions {
+        if own.len() > MOST_LEVELS {
+            return true;
+        }
+    }
+    false
 }
 
 fn passes(parts: &MetaParts, positions: &[Items<i64>], limit: LimitFault) -> bool

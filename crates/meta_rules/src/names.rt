@@ -9,16 +9,10 @@ use dh_metadata::ids::Ids;
 use dh_metadata::kind::Kind;
 use expr_lang::Item;
 
-fn is_there(ids: &Ids, kind: Kind, id: Uid) -> bool
-    ensures { result ≡ is_there ids.now kind id }
-{
-    ids.find(kind, id).is_some()
-}
-
 fn is_absent(ids: &Ids, kind: Kind, id: Uid) -> bool
     ensures { result ≡ not (is_there ids.now kind id) }
 {
-    !is_there(ids, kind, id)
+    ids.find(kind, id).is_none()
 }
 
 fn is_absent_combo(ids: &Ids, combo: Option<Uid>) -> bool

@@ -10,7 +10,8 @@ ghost use Rattle.meta_rules.specs.Objects.{expr_cause, first_unread, program_ind
 ghost use Rattle.meta_rules.specs.Objects.{program_indicator_in, filter_unread, made_of};
 
 use crate::expr_fault::ExprError;
-use crate::object::{copied, read_of};
+use crate::object::copied;
+use crate::read::read;
 use crate::waiting::{next, waiting};
 use dh_base::items::Items;
 use dh_base::uid::Uid;
@@ -33,7 +34,7 @@ fn read_filter(
 {
     match filter {
         None => Ok(None),
-        Some(text) => Ok(Some(read_of(
+        Some(text) => Ok(Some(read(
             alloc,
             ids,
             days,
@@ -57,7 +58,7 @@ fn expressions(
         (read.0 ≡ expr_in reading.answer days.now Program Number raw.now.expression)
         × (read.1 ≡ option_map (expr_in reading.answer days.now Program Truth) raw.now.filter)) result }
 {
-    let expression = read_of(
+    let expression = read(
         alloc,
         ids,
         days,

@@ -1,27 +1,29 @@
-//! Reading one expression.
+//! Reading one expression of an object.
 
 ghost use Rattle.std.specs.Prelude.{◌≡◌, length};
 ghost use Rattle.dh_base.specs.Memory.{Finds};
 ghost use Rattle.expr_grammar.specs.Answer.{Reading};
 ghost use Rattle.expr_lang.specs.Expr.{items_in, places_in};
 ghost use Rattle.meta_rules.specs.Names.{is_missing};
-ghost use Rattle.meta_rules.specs.Read.{text_fault_of, missing_place, unread_at, text_cause, expr_in};
+ghost use Rattle.meta_rules.specs.Read.{missing_place, expr_in};
+ghost use Rattle.meta_rules.specs.Objects.{expr_cause, text_error, unread};
 
-use crate::expr_fault::TextFault;
+use crate::expr_fault::{ExprError, ExprFault};
 use crate::names::{is_missing, stage_before};
+use dh_base::uid::Uid;
 use dh_metadata::ids::Ids;
 use expr_grammar::parse_sorted;
 use expr_lang::{DayItems, Expr, Place, Sort};
 use std::alloc::Global;
 
-fn told(fault: expr_lang::ExprFault) -> TextFault
-    ensures { result ≡ text_fault_of fault }
+fn told(uid: Uid, fault: expr_lang::ExprFault) -> ExprError
+    ensures { result ≡ text_error uid fault }
 {
     match fault {
-        expr_lang::ExprFault::Syntax { at } => TextFault::At(at),
-        expr_lang::ExprFault::TooDeep { at } => TextFault::At(at),
-        expr_lang::ExprFault::Sort { at } => TextFault::At(at),
-        expr_lang::ExprFault::Memory => TextFault::Memory,
+        expr_lang::ExprFault::Syntax { at } => ExprError::Unread(ExprFault { uid, at }),
+        expr_lang::ExprFault::TooDeep { at } => ExprError::Unread(ExprFault { uid, at }),
+        expr_lang::ExprFault::Sort { at } => ExprError::Unread(ExprFault { uid, at }),
+        expr_lang::ExprFault::Memory => ExprError::Memory,
     }
 }
 
@@ -40,24 +42,25 @@ fn missing_at(ids: &Ids, expr: &Expr) -> Option<usize>
     None
 }
 
-/// The expression of this sort that a text is by the grammar, if every object that it names is there.
-#[tactic(auto, unfolding(crate::specs::Read::unread_at, crate::specs::Read::expr_in))]
+/// The expression of this sort that a text of an object is by the grammar, if every object that it names is there.
+#[tactic(auto, unfolding(crate::specs::Objects::unread, crate::specs::Read::unread_at, crate::specs::Read::expr_in))]
 pub fn read(
     alloc: Global,
     ids: &Ids,
     days: &DayItems,
+    uid: Uid,
     text: &[u8],
     place: Place,
     wanted: Sort,
-) -> Result<Expr, TextFault>
+) -> Result<Expr, ExprError>
     ghost reading: { Reading }
-    ensures { Finds text_cause (unread_at reading.answer ids.now days.now place wanted text.now)
+    ensures { Finds expr_cause (unread reading.answer ids.now days.now uid place wanted text.now)
         (λ expr. expr ≡ expr_in reading.answer days.now place wanted text.now) result }
 {
     match parse_sorted(alloc, text, place, days, wanted) {
-        Err(fault) => Err(told(fault)),
+        Err(fault) => Err(told(uid, fault)),
         Ok(expr) => match missing_at(ids, &expr) {
-            Some(at) => Err(TextFault::At(at)),
+            Some(at) => Err(ExprError::Unread(ExprFault { uid, at })),
             None => Ok(expr),
         },
     }

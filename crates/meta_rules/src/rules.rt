@@ -3,13 +3,10 @@
 ghost use Rattle.std.specs.Prelude.{◌≡◌, length};
 ghost use Rattle.dh_base.specs.Memory.{Finds};
 ghost use Rattle.expr_grammar.specs.Answer.{Reading};
-ghost use Rattle.expr_lang.specs.declared.tree.Place.TheVariants.{Aggregate};
-ghost use Rattle.expr_lang.specs.declared.tree.Sort.TheVariants.{Number};
-ghost use Rattle.meta_rules.specs.Read.{expr_in};
 ghost use Rattle.meta_rules.specs.Objects.{expr_cause, first_unread, rule_unread, rule_with, rule_in, made_of};
 
 use crate::expr_fault::ExprError;
-use crate::object::{copied, read_numbers};
+use crate::object::read_named;
 use crate::waiting::{next, waiting};
 use dh_base::items::Items;
 use dh_metadata::ids::Ids;
@@ -18,34 +15,6 @@ use dh_metadata::records::Rule;
 use dh_sharing::rule::Sharing;
 use expr_lang::{DayItems, Expr};
 use std::alloc::Global;
-
-fn texts(
-    alloc: Global,
-    ids: &Ids,
-    days: &DayItems,
-    raw: &RawRule,
-) -> Result<(Items<u8>, (Expr, Expr)), ExprError>
-    ghost reading: { Reading }
-    ensures { Finds expr_cause (rule_unread reading.answer ids.now days.now raw.now) (λ texts. (texts.0 ≡ raw.now.name)
-        × (texts.1.0 ≡ expr_in reading.answer days.now Aggregate Number raw.now.left_side.0)
-        × (texts.1.1 ≡ expr_in reading.answer days.now Aggregate Number raw.now.right_side.0)) result }
-{
-    let name = copied(alloc, raw.name.as_slice())?;
-    match read_numbers(
-        alloc,
-        ids,
-        days,
-        raw.id,
-        raw.left_side.0.as_slice(),
-        raw.right_side.0.as_slice(),
-    ) {
-        Ok(read) => Ok((name, read)),
-        Err(fault) => {
-            drop(name);
-            Err(fault)
-        }
-    }
-}
 
 fn with_links(raw: &RawRule, texts: (Items<u8>, (Expr, Expr)), links: Sharing) -> Rule
     ensures { result ≡ rule_with raw.now texts.0 texts.1.0 texts.1.1 links }
@@ -74,7 +43,15 @@ pub fn rule(
     ensures { Finds expr_cause (rule_unread reading.answer ids.now days.now raw.now)
         (λ made. made ≡ rule_in reading.answer days.now raw.now links) result }
 {
-    match texts(alloc, ids, days, raw) {
+    match read_named(
+        alloc,
+        ids,
+        days,
+        raw.id,
+        raw.name.as_slice(),
+        raw.left_side.0.as_slice(),
+        raw.right_side.0.as_slice(),
+    ) {
         Ok(texts) => Ok(with_links(raw, texts, links)),
         Err(fault) => {
             drop(links);

@@ -1,6 +1,6 @@
 //! Stages and aggregation of program indicators.
 
-ghost use Rattle.std.specs.Prelude.{◌≡◌, not};
+ghost use Rattle.std.specs.Prelude.{◌≡◌};
 ghost use Rattle.std.specs.List.{list_any};
 ghost use Rattle.expr_lang.specs.Expr.{items_in};
 ghost use Rattle.meta_rules.specs.Stages.{IsStageOf, is_stage_of, is_foreign, is_foreign_filter, is_aggregated, indicator_broken, stages_broken};
@@ -28,28 +28,15 @@ fn is_stage_of(ids: &Ids, stages: &[Stage], program: u32, stage: Uid) -> bool
     }
 }
 
-#[tactic(auto, using(crate::proofs::StageLemmas::own_so))]
-fn is_foreign_stage(
-    ids: &Ids,
-    stages: &[Stage],
-    program: u32,
-    known: Option<Uid>,
-    stage: Uid,
-) -> bool
-    requires { IsStageOf ids.now stages.now program known }
-    ensures { result ≡ not (is_stage_of ids.now stages.now program stage) }
-{
-    !is_known(known, stage) && !is_stage_of(ids, stages, program, stage)
-}
-
 /// Whether an item names a stage that isn't of the program. A stage may be known to be of it.
+#[tactic(auto, using(crate::proofs::StageLemmas::own_so))]
 fn is_foreign(ids: &Ids, stages: &[Stage], program: u32, known: Option<Uid>, item: &Item) -> bool
     requires { IsStageOf ids.now stages.now program known }
     ensures { result ≡ is_foreign ids.now stages.now program item.now }
 {
     match item {
         Item::StageElement { stage, element: _ } => {
-            is_foreign_stage(ids, stages, program, known, *stage)
+            !is_known(known, *stage) && !is_stage_of(ids, stages, program, *stage)
         }
         _ => false,
     }

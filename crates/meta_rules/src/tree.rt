@@ -5,7 +5,7 @@ ghost use Rattle.org_tree.specs.Units.{HasOwnIds};
 ghost use Rattle.dh_base.specs.Memory.{Finds};
 ghost use Rattle.meta_rules.specs.Faults.{rule_cause};
 ghost use Rattle.dh_metadata.specs.Rows.{tree_rows};
-ghost use Rattle.meta_rules.specs.Trees.{id_at, tree_uid, tree_error, tree_broken};
+ghost use Rattle.meta_rules.specs.Trees.{id_at, tree_error, tree_broken};
 
 use crate::fault::{BrokenRule, RuleError, RuleFault};
 use crate::item::item_at;
@@ -33,28 +33,19 @@ fn id_at(units: &[Unit], unit: u32) -> Option<Uid>
     }
 }
 
-/// The unit that a fault of the tree names.
-fn unit_of(units: &[Unit], fault: TreeFault) -> Option<Uid>
-    ensures { result ≡ tree_uid units.now fault }
+fn told(units: &[Unit], fault: TreeFault) -> RuleError
+    ensures { result ≡ tree_error units.now fault }
 {
-    match fault {
+    let uid = match fault {
         TreeFault::NoParent { node } => id_at(units, node),
         TreeFault::NoRoot => None,
         TreeFault::TwoRoots { second } => id_at(units, second),
         TreeFault::Loop { node } => id_at(units, node),
         TreeFault::TooDeep { node } => id_at(units, node),
-        TreeFault::Memory => None,
-    }
-}
-
-fn told(units: &[Unit], fault: TreeFault) -> RuleError
-    ensures { result ≡ tree_error units.now fault }
-{
-    if matches!(fault, TreeFault::Memory) {
-        return RuleError::Memory;
-    }
+        TreeFault::Memory => return RuleError::Memory,
+    };
     RuleError::Broken(RuleFault {
-        uid: unit_of(units, fault),
+        uid,
         which: BrokenRule::Tree,
     })
 }

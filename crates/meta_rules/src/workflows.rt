@@ -14,7 +14,7 @@ use dh_metadata::records::{DataSet, Element};
 use std::alloc::{AllocError, Global};
 
 /// The workflows that the data sets with an element name, as far as they were seen.
-#[derive(Clone, Copy, PartialEq, Eq)]
+#[derive(Clone, Copy)]
 pub enum Seen {
     Nothing,
     One(u32),

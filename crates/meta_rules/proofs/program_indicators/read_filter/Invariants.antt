@@ -1,4 +1,4 @@
 use Rattle.meta_rules.proofs.program_indicators.read_filter.Given as goal
 
-abbrev pub ghost-read_of : goal.ghost-read_of
-ghost-read_of g a = g.reading
+abbrev pub ghost-read : goal.ghost-read
+ghost-read g a = g.reading

@@ -1,4 +1,4 @@
-use Rattle.meta_rules.proofs.indicators.texts.Given as goal
+use Rattle.meta_rules.proofs.object.read_named.Given as goal
 
 abbrev pub ghost-read_numbers : goal.ghost-read_numbers
 ghost-read_numbers g a = g.reading

@@ -1,4 +1,0 @@
-use Rattle.meta_rules.proofs.object.read_of.Given as goal
-
-abbrev pub ghost-read : goal.ghost-read
-ghost-read g a = g.reading

@@ -1,4 +1,0 @@
-use Rattle.meta_rules.proofs.rules.texts.Given as goal
-
-abbrev pub ghost-read_numbers : goal.ghost-read_numbers
-ghost-read_numbers g a = g.reading
