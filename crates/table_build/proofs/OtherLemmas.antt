@@ -27,6 +27,7 @@ use Rattle.table_build.specs.Listed.{listed_in}
 use Rattle.table_build.specs.Log.{writes_of, reg_named, event_named, values_named, regs_named, events_named, is_other, any_other, has_other, with_others}
 use Rattle.table_build.specs.Ordered.{in_order}
 use Rattle.table_build.specs.Placed.{is_wanted}
+use Rattle.table_build.specs.Reading.{IsReadOf}
 use Rattle.table_build.specs.Values as values
 use Rattle.table_build.specs.Regs as registrations
 use Rattle.table_build.specs.Events as tracker
@@ -191,32 +192,30 @@ module _ (r : Records) (f g : Facts) (same : Agree f g) where
   regs-same keys =
       ap (in_order registrations.place_cmp registrations.place_of) (each-same (registrations.reg_of r f) (registrations.reg_of r g) reg-same keys)
 
--- ---- what a world holds of the changes that write something else
-
-pub known-agree : (changes kept : List Change) (known : Facts) → kept ≡ with_others changes → known ≡ facts_in (writes_of kept)
-    → Agree known (facts_in (writes_of changes))
-known-agree changes kept known are held =
-    subst (λ f. Agree f (facts_in (writes_of changes))) (sym (held ∙ ap (λ cs. facts_in (writes_of cs)) are)) (others-agree changes)
+-- ---- the lists that are made of what was read
 
 all-wanted : (keys : List ValueKey) → filter (is_wanted None) keys ≡ keys
 all-wanted [] = refl
 all-wanted (key ∷ keys) = ap (λ ks. key ∷ ks) (all-wanted keys)
 
--- lists that are made of it in turn, and of all values
-pub made-of-others : (r : Records) (changes for_world for_events for_regs : List Change) (known : Facts) (rows : List Row) (events : List EventRow)
-    (regs : List RegRow) (years : List ℤ)
-    → for_world ≡ with_others changes → for_events ≡ with_others changes → for_regs ≡ with_others changes
-    → known ≡ facts_in (writes_of for_world)
-    → rows ≡ values.rows_of r (facts_in (writes_of changes)) (filter (is_wanted None) (values_named (writes_of changes)))
-    → events ≡ tracker.events_of r known (events_named (writes_of for_events))
-    → regs ≡ registrations.regs_of r known (regs_named (writes_of for_regs))
+-- lists that are made of what is read of the changes once, seen by other names, and of all values
+pub made-of-others : (r : Records) (seen changes : List Change) (known : Facts) (sets seen_sets : List RegKey) (places seen_places : List EventPlace)
+    (rows : List Row) (events : List EventRow) (regs : List RegRow) (years : List ℤ) → IsReadOf seen known sets places
+    → seen ≡ changes → seen_sets ≡ sets → seen_places ≡ places
+    → rows ≡ values.rows_of r (facts_in (writes_of seen)) (filter (is_wanted None) (values_named (writes_of seen)))
+    → events ≡ filter_map (tracker.event_at r known) seen_places
+    → regs ≡ registrations.regs_of r known seen_sets
     → years ≡ years_of rows regs events
     → ◌≡◌ {A = Listed} (record { rows = rows; events = events; regs = regs; years = years }) (listed_in r (writes_of changes))
-made-of-others r changes for_world for_events for_regs known rows events regs years world_is events_are regs_are held row event reg year =
-    made r (writes_of changes) (facts_in (writes_of changes)) (values_named (writes_of changes)) (events_named (writes_of changes))
-    (regs_named (writes_of changes)) rows events regs years refl refl
-    (row ∙ ap (values.rows_of r (facts_in (writes_of changes))) (all-wanted (values_named (writes_of changes)))) refl
-    (event ∙ events-same r known (facts_in (writes_of changes)) (known-agree changes for_world known world_is held) (events_named (writes_of for_events))
-    ∙ ap (tracker.events_of r (facts_in (writes_of changes))) (ap (λ cs. events_named (writes_of cs)) events_are ∙ events-others changes)) refl
-    (reg ∙ regs-same r known (facts_in (writes_of changes)) (known-agree changes for_world known world_is held) (regs_named (writes_of for_regs))
-    ∙ ap (registrations.regs_of r (facts_in (writes_of changes))) (ap (λ cs. regs_named (writes_of cs)) regs_are ∙ regs-others changes)) year
+unfolding tracker.events_of
+made-of-others r seen changes known sets seen_sets places seen_places rows events regs years read same sets_are places_are row event reg year =
+    let writes = writes_of seen in
+    let agree : Agree known (facts_in writes) = subst (λ f. Agree f (facts_in writes)) (sym read.holds) (others-agree seen) in
+    made r writes (facts_in writes) (values_named writes) (events_named writes) (regs_named writes) rows events regs years refl refl
+    (row ∙ ap (values.rows_of r (facts_in writes)) (all-wanted (values_named writes))) refl
+    (event ∙ ap (filter_map (tracker.event_at r known)) (places_are ∙ read.event_places)
+    ∙ events-same r known (facts_in writes) agree (events_named (writes_of (with_others seen)))
+    ∙ ap (tracker.events_of r (facts_in writes)) (events-others seen)) refl
+    (reg ∙ regs-same r known (facts_in writes) agree seen_sets
+    ∙ ap (registrations.regs_of r (facts_in writes)) (sets_are ∙ read.reg_keys ∙ regs-others seen)) year
+    ∙ ap (λ cs. listed_in r (writes_of cs)) same

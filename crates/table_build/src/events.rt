@@ -1,12 +1,11 @@
 //! The rows of events.
-ghost use Rattle.std.specs.Prelude.{◌≡◌, ◌<◌, [], length, IfOk, IfSome};
+ghost use Rattle.std.specs.Prelude.{◌≡◌, ◌<◌, length, IfOk, IfSome};
 ghost use Rattle.std.specs.Option.{option_copied};
 ghost use Rattle.std.specs.List.{filter_map};
 ghost use Rattle.dh_changes.specs.World.{facts};
-ghost use Rattle.table_build.specs.Ordered.{put_all};
 ghost use Rattle.table_build.specs.Events as known;
 
-use crate::items::{attribute_values, element_values};
+use crate::items::{Attributes, Elements, values_of};
 use crate::lists::put_found;
 use dh_base::items::Items;
 use dh_base::memory::Memory;
@@ -45,31 +44,6 @@ pub(crate) fn place_of(world: &World, id: Uid) -> Option<EventPlace>
     Some(EventPlace { day, id })
 }
 
-fn same_place(place: &EventPlace) -> EventPlace
-    ensures { result ≡ place.now }
-{
-    EventPlace {
-        day: place.day,
-        id: place.id,
-    }
-}
-
-fn place_map(
-    alloc: Global,
-    world: &World,
-    ids: &[Uid],
-) -> Result<BTreeMap<EventPlace, EventPlace>, Memory>
-    ensures { IfOk result (λ map. map.entries ≡ put_all known.place_cmp (λ place. place) [] (filter_map (known.place_of (facts world.now)) ids.now)) }
-{
-    let mut map = BTreeMap::new(alloc);
-    for id in ids {
-        if let Some(place) = place_of(world, *id) {
-            map.insert(same_place(&place), place)?;
-        }
-    }
-    Ok(map)
-}
-
 /// The places of these events, by day and identifier: of those that are live and have a day of occurrence.
 #[tactic(auto, unfolding(crate::specs::Events::places_of))]
 pub(crate) fn places_of(
@@ -79,7 +53,12 @@ pub(crate) fn places_of(
 ) -> Result<Vec<EventPlace>, Memory>
     ensures { IfOk result (λ places. places.items ≡ known.places_of (facts world.now) ids.now) }
 {
-    let map = place_map(alloc, world, ids)?;
+    let mut map = BTreeMap::new(alloc);
+    for id in ids {
+        if let Some(place) = place_of(world, *id) {
+            map.insert(place, place)?;
+        }
+    }
     Ok(map.into_values().collect(alloc)?)
 }
 
@@ -130,7 +109,7 @@ fn enrolled_day(found: Option<&Enrollment>) -> Option<i32>
     found?.enrolled
 }
 
-#[tactic(auto, unfolding(crate::specs::Events::entity_values))]
+#[tactic(auto, unfolding(crate::specs::Events::entity_values, crate::specs::Items::attribute_values))]
 fn entity_values(
     alloc: Global,
     meta: &Metadata,
@@ -139,41 +118,12 @@ fn entity_values(
     ensures { IfOk result (λ values. values ≡ known.entity_values meta.now (option_copied found.entry)) }
 {
     match found {
-        Some(entity) => attribute_values(alloc, meta, entity.attributes.as_slice()),
+        Some(entity) => values_of::<Attributes>(alloc, meta, entity.attributes.as_slice()),
         None => Ok(Items::new(alloc)),
     }
 }
 
-#[tactic(auto, unfolding(crate::specs::Events::event_with))]
-fn event_with(
-    alloc: Global,
-    meta: &Metadata,
-    world: &World,
-    place: EventPlace,
-    event: &Event,
-    objects: EventObjects,
-) -> Result<EventRow, Memory>
-    requires { objects.unit < length meta.now.organisation_units }
-    ensures { IfOk result (λ row. row ≡ known.event_with meta.now (facts world.now) place event.now objects) }
-{
-    let entity = entity_of(world, event);
-    let values = element_values(alloc, meta, event.values.as_slice())?;
-    let attributes = entity_values(alloc, meta, entity)?;
-    Ok(EventRow {
-        id: place.id,
-        enrollment: event.enrollment,
-        entity: entity_id(entity),
-        program: objects.program,
-        stage: objects.stage,
-        order: tree_of(world, meta).order(objects.unit),
-        day: place.day,
-        enrolled: enrolled_day(enrollment_of(world, event)),
-        values,
-        attributes,
-    })
-}
-
-#[tactic(auto, unfolding(crate::specs::Events::event_at))]
+#[tactic(auto, unfolding(crate::specs::Events::event_at, crate::specs::Events::event_with, crate::specs::Items::element_values))]
 fn event_at(
     alloc: Global,
     meta: &Metadata,
@@ -188,7 +138,21 @@ fn event_at(
     let Some(objects) = objects_of(meta, event) else {
         return Ok(None);
     };
-    Ok(Some(event_with(alloc, meta, world, place, event, objects)?))
+    let entity = entity_of(world, event);
+    let values = values_of::<Elements>(alloc, meta, event.values.as_slice())?;
+    let attributes = entity_values(alloc, meta, entity)?;
+    Ok(Some(EventRow {
+        id: place.id,
+        enrollment: event.enrollment,
+        entity: entity_id(entity),
+        program: objects.program,
+        stage: objects.stage,
+        order: tree_of(world, meta).order(objects.unit),
+        day: place.day,
+        enrolled: enrolled_day(enrollment_of(world, event)),
+        values,
+        attributes,
+    }))
 }
 
 /// The rows of events at these places, in their order: of those that name objects that stand in the metadata.

@@ -1,5 +1,8 @@
 //! The values of tracker objects.
-ghost use Rattle.std.specs.Prelude.{◌≡◌, ◌<◌, length, IfOk};
+ghost use Rattle.std.specs.Prelude.{◌≡◌, Option, List, ℕ, IfOk};
+ghost use Rattle.std.specs.List.{filter_map};
+ghost use Rattle.dh_metadata.specs.declared.held.Records.{Records};
+ghost use Rattle.table_rows.specs.declared.event.ItemValue.{ItemValue as Item};
 ghost use Rattle.table_build.specs.Items as known;
 
 use crate::lists::put_found;
@@ -15,110 +18,77 @@ use dh_records::value::fits;
 use std::alloc::Global;
 use table_rows::ItemValue;
 
-#[tactic(auto, unfolding(crate::specs::Items::number_item))]
-fn number_item(kind: ValueType, text: &[u8]) -> Option<ItemValue>
-    ensures { result ≡ known.number_item kind text.now }
-{
-    match number_of(kind, text) {
-        Some(number) => Some(ItemValue::Number(number.value())),
-        None => None,
-    }
-}
-
-#[tactic(auto, unfolding(crate::specs::Items::day_item))]
-fn day_item(text: &[u8]) -> Option<ItemValue>
-    ensures { result ≡ known.day_item text.now }
-{
-    match civil(text) {
-        Some(day) => Some(ItemValue::Day(day)),
-        None => None,
-    }
-}
-
-#[tactic(auto, unfolding(crate::specs::Items::text_item))]
-fn text_item(text: &[u8]) -> Option<ItemValue>
-    ensures { result ≡ known.text_item text.now }
-{
-    if fits(ValueType::Text, text) {
-        Some(ItemValue::Plain)
-    } else {
-        None
-    }
-}
-
-#[tactic(auto, unfolding(crate::specs::Items::item_of))]
+// A text as a value of a type, where it is one.
+#[tactic(auto, unfolding(crate::specs::Items::item_of, crate::specs::Items::day_item, crate::specs::Items::text_item, crate::specs::Items::number_item))]
 fn item_of(kind: ValueType, text: &[u8]) -> Option<ItemValue>
     ensures { result ≡ known.item_of kind text.now }
 {
     match kind {
-        ValueType::Date => day_item(text),
-        ValueType::Text => text_item(text),
-        number => number_item(number, text),
+        ValueType::Date => Some(ItemValue::Day(civil(text)?)),
+        ValueType::Text => {
+            if fits(ValueType::Text, text) {
+                Some(ItemValue::Plain)
+            } else {
+                None
+            }
+        }
+        number => Some(ItemValue::Number(number_of(number, text)?.value())),
     }
 }
 
-#[tactic(auto, unfolding(crate::specs::Items::element_item))]
-fn element_item(meta: &Metadata, text: &[u8], element: u32) -> Option<ItemValue>
-    requires { element < length meta.now.data_elements }
-    ensures { result ≡ known.element_item meta.now text.now element }
-{
-    item_of(meta.element(element).value_type, text)
+/// What tracker objects hold values of.
+pub trait Valued {
+    /// The value of one of them, where it stands in the metadata and the text is a value of its type.
+    ghost value: { Records → List ℕ × List ℕ → Option (ℕ × Item) };
+
+    /// The value of the one that the pair names, by its number.
+    fn value_of(meta: &Metadata, pair: &(Uid, Items<u8>)) -> Option<(u32, ItemValue)>
+        ensures { result ≡ value meta.now pair.now };
 }
 
-#[tactic(auto, unfolding(crate::specs::Items::element_value))]
-fn element_value(meta: &Metadata, pair: &(Uid, Items<u8>)) -> Option<(u32, ItemValue)>
-    ensures { result ≡ known.element_value meta.now pair.now }
-{
-    let element = meta.find(Kind::DataElement, pair.0)?;
-    let value = element_item(meta, pair.1.as_slice(), element)?;
-    Some((element, value))
+/// Of data elements.
+pub struct Elements;
+
+/// Of attributes.
+pub struct Attributes;
+
+impl Valued for Elements {
+    ghost use Rattle.table_build.specs.Items.{element_value};
+
+    ghost value = { element_value };
+
+    #[tactic(auto, unfolding(crate::specs::Items::element_value, crate::specs::Items::element_item))]
+    fn value_of(meta: &Metadata, pair: &(Uid, Items<u8>)) -> Option<(u32, ItemValue)> {
+        let element = meta.find(Kind::DataElement, pair.0)?;
+        let value = item_of(meta.element(element).value_type, pair.1.as_slice())?;
+        Some((element, value))
+    }
 }
 
-/// The values of data elements that stand in the metadata and whose texts are values of their types.
-#[tactic(auto, unfolding(crate::specs::Items::element_values))]
-pub fn element_values(
+impl Valued for Attributes {
+    ghost use Rattle.table_build.specs.Items.{attribute_value};
+
+    ghost value = { attribute_value };
+
+    #[tactic(auto, unfolding(crate::specs::Items::attribute_value, crate::specs::Items::attribute_item))]
+    fn value_of(meta: &Metadata, pair: &(Uid, Items<u8>)) -> Option<(u32, ItemValue)> {
+        let attribute = meta.find(Kind::TrackedEntityAttribute, pair.0)?;
+        let value = item_of(meta.attribute(attribute).value_type, pair.1.as_slice())?;
+        Some((attribute, value))
+    }
+}
+
+/// The values of those that stand in the metadata and whose texts are values of their types.
+pub fn values_of<T: Valued>(
     alloc: Global,
     meta: &Metadata,
     pairs: &[(Uid, Items<u8>)],
 ) -> Result<Items<(u32, ItemValue)>, Memory>
-    ensures { IfOk result (λ values. values ≡ known.element_values meta.now pairs.now) }
+    ensures { IfOk result (λ values. values ≡ filter_map (T.value meta.now) pairs.now) }
 {
     let mut values = Vec::new(alloc);
     for pair in pairs {
-        put_found(&mut values, element_value(meta, pair))?;
-    }
-    Ok(Items::from(values))
-}
-
-#[tactic(auto, unfolding(crate::specs::Items::attribute_item))]
-fn attribute_item(meta: &Metadata, text: &[u8], attribute: u32) -> Option<ItemValue>
-    requires { attribute < length meta.now.tracked_entity_attributes }
-    ensures { result ≡ known.attribute_item meta.now text.now attribute }
-{
-    item_of(meta.attribute(attribute).value_type, text)
-}
-
-#[tactic(auto, unfolding(crate::specs::Items::attribute_value))]
-fn attribute_value(meta: &Metadata, pair: &(Uid, Items<u8>)) -> Option<(u32, ItemValue)>
-    ensures { result ≡ known.attribute_value meta.now pair.now }
-{
-    let attribute = meta.find(Kind::TrackedEntityAttribute, pair.0)?;
-    let value = attribute_item(meta, pair.1.as_slice(), attribute)?;
-    Some((attribute, value))
-}
-
-/// The same of attributes.
-#[tactic(auto, unfolding(crate::specs::Items::attribute_values))]
-pub fn attribute_values(
-    alloc: Global,
-    meta: &Metadata,
-    pairs: &[(Uid, Items<u8>)],
-) -> Result<Items<(u32, ItemValue)>, Memory>
-    ensures { IfOk result (λ values. values ≡ known.attribute_values meta.now pairs.now) }
-{
-    let mut values = Vec::new(alloc);
-    for pair in pairs {
-        put_found(&mut values, attribute_value(meta, pair))?;
+        put_found(&mut values, T::value_of(meta, pair))?;
     }
     Ok(Items::from(values))
 }

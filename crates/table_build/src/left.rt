@@ -1,5 +1,5 @@
 //! The years in which a log leaves something, without its rows.
-ghost use Rattle.std.specs.Prelude.{◌≡◌, [], map, true, Some, OnOk, IfOk};
+ghost use Rattle.std.specs.Prelude.{◌≡◌, map, true, Some, OnOk, IfOk};
 ghost use Rattle.std.specs.Arc.{arc_value};
 ghost use Rattle.std.specs.List.{filter_map, list_all};
 ghost use Rattle.std.specs.Option.{option_to_list};
@@ -9,7 +9,7 @@ ghost use Rattle.table_build.specs.Left as known;
 ghost use Rattle.table_build.specs.Log.{writes_of};
 ghost use Rattle.table_build.specs.Ordered.{put_all};
 
-use crate::events::{EventPlace, objects_of as event_objects, place_of};
+use crate::events::objects_of as event_objects;
 use crate::in_year::is_year_if_any;
 use crate::regs::objects_of as reg_objects;
 use crate::values::objects_of as value_objects;
@@ -43,21 +43,14 @@ fn reg_year(meta: &Metadata, world: &World, key: &RegKey) -> Option<i32>
     Some(key.period.year())
 }
 
-#[tactic(auto, unfolding(crate::specs::Left::place_year))]
-fn place_year(meta: &Metadata, world: &World, place: EventPlace) -> Option<i32>
-    ensures { result ≡ known.place_year meta.now (facts world.now) place }
-{
-    let event = world.event(place.id)?;
-    let _objects = event_objects(meta, event)?;
-    day_year(place.day)
-}
-
-#[tactic(auto, unfolding(crate::specs::Left::event_year))]
+#[tactic(auto, unfolding(crate::specs::Left::event_year, crate::specs::Left::place_year, crate::specs::Events::place_of))]
 fn event_year(meta: &Metadata, world: &World, id: Uid) -> Option<i32>
     ensures { result ≡ known.event_year meta.now (facts world.now) id }
 {
-    let place = place_of(world, id)?;
-    place_year(meta, world, place)
+    let event = world.event(id)?;
+    let day = event.occurred?;
+    let _objects = event_objects(meta, event)?;
+    day_year(day)
 }
 
 #[tactic(auto, unfolding(crate::specs::Left::write_year))]
@@ -136,47 +129,15 @@ fn put_write(
     }
 }
 
-fn put_writes(
-    years: &mut BTreeMap<i32, i32>,
-    meta: &Metadata,
-    world: &World,
-    writes: &[Write],
-) -> Result<(), Memory>
-    ensures { OnOk result (years.new.entries
-        ≡ put_all int_cmp (λ year. year) years.old.entries (filter_map (known.write_year meta.now (facts world.now)) writes.now)) }
-{
-    for write in writes {
-        put_write(years, meta, world, write)?;
-    }
-    Ok(())
-}
-
-fn tells(write: &Write, year: &i32) -> bool
-    ensures { result ≡ known.tells year.now write.now }
-{
-    is_year_if_any(told_year(write), year)
-}
-
 fn all_tell(writes: &[Write], year: &i32) -> bool
     ensures { result ≡ list_all (known.tells year.now) writes.now }
 {
     for write in writes {
-        if !tells(write, year) {
+        if !is_year_if_any(told_year(write), year) {
             return false;
         }
     }
     true
-}
-
-// Whether the writes all tell the year, and that is among those found.
-fn have_year(years: &BTreeMap<i32, i32>, writes: &[Write], year: i32) -> bool
-    ensures { result ≡ true → known.AreThere years.now.entries writes.now }
-{
-    if is_found(years, year) {
-        all_tell(writes, &year)
-    } else {
-        false
-    }
 }
 
 // Whether the writes all tell the year that the first one tells, and that is among those found: the rule for values of one period.
@@ -187,41 +148,28 @@ fn are_settled(years: &BTreeMap<i32, i32>, writes: &[Write]) -> bool
         return false;
     }
     match told_year(&writes[0]) {
-        Some(year) => have_year(years, writes, year),
+        Some(year) => is_found(years, year) && all_tell(writes, &year),
         None => false,
     }
 }
 
-fn put_change(
+// Puts the years of what the writes name, unless they are settled.
+fn put_writes(
     years: &mut BTreeMap<i32, i32>,
     meta: &Metadata,
     world: &World,
-    change: &Change,
+    writes: &[Write],
 ) -> Result<(), Memory>
     ensures { OnOk result (years.new.entries
-        ≡ put_all int_cmp (λ year. year) years.old.entries (filter_map (known.write_year meta.now (facts world.now)) change.now.writes)) }
+        ≡ put_all int_cmp (λ year. year) years.old.entries (filter_map (known.write_year meta.now (facts world.now)) writes.now)) }
 {
-    let writes = change.writes.as_slice();
     if are_settled(years, writes) {
         return Ok(());
     }
-    put_writes(years, meta, world, writes)
-}
-
-fn year_map(
-    alloc: Global,
-    meta: &Metadata,
-    world: &World,
-    changes: &[Arc<Change>],
-) -> Result<BTreeMap<i32, i32>, Memory>
-    ensures { IfOk result (λ years. years.entries
-        ≡ put_all int_cmp (λ year. year) [] (filter_map (known.write_year meta.now (facts world.now)) (writes_of (map arc_value changes.now)))) }
-{
-    let mut years = BTreeMap::new(alloc);
-    for change in changes {
-        put_change(&mut years, meta, world, &**change)?;
+    for write in writes {
+        put_write(years, meta, world, write)?;
     }
-    Ok(years)
+    Ok(())
 }
 
 /// The years of what the changes name and the world holds after them, ascending.
@@ -234,6 +182,9 @@ pub fn years_named(
 ) -> Result<Vec<i32>, Memory>
     ensures { IfOk result (λ years. years.items ≡ known.years_named meta.now (facts world.now) (writes_of (map arc_value changes.now))) }
 {
-    let years = year_map(alloc, meta, world, changes)?;
+    let mut years = BTreeMap::new(alloc);
+    for change in changes {
+        put_writes(&mut years, meta, world, change.writes.as_slice())?;
+    }
     Ok(years.into_values().collect(alloc)?)
 }

@@ -75,19 +75,13 @@ fn put<T: Drop + Named>(keys: &mut Vec<T>, writes: &[Write]) -> Result<(), Memor
     Ok(())
 }
 
-fn put_change<T: Drop + Named>(keys: &mut Vec<T>, change: &Change) -> Result<(), Memory>
-    ensures { OnOk result (keys.new.items ≡ keys.old.items ++ filter_map T.named change.now.writes) }
-{
-    put(keys, change.writes.as_slice())
-}
-
 /// The keys that the writes of the changes name, in the order of the writes.
 pub fn named_in<T: Drop + Named>(alloc: Global, changes: &[Arc<Change>]) -> Result<Vec<T>, Memory>
     ensures { IfOk result (λ keys. keys.items ≡ filter_map T.named (writes_of (map arc_value changes.now))) }
 {
     let mut keys: Vec<T> = Vec::new(alloc);
     for change in changes {
-        put_change(&mut keys, &**change)?;
+        put(&mut keys, change.writes.as_slice())?;
     }
     Ok(keys)
 }

@@ -8,31 +8,17 @@ use dh_changes::change::{Change, Write};
 use std::alloc::Global;
 use std::sync::Arc;
 
-fn is_other(write: &Write) -> bool
-    ensures { result ≡ known.is_other write.now }
-{
-    match write {
-        Write::ValueSet { .. } => false,
-        Write::ValueCleared { .. } => false,
-        _ => true,
-    }
-}
-
 fn any_other(writes: &[Write]) -> bool
     ensures { result ≡ known.any_other writes.now }
 {
     for write in writes {
-        if is_other(write) {
-            return true;
+        match write {
+            Write::ValueSet { .. } => {}
+            Write::ValueCleared { .. } => {}
+            _ => return true,
         }
     }
     false
-}
-
-fn has_other(change: &Change) -> bool
-    ensures { result ≡ known.has_other change.now }
-{
-    any_other(change.writes.as_slice())
 }
 
 /// The changes in which something else than a data value is written.
@@ -44,7 +30,7 @@ pub(crate) fn with_others(
 {
     let mut kept = Vec::new(alloc);
     for change in changes {
-        if has_other(&**change) {
+        if any_other(change.writes.as_slice()) {
             kept.push(Arc::try_clone(change)?)?;
         }
     }

@@ -1,9 +1,9 @@
 //! The rows of the values that changes leave: each write puts its row at the row's place, over what was put there before. So the rows
 //! are put in the order of their places, and of each place the last is kept.
-ghost use Rattle.std.specs.Prelude.{◌≡◌, ◌<◌, ◌++◌, true, length, map, Some, None, OnOk, IfOk};
+ghost use Rattle.std.specs.Prelude.{◌≡◌, ◌++◌, true, map, OnOk, IfOk};
 ghost use Rattle.std.specs.Arc.{arc_value};
 ghost use Rattle.std.specs.List.{filter, filter_map};
-ghost use Rattle.std.specs.Ordering.{is_eq};
+ghost use Rattle.std.specs.Option.{option_copied};
 ghost use Rattle.dh_changes.specs.Facts.{facts_in};
 ghost use Rattle.dh_changes.specs.World.{facts};
 ghost use Rattle.table_rows.specs.Order.{key_cmp};
@@ -15,7 +15,8 @@ ghost use Rattle.table_build.specs.Values as values;
 
 use crate::in_year::is_value_key_in;
 use crate::lists::put_found;
-use crate::values::{ValueObjects, objects_of, row_with};
+use crate::named::Named;
+use crate::values::{objects_of, row_with};
 use dh_base::memory::Memory;
 use dh_changes::change::{Change, Write};
 use dh_changes::keys::ValueKey;
@@ -53,71 +54,30 @@ fn is_wanted(key: &ValueKey, year: &Option<i32>) -> bool
     }
 }
 
-#[tactic(auto, unfolding(crate::specs::Placed::placed_with, crate::specs::Values::row_with))]
-fn set_with(
+#[tactic(auto, unfolding(crate::specs::Placed::placed_at, crate::specs::Placed::placed_with, crate::specs::Values::row_with))]
+fn placed_at(
     meta: &Metadata,
     world: &World,
     key: &ValueKey,
-    text: &[u8],
-    objects: ValueObjects,
-) -> PlacedRow
-    requires of { values.objects_of meta.now key.now ≡ Some objects }
-    requires element { objects.element < length meta.now.data_elements }
-    requires unit { objects.unit < length meta.now.organisation_units }
-    ensures { result ≡ known.placed_with meta.now (facts world.now) key.now (Some text.now) objects }
-{
-    let row = row_with(meta, world, key, text, objects);
-    PlacedRow {
-        row,
-        is_there: true,
-    }
-}
-
-#[tactic(auto, unfolding(crate::specs::Placed::placed_with))]
-fn cleared_with(meta: &Metadata, world: &World, key: &ValueKey, objects: ValueObjects) -> PlacedRow
-    requires of { values.objects_of meta.now key.now ≡ Some objects }
-    requires element { objects.element < length meta.now.data_elements }
-    requires unit { objects.unit < length meta.now.organisation_units }
-    ensures { result ≡ known.placed_with meta.now (facts world.now) key.now None objects }
-{
-    let row = row_with(meta, world, key, &[], objects);
-    PlacedRow {
-        row,
-        is_there: false,
-    }
-}
-
-#[tactic(auto, unfolding(crate::specs::Placed::placed_at))]
-fn placed_set(
-    meta: &Metadata,
-    world: &World,
-    key: &ValueKey,
-    text: &[u8],
+    text: Option<&[u8]>,
     year: &Option<i32>,
 ) -> Option<PlacedRow>
-    ensures { result ≡ known.placed_at meta.now (facts world.now) year.now key.now (Some text.now) }
+    ensures { result ≡ known.placed_at meta.now (facts world.now) year.now key.now (option_copied text.entry) }
 {
     if !is_wanted(key, year) {
         return None;
     }
     let objects = objects_of(meta, key)?;
-    Some(set_with(meta, world, key, text, objects))
-}
-
-#[tactic(auto, unfolding(crate::specs::Placed::placed_at))]
-fn placed_cleared(
-    meta: &Metadata,
-    world: &World,
-    key: &ValueKey,
-    year: &Option<i32>,
-) -> Option<PlacedRow>
-    ensures { result ≡ known.placed_at meta.now (facts world.now) year.now key.now None }
-{
-    if !is_wanted(key, year) {
-        return None;
+    match text {
+        Some(text) => Some(PlacedRow {
+            row: row_with(meta, world, key, text, objects),
+            is_there: true,
+        }),
+        None => Some(PlacedRow {
+            row: row_with(meta, world, key, &[], objects),
+            is_there: false,
+        }),
     }
-    let objects = objects_of(meta, key)?;
-    Some(cleared_with(meta, world, key, objects))
 }
 
 #[tactic(auto, unfolding(crate::specs::Placed::placed_by))]
@@ -125,25 +85,21 @@ fn placed_by(meta: &Metadata, world: &World, write: &Write, year: &Option<i32>) 
     ensures { result ≡ known.placed_by meta.now (facts world.now) year.now write.now }
 {
     match write {
-        Write::ValueSet { key, value } => placed_set(meta, world, key, value.as_slice(), year),
-        Write::ValueCleared { key } => placed_cleared(meta, world, key, year),
+        Write::ValueSet { key, value } => {
+            placed_at(meta, world, key, Some(value.as_slice()), year)
+        },
+        Write::ValueCleared { key } => placed_at(meta, world, key, None, year),
         _ => None,
-    }
-}
-
-fn is_wanted_by(write: &Write, year: &Option<i32>) -> bool {
-    match write {
-        Write::ValueSet { key, .. } => is_wanted(key, year),
-        Write::ValueCleared { key } => is_wanted(key, year),
-        _ => false,
     }
 }
 
 fn count_writes(writes: &[Write], year: &Option<i32>) -> usize {
     let mut count: usize = 0;
     for write in writes {
-        if is_wanted_by(write, year) {
-            count = count.saturating_add(1);
+        if let Some(key) = ValueKey::named_by(write) {
+            if is_wanted(&key, year) {
+                count = count.saturating_add(1);
+            }
         }
     }
     count
@@ -176,19 +132,6 @@ fn place_writes(
     Ok(())
 }
 
-fn place_change(
-    placed: &mut Vec<PlacedRow>,
-    meta: &Metadata,
-    world: &World,
-    change: &Change,
-    year: &Option<i32>,
-) -> Result<(), Memory>
-    ensures { OnOk result (placed.new.items
-        ≡ placed.old.items ++ filter_map (known.placed_by meta.now (facts world.now) year.now) change.now.writes) }
-{
-    place_writes(placed, meta, world, change.writes.as_slice(), year)
-}
-
 // What the writes put at places, in the order of the writes.
 fn place_changes(
     alloc: Global,
@@ -203,7 +146,7 @@ fn place_changes(
     let mut placed = Vec::new(alloc);
     placed.reserve(count_placed(changes, year))?;
     for change in changes {
-        place_change(&mut placed, meta, world, &**change, year)?;
+        place_writes(&mut placed, meta, world, change.writes.as_slice(), year)?;
     }
     Ok(placed)
 }
@@ -214,27 +157,11 @@ fn place_of(placed: &PlacedRow) -> RowKey
     placed.row.key()
 }
 
-fn row_at(placed: &PlacedRow) -> Option<Row>
-    ensures { result ≡ placed.now.row }
-{
-    if placed.is_there {
-        Some(placed.row)
-    } else {
-        None
-    }
-}
-
-fn has_place_of(placed: &PlacedRow, other: &PlacedRow) -> bool
-    ensures { result ≡ is_eq (key_cmp placed.now.place other.now.place) }
-{
-    place_of(placed).compare(&place_of(other)).is_eq()
-}
-
 fn is_again(placed: &PlacedRow, later: &[PlacedRow]) -> bool
     ensures { result ≡ is_again key_cmp (λ (p : known.Placed). p.place) placed.now later.now }
 {
     match later.first() {
-        Some(next) => has_place_of(placed, next),
+        Some(next) => place_of(placed).compare(&place_of(next)).is_eq(),
         None => false,
     }
 }
@@ -242,10 +169,10 @@ fn is_again(placed: &PlacedRow, later: &[PlacedRow]) -> bool
 fn row_left(placed: &PlacedRow, later: &[PlacedRow]) -> Option<Row>
     ensures { result ≡ known.row_left placed.now later.now }
 {
-    if is_again(placed, later) {
+    if is_again(placed, later) || !placed.is_there {
         None
     } else {
-        row_at(placed)
+        Some(placed.row)
     }
 }
 
@@ -258,23 +185,6 @@ fn rows_last(alloc: Global, placed: &[PlacedRow]) -> Result<Vec<Row>, Memory>
     for i in 0..placed.len() {
         put_found(&mut rows, row_left(&placed[i], &placed[i + 1..]))?;
     }
-    Ok(rows)
-}
-
-#[tactic(auto, unfolding(crate::specs::Placed::rows_placed))]
-fn rows_placed(
-    alloc: Global,
-    meta: &Metadata,
-    world: &World,
-    changes: &[Arc<Change>],
-    year: &Option<i32>,
-) -> Result<Vec<Row>, Memory>
-    ensures { IfOk result (λ rows. rows.items ≡ known.rows_placed meta.now (facts world.now) year.now (writes_of (map arc_value changes.now))) }
-{
-    let mut placed = place_changes(alloc, meta, world, changes, year)?;
-    // a stable sort, so that the last write of a place stays the last
-    placed.sort_by_key(|row| place_of(row))?;
-    let rows = rows_last(alloc, &placed)?;
     Ok(rows)
 }
 
@@ -294,6 +204,9 @@ pub(crate) fn rows_left(
 {
     // since the units are a tree, no two have one order
     let _units = tree_of(world, meta).count();
-    let rows = rows_placed(alloc, meta, world, changes, year)?;
+    let mut placed = place_changes(alloc, meta, world, changes, year)?;
+    // a stable sort, so that the last write of a place stays the last
+    placed.sort_by_key(|row| place_of(row))?;
+    let rows = rows_last(alloc, &placed)?;
     Ok(rows)
 }

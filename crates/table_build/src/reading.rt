@@ -8,15 +8,17 @@ ghost use Rattle.table_build.specs.Log as log;
 ghost use Rattle.table_build.specs.Log.{writes_of, is_of_days};
 ghost use Rattle.table_build.specs.Listed.{listed_in};
 ghost use Rattle.table_rows.specs.Store.{contents_in};
-ghost use Rattle.table_sums.specs.YearParts.{part_of};
+ghost use Rattle.table_sums.specs.YearParts.{part_of, together, years_in};
 ghost use Rattle.dh_base.specs.declared.limits.TheConstants.{MOST_RECORDS};
 
-use crate::events::{EventPlace, places_of};
+use crate::events::{EventPlace, places_of, rows_at};
 use crate::in_year::{events_in, regs_in};
 use crate::named::named_in;
 use crate::others::with_others;
 use crate::placed::rows_left;
+use crate::regs::regs_of;
 use crate::world::world_of;
+use crate::years::years_of;
 use dh_base::memory::Memory;
 use dh_base::uid::Uid;
 use dh_changes::change::Change;
@@ -27,7 +29,7 @@ use dh_records::access::tree_of;
 use std::alloc::Global;
 use std::marker::Model;
 use std::sync::Arc;
-use table_sums::{Partition, part_from};
+use table_sums::{Partition, Tables, part_from, tables_of};
 
 /// A list of changes, and what several builders of their years share: the world after the changes that write something else than
 /// data values, the keys of the registrations that they name, and the places of the events. The values of a year are read by its
@@ -119,5 +121,22 @@ impl<'a> Reading<'a> {
         let regs = regs_in(alloc, meta, &self.world, &self.regs, year)?;
         let part = part_from(alloc, *year, rows, events, regs)?;
         Ok(part)
+    }
+
+    /// The tables of what the changes leave, with a part of each year in which something stands.
+    pub(crate) fn tables(&self, alloc: Global, meta: &Metadata) -> Result<Tables, Memory>
+        requires few { length (writes_of self.now) ≤ MOST_RECORDS }
+        requires days { IsTrue (list_all is_of_days (writes_of self.now)) }
+        ensures contents { IfOk result (λ tables. together tables.parts ≡ contents_in (listed_in meta.now (writes_of self.now))) }
+        ensures years { IfOk result (λ tables. years_in tables.parts ≡ (listed_in meta.now (writes_of self.now)).years) }
+        ensures base_cut { IfOk result (λ tables. tables.base_cut ≡ length self.now) }
+    {
+        let rows = rows_left(alloc, meta, &self.world, self.changes, &None)?;
+        let events = rows_at(alloc, meta, &self.world, &self.places)?;
+        let regs = regs_of(alloc, meta, &self.world, &self.regs)?;
+        let years = years_of(alloc, &rows, &regs, &events)?;
+        let count = self.changes.len() as u64;
+        let tables = tables_of(alloc, rows, events, regs, &years, count)?;
+        Ok(tables)
     }
 }

@@ -1,8 +1,6 @@
 //! The rows of complete data set registrations.
-ghost use Rattle.std.specs.Prelude.{◌≡◌, ◌<◌, [], length, IfOk, IfSome};
-ghost use Rattle.std.specs.List.{filter_map};
+ghost use Rattle.std.specs.Prelude.{◌≡◌, ◌<◌, length, IfOk, IfSome};
 ghost use Rattle.dh_changes.specs.World.{facts};
-ghost use Rattle.table_build.specs.Ordered.{put_all};
 ghost use Rattle.table_build.specs.Regs as known;
 
 use dh_base::memory::Memory;
@@ -51,27 +49,19 @@ pub fn objects_of(meta: &Metadata, key: &RegKey) -> Option<RegObjects>
     })
 }
 
-#[tactic(auto, unfolding(crate::specs::Regs::reg_with))]
-fn reg_with(meta: &Metadata, world: &World, key: &RegKey, day: i32, objects: RegObjects) -> RegRow
-    requires { objects.unit < length meta.now.organisation_units }
-    ensures { result ≡ known.reg_with meta.now (facts world.now) key.now day objects }
-{
-    RegRow {
-        set: objects.set,
-        period: key.period,
-        order: tree_of(world, meta).order(objects.unit),
-        attribute: objects.attribute,
-        day,
-    }
-}
-
-#[tactic(auto, unfolding(crate::specs::Regs::reg_of))]
+#[tactic(auto, unfolding(crate::specs::Regs::reg_of, crate::specs::Regs::reg_with))]
 fn reg_of(meta: &Metadata, world: &World, key: &RegKey) -> Option<RegRow>
     ensures { result ≡ known.reg_of meta.now (facts world.now) key.now }
 {
     let day = world.registration(key)?;
     let objects = objects_of(meta, key)?;
-    Some(reg_with(meta, world, key, day, objects))
+    Some(RegRow {
+        set: objects.set,
+        period: key.period,
+        order: tree_of(world, meta).order(objects.unit),
+        attribute: objects.attribute,
+        day,
+    })
 }
 
 fn place_of(reg: &RegRow) -> RegPlace
@@ -85,23 +75,6 @@ fn place_of(reg: &RegRow) -> RegPlace
     }
 }
 
-fn reg_map(
-    alloc: Global,
-    meta: &Metadata,
-    world: &World,
-    keys: &[RegKey],
-) -> Result<BTreeMap<RegPlace, RegRow>, Memory>
-    ensures { IfOk result (λ map. map.entries ≡ put_all known.place_cmp known.place_of [] (filter_map (known.reg_of meta.now (facts world.now)) keys.now)) }
-{
-    let mut map = BTreeMap::new(alloc);
-    for key in keys {
-        if let Some(reg) = reg_of(meta, world, key) {
-            map.insert(place_of(&reg), reg)?;
-        }
-    }
-    Ok(map)
-}
-
 /// The rows of these keys, by data set, period, order and attribute combination: of those that hold
 /// a day and name objects that stand in the metadata.
 #[tactic(auto, unfolding(crate::specs::Regs::regs_of))]
@@ -113,6 +86,11 @@ pub fn regs_of(
 ) -> Result<Vec<RegRow>, Memory>
     ensures { IfOk result (λ regs. regs.items ≡ known.regs_of meta.now (facts world.now) keys.now) }
 {
-    let map = reg_map(alloc, meta, world, keys)?;
+    let mut map = BTreeMap::new(alloc);
+    for key in keys {
+        if let Some(reg) = reg_of(meta, world, key) {
+            map.insert(place_of(&reg), reg)?;
+        }
+    }
     Ok(map.into_values().collect(alloc)?)
 }

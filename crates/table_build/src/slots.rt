@@ -1,11 +1,11 @@
 //! An update that is built by its years: the years in which something is left, a slot for the part of each, and the tables
 //! of the parts.
-ghost use Rattle.std.specs.Prelude.{◌≡◌, ◌<◌, ◌≤◌, true, length, map, get_or, set, IsTrue, IfOk, IfSome};
+ghost use Rattle.std.specs.Prelude.{◌≡◌, ◌<◌, ◌≤◌, length, map, get_or, set, IsTrue, IfOk, IfSome};
 ghost use Rattle.std.specs.List.{AllByRecursion, list_all};
 ghost use Rattle.std.specs.Arc.{arc_value};
 ghost use Rattle.dh_changes.specs.Facts.{facts_in};
 ghost use Rattle.dh_changes.specs.World.{facts};
-ghost use Rattle.table_rows.specs.Store.{Listed, contents_in, have_own_places};
+ghost use Rattle.table_rows.specs.Store.{Listed, contents_in};
 ghost use Rattle.table_sums.specs.YearParts.{part_of, together, years_in};
 ghost use Rattle.table_build.specs.declared.slots.Slot.{Slot as YearSlot};
 ghost use Rattle.table_build.specs.Log.{writes_of, is_of_days};
@@ -40,23 +40,6 @@ pub struct Plan {
     pub slots: Vec<Slot>,
 }
 
-// The years in which the changes leave a row, a registration or an event, of what the world holds after them.
-fn years_left(
-    alloc: Global,
-    meta: &Metadata,
-    world: &World,
-    changes: &[Arc<Change>],
-) -> Result<Vec<i32>, Memory>
-    requires { facts world.now ≡ facts_in (writes_of (map arc_value changes.now)) }
-    ensures years { IfOk result (λ years. years.items ≡ (listed_in meta.now (writes_of (map arc_value changes.now))).years) }
-    ensures own { IfOk result (λ years. have_own_places (listed_in meta.now (writes_of (map arc_value changes.now))).rows ≡ true) }
-{
-    // since the units are a tree, of a group no two rows have one place
-    let _units = tree_of(world, meta).count();
-    let years = years_named(alloc, meta, world, changes)?;
-    Ok(years)
-}
-
 fn slots_for(alloc: Global, years: &[i32]) -> Result<Vec<Slot>, Memory>
     ensures { IfOk result (λ slots. slots.items ≡ map no_part years.now) }
 {
@@ -82,7 +65,9 @@ pub fn plan_of(
     ensures years { IfOk result (λ plan. plan.years ≡ (listed_in meta.now (writes_of (map arc_value changes.now))).years) }
     ensures slots { IfOk result (λ plan. AreSlots (listed_in meta.now (writes_of (map arc_value changes.now))) plan.slots.items) }
 {
-    let years = years_left(alloc, meta, world, changes)?;
+    // since the units are a tree, of a group no two rows have one place
+    let _units = tree_of(world, meta).count();
+    let years = years_named(alloc, meta, world, changes)?;
     let slots = slots_for(alloc, &years)?;
     let years = Items::from(years);
     Ok(Plan { years, slots })
@@ -154,26 +139,7 @@ fn reading_for<'a>(
     }
 }
 
-// The part of a year that is made of the changes, by their reading if there is one.
-fn part_made(
-    alloc: Global,
-    meta: &Metadata,
-    changes: &[Arc<Change>],
-    reading: &Option<Reading>,
-    year: i32,
-) -> Result<Partition, Memory>
-    requires few { length (writes_of (map arc_value changes.now)) ≤ MOST_RECORDS }
-    requires days { IsTrue (list_all is_of_days (writes_of (map arc_value changes.now))) }
-    requires read { IfSome reading.now (λ read. read ≡ map arc_value changes.now) }
-    ensures { IfOk result (λ part. part ≡ part_of (contents_in (listed_in meta.now (writes_of (map arc_value changes.now)))) year) }
-{
-    match reading {
-        Some(reading) => reading.part_of_year(alloc, meta, &year),
-        None => build_part(alloc, meta, year, changes),
-    }
-}
-
-// The part in a slot, or the part that is made of the changes.
+// The part in a slot, or the part that is made of the changes, by their reading if there is one.
 fn part_for(
     alloc: Global,
     meta: &Metadata,
@@ -188,9 +154,12 @@ fn part_for(
     ensures { IfOk result (λ part. part ≡ part_of (contents_in (listed_in meta.now (writes_of (map arc_value changes.now)))) slot.year) }
 {
     let Slot { year, part } = slot;
-    match part {
-        Some(part) => Ok(part),
-        None => part_made(alloc, meta, changes, reading, year),
+    if let Some(part) = part {
+        return Ok(part);
+    }
+    match reading {
+        Some(reading) => reading.part_of_year(alloc, meta, &year),
+        None => build_part(alloc, meta, year, changes),
     }
 }
 
@@ -216,44 +185,6 @@ fn parts_for(
     Ok(parts)
 }
 
-// The parts of all slots. For those that are made the log is read once, and the reading is given back before the parts are used.
-fn all_parts(
-    alloc: Global,
-    meta: &Metadata,
-    changes: &[Arc<Change>],
-    slots: Vec<Slot>,
-) -> Result<Vec<Partition>, Memory>
-    requires few { length (writes_of (map arc_value changes.now)) ≤ MOST_RECORDS }
-    requires days { IsTrue (list_all is_of_days (writes_of (map arc_value changes.now))) }
-    requires slots { AllByRecursion (IsSlotOf (contents_in (listed_in meta.now (writes_of (map arc_value changes.now))))) slots.items }
-    ensures { IfOk result (λ parts. parts.items
-        ≡ map (part_of (contents_in (listed_in meta.now (writes_of (map arc_value changes.now))))) (slot_years slots.items)) }
-{
-    let reading = reading_for(alloc, changes, &slots)?;
-    let parts = parts_for(alloc, meta, changes, &reading, slots);
-    drop(reading);
-    parts
-}
-
-// The tables of the parts in the slots, and of parts that are made for the others, one after the other.
-fn build_of_parts(
-    alloc: Global,
-    meta: &Metadata,
-    changes: &[Arc<Change>],
-    slots: Vec<Slot>,
-) -> Result<Tables, Memory>
-    requires few { length (writes_of (map arc_value changes.now)) ≤ MOST_RECORDS }
-    requires days { IsTrue (list_all is_of_days (writes_of (map arc_value changes.now))) }
-    requires slots { AreSlots (listed_in meta.now (writes_of (map arc_value changes.now))) slots.items }
-    ensures contents { IfOk result (λ tables. together tables.parts ≡ contents_in (listed_in meta.now (writes_of (map arc_value changes.now)))) }
-    ensures years { IfOk result (λ tables. years_in tables.parts ≡ (listed_in meta.now (writes_of (map arc_value changes.now))).years) }
-    ensures base_cut { IfOk result (λ tables. tables.base_cut ≡ length changes.now) }
-{
-    let parts = all_parts(alloc, meta, changes, slots)?;
-    let tables = Tables::of(alloc, parts, changes.len() as u64)?;
-    Ok(tables)
-}
-
 // Whether a slot has a part.
 fn have_part(slots: &[Slot]) -> bool
     ensures { result ≡ have_part slots.now }
@@ -270,11 +201,6 @@ fn have_part(slots: &[Slot]) -> bool
 // For more, reading the log for each would cost more time.
 const FEW_YEARS: usize = 8;
 
-// Whether the parts are made year by year, and not all at once.
-fn goes_by_year(slots: &[Slot]) -> bool {
-    slots.len() <= FEW_YEARS || have_part(slots)
-}
-
 /// The tables that the changes leave, of the parts in these slots and of parts that are made for the others. Where no slot
 /// has a part and there are more than a few years, the log is read once for all of them.
 pub fn build_with(
@@ -290,10 +216,14 @@ pub fn build_with(
     ensures years { IfOk result (λ tables. years_in tables.parts ≡ (listed_in meta.now (writes_of (map arc_value changes.now))).years) }
     ensures base_cut { IfOk result (λ tables. tables.base_cut ≡ length changes.now) }
 {
-    if goes_by_year(&slots) {
-        build_of_parts(alloc, meta, changes, slots)
-    } else {
+    if slots.len() > FEW_YEARS && !have_part(&slots) {
         drop(slots);
-        build(alloc, meta, changes)
+        return build(alloc, meta, changes);
     }
+    let reading = reading_for(alloc, changes, &slots)?;
+    let parts = parts_for(alloc, meta, changes, &reading, slots);
+    // the log is read once for the parts that are made, and the reading is given back before they are used
+    drop(reading);
+    let tables = Tables::of(alloc, parts?, changes.len() as u64)?;
+    Ok(tables)
 }

@@ -1,14 +1,9 @@
 //! The rows of data values.
-ghost use Rattle.std.specs.Prelude.{◌≡◌, ◌<◌, true, [], length, Some, IfOk, IfSome};
-ghost use Rattle.std.specs.List.{filter_map};
+ghost use Rattle.std.specs.Prelude.{◌≡◌, ◌<◌, true, length, Some, IfOk, IfSome};
 ghost use Rattle.dh_metadata.specs.Objects.{find_of};
-ghost use Rattle.dh_records.specs.Approved.{approved_at};
 ghost use Rattle.dh_metadata.specs.declared.kind.Kind.TheVariants.{CategoryOptionCombo};
 ghost use Rattle.dh_changes.specs.World.{facts};
-ghost use Rattle.table_rows.specs.Rows.{key_of};
-ghost use Rattle.table_rows.specs.Order.{key_cmp};
 ghost use Rattle.table_rows.specs.Store.{have_own_places};
-ghost use Rattle.table_build.specs.Ordered.{put_all};
 ghost use Rattle.table_build.specs.Values as known;
 
 use dh_base::memory::Memory;
@@ -21,7 +16,7 @@ use dh_records::approved::approved_position_of;
 use dh_records::number::number_of;
 use std::alloc::Global;
 use std::collections::BTreeMap;
-use table_rows::{Row, RowKey};
+use table_rows::Row;
 
 /// The numbers of the objects that a value's key names.
 #[derive(Clone, Copy)]
@@ -63,41 +58,8 @@ pub(crate) fn objects_of(meta: &Metadata, key: &ValueKey) -> Option<ValueObjects
     })
 }
 
-#[tactic(auto, unfolding(crate::specs::Values::number_at))]
-fn number_at(meta: &Metadata, element: u32, text: &[u8]) -> Option<i64>
-    requires { element < length meta.now.data_elements }
-    ensures { result ≡ known.number_at meta.now element text.now }
-{
-    match number_of(meta.element(element).value_type, text) {
-        Some(number) => Some(number.value()),
-        None => None,
-    }
-}
-
-// The position up to which the value of a key is approved, by the numbers of its objects.
-fn approved_with(
-    meta: &Metadata,
-    world: &World,
-    key: &ValueKey,
-    objects: ValueObjects,
-) -> Option<u8>
-    requires of { known.objects_of meta.now key.now ≡ Some objects }
-    requires element { objects.element < length meta.now.data_elements }
-    requires unit { objects.unit < length meta.now.organisation_units }
-    ensures { result ≡ approved_at (facts world.now) meta.now key.now }
-{
-    approved_position_of(
-        world,
-        meta,
-        objects.element,
-        objects.unit,
-        key.period,
-        key.attribute,
-    )
-}
-
 /// The row of a key that holds this text, whose objects have these numbers.
-#[tactic(auto, unfolding(crate::specs::Values::row_with))]
+#[tactic(auto, unfolding(crate::specs::Values::row_with, crate::specs::Values::number_at))]
 pub fn row_with(
     meta: &Metadata,
     world: &World,
@@ -110,14 +72,25 @@ pub fn row_with(
     requires unit { objects.unit < length meta.now.organisation_units }
     ensures { result ≡ known.row_with meta.now (facts world.now) key.now text.now objects }
 {
+    let approved = approved_position_of(
+        world,
+        meta,
+        objects.element,
+        objects.unit,
+        key.period,
+        key.attribute,
+    );
     Row {
         element: objects.element,
         combo: objects.combo,
         attribute: objects.attribute,
         period: key.period,
-        approved: approved_with(meta, world, key, objects),
+        approved,
         order: tree_of(world, meta).order(objects.unit),
-        micros: number_at(meta, objects.element, text),
+        micros: match number_of(meta.element(objects.element).value_type, text) {
+            Some(number) => Some(number.value()),
+            None => None,
+        },
     }
 }
 
@@ -130,23 +103,6 @@ fn row_of(meta: &Metadata, world: &World, key: &ValueKey) -> Option<Row>
     Some(row_with(meta, world, key, text, objects))
 }
 
-fn row_map(
-    alloc: Global,
-    meta: &Metadata,
-    world: &World,
-    keys: &[ValueKey],
-) -> Result<BTreeMap<RowKey, Row>, Memory>
-    ensures { IfOk result (λ map. map.entries ≡ put_all key_cmp key_of [] (filter_map (known.row_of meta.now (facts world.now)) keys.now)) }
-{
-    let mut map = BTreeMap::new(alloc);
-    for key in keys {
-        if let Some(row) = row_of(meta, world, key) {
-            map.insert(row.key(), row)?;
-        }
-    }
-    Ok(map)
-}
-
 #[tactic(auto, unfolding(crate::specs::Values::rows_of))]
 fn ordered_rows(
     alloc: Global,
@@ -156,7 +112,12 @@ fn ordered_rows(
 ) -> Result<Vec<Row>, Memory>
     ensures { IfOk result (λ rows. rows.items ≡ known.rows_of meta.now (facts world.now) keys.now) }
 {
-    let map = row_map(alloc, meta, world, keys)?;
+    let mut map = BTreeMap::new(alloc);
+    for key in keys {
+        if let Some(row) = row_of(meta, world, key) {
+            map.insert(row.key(), row)?;
+        }
+    }
     Ok(map.into_values().collect(alloc)?)
 }
 

@@ -1,7 +1,6 @@
 //! What a list of changes leaves under each key.
-ghost use Rattle.std.specs.Prelude.{◌≡◌, ◌++◌, List, map, OnOk, IfOk};
+ghost use Rattle.std.specs.Prelude.{◌≡◌, map, IfOk};
 ghost use Rattle.std.specs.Arc.{arc_value};
-ghost use Rattle.dh_changes.specs.declared.change.Write.{Write};
 ghost use Rattle.dh_changes.specs.World.{facts};
 ghost use Rattle.dh_changes.specs.Facts.{facts_in};
 ghost use Rattle.table_build.specs.Log.{writes_of};
@@ -12,21 +11,15 @@ use dh_changes::world::World;
 use std::alloc::Global;
 use std::sync::Arc;
 
-fn take_change(alloc: Global, world: &mut World, change: &Change) -> Result<(), Memory>
-    ensures { OnOk result ((log : List Write) → facts world.old ≡ facts_in log → facts world.new ≡ facts_in (log ++ change.now.writes)) }
-{
-    world.reserve(alloc, change.writes.as_slice())?;
-    world.apply(change);
-    Ok(())
-}
-
 /// The world after the changes.
 pub fn world_of(alloc: Global, changes: &[Arc<Change>]) -> Result<World, Memory>
     ensures { IfOk result (λ world. facts world ≡ facts_in (writes_of (map arc_value changes.now))) }
 {
     let mut world = World::new(alloc);
     for change in changes {
-        take_change(alloc, &mut world, &**change)?;
+        let change: &Change = &**change;
+        world.reserve(alloc, change.writes.as_slice())?;
+        world.apply(change);
     }
     Ok(world)
 }

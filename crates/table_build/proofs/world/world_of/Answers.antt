@@ -8,9 +8,9 @@ use Rattle.table_build.proofs.world.world_of.Goals as goal
 
 pub loop-change-preserved : goal.loop-change-preserved
 loop-change-preserved c =
-    c.in_ok-take_change.ensures (writes_of (map arc_value (take c.loop-change.change-index c.args.changes.now))) c.loop-change.invariant
-    ∙ ap facts_in (taken-step arc_value c.args.changes.now c.loop-change.change-index c.change-item.result c.deref.result.now c.loop-change-test.true
-    c.change-item.is c.deref.ensures)
+    c.apply.ensures.log (writes_of (map arc_value (take c.loop-change.change-index c.args.changes.now))) (c.in_ok-reserve.ensures.same ∙ c.loop-change.invariant)
+    ∙ ap facts_in (taken-step arc_value c.args.changes.now c.loop-change.change-index c.change-item.result c.deref-change.result.now c.loop-change-test.true
+    c.change-item.is c.deref-change.ensures)
 
 pub returns : goal.returns
 returns c =

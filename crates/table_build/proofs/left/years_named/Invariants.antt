@@ -6,7 +6,7 @@ use Rattle.dh_changes.specs.World.{facts}
 use Rattle.table_build.specs.Left.{write_year}
 use Rattle.table_build.specs.Log.{writes_of}
 use Rattle.table_build.specs.Ordered.{put_all}
-use Rattle.table_build.proofs.left.year_map.Given as goal
+use Rattle.table_build.proofs.left.years_named.Given as goal
 
 abbrev pub invariant-loop-change : goal.invariant-loop-change
 invariant-loop-change l =

@@ -3,7 +3,7 @@ use Rattle.std.specs.List.{filter_map}
 use Rattle.dh_changes.specs.World.{facts}
 use Rattle.table_build.specs.Ordered.{put_all}
 use Rattle.table_build.specs.Events.{place_cmp, place_of}
-use Rattle.table_build.proofs.events.place_map.Given as goal
+use Rattle.table_build.proofs.events.places_of.Given as goal
 
 abbrev pub invariant-loop-id : goal.invariant-loop-id
 invariant-loop-id l =

@@ -5,7 +5,7 @@ use Rattle.table_rows.specs.Rows.{key_of}
 use Rattle.table_rows.specs.Order.{key_cmp}
 use Rattle.table_build.specs.Ordered.{put_all}
 use Rattle.table_build.specs.Values.{row_of}
-use Rattle.table_build.proofs.values.row_map.Given as goal
+use Rattle.table_build.proofs.values.ordered_rows.Given as goal
 
 abbrev pub invariant-loop-key : goal.invariant-loop-key
 invariant-loop-key l =

@@ -3,7 +3,7 @@ use Rattle.std.specs.List.{filter_map}
 use Rattle.dh_changes.specs.World.{facts}
 use Rattle.table_build.specs.Ordered.{put_all}
 use Rattle.table_build.specs.Regs.{place_cmp, place_of, reg_of}
-use Rattle.table_build.proofs.regs.reg_map.Given as goal
+use Rattle.table_build.proofs.regs.regs_of.Given as goal
 
 abbrev pub invariant-loop-key : goal.invariant-loop-key
 invariant-loop-key l =

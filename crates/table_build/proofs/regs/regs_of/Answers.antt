@@ -5,8 +5,8 @@ use Rattle.dh_changes.specs.World.{facts}
 use Rattle.table_build.specs.Ordered.{put_all}
 use Rattle.table_build.specs.Regs.{place_cmp, place_of, reg_of}
 use Rattle.table_build.proofs.LoopLemmas.{put-more, put-no-more}
-use Rattle.table_build.proofs.regs.reg_map.Goals.{in-Some+in_ok-insert, in_default}
-use Rattle.table_build.proofs.regs.reg_map.Goals as goal
+use Rattle.table_build.proofs.regs.regs_of.Goals.{in-Some+in_ok-insert, in_default}
+use Rattle.table_build.proofs.regs.regs_of.Goals as goal
 
 pub loop-key-preserved : goal.loop-key-preserved
 loop-key-preserved c =

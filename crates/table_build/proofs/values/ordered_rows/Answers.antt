@@ -7,8 +7,8 @@ use Rattle.table_rows.specs.Order.{key_cmp}
 use Rattle.table_build.specs.Ordered.{put_all}
 use Rattle.table_build.specs.Values.{row_of}
 use Rattle.table_build.proofs.LoopLemmas.{put-more, put-no-more}
-use Rattle.table_build.proofs.values.row_map.Goals.{in-Some+in_ok-insert, in_default}
-use Rattle.table_build.proofs.values.row_map.Goals as goal
+use Rattle.table_build.proofs.values.ordered_rows.Goals.{in-Some+in_ok-insert, in_default}
+use Rattle.table_build.proofs.values.ordered_rows.Goals as goal
 
 pub loop-key-preserved : goal.loop-key-preserved
 loop-key-preserved c =
