@@ -21,14 +21,25 @@ writes-rest from n changes below within =
     ∙ ap writes_of (drop-append-le from (take n changes) (drop n changes) (omega (arith, below, whole)))
     ∙ writes-append (drop from (take n changes)) (drop n changes)
 
+-- those from a place on, as a slice has them
+abbrev pub last : {A : Type 0} → ℕ → List A → List A
+last from changes = take (length changes - from) (drop from changes)
+
 pub last-writes : {A : Type 0} (of : A → Change) (from : ℕ) (changes : List A)
-    → writes_of (map of (take (length changes - from) (drop from changes))) ≡ writes_of (drop from (map of changes))
+    → writes_of (map of (last from changes)) ≡ writes_of (drop from (map of changes))
 last-writes of from changes =
     let left = length-drop from changes in
     ap (λ l. writes_of (map of l)) (take_all (length changes - from) (drop from changes) (omega (arith, left)))
     ∙ ap writes_of (sym (drop-map of from changes))
 
 pub writes-last : {A : Type 0} (of : A → Change) (from n : ℕ) (changes : List A) → from ≤ n → n ≤ length (map of changes)
-    → writes_of (map of (take (length changes - from) (drop from changes)))
+    → writes_of (map of (last from changes))
     ≡ writes_of (drop from (take n (map of changes))) ++ writes_of (drop n (map of changes))
 writes-last of from n changes below within = last-writes of from changes ∙ writes-rest from n (map of changes) below within
+
+-- the writes of all changes are those of the base and of the last
+pub writes-cut : {A : Type 0} (of : A → Change) (from cut : ℕ) (changes : List A) → from ≡ cut
+    → writes_of (map of changes) ≡ writes_of (take cut (map of changes)) ++ writes_of (map of (last from changes))
+writes-cut of from cut changes is =
+    writes-split cut (map of changes)
+    ∙ ap (λ w. writes_of (take cut (map of changes)) ++ w) (sym (last-writes of from changes ∙ ap (λ n. writes_of (drop n (map of changes))) is))

@@ -46,6 +46,11 @@ all-append : {A : Type 0} (P : A → Type 0) (xs ys : List A) → AllByRecursion
 all-append P [] ys first more = more
 all-append P (x ∷ xs) ys first more = (first.0, all-append P xs ys first.1 more)
 
+-- a key has what is left by the text that it holds
+pub told-holds : (r : Records) (facts : Facts) (key : ValueKey) (text : Option (List ℕ)) → text ≡ facts.value key → held_told r facts key text ≡ held_at r facts key
+unfolding held_told held_as held_at held_with
+told-holds r facts key text is = ap (held_told r facts key) is
+
 -- ---- what a log holds of the key that its last write of it names
 
 was-told : (base : List Write) (key : ValueKey) (w : Write) (text : Option (List ℕ)) → of_value key (said_by w) ≡ Some text

@@ -32,12 +32,6 @@ fn put_writes(keys: &mut Vec<ApprovalKey>, writes: &[Write]) -> Result<(), Memor
     Ok(())
 }
 
-fn put_change(keys: &mut Vec<ApprovalKey>, change: &Change) -> Result<(), Memory>
-    ensures { OnOk result (keys.new.items ≡ keys.old.items ++ known.approvals_named change.now.writes) }
-{
-    put_writes(keys, change.writes.as_slice())
-}
-
 /// The keys of approvals that the writes of the changes name.
 pub(crate) fn approvals_of(
     alloc: Global,
@@ -47,7 +41,7 @@ pub(crate) fn approvals_of(
 {
     let mut keys: Vec<ApprovalKey> = Vec::new(alloc);
     for change in changes {
-        put_change(&mut keys, &**change)?;
+        put_writes(&mut keys, change.writes.as_slice())?;
     }
     Ok(keys)
 }

@@ -12,7 +12,6 @@ ghost use Rattle.latest_build.specs.Touches as known;
 
 use crate::approvals::approvals_of;
 use crate::found::found;
-use crate::named::values_of;
 use dh_base::items::Items;
 use dh_base::memory::Memory;
 use dh_changes::change::{Change, Write};
@@ -22,22 +21,16 @@ use dh_metadata::metadata::Metadata;
 use dh_records::approved::approved_at;
 use std::alloc::Global;
 use std::sync::Arc;
+use table_build::named::named_in;
 use table_sums::Tables;
 
-fn approvals(alloc: Global, keys: &[ApprovalKey]) -> Result<Vec<Write>, Memory>
-    ensures { IfOk result (λ writes. writes.items ≡ map write.Approve keys.now) }
+fn approving(alloc: Global, keys: &[ApprovalKey]) -> Result<Change, Memory>
+    ensures { IfOk result (λ change. change.writes ≡ map write.Approve keys.now) }
 {
     let mut writes: Vec<Write> = Vec::new(alloc);
     for key in keys {
         writes.push(Write::Approve(*key))?;
     }
-    Ok(writes)
-}
-
-fn approving(alloc: Global, keys: &[ApprovalKey]) -> Result<Change, Memory>
-    ensures { IfOk result (λ change. change.writes ≡ map write.Approve keys.now) }
-{
-    let writes = approvals(alloc, keys)?;
     Ok(Change {
         user: None,
         moment: 0,
@@ -45,19 +38,12 @@ fn approving(alloc: Global, keys: &[ApprovalKey]) -> Result<Change, Memory>
     })
 }
 
-fn take_up(alloc: Global, world: &mut World, change: &Change) -> Result<(), Memory>
-    ensures { OnOk result (facts world.old ≡ facts_in [] → facts world.new ≡ facts_in change.now.writes) }
-{
-    world.reserve(alloc, change.writes.as_slice())?;
-    world.apply(change);
-    Ok(())
-}
-
 fn world_of(alloc: Global, change: &Change) -> Result<World, Memory>
     ensures { IfOk result (λ world. facts world ≡ facts_in change.now.writes) }
 {
     let mut world = World::new(alloc);
-    take_up(alloc, &mut world, change)?;
+    world.reserve(alloc, change.writes.as_slice())?;
+    world.apply(change);
     Ok(world)
 }
 
@@ -71,12 +57,6 @@ fn approved_alone(alloc: Global, keys: &[ApprovalKey]) -> Result<World, Memory>
     world
 }
 
-fn has_position(meta: &Metadata, world: &World, key: &ValueKey) -> bool
-    ensures { result ≡ known.has_position meta.now (facts world.now) key.now }
-{
-    approved_at(world, meta, key).is_some()
-}
-
 fn decided_among(
     alloc: Global,
     meta: &Metadata,
@@ -87,26 +67,11 @@ fn decided_among(
 {
     let mut decided: Vec<ValueKey> = Vec::new(alloc);
     for key in keys {
-        if has_position(meta, world, key) {
+        if approved_at(world, meta, key).is_some() {
             decided.push(*key)?;
         }
     }
     Ok(decided)
-}
-
-fn decided_by(
-    alloc: Global,
-    meta: &Metadata,
-    base: &Tables,
-    approvals: &[ApprovalKey],
-) -> Result<Vec<ValueKey>, Memory>
-    ensures { IfOk result (λ decided. decided.items ≡ decided_by meta.now (rows_together base.now.parts) approvals.now) }
-{
-    let keys = found(alloc, meta, base, approvals)?;
-    let world = approved_alone(alloc, approvals)?;
-    let decided = decided_among(alloc, meta, &world, &keys);
-    drop(world);
-    decided
 }
 
 // The values of the base whose approval the last of the changes decide.
@@ -120,7 +85,11 @@ fn values_decided(
         (writes_of (map arc_value last.now)))) }
 {
     let approvals = approvals_of(alloc, last)?;
-    decided_by(alloc, meta, base, &approvals)
+    let keys = found(alloc, meta, base, &approvals)?;
+    let world = approved_alone(alloc, &approvals)?;
+    let decided = decided_among(alloc, meta, &world, &keys);
+    drop(world);
+    decided
 }
 
 /// Keys of values that writes touch: as many as `named` are those that the writes name, in their order.
@@ -141,7 +110,7 @@ pub(crate) fn values_touched(
         ≡ values_sought meta.now (rows_together base.now.parts) (writes_of (map arc_value last.now))) }
     ensures named { IfOk result (λ touched. touched.named ≡ length (values_named (writes_of (map arc_value last.now)))) }
 {
-    let mut keys = values_of(alloc, last)?;
+    let mut keys: Vec<ValueKey> = named_in(alloc, last)?;
     let named = keys.len();
     let mut decided = values_decided(alloc, meta, base, last)?;
     keys.append(&mut decided)?;

@@ -87,37 +87,18 @@ fn key_at(meta: &Metadata, row: &Row) -> Option<ValueKey>
     })
 }
 
-fn reach_with(meta: &Metadata, unit: u32, attribute: u32) -> Reach
-    requires { unit < length meta.now.organisation_units }
-    ensures { result ≡ known.reach_with meta.now unit attribute }
-{
-    let (from, to) = meta.tree().interval(unit);
-    Reach {
-        attribute,
-        from,
-        to,
-    }
-}
-
 #[tactic(auto, unfolding(crate::specs::Found::reach_of))]
 fn reach_of(meta: &Metadata, approval: &ApprovalKey) -> Option<Reach>
     ensures { result ≡ known.reach_of meta.now approval.now }
 {
     let unit = meta.find(Kind::OrganisationUnit, approval.unit)?;
     let attribute = meta.find(Kind::CategoryOptionCombo, approval.attribute)?;
-    Some(reach_with(meta, unit, attribute))
-}
-
-fn type_by(meta: &Metadata, approval: &ApprovalKey, workflow: u32) -> Option<PeriodType>
-    requires { workflow < length meta.now.data_approval_workflows }
-    ensures { result ≡ known.type_of meta.now approval.now workflow }
-{
-    let found = meta.workflow(workflow);
-    if found.id == approval.workflow {
-        Some(found.period_type)
-    } else {
-        None
-    }
+    let (from, to) = meta.tree().interval(unit);
+    Some(Reach {
+        attribute,
+        from,
+        to,
+    })
 }
 
 #[tactic(auto, unfolding(crate::specs::Found::type_for))]
@@ -126,7 +107,12 @@ fn type_for(meta: &Metadata, approval: &ApprovalKey, element: u32) -> Option<Per
     ensures { result ≡ known.type_for meta.now approval.now element }
 {
     let workflow = meta.workflow_of(element)?;
-    type_by(meta, approval, workflow)
+    let found = meta.workflow(workflow);
+    if found.id == approval.workflow {
+        Some(found.period_type)
+    } else {
+        None
+    }
 }
 
 fn is_around(kind: PeriodType, approval: &ApprovalKey, period: Period) -> bool
@@ -153,22 +139,6 @@ fn put_rows(keys: &mut Vec<ValueKey>, meta: &Metadata, rows: &[Row]) -> Result<(
     Ok(())
 }
 
-fn put_group(
-    alloc: Global,
-    keys: &mut Vec<ValueKey>,
-    search: &Search<'_>,
-    group: &Group,
-) -> Result<(), Memory>
-    ensures { OnOk result (keys.new.items ≡ keys.old.items
-        ++ known.in_group search.now.meta.now (rows_together search.now.base.now.parts) search.now.reach group.now) }
-{
-    let reach = search.reach;
-    let rows = search
-        .base
-        .rows_of(alloc, *group, Need::All, reach.from, reach.to)?;
-    put_rows(keys, search.meta, rows.as_slice())
-}
-
 fn put_reached(
     alloc: Global,
     keys: &mut Vec<ValueKey>,
@@ -179,11 +149,14 @@ fn put_reached(
     ensures { OnOk result (keys.new.items ≡ keys.old.items
         ++ known.in_group_reached search.now.meta.now (rows_together search.now.base.now.parts) search.now.approval.now search.now.reach kind group.now) }
 {
-    if is_reached(kind, search.approval, &search.reach, group) {
-        put_group(alloc, keys, search, group)
-    } else {
-        Ok(())
+    let reach = search.reach;
+    if !is_reached(kind, search.approval, &reach, group) {
+        return Ok(());
     }
+    let rows = search
+        .base
+        .rows_of(alloc, *group, Need::All, reach.from, reach.to)?;
+    put_rows(keys, search.meta, rows.as_slice())
 }
 
 fn put_groups(
@@ -203,20 +176,6 @@ fn put_groups(
     Ok(())
 }
 
-fn put_kind(
-    alloc: Global,
-    keys: &mut Vec<ValueKey>,
-    search: &Search<'_>,
-    element: u32,
-    kind: PeriodType,
-) -> Result<(), Memory>
-    ensures { OnOk result (keys.new.items ≡ keys.old.items
-        ++ known.in_groups search.now.meta.now (rows_together search.now.base.now.parts) search.now.approval.now search.now.reach element kind) }
-{
-    let groups = search.base.groups(alloc, element)?;
-    put_groups(alloc, keys, search, kind, groups.as_slice())
-}
-
 fn put_element(
     alloc: Global,
     keys: &mut Vec<ValueKey>,
@@ -227,10 +186,11 @@ fn put_element(
     ensures { OnOk result (keys.new.items ≡ keys.old.items
         ++ known.of_element search.now.meta.now (rows_together search.now.base.now.parts) search.now.approval.now search.now.reach element) }
 {
-    match type_for(search.meta, search.approval, element) {
-        Some(kind) => put_kind(alloc, keys, search, element, kind),
-        None => Ok(()),
-    }
+    let Some(kind) = type_for(search.meta, search.approval, element) else {
+        return Ok(());
+    };
+    let groups = search.base.groups(alloc, element)?;
+    put_groups(alloc, keys, search, kind, groups.as_slice())
 }
 
 fn put_elements(alloc: Global, keys: &mut Vec<ValueKey>, search: &Search<'_>) -> Result<(), Memory>

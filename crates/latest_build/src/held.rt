@@ -3,7 +3,7 @@
 ghost use Rattle.std.specs.Prelude.{◌≡◌, ◌<◌, ◌≤◌, ◌++◌, [], List, true, length, map, take, drop, Some, None, OnOk, IfOk, IfSome};
 ghost use Rattle.std.specs.Arc.{arc_value};
 ghost use Rattle.std.specs.List.{filter_map};
-ghost use Rattle.std.specs.Option.{option_to_list};
+ghost use Rattle.std.specs.Option.{option_copied, option_to_list};
 ghost use Rattle.std.specs.Ordering.{is_eq};
 ghost use Rattle.dh_changes.specs.declared.change.Write.{Write as LogWrite};
 ghost use Rattle.org_tree.specs.Units.{IsTree};
@@ -88,76 +88,34 @@ fn combo_like(meta: &Metadata, id: Uid, last: &Option<KnownCombo>) -> Option<u32
     }
 }
 
-#[tactic(auto, unfolding(table_build::specs::Values::objects_of))]
-fn objects_of(meta: &Metadata, key: &ValueKey, last: &Option<KnownCombo>) -> Option<ValueObjects>
-    requires { IfSome last.now (λ combo. find_of meta.now CategoryOptionCombo combo.id ≡ Some combo.number) }
-    ensures value { result ≡ values.objects_of meta.now key.now }
-    ensures element { IfSome result (λ objects. objects.element < length meta.now.data_elements) }
-    ensures unit { IfSome result (λ objects. objects.unit < length meta.now.organisation_units) }
-    ensures combo { IfSome result (λ objects. find_of meta.now CategoryOptionCombo key.now.combo ≡ Some objects.combo) }
-{
-    let element = meta.find(Kind::DataElement, key.element)?;
-    let unit = meta.find(Kind::OrganisationUnit, key.unit)?;
-    let combo = combo_like(meta, key.combo, last)?;
-    let attribute = attribute_of(meta, key, combo)?;
-    Some(ValueObjects {
-        element,
-        unit,
-        combo,
-        attribute,
-    })
-}
-
-// What a write leaves that sets a value to this text.
+// What a text leaves at the place of a key, or what is left there where there is none.
 #[tactic(auto, unfolding(crate::specs::Told::held_as, table_build::specs::Values::row_with))]
-fn set_with(
+fn held_as(
     meta: &Metadata,
     world: &World,
     key: &ValueKey,
-    text: &[u8],
+    text: Option<&[u8]>,
     objects: ValueObjects,
 ) -> HeldRow
     requires of { values.objects_of meta.now key.now ≡ Some objects }
     requires element { objects.element < length meta.now.data_elements }
     requires unit { objects.unit < length meta.now.organisation_units }
-    ensures { result ≡ held_as meta.now (facts world.now) key.now (Some text.now) objects }
+    ensures { result ≡ held_as meta.now (facts world.now) key.now (option_copied text.entry) objects }
 {
-    let row = row_with(meta, world, key, text, objects);
-    HeldRow {
-        row,
-        is_there: true,
-    }
-}
-
-// What is left where there is no value.
-#[tactic(auto, unfolding(crate::specs::Told::held_as, table_build::specs::Values::row_with))]
-fn cleared_with(meta: &Metadata, world: &World, key: &ValueKey, objects: ValueObjects) -> HeldRow
-    requires of { values.objects_of meta.now key.now ≡ Some objects }
-    requires element { objects.element < length meta.now.data_elements }
-    requires unit { objects.unit < length meta.now.organisation_units }
-    ensures { result ≡ held_as meta.now (facts world.now) key.now None objects }
-{
-    let row = row_with(meta, world, key, &[], objects);
-    HeldRow {
-        row,
-        is_there: false,
-    }
-}
-
-#[tactic(auto, unfolding(crate::specs::Held::held_with, crate::specs::Told::held_as))]
-fn held_with(meta: &Metadata, world: &World, key: &ValueKey, objects: ValueObjects) -> HeldRow
-    requires of { values.objects_of meta.now key.now ≡ Some objects }
-    requires element { objects.element < length meta.now.data_elements }
-    requires unit { objects.unit < length meta.now.organisation_units }
-    ensures { result ≡ known.held_with meta.now (facts world.now) key.now objects }
-{
-    match world.value(key) {
-        Some(text) => set_with(meta, world, key, text, objects),
-        None => cleared_with(meta, world, key, objects),
+    match text {
+        Some(text) => HeldRow {
+            row: row_with(meta, world, key, text, objects),
+            is_there: true,
+        },
+        None => HeldRow {
+            row: row_with(meta, world, key, &[], objects),
+            is_there: false,
+        },
     }
 }
 
 // The objects of a key, whose option combination is then the one that was looked up last.
+#[tactic(auto, unfolding(table_build::specs::Values::objects_of))]
 fn objects_next(
     last: &mut Option<KnownCombo>,
     meta: &Metadata,
@@ -169,65 +127,37 @@ fn objects_next(
     ensures unit { IfSome result (λ objects. objects.unit < length meta.now.organisation_units) }
     ensures last { IfSome last.new (λ combo. find_of meta.now CategoryOptionCombo combo.id ≡ Some combo.number) }
 {
-    let objects = objects_of(meta, key, last)?;
+    let element = meta.find(Kind::DataElement, key.element)?;
+    let unit = meta.find(Kind::OrganisationUnit, key.unit)?;
+    let combo = combo_like(meta, key.combo, last)?;
     *last = Some(KnownCombo {
         id: key.combo,
-        number: objects.combo,
+        number: combo,
     });
-    Some(objects)
-}
-
-#[tactic(auto, unfolding(crate::specs::Held::held_at))]
-fn put_key(
-    held: &mut Vec<HeldRow>,
-    last: &mut Option<KnownCombo>,
-    meta: &Metadata,
-    world: &World,
-    key: &ValueKey,
-) -> Result<(), Memory>
-    requires { IfSome last.old (λ combo. find_of meta.now CategoryOptionCombo combo.id ≡ Some combo.number) }
-    ensures put { OnOk result (held.new.items ≡ held.old.items ++ option_to_list (known.held_at meta.now (facts world.now) key.now)) }
-    ensures last { OnOk result (IfSome last.new (λ combo. find_of meta.now CategoryOptionCombo combo.id ≡ Some combo.number)) }
-{
-    if let Some(objects) = objects_next(last, meta, key) {
-        held.push(held_with(meta, world, key, objects))?;
-    }
-    Ok(())
+    let attribute = attribute_of(meta, key, combo)?;
+    Some(ValueObjects {
+        element,
+        unit,
+        combo,
+        attribute,
+    })
 }
 
 #[tactic(auto, unfolding(crate::specs::Told::held_told))]
-fn put_set(
+fn put_told(
     held: &mut Vec<HeldRow>,
     last: &mut Option<KnownCombo>,
     meta: &Metadata,
     world: &World,
     key: &ValueKey,
-    text: &[u8],
+    text: Option<&[u8]>,
 ) -> Result<(), Memory>
     requires { IfSome last.old (λ combo. find_of meta.now CategoryOptionCombo combo.id ≡ Some combo.number) }
-    ensures put { OnOk result (held.new.items ≡ held.old.items ++ option_to_list (held_told meta.now (facts world.now) key.now (Some text.now))) }
+    ensures put { OnOk result (held.new.items ≡ held.old.items ++ option_to_list (held_told meta.now (facts world.now) key.now (option_copied text.entry))) }
     ensures last { OnOk result (IfSome last.new (λ combo. find_of meta.now CategoryOptionCombo combo.id ≡ Some combo.number)) }
 {
     if let Some(objects) = objects_next(last, meta, key) {
-        held.push(set_with(meta, world, key, text, objects))?;
-    }
-    Ok(())
-}
-
-#[tactic(auto, unfolding(crate::specs::Told::held_told))]
-fn put_cleared(
-    held: &mut Vec<HeldRow>,
-    last: &mut Option<KnownCombo>,
-    meta: &Metadata,
-    world: &World,
-    key: &ValueKey,
-) -> Result<(), Memory>
-    requires { IfSome last.old (λ combo. find_of meta.now CategoryOptionCombo combo.id ≡ Some combo.number) }
-    ensures put { OnOk result (held.new.items ≡ held.old.items ++ option_to_list (held_told meta.now (facts world.now) key.now None)) }
-    ensures last { OnOk result (IfSome last.new (λ combo. find_of meta.now CategoryOptionCombo combo.id ≡ Some combo.number)) }
-{
-    if let Some(objects) = objects_next(last, meta, key) {
-        held.push(cleared_with(meta, world, key, objects))?;
+        held.push(held_as(meta, world, key, text, objects))?;
     }
     Ok(())
 }
@@ -245,8 +175,10 @@ fn put_write(
     ensures last { OnOk result (IfSome last.new (λ combo. find_of meta.now CategoryOptionCombo combo.id ≡ Some combo.number)) }
 {
     match write {
-        Write::ValueSet { key, value } => put_set(held, last, meta, world, key, value.as_slice()),
-        Write::ValueCleared { key } => put_cleared(held, last, meta, world, key),
+        Write::ValueSet { key, value } => {
+            put_told(held, last, meta, world, key, Some(value.as_slice()))
+        }
+        Write::ValueCleared { key } => put_told(held, last, meta, world, key, None),
         _ => Ok(()),
     }
 }
@@ -268,20 +200,6 @@ fn put_writes(
     Ok(())
 }
 
-fn put_change(
-    held: &mut Vec<HeldRow>,
-    last: &mut Option<KnownCombo>,
-    meta: &Metadata,
-    world: &World,
-    change: &Change,
-) -> Result<(), Memory>
-    requires { IfSome last.old (λ combo. find_of meta.now CategoryOptionCombo combo.id ≡ Some combo.number) }
-    ensures put { OnOk result (held.new.items ≡ held.old.items ++ filter_map (held_by_write meta.now (facts world.now)) change.now.writes) }
-    ensures last { OnOk result (IfSome last.new (λ combo. find_of meta.now CategoryOptionCombo combo.id ≡ Some combo.number)) }
-{
-    put_writes(held, last, meta, world, change.writes.as_slice())
-}
-
 fn put_changes(
     held: &mut Vec<HeldRow>,
     last: &mut Option<KnownCombo>,
@@ -295,7 +213,7 @@ fn put_changes(
     ensures last { OnOk result (IfSome last.new (λ combo. find_of meta.now CategoryOptionCombo combo.id ≡ Some combo.number)) }
 {
     for change in changes {
-        put_change(held, last, meta, world, &**change)?;
+        put_writes(held, last, meta, world, change.writes.as_slice())?;
     }
     Ok(())
 }
@@ -311,43 +229,15 @@ fn put_keys(
     ensures { OnOk result (held.new.items ≡ held.old.items ++ filter_map (known.held_at meta.now (facts world.now)) keys.now) }
 {
     for key in keys {
-        put_key(held, last, meta, world, key)?;
+        put_told(held, last, meta, world, key, world.value(key))?;
     }
     Ok(())
-}
-
-// What the writes of changes say, then what keys hold that stand after those that the writes name.
-fn held_of(
-    alloc: Global,
-    meta: &Metadata,
-    world: &World,
-    last: &[Arc<Change>],
-    keys: &[ValueKey],
-    named: usize,
-) -> Result<Vec<HeldRow>, Memory>
-    requires { named ≤ length keys.now }
-    ensures { IfOk result (λ held. held.items ≡ filter_map (held_by_write meta.now (facts world.now)) (writes_of (map arc_value last.now))
-        ++ filter_map (known.held_at meta.now (facts world.now)) (drop named keys.now)) }
-{
-    let mut held = Vec::new(alloc);
-    held.reserve(keys.len())?;
-    let mut combo = None;
-    put_changes(&mut held, &mut combo, meta, world, last)?;
-    let (_, more) = keys.split_at(named);
-    put_keys(&mut held, &mut combo, meta, world, more)?;
-    Ok(held)
 }
 
 fn place_in(held: &HeldRow) -> RowPlace
     ensures { result ≡ held.now.place }
 {
     place_of(&held.row)
-}
-
-fn row_in(held: &HeldRow) -> Option<Row>
-    ensures { result ≡ held.now.row }
-{
-    if held.is_there { Some(held.row) } else { None }
 }
 
 // What the writes say and the other keys hold, in the order of the places. Of several with one place the last counts.
@@ -367,7 +257,13 @@ fn held_in_order(
         (filter_map (held_by_write meta.now (facts world.now)) (writes_of (map arc_value last.now))
         ++ filter_map (known.held_at meta.now (facts world.now)) (drop named keys.now))) }
 {
-    let mut held = held_of(alloc, meta, world, last, keys, named)?;
+    let mut held = Vec::new(alloc);
+    held.reserve(keys.len())?;
+    let mut combo = None;
+    put_changes(&mut held, &mut combo, meta, world, last)?;
+    // those that the writes name stand first
+    let (_, more) = keys.split_at(named);
+    put_keys(&mut held, &mut combo, meta, world, more)?;
     held.sort_by_key(|row| place_in(row))?;
     Ok(held)
 }
@@ -400,10 +296,10 @@ fn place_left(held: &HeldRow, later: &[HeldRow]) -> Option<RowPlace>
 fn row_left(held: &HeldRow, later: &[HeldRow]) -> Option<Row>
     ensures { result ≡ known.row_left held.now later.now }
 {
-    if is_again(held, later) {
+    if is_again(held, later) || !held.is_there {
         None
     } else {
-        row_in(held)
+        Some(held.row)
     }
 }
 
@@ -440,20 +336,13 @@ fn rise(rows: &[Row]) -> bool
     true
 }
 
-fn row_map(alloc: Global, rows: &[Row]) -> Result<BTreeMap<RowKey, Row>, Memory>
-    ensures { IfOk result (λ map. map.entries ≡ put_all key_cmp key_of [] rows.now) }
+fn ordered(alloc: Global, rows: &[Row]) -> Result<Vec<Row>, Memory>
+    ensures { IfOk result (λ ordered. ordered.items ≡ in_order key_cmp key_of rows.now) }
 {
     let mut map = BTreeMap::new(alloc);
     for row in rows {
         map.insert(row.key(), *row)?;
     }
-    Ok(map)
-}
-
-fn ordered(alloc: Global, rows: &[Row]) -> Result<Vec<Row>, Memory>
-    ensures { IfOk result (λ ordered. ordered.items ≡ in_order key_cmp key_of rows.now) }
-{
-    let map = row_map(alloc, rows)?;
     Ok(map.into_values().collect(alloc)?)
 }
 
@@ -469,19 +358,12 @@ fn in_row_order(alloc: Global, rows: Vec<Row>) -> Result<Vec<Row>, Memory>
     Ok(more)
 }
 
-fn rows_of(alloc: Global, held: &[HeldRow]) -> Result<Vec<Row>, Memory>
-    ensures { IfOk result (λ rows. rows.items ≡ in_order key_cmp key_of (known.rows_last held.now)) }
-{
-    let rows = rows_last(alloc, held)?;
-    in_row_order(alloc, rows)
-}
-
 fn rows_from(alloc: Global, held: &[HeldRow]) -> Result<HeldRows, Memory>
     ensures places { IfOk result (λ rows. rows.places.items ≡ known.places_last held.now) }
     ensures rows { IfOk result (λ rows. rows.rows.items ≡ in_order key_cmp key_of (known.rows_last held.now)) }
 {
     let places = places_last(alloc, held)?;
-    let rows = rows_of(alloc, held)?;
+    let rows = in_row_order(alloc, rows_last(alloc, held)?)?;
     Ok(HeldRows { places, rows })
 }
 

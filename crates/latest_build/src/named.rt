@@ -52,28 +52,6 @@ impl NamedKeys {
     }
 }
 
-/// The keys of values that the writes of the changes name.
-pub(crate) fn values_of(alloc: Global, changes: &[Arc<Change>]) -> Result<Vec<ValueKey>, Memory>
-    ensures { IfOk result (λ keys. keys.items ≡ values_named (writes_of (map arc_value changes.now))) }
-{
-    named_in(alloc, changes)
-}
-
-fn keys_of(values: TouchedValues, events: Vec<Uid>, regs: Vec<RegKey>) -> NamedKeys
-    ensures values { result.values.items ≡ values.keys.items }
-    ensures named { result.named ≡ values.named }
-    ensures events { result.events.items ≡ events.items }
-    ensures regs { result.regs.items ≡ regs.items }
-{
-    let TouchedValues { keys, named } = values;
-    NamedKeys {
-        values: keys,
-        events,
-        regs,
-        named,
-    }
-}
-
 /// The keys that the last of the changes touch, after those that the base stands for, by what the world holds after all: the values
 /// that they name and those of the base whose approval they decide, the registrations that they name, and the events that they name
 /// or that hang on what they name. What isn't among these is after all changes as it was after any of the last.
@@ -100,5 +78,11 @@ pub fn keys_touched(
     let values = values_touched(alloc, meta, base, last)?;
     let events = events_touched(alloc, world, last)?;
     let regs: Vec<RegKey> = named_in(alloc, last)?;
-    Ok(keys_of(values, events, regs))
+    let TouchedValues { keys, named } = values;
+    Ok(NamedKeys {
+        values: keys,
+        events,
+        regs,
+        named,
+    })
 }

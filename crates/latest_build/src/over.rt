@@ -20,18 +20,6 @@ use table_latest::{Latest, Overlay};
 use table_rows::RowStore;
 use table_sums::Tables;
 
-fn shared_tables(tables: &Arc<Tables>) -> Result<Arc<Tables>, Memory>
-    ensures { IfOk result (λ shared. arc_value shared ≡ arc_value tables.now) }
-{
-    Ok(Arc::try_clone(tables)?)
-}
-
-fn shared_part(latest: &Arc<Latest>) -> Result<Arc<Latest>, Memory>
-    ensures { IfOk result (λ shared. arc_value shared ≡ arc_value latest.now) }
-{
-    Ok(Arc::try_clone(latest)?)
-}
-
 /// The base under the latest part: a store of the rows, registrations and events that all the changes leave. Its years are those of
 /// the base, which may stand for more of the changes than the tables from which the part was made.
 pub fn tables_over(
@@ -55,8 +43,8 @@ pub fn tables_over(
 {
     units_stand(meta);
     let _years = RowStore::years(&**base);
-    let shared = shared_tables(base)?;
-    let part = shared_part(latest)?;
+    let shared = Arc::try_clone(base)?;
+    let part = Arc::try_clone(latest)?;
     let over = Overlay::of(alloc, shared, part)?;
     Ok(over)
 }

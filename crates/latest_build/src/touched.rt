@@ -29,52 +29,17 @@ pub struct LogKeys<'a> {
     pub regs: &'a [RegKey],
 }
 
-fn reg_at(meta: &Metadata, world: &World, key: &RegKey, objects: RegObjects) -> RegPlace
-    requires { objects.unit < length meta.now.organisation_units }
-    ensures { result ≡ known.reg_at meta.now (facts world.now) key.now objects }
-{
-    RegPlace {
-        set: objects.set,
-        period: key.period,
-        order: tree_of(world, meta).order(objects.unit),
-        attribute: objects.attribute,
-    }
-}
-
 #[tactic(auto, unfolding(crate::specs::Places::reg_place))]
 fn reg_place(meta: &Metadata, world: &World, key: &RegKey) -> Option<RegPlace>
     ensures { result ≡ known.reg_place meta.now (facts world.now) key.now }
 {
     let objects = objects_of(meta, key)?;
-    Some(reg_at(meta, world, key, objects))
-}
-
-fn same_reg_place(place: &RegPlace) -> RegPlace
-    ensures { result ≡ place.now }
-{
-    RegPlace {
-        set: place.set,
-        period: place.period,
-        order: place.order,
-        attribute: place.attribute,
-    }
-}
-
-fn reg_map(
-    alloc: Global,
-    meta: &Metadata,
-    world: &World,
-    keys: &[RegKey],
-) -> Result<BTreeMap<RegPlace, RegPlace>, Memory>
-    ensures { IfOk result (λ map. map.entries ≡ put_all reg_place_cmp (λ place. place) [] (filter_map (known.reg_place meta.now (facts world.now)) keys.now)) }
-{
-    let mut map = BTreeMap::new(alloc);
-    for key in keys {
-        if let Some(place) = reg_place(meta, world, key) {
-            map.insert(same_reg_place(&place), place)?;
-        }
-    }
-    Ok(map)
+    Some(RegPlace {
+        set: objects.set,
+        period: key.period,
+        order: tree_of(world, meta).order(objects.unit),
+        attribute: objects.attribute,
+    })
 }
 
 #[tactic(auto, unfolding(crate::specs::Places::reg_places))]
@@ -86,25 +51,23 @@ fn reg_places(
 ) -> Result<Vec<RegPlace>, Memory>
     ensures { IfOk result (λ places. places.items ≡ known.reg_places meta.now (facts world.now) keys.now) }
 {
-    let map = reg_map(alloc, meta, world, keys)?;
-    Ok(map.into_values().collect(alloc)?)
-}
-
-fn id_map(alloc: Global, ids: &[Uid]) -> Result<BTreeMap<Uid, Uid>, Memory>
-    ensures { IfOk result (λ map. map.entries ≡ put_all (slice_cmp nat_cmp) (λ id. id) [] ids.now) }
-{
     let mut map = BTreeMap::new(alloc);
-    for id in ids {
-        map.insert(*id, *id)?;
+    for key in keys {
+        if let Some(place) = reg_place(meta, world, key) {
+            map.insert(place, place)?;
+        }
     }
-    Ok(map)
+    Ok(map.into_values().collect(alloc)?)
 }
 
 #[tactic(auto, unfolding(crate::specs::Places::event_ids))]
 fn event_ids(alloc: Global, ids: &[Uid]) -> Result<Vec<Uid>, Memory>
     ensures { IfOk result (λ all. all.items ≡ known.event_ids ids.now) }
 {
-    let map = id_map(alloc, ids)?;
+    let mut map = BTreeMap::new(alloc);
+    for id in ids {
+        map.insert(*id, *id)?;
+    }
     Ok(map.into_values().collect(alloc)?)
 }
 

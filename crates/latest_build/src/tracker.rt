@@ -89,17 +89,6 @@ fn put_writes(
     Ok(())
 }
 
-fn put_change(
-    alloc: Global,
-    ids: &mut Vec<Uid>,
-    world: &World,
-    change: &Change,
-) -> Result<(), Memory>
-    ensures { OnOk result (ids.new.items ≡ ids.old.items ++ known.events_touched (facts world.now) change.now.writes) }
-{
-    put_writes(alloc, ids, world, change.writes.as_slice())
-}
-
 /// The identifiers of events that the writes of the changes touch, by what the world holds after them.
 pub(crate) fn events_touched(
     alloc: Global,
@@ -110,7 +99,7 @@ pub(crate) fn events_touched(
 {
     let mut ids: Vec<Uid> = Vec::new(alloc);
     for change in changes {
-        put_change(alloc, &mut ids, world, &**change)?;
+        put_writes(alloc, &mut ids, world, change.writes.as_slice())?;
     }
     Ok(ids)
 }

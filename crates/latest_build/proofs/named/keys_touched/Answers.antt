@@ -11,7 +11,7 @@ pub returns-clause-same : goal.returns-clause-same
 returns-clause-same c =
     let rows = rows_together c.args.base.now.parts in
     let hit = writes_of (map arc_value c.args.last.now) in
-    λ start are. ap (value_places c.args.meta.now (facts c.args.world.now)) (c.keys_of.ensures.values ∙ c.in_ok-values.ensures.keys)
+    λ start are. ap (value_places c.args.meta.now (facts c.args.world.now)) (c.in_ok-values.ensures.keys)
     ∙ places-touched c.args.meta.now (rows-tree c.args.meta.now c.units_stand.ensures.tree) rows start (start-rows c.args.meta.now start rows are)
     (facts c.args.world.now) hit
 
@@ -20,6 +20,6 @@ returns-clause-cover c =
     let rows = rows_together c.args.base.now.parts in
     λ start before first more are held split part.
     touched-covers c.args.meta.now (rows-tree c.args.meta.now c.units_stand.ensures.tree) rows start (start-rows c.args.meta.now start rows are)
-    (writes_of (map arc_value c.args.last.now)) (facts c.args.world.now) c.keys_of.result.values.items c.keys_of.result.events.items c.keys_of.result.regs.items
-    (c.keys_of.ensures.values ∙ c.in_ok-values.ensures.keys) (c.keys_of.ensures.events ∙ c.in_ok-events.ensures)
-    (c.keys_of.ensures.regs ∙ c.in_ok-regs.ensures) before first more held split part
+    (writes_of (map arc_value c.args.last.now)) (facts c.args.world.now) _ _ _
+    (c.in_ok-values.ensures.keys) (c.in_ok-events.ensures)
+    (c.in_ok-regs.ensures) before first more held split part

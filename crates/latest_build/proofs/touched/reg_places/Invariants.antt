@@ -4,7 +4,7 @@ use Rattle.dh_changes.specs.World.{facts}
 use Rattle.table_build.specs.Ordered.{put_all}
 use Rattle.table_latest.specs.Keys.{reg_place_cmp}
 use Rattle.latest_build.specs.Places.{reg_place}
-use Rattle.latest_build.proofs.touched.reg_map.Given as goal
+use Rattle.latest_build.proofs.touched.reg_places.Given as goal
 
 abbrev pub invariant-loop-key : goal.invariant-loop-key
 invariant-loop-key l =

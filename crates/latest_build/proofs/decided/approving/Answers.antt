@@ -2,7 +2,7 @@ use Rattle.std.proofs.Common.{◌∙◌, map, ap}
 use Rattle.std.proofs.lemmas.List.{take_all}
 use Rattle.dh_changes.specs.declared.change.Write.TheVariants as write
 use Rattle.latest_build.proofs.LoopLemmas.{mapped-more}
-use Rattle.latest_build.proofs.decided.approvals.Goals as goal
+use Rattle.latest_build.proofs.decided.approving.Goals as goal
 
 pub loop-key-init : goal.loop-key-init
 loop-key-init c = c.new-writes.ensures.items
