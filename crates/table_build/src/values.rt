@@ -1,12 +1,10 @@
 //! The rows of data values.
-ghost use Rattle.std.specs.Prelude.{◌≡◌, ◌<◌, true, length, Some, IfOk, IfSome};
+ghost use Rattle.std.specs.Prelude.{◌≡◌, ◌<◌, length, Some, IfSome};
 ghost use Rattle.dh_metadata.specs.Objects.{find_of};
 ghost use Rattle.dh_metadata.specs.declared.kind.Kind.TheVariants.{CategoryOptionCombo};
 ghost use Rattle.dh_changes.specs.World.{facts};
-ghost use Rattle.table_rows.specs.Store.{have_own_places};
 ghost use Rattle.table_build.specs.Values as known;
 
-use dh_base::memory::Memory;
 use dh_changes::keys::ValueKey;
 use dh_changes::world::World;
 use dh_metadata::kind::Kind;
@@ -14,8 +12,6 @@ use dh_metadata::metadata::Metadata;
 use dh_records::access::tree_of;
 use dh_records::approved::approved_position_of;
 use dh_records::number::number_of;
-use std::alloc::Global;
-use std::collections::BTreeMap;
 use table_rows::Row;
 
 /// The numbers of the objects that a value's key names.
@@ -92,48 +88,4 @@ pub fn row_with(
             None => None,
         },
     }
-}
-
-#[tactic(auto, unfolding(crate::specs::Values::row_of))]
-fn row_of(meta: &Metadata, world: &World, key: &ValueKey) -> Option<Row>
-    ensures { result ≡ known.row_of meta.now (facts world.now) key.now }
-{
-    let text = world.value(key)?;
-    let objects = objects_of(meta, key)?;
-    Some(row_with(meta, world, key, text, objects))
-}
-
-#[tactic(auto, unfolding(crate::specs::Values::rows_of))]
-fn ordered_rows(
-    alloc: Global,
-    meta: &Metadata,
-    world: &World,
-    keys: &[ValueKey],
-) -> Result<Vec<Row>, Memory>
-    ensures { IfOk result (λ rows. rows.items ≡ known.rows_of meta.now (facts world.now) keys.now) }
-{
-    let mut map = BTreeMap::new(alloc);
-    for key in keys {
-        if let Some(row) = row_of(meta, world, key) {
-            map.insert(row.key(), row)?;
-        }
-    }
-    Ok(map.into_values().collect(alloc)?)
-}
-
-/// The rows of these keys, in row order: of those that hold a text and name objects that stand in
-/// the metadata. Of a group each unit has at most one.
-pub fn rows_of(
-    alloc: Global,
-    meta: &Metadata,
-    world: &World,
-    keys: &[ValueKey],
-) -> Result<Vec<Row>, Memory>
-    ensures rows { IfOk result (λ rows. rows.items ≡ known.rows_of meta.now (facts world.now) keys.now) }
-    ensures own_places { IfOk result (λ rows. have_own_places rows.items ≡ true) }
-{
-    // since the units are a tree, no two have one order
-    let _units = tree_of(world, meta).count();
-    let rows = ordered_rows(alloc, meta, world, keys)?;
-    Ok(rows)
 }
