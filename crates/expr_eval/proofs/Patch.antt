@@ -1,12 +1,10 @@
 -- A jump is written after the instructions that it passes.
 use Rattle.std.proofs.Common.{◌≡◌, ℕ, ◌+◌, ◌-◌, Bool, true, false, List, [], ◌∷◌, ◌++◌, length, refl, sym, ap, ◌∙◌, arith, append_assoc, length-append}
-use Rattle.std.specs.Prelude.{slice_set}
+use Rattle.std.specs.Prelude.{◌&&◌, slice_set}
 use Rattle.std.proofs.Math.Seq.{set-append_seam}
 use Rattle.expr_eval.specs.declared.code.Instr.{Instr}
 use Rattle.expr_eval.specs.declared.code.Instr.TheVariants as instr
-use Rattle.expr_lang.specs.declared.tree.Binary.TheVariants as binary
-use Rattle.expr_eval.specs.Code.{if_code, same_code, code_in}
-use Rattle.expr_eval.specs.Emitted.{joined}
+use Rattle.expr_eval.specs.Code.{Codes, if_code, same_code, code_in}
 
 pub code_in_same : (list : Bool) (code : List Instr) → code_in list (same_code code) ≡ code
 code_in_same true code = refl
@@ -56,10 +54,14 @@ patch_if base tc ac bc c1 c2 c3 c4 c5 x y n1 n2 n3 e1 m1 e2 e3 m2 e4 e5 m3 =
     ∙ ap (λ n. base ++ (tc ++ instr.SkipUnless n ∷ (ac ++ j ∷ bc))) d1
     ∙ ap (λ n. base ++ (tc ++ instr.SkipUnless (length ac + 1) ∷ (ac ++ instr.GoOn n ∷ bc))) d2
 
-pub joined-and : (list : Bool) (left right : List Instr) → joined list binary.And left right ≡ left ++ instr.And (length right) ∷ right
-joined-and true left right = refl
-joined-and false left right = refl
+-- the code of a value in a list of arguments, under an operator that makes none
+pub code_in_none : (list : Bool) (codes : Codes) → code_in (list && false) codes ≡ codes.one
+code_in_none true codes = refl
+code_in_none false codes = refl
 
-pub joined-or : (list : Bool) (left right : List Instr) → joined list binary.Or left right ≡ left ++ instr.Or (length right) ∷ right
-joined-or true left right = refl
-joined-or false left right = refl
+-- the code of two operands with the jump over the right one
+pub with_jump : (list : Bool) (base front : List Instr) (left right : Codes) (jump : Instr) → front ≡ left.one
+    → base ++ (front ++ jump ∷ right.one) ≡ base ++ code_in list (same_code (left.one ++ jump ∷ right.one))
+with_jump list base front left right jump one =
+    ap (λ (l : List Instr). base ++ (l ++ jump ∷ right.one)) one
+    ∙ ap (λ (l : List Instr). base ++ l) (sym (code_in_same list (left.one ++ jump ∷ right.one)))

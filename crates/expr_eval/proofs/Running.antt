@@ -1,6 +1,6 @@
 -- Running a code, and the best of a stack's topmost values.
-use Rattle.std.proofs.Common.{◌≡◌, ℕ, zero, suc, ◌+◌, ◌-◌, ◌<◌, ◌≤◌, Bool, true, false, cond, List, [], ◌∷◌, ◌++◌, length, get_or, take, drop, reverse}
-use Rattle.std.proofs.Common.{Option, Some, None, Result, Ok, Err, refl, sym, ap, subst, ◌∙◌, arith}
+use Rattle.std.proofs.Common.{◌≡◌, ℕ, zero, suc, ◌+◌, ◌<◌, Bool, List, [], ◌∷◌, ◌++◌, length, get_or, take, drop, reverse}
+use Rattle.std.proofs.Common.{Option, Some, None, Result, refl, sym, ap, ◌∙◌}
 use Rattle.std.specs.Prelude.{slice_get}
 use Rattle.std.proofs.lemmas.List.{drop_more, drop_min, drop-drop, take_more, reverse-append}
 use Rattle.std.proofs.lemmas.Option.{slice_get_within, get_or_from_slice_get}
@@ -8,7 +8,6 @@ use Rattle.dh_base.specs.Fractions.{Fraction}
 use Rattle.expr_eval.specs.declared.value.Value.{Value}
 use Rattle.expr_eval.specs.declared.value.Cell.{Cell}
 use Rattle.expr_eval.specs.declared.code.Instr.{Instr}
-use Rattle.expr_eval.specs.declared.evaluation.Answer.{Answer}
 use Rattle.expr_eval.specs.declared.evaluation.Answer.TheVariants as answer
 use Rattle.expr_eval.specs.Meaning.{number_of, then_with, best_from, best_of}
 use Rattle.expr_eval.specs.Code.{Step, Go, Stop, act, go_to, run, Comes, passed_to, next_best_of}
@@ -31,10 +30,6 @@ comes_go : (next : ℕ → List Cell → Result (List Cell) Value) (s : Step) (s
 comes_go next (Go st k) skip stack h = ap (λ (c : List Cell). next k c) h.0 ∙ ap (λ (n : ℕ). next n stack) h.1
 comes_go next (Stop v) skip stack h = absurd h
 
-comes_stop : (next : ℕ → List Cell → Result (List Cell) Value) (s : Step) (v : Value) (stack : List Cell) → Comes (answer.Stop v) stack s → go_to next s ≡ Err v
-comes_stop next (Go st k) v stack h = absurd h
-comes_stop next (Stop w) v stack h = ap (λ (x : Value). Err x) h
-
 one_step : (entries : List (Option Fraction)) (code : List Instr) (at : ℕ) (d : Instr) (stack : List Cell) → at < length code
     → run entries (drop at code) 0 stack ≡ go_to (run entries (drop (at + 1) code)) (act entries (get_or code at d) stack)
 one_step entries code at d stack within = ap (λ (c : List Instr). run entries c 0 stack) (drop_more code at d within)
@@ -51,12 +46,6 @@ run_on entries code at d stack after skip place total within comes is so_far =
     ∙ sym (comes_go (run entries (drop (at + 1) code)) (act entries (get_or code at d) stack) skip after comes)
     ∙ sym (one_step entries code at d stack within)
     ∙ so_far
-
-pub run_stops : (entries : List (Option Fraction)) (code : List Instr) (at : ℕ) (d : Instr) (stack after : List Cell) (v : Value)
-    (total : Result (List Cell) Value)
-    → at < length code → Comes (answer.Stop v) after (act entries (get_or code at d) stack) → run entries (drop at code) 0 stack ≡ total → total ≡ Err v
-run_stops entries code at d stack after v total within comes so_far =
-    sym so_far ∙ one_step entries code at d stack within ∙ comes_stop (run entries (drop (at + 1) code)) (act entries (get_or code at d) stack) v after comes
 
 -- the cell that has n above it is the first of those from it on
 first_of : (stack : List Cell) (n : ℕ) (c : Cell) → slice_get stack n ≡ Some c → reverse (take (n + 1) stack) ≡ c ∷ reverse (take n stack)

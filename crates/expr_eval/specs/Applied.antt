@@ -1,5 +1,6 @@
 -- What the instructions of the machine do with values.
-use Rattle.std.specs.Prelude.{◌≡◌, ℕ, Bool, true, false, not, List, [], ◌++◌, Result, Ok, if◌then◌else◌}
+use Rattle.std.specs.Prelude.{Bool, true, false, not, List, [], ◌++◌, Result, Ok, if◌then◌else◌}
+use Rattle.std.specs.Ordering.{is_eq, is_lt, is_gt}
 use Rattle.std.specs.declared.cmp.Ordering.{Ordering}
 use Rattle.dh_base.specs.Fractions.{Fraction, add_of, sub_of, mul_of, div_of, rem_of, pow_of, cmp_of}
 use Rattle.expr_lang.specs.declared.tree.Item.{Item}
@@ -11,7 +12,7 @@ use Rattle.expr_lang.specs.Shape.{Shape, Operand, One, Two, Choice}
 use Rattle.expr_eval.specs.declared.value.Value.{Value}
 use Rattle.expr_eval.specs.declared.value.Cell.{Cell}
 use Rattle.expr_eval.specs.declared.value.Cell.TheVariants as cell
-use Rattle.expr_eval.specs.Meaning.{zero_fraction, one_fraction, number_of, truth_of, number_cell, is_less_than_zero, capped, is_less, is_equal, is_greater}
+use Rattle.expr_eval.specs.Meaning.{zero_fraction, one_fraction, number_of, truth_of, number_cell, is_less_than_zero, capped}
 use Rattle.expr_eval.specs.Meaning.{truth_cell, plain_leaf}
 
 -- the signs, the power and the calls of one number
@@ -24,12 +25,12 @@ applied_one unary.Oizp x = Ok (cell.Number (if is_less_than_zero (number_of x) t
 applied_one _ x = Ok x
 
 abbrev pub comparison_test : Binary → Ordering → Bool
-comparison_test binary.Equal o = is_equal o
-comparison_test binary.NotEqual o = not (is_equal o)
-comparison_test binary.Less o = is_less o
-comparison_test binary.AtMost o = not (is_greater o)
-comparison_test binary.Greater o = is_greater o
-comparison_test _ o = not (is_less o)
+comparison_test binary.Equal o = is_eq o
+comparison_test binary.NotEqual o = not (is_eq o)
+comparison_test binary.Less o = is_lt o
+comparison_test binary.AtMost o = not (is_gt o)
+comparison_test binary.Greater o = is_gt o
+comparison_test _ o = not (is_lt o)
 
 abbrev pub compared : Binary → Fraction → Fraction → Result Cell Value
 compared operator x y = truth_cell (comparison_test operator) (cmp_of x y)

@@ -1,5 +1,5 @@
 -- The postfix form of an expression, and what a machine with one stack makes of it.
-use Rattle.std.specs.Prelude.{◌≡◌, ℕ, zero, suc, ◌+◌, Bool, true, false, not, List, [], ◌∷◌, ◌++◌, length, take, drop, reverse, map, Option, Some, None}
+use Rattle.std.specs.Prelude.{◌≡◌, ℕ, zero, suc, ◌+◌, Bool, true, false, not, List, [], ◌∷◌, ◌++◌, length, take, drop, reverse, Option, Some, None}
 use Rattle.std.specs.Prelude.{Result, Ok, Err, is_some, is_none, unwrap_or, min, if◌then◌else◌}
 use Rattle.dh_base.specs.declared.plain.Strategy.{Strategy}
 use Rattle.dh_base.specs.Fractions.{Fraction}

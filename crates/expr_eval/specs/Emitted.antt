@@ -1,5 +1,5 @@
 -- The parts of a postfix form, as they are put one after another.
-use Rattle.std.specs.Prelude.{ℕ, Bool, true, false, List, [], ◌∷◌, ◌++◌, length}
+use Rattle.std.specs.Prelude.{ℕ, Bool, true, false, List, [], ◌∷◌}
 use Rattle.expr_lang.specs.declared.tree.Item.{Item}
 use Rattle.expr_lang.specs.declared.tree.Unary.{Unary}
 use Rattle.expr_lang.specs.declared.tree.Unary.TheVariants as unary
@@ -38,11 +38,3 @@ abbrev pub room_of : Binary → List Instr
 room_of binary.And = instr.And 0 ∷ []
 room_of binary.Or = instr.Or 0 ∷ []
 room_of _ = []
-
--- two operands as one form
-abbrev pub joined : Bool → Binary → List Instr → List Instr → List Instr
-joined true binary.Comma left right = left ++ right
-joined false binary.Comma left right = instr.Number zero_fraction ∷ []
-joined _ binary.And left right = left ++ instr.And (length right) ∷ right
-joined _ binary.Or left right = left ++ instr.Or (length right) ∷ right
-joined _ operator left right = left ++ (right ++ instr.Binary operator ∷ [])

@@ -1,12 +1,12 @@
 -- What an expression means, by its tree.
 --
 -- An item is given as a number, or as nothing where it is missing; a day is given as the number of the day.
-use Rattle.std.specs.Prelude.{◌≡◌, ℕ, ◌+◌, Bool, true, false, not, ◌&&◌, List, [], ◌∷◌, ◌++◌, Option, Some, None, Result, Ok, Err, ℤ, pos, int_lt, is_some}
+use Rattle.std.specs.Prelude.{ℕ, Bool, true, false, not, ◌&&◌, List, [], ◌∷◌, ◌++◌, Option, Some, None, Result, Ok, Err, pos, int_lt, is_some}
 use Rattle.std.specs.Prelude.{is_none, unwrap_or, nat_lt, nat_le, length, if◌then◌else◌}
 use Rattle.std.specs.Option.{option_or}
 use Rattle.std.specs.List.{list_any, list_all}
+use Rattle.std.specs.Ordering.{is_eq, is_lt, is_gt}
 use Rattle.std.specs.declared.cmp.Ordering.{Ordering}
-use Rattle.std.specs.declared.cmp.Ordering.TheVariants as ordering
 use Rattle.dh_base.specs.declared.plain.NumFault.{NumFault}
 use Rattle.dh_base.specs.declared.plain.NumFault.TheVariants as fault
 use Rattle.dh_base.specs.declared.plain.Strategy.{Strategy}
@@ -63,25 +63,13 @@ is_less_than_zero f = int_lt f.num (pos 0)
 abbrev pub capped : ℕ → ℕ
 capped n = if nat_le n 64 then n else 64
 
-abbrev pub is_less : Ordering → Bool
-is_less ordering.Less = true
-is_less _ = false
-
-abbrev pub is_equal : Ordering → Bool
-is_equal ordering.Equal = true
-is_equal _ = false
-
-abbrev pub is_greater : Ordering → Bool
-is_greater ordering.Greater = true
-is_greater _ = false
-
 abbrev pub truth_cell : (Ordering → Bool) → Result Ordering NumFault → Result Cell Value
 truth_cell test (Ok o) = Ok (cell.Truth (test o))
 truth_cell test (Err e) = Err (value_of_fault e)
 
 -- the one of two numbers that is taken by how they compare, the first where they are equal
 abbrev pub takes_next : Bool → Ordering → Bool
-takes_next greatest o = if greatest then is_less o else is_greater o
+takes_next greatest o = if greatest then is_lt o else is_gt o
 
 abbrev pub taken_of : Bool → Fraction → Fraction → Result Ordering NumFault → Result Fraction Value
 taken_of greatest best next (Ok o) = Ok (if takes_next greatest o then next else best)
@@ -127,12 +115,12 @@ compared_by test x y = then_with x (λ a. then_with y (λ b. truth_cell test (cm
 abbrev pub value_between : syntax.Operator → Result Cell Value → Result Cell Value → Result Cell Value
 value_between syntax.Or x y = then_with x (λ a. if truth_of a then Ok (cell.Truth true) else y)
 value_between syntax.And x y = then_with x (λ a. if truth_of a then y else Ok (cell.Truth false))
-value_between syntax.Equal x y = compared_by is_equal x y
-value_between syntax.NotEqual x y = compared_by (λ o. not (is_equal o)) x y
-value_between syntax.Less x y = compared_by is_less x y
-value_between syntax.AtMost x y = compared_by (λ o. not (is_greater o)) x y
-value_between syntax.Greater x y = compared_by is_greater x y
-value_between syntax.AtLeast x y = compared_by (λ o. not (is_less o)) x y
+value_between syntax.Equal x y = compared_by is_eq x y
+value_between syntax.NotEqual x y = compared_by (λ o. not (is_eq o)) x y
+value_between syntax.Less x y = compared_by is_lt x y
+value_between syntax.AtMost x y = compared_by (λ o. not (is_gt o)) x y
+value_between syntax.Greater x y = compared_by is_gt x y
+value_between syntax.AtLeast x y = compared_by (λ o. not (is_lt o)) x y
 value_between syntax.Add x y = calculated add_of x y
 value_between syntax.Subtract x y = calculated sub_of x y
 value_between syntax.Multiply x y = calculated mul_of x y

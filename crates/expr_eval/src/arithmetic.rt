@@ -2,14 +2,13 @@
 
 ghost use Rattle.std.specs.Prelude.{◌≡◌, ◌≤◌};
 ghost use Rattle.expr_eval.specs.Meaning.{zero_fraction, one_fraction, literal_of, number_of, truth_of, value_of_fault, number_cell, is_less_than_zero};
-ghost use Rattle.expr_eval.specs.Meaning.{is_less, is_equal, is_greater, capped, chosen_of};
+ghost use Rattle.expr_eval.specs.Meaning.{capped, chosen_of};
 ghost use Rattle.expr_eval.specs.Applied.{applied_one, compared, applied_two};
 
 use crate::value::{Cell, Value};
 use dh_base::frac::Frac;
 use dh_base::plain::NumFault;
 use expr_lang::{Binary, Unary};
-use std::cmp::Ordering;
 
 pub fn zero() -> Frac
     ensures { result ≡ zero_fraction }
@@ -104,45 +103,18 @@ fn exponent_of(exponent: u8) -> u32
     if exponent <= 64 { exponent as u32 } else { 64 }
 }
 
-fn less(ordering: Ordering) -> bool
-    ensures { result ≡ is_less ordering }
-{
-    match ordering {
-        Ordering::Less => true,
-        _ => false,
-    }
-}
-
-fn equal(ordering: Ordering) -> bool
-    ensures { result ≡ is_equal ordering }
-{
-    match ordering {
-        Ordering::Equal => true,
-        _ => false,
-    }
-}
-
-fn greater(ordering: Ordering) -> bool
-    ensures { result ≡ is_greater ordering }
-{
-    match ordering {
-        Ordering::Greater => true,
-        _ => false,
-    }
-}
-
 fn compare(binary: Binary, left: Frac, right: Frac) -> Result<Cell, Value>
     ensures { result ≡ compared binary left right }
 {
     match left.cmp(right) {
         Err(fault) => Err(fault_value(fault)),
         Ok(ordering) => Ok(Cell::Truth(match binary {
-            Binary::Equal => equal(ordering),
-            Binary::NotEqual => !equal(ordering),
-            Binary::Less => less(ordering),
-            Binary::AtMost => !greater(ordering),
-            Binary::Greater => greater(ordering),
-            _ => !less(ordering),
+            Binary::Equal => ordering.is_eq(),
+            Binary::NotEqual => !ordering.is_eq(),
+            Binary::Less => ordering.is_lt(),
+            Binary::AtMost => !ordering.is_gt(),
+            Binary::Greater => ordering.is_gt(),
+            _ => !ordering.is_lt(),
         })),
     }
 }
@@ -171,9 +143,9 @@ pub fn choose(greatest: bool, best: Frac, next: Frac) -> Result<Frac, Value>
         Err(fault) => Err(fault_value(fault)),
         Ok(ordering) => {
             let takes = if greatest {
-                less(ordering)
+                ordering.is_lt()
             } else {
-                greater(ordering)
+                ordering.is_gt()
             };
             Ok(if takes { next } else { best })
         }

@@ -9,9 +9,9 @@ ghost use Rattle.expr_eval.specs.declared.code.Instr.TheVariants as instr;
 ghost use Rattle.expr_eval.specs.Applied.{hides_items, plain_items};
 ghost use Rattle.expr_eval.specs.Meaning.{can_miss, literal_of};
 ghost use Rattle.expr_eval.specs.Given.{index_in};
-ghost use Rattle.expr_eval.specs.Code.{asked_instr, asked_code, first_code, argument_count, code_in, codes_of};
+ghost use Rattle.expr_eval.specs.Code.{asked_instr, asked_code, first_code, argument_count, Codes, binary_code, code_in, codes_of};
 ghost use Rattle.expr_eval.specs.Correct.{Means};
-ghost use Rattle.expr_eval.specs.Emitted.{takes_list, is_list, hidden_code, operator_code, room_of, joined};
+ghost use Rattle.expr_eval.specs.Emitted.{takes_list, is_list, hidden_code, operator_code, room_of};
 
 use crate::arithmetic::{literal, zero};
 use crate::code::{Instr, Postfix};
@@ -296,8 +296,9 @@ fn join(
     start: usize,
     end: usize,
 ) -> Result<(), Memory>
-    ensures { (base left right : List Instr) → start ≡ length base → end ≡ length (base ++ left) → code.old.items ≡ ((base ++ left) ++ room_of binary) ++ right
-        → OnOk result (code.new.items ≡ base ++ joined list binary left right) }
+    ensures { (base : List Instr) (left right : Codes) → start ≡ length base → end ≡ length (base ++ code_in (list && is_list binary) left)
+        → code.old.items ≡ ((base ++ code_in (list && is_list binary) left) ++ room_of binary) ++ right.one
+        → OnOk result (code.new.items ≡ base ++ code_in list (binary_code binary left right)) }
 {
     match binary {
         Binary::And => {

@@ -64,13 +64,23 @@ fn is_missing(entries: &[Option<Frac>], index: usize) -> bool
 fn any_missing(entries: &[Option<Frac>], plain: &[usize]) -> bool
     ensures { result ≡ list_any (λ n. is_none (entry_at entries.now n)) plain.now }
 {
-    plain.iter().any(|n| is_missing(entries, *n))
+    for n in plain {
+        if is_missing(entries, *n) {
+            return true;
+        }
+    }
+    false
 }
 
 fn all_missing(entries: &[Option<Frac>], plain: &[usize]) -> bool
     ensures { result ≡ list_all (λ n. is_none (entry_at entries.now n)) plain.now }
 {
-    plain.iter().all(|n| is_missing(entries, *n))
+    for n in plain {
+        if !is_missing(entries, *n) {
+            return false;
+        }
+    }
+    true
 }
 
 fn is_skipped(strategy: Strategy, entries: &[Option<Frac>], plain: &[usize]) -> bool

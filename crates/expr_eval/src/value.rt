@@ -3,7 +3,7 @@
 use dh_base::frac::Frac;
 
 /// The value of an expression.
-#[derive(Clone, Copy, PartialEq, Eq)]
+#[derive(Clone, Copy)]
 pub enum Value {
     Number(Frac),
     Truth(bool),

@@ -1,6 +1,6 @@
-use Rattle.std.proofs.Common.{◌≡◌, ℕ, List, [], ◌∷◌, ◌++◌, sym, ap, ◌∙◌, subst, append_assoc}
+use Rattle.std.proofs.Common.{◌≡◌, ℕ, List, [], ◌∷◌, ◌++◌, length, sym, ap, ◌∙◌, subst, append_assoc, rules}
 use Rattle.std.proofs.lemmas.List.{map-append}
-use Rattle.std.specs.Prelude.{OnOk, map}
+use Rattle.std.specs.Prelude.{◌&&◌, OnOk, map}
 use Rattle.expr_lang.specs.declared.tree.Item.{Item}
 use Rattle.expr_lang.specs.declared.tree.Leaf.TheVariants as leaf
 use Rattle.expr_lang.specs.Branches.{shape_in}
@@ -9,7 +9,8 @@ use Rattle.expr_eval.specs.declared.code.Instr.{Instr}
 use Rattle.expr_eval.specs.declared.code.Instr.TheVariants as instr
 use Rattle.expr_eval.specs.Applied.{plain_items}
 use Rattle.expr_eval.specs.Given.{index_in}
-use Rattle.expr_eval.specs.Code.{codes_of, code_in, if_code}
+use Rattle.expr_eval.specs.Code.{Codes, codes_of, code_in, if_code}
+use Rattle.expr_eval.specs.Emitted.{is_list, room_of}
 use Rattle.expr_eval.proofs.Patch.{patch_if, code_in_same}
 use Rattle.expr_eval.proofs.Places.{at-place}
 use Rattle.expr_eval.proofs.compiling.+emit.Goals as goal
@@ -30,6 +31,20 @@ returns-in-Day-clause-code t c =
     (sym (ap form c.in-Day.ensures.shape
     ∙ at-place form (λ k. instr.LoadDay k ∷ []) (λ i. leaf.Day i) items c.in-Day.place c.in-Day.ensures.earlier c.requires.different
     (λ i. code_in_same c.args.list (instr.LoadDay (index_in items i) ∷ [])))) c.put.ensures
+
+pub returns-in_ok-emit-in-Binary-2-clause-code : goal.returns-in_ok-emit-in-Binary-2-clause-code
+returns-in_ok-emit-in-Binary-2-clause-code t c =
+    let base : List Instr = c.args.code.now.items in
+    let items : List Item = c.args.source.now.items.now in
+    let codes : ℕ → Codes = λ n. codes_of (index_in items) (shape_in items c.args.source.now.branches.now n) in
+    let left : Codes = codes c.in-Binary.left in
+    let front : List Instr = code_in (c.args.list && is_list c.in-Binary.binary) left in
+    let first : c.emit-in-Binary.new.code.items ≡ base ++ front = search rules in
+    subst (λ (s : Shape). OnOk c.join.result (c.join.new.code.items ≡ base ++ code_in c.args.list (codes_of (index_in items) s))) (sym c.in-Binary.ensures.shape)
+    (c.join.ensures base left (codes c.in-Binary.right) (c.len-start.ensures ∙ c.args.code.now.ok.0)
+    (c.len-end.ensures ∙ c.emit-in-Binary.new.code.ok.0 ∙ ap length first)
+    (c.in_ok-emit-in-Binary-2.ensures.code
+    ∙ ap (λ (l : List Instr). l ++ (codes c.in-Binary.right).one) (c.in_ok-put_room-in-Binary.ensures ∙ ap (λ (l : List Instr). l ++ room_of c.in-Binary.binary) first)))
 
 pub returns-in_ok-emit-in-If-3-clause-code : goal.returns-in_ok-emit-in-If-3-clause-code
 returns-in_ok-emit-in-If-3-clause-code t c =

@@ -1,6 +1,6 @@
-use Rattle.std.proofs.Common.{◌≡◌, ℕ, ◌+◌, ◌-◌, List, [], length, drop, take, reverse, Ok, Err, ap, sym, ◌∙◌, subst, arith}
+use Rattle.std.proofs.Common.{◌≡◌, ℕ, ◌+◌, ◌-◌, length, take, reverse, Ok, Err, ap, sym, ◌∙◌, subst, arith}
 use Rattle.std.proofs.lemmas.List.{length-drop}
-use Rattle.expr_eval.specs.Meaning.{number_of, best_of}
+use Rattle.expr_eval.specs.Meaning.{best_of}
 use Rattle.expr_eval.specs.Code.{next_best_of}
 use Rattle.expr_eval.proofs.Running.{best_on, best_step}
 use Rattle.expr_eval.proofs.evaluation.best.Goals as goal

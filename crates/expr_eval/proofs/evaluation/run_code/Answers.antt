@@ -1,4 +1,4 @@
-use Rattle.std.proofs.Common.{◌≡◌, [], drop, subst, ◌∙◌}
+use Rattle.std.proofs.Common.{[], subst}
 use Rattle.expr_eval.specs.declared.code.Instr.{Instr}
 use Rattle.expr_eval.specs.declared.evaluation.Answer.{Answer}
 use Rattle.expr_eval.specs.declared.evaluation.Answer.TheVariants as answer
