@@ -1,12 +1,9 @@
--- Fractions over one denominator, as the values are over a million: their sums and their order are those of the numerators.
-use Rattle.std.proofs.Common.{◌≡◌, ◌∙◌, ℕ, ◌*◌, ◌<◌, ◌^◌, ◌++◌, sym, ap, arith}
-use Rattle.std.specs.Prelude.{ℤ, pos, ◌+ℤ◌, ◌*ℤ◌, unsigned_abs, Some}
-use Rattle.std.specs.Ordering.{int_cmp}
-use Rattle.dh_base.specs.Fractions.{fraction_of, sum_of, order_of, of_micros}
-use Rattle.dh_base.specs.Decimals.{printed, decimal_of, sign_of, text_of}
+-- Fractions over one denominator, as the values are over a million: their sums are those of the numerators.
+use Rattle.std.proofs.Common.{◌≡◌, ◌∙◌, ℕ, ◌*◌, ◌<◌, sym, ap, arith}
+use Rattle.std.specs.Prelude.{ℤ, pos, ◌+ℤ◌, ◌*ℤ◌}
+use Rattle.dh_base.specs.Fractions.{fraction_of, sum_of, of_micros}
 use Rattle.dh_base.proofs.FractionLemmas.{fraction_of-IsReduced, fraction_of-HasValue, fraction_of-same, times_times, times_swap, plus_times}
-use Rattle.dh_base.proofs.FractionLemmas.{positive_product, order-times}
-use Rattle.dh_base.proofs.ReadBackLemmas.{read_back, printed-micros}
+use Rattle.dh_base.proofs.FractionLemmas.{positive_product}
 
 -- a numerator of a reduced fraction times the other's denominator, times the common one, is the given numerator times both
 over_both : (n z : ℤ) (b c d : ℕ) → n *ℤ pos d ≡ z *ℤ pos b → (n *ℤ pos c) *ℤ pos d ≡ z *ℤ pos (b * c)
@@ -30,28 +27,7 @@ sum_of-over_one a b d some =
     ∙ ap (λ z. a *ℤ pos (x.den * y.den) +ℤ z) (over_both_turned y.num b x.den y.den d (fraction_of-HasValue b d some))
     ∙ sym (plus_times a b (x.den * y.den)))
 
-pub order_of-over_one : (a b : ℤ) (d : ℕ) → 0 < d → order_of (fraction_of a d) (fraction_of b d) ≡ int_cmp a b
-unfolding order_of
-order_of-over_one a b d some =
-    let x = fraction_of a d in
-    let y = fraction_of b d in
-    order-times (x.num *ℤ pos y.den) (y.num *ℤ pos x.den) d some
-    ∙ ap (λ z. int_cmp z ((y.num *ℤ pos x.den) *ℤ pos d)) (over_both x.num a x.den y.den d (fraction_of-HasValue a d some))
-    ∙ ap (λ z. int_cmp (a *ℤ pos (x.den * y.den)) z) (over_both_turned y.num b x.den y.den d (fraction_of-HasValue b d some))
-    ∙ sym (order-times a b (x.den * y.den) (positive_product x.den y.den (fraction_of-IsReduced a d some).positive (fraction_of-IsReduced b d some).positive))
-
 -- ---- values
 
 pub sum_of-micros : (a b : ℤ) → sum_of (of_micros a) (of_micros b) ≡ of_micros (a +ℤ b)
 sum_of-micros a b = sum_of-over_one a b 1000000 (omega arith)
-
-pub order_of-micros : (a b : ℤ) → order_of (of_micros a) (of_micros b) ≡ int_cmp a b
-order_of-micros a b = order_of-over_one a b 1000000 (omega arith)
-
--- the text of a value has its own digits
-pub printed-of_micros : (micros : ℤ) → printed (of_micros micros) 6 ≡ sign_of micros (unsigned_abs micros) ++ text_of (unsigned_abs micros) 6
-printed-of_micros micros = printed-micros micros
-
--- and is read as that value
-pub decimal_of-printed : (micros : ℤ) → unsigned_abs micros < 10 ^ 18 → decimal_of (printed (of_micros micros) 6) ≡ Some micros
-decimal_of-printed micros small = read_back micros small

@@ -248,7 +248,7 @@ impl fmt::Debug for Code {
 
 /// Why a request is refused: its code, and the detail that the code's message carries, empty
 /// where it has none.
-#[derive(Clone, Drop, PartialEq, Eq)]
+#[derive(Drop)]
 pub struct Refusal {
     pub code: Code,
     pub detail: Items<u8>,

@@ -1,13 +1,13 @@
-ghost use Rattle.std.specs.Prelude.{◌≡◌, ◌<◌, ◌≤◌, ◌*◌, ◌^◌, ◌-◌, pos, unsigned_abs, neg_ℤ, length, IfSome, option_map, position, true};
+ghost use Rattle.std.specs.Prelude.{◌≡◌, ◌<◌, ◌≤◌, ◌*◌, ◌^◌, ◌-◌, pos, unsigned_abs, neg_ℤ, length, IfSome, position, true};
 ghost use Rattle.std.specs.List.{list_all};
 ghost use Rattle.std.specs.Char.{is_ascii_digit};
 ghost use Rattle.std.specs.Str.Parse.{digits_value};
-ghost use Rattle.dh_base.specs.Decimals.{decimal_of, size_of, digits_of, decimals_of, both, is_point};
+ghost use Rattle.dh_base.specs.Decimals.{decimal_of, size_of, digits_of, decimals_of, is_point};
 
 use std::marker::Model;
 
 /// A value: a whole number of millionths, below 10^18 in size.
-#[derive(Clone, Copy, PartialEq, Eq)]
+#[derive(Clone, Copy)]
 pub struct Micros {
     value: i64,
 }
@@ -75,8 +75,12 @@ fn read_size(text: &[u8]) -> Option<u64>
     ensures bound { IfSome result (λ n. n < 10 ^ 18) }
 {
     match point_of(text) {
-        None => read_whole(text),
-        Some(place) => read_parts(&text[..place], &text[place + 1..]),
+        None => Some(read_digits(text, 12)? * 1_000_000),
+        Some(place) => {
+            let whole = read_digits(&text[..place], 12)?;
+            let millionths = read_decimals(&text[place + 1..])?;
+            Some(whole * 1_000_000 + millionths)
+        }
     }
 }
 
@@ -84,24 +88,12 @@ fn point_of(text: &[u8]) -> Option<usize>
     ensures place { result ≡ position is_point text.now }
     ensures within { IfSome result (λ place. place < length text.now) }
 {
-    text.iter().position(|byte| *byte == b'.')
-}
-
-fn read_whole(text: &[u8]) -> Option<u64>
-    ensures value { result ≡ option_map (λ whole. whole * 1000000) (digits_of 12 text.now) }
-    ensures bound { IfSome result (λ n. n < 10 ^ 18) }
-{
-    let whole = read_digits(text, 12)?;
-    Some(whole * 1_000_000)
-}
-
-fn read_parts(whole: &[u8], decimals: &[u8]) -> Option<u64>
-    ensures value { result ≡ both (digits_of 12 whole.now) (decimals_of decimals.now) }
-    ensures bound { IfSome result (λ n. n < 10 ^ 18) }
-{
-    let whole = read_digits(whole, 12)?;
-    let millionths = read_decimals(decimals)?;
-    Some(whole * 1_000_000 + millionths)
+    for place in 0..text.len() {
+        if text[place] == b'.' {
+            return Some(place);
+        }
+    }
+    None
 }
 
 fn read_decimals(text: &[u8]) -> Option<u64>
@@ -136,16 +128,15 @@ fn read_digits(text: &[u8], most: usize) -> Option<u64>
     ensures small { IfSome result (λ n. n < 10 ^ most) }
     ensures length { IfSome result (λ _. length text.now ≤ most) }
 {
-    if text.is_empty() || text.len() > most || !all_digits(text) {
+    if text.is_empty() || text.len() > most {
         return None;
     }
+    for byte in text {
+        if !byte.is_ascii_digit() {
+            return None;
+        }
+    }
     Some(value_of(text))
-}
-
-fn all_digits(text: &[u8]) -> bool
-    ensures { result ≡ list_all is_ascii_digit text.now }
-{
-    text.iter().all(|byte| byte.is_ascii_digit())
 }
 
 fn value_of(text: &[u8]) -> u64

@@ -11,7 +11,7 @@ use std::marker::Model;
 ///
 /// No call takes memory. A call whose numbers would grow past that size answers
 /// [`NumFault::Wide`].
-#[derive(Clone, Copy, PartialEq, Eq)]
+#[derive(Clone, Copy)]
 pub struct Frac {
     num: i128,
     den: u128,

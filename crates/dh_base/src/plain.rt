@@ -1,5 +1,5 @@
 /// Which approval a row has to have.
-#[derive(Clone, Copy, PartialEq, Eq)]
+#[derive(Clone, Copy)]
 pub enum Need {
     /// Every row, whether approved or not.
     All,
@@ -8,7 +8,7 @@ pub enum Need {
 }
 
 /// How the values of a cell are made into one.
-#[derive(Clone, Copy, PartialEq, Eq)]
+#[derive(Clone, Copy)]
 pub enum AggType {
     Sum,
     Average,
@@ -25,7 +25,7 @@ pub enum AggType {
 }
 
 /// When an expression is skipped for its missing values.
-#[derive(Clone, Copy, PartialEq, Eq)]
+#[derive(Clone, Copy)]
 pub enum Strategy {
     SkipIfAny,
     SkipIfAll,
@@ -48,14 +48,14 @@ pub enum Rate {
 }
 
 /// What an update of the tables rebuilds: all years, or the latest part alone.
-#[derive(Clone, Copy, PartialEq, Eq)]
+#[derive(Clone, Copy)]
 pub enum CutKind {
     Full,
     Latest,
 }
 
 /// Why a computed number is not there.
-#[derive(Clone, Copy, PartialEq, Eq)]
+#[derive(Clone, Copy)]
 pub enum NumFault {
     /// A whole number on the way is 2^127 or more in size.
     Wide,

@@ -1,6 +1,4 @@
 ghost use Rattle.std.specs.Prelude.{◌≡◌, IsTrue};
-ghost use Rattle.std.specs.List.{list_all};
-ghost use Rattle.std.specs.Char.{is_ascii_alphanumeric};
 ghost use Rattle.dh_base.specs.Uid.{uid_of, is_uid};
 
 use std::hash::{Hash, Hasher};
@@ -9,7 +7,7 @@ use std::marker::Model;
 /// An identifier as DHIS2 makes them: 11 ASCII letters and digits, a letter first.
 ///
 /// Identifiers are ordered by their bytes.
-#[derive(Clone, Copy, Debug, PartialEq, Eq, PartialOrd, Ord)]
+#[derive(Clone, Copy, PartialEq, Eq, PartialOrd, Ord)]
 pub struct Uid {
     text: [u8; 11],
 }
@@ -66,11 +64,13 @@ impl Uid {
 fn is_valid(text: &[u8]) -> bool
     ensures { result ≡ is_uid text.now }
 {
-    text.len() == 11 && text[0].is_ascii_alphabetic() && all_alphanumeric(text)
-}
-
-fn all_alphanumeric(text: &[u8]) -> bool
-    ensures { result ≡ list_all is_ascii_alphanumeric text.now }
-{
-    text.iter().all(|byte| byte.is_ascii_alphanumeric())
+    if text.len() != 11 || !text[0].is_ascii_alphabetic() {
+        return false;
+    }
+    for byte in text {
+        if !byte.is_ascii_alphanumeric() {
+            return false;
+        }
+    }
+    true
 }
