@@ -1,20 +1,16 @@
--- Equality of periods decides whether they are one, and a period is its type and its first day.
-use Rattle.std.proofs.Common.{◌≡◌, true, ◌&&◌, refl, sym, ap, subst, ◌∙◌, rules, arith}
+-- Equality of periods decides whether they are one.
+use Rattle.std.proofs.Common.{◌≡◌, true, ◌&&◌, refl, subst, rules}
 use Rattle.std.specs.Prelude.{nat_eq}
 use Rattle.std.specs.Ordering.{int_eq}
 use Rattle.std.specs.Bool.{Decides}
 use Rattle.std.proofs.lemmas.Bool.{and_parts, and_from, eqb-true, eq-eqb}
 use Rattle.std.proofs.lemmas.Bool.Decides.{Decides-int_eq}
 use denote.Enum.Bare.{sameb, same_true, true_same}
-use Rattle.jiff_core.proofs.SignedLemmas.{signed_arith}
 use Rattle.dh_periods.specs.contracts.kind.PeriodType.{the_type}
 use Rattle.dh_periods.specs.declared.kind.PeriodType.{PeriodType}
 use Rattle.dh_periods.specs.declared.name.PeriodName.{PeriodName}
-use Rattle.dh_periods.specs.Days.{is_listed, first_day, last_day}
-use Rattle.dh_periods.specs.Places.{candidate}
+use Rattle.dh_periods.specs.Days.{first_day, last_day}
 use Rattle.dh_periods.specs.Keys.{same_name, same_period}
-use Rattle.dh_periods.proofs.BoundLemmas.{day-bounds}
-use Rattle.dh_periods.proofs.ContainingLemmas.{candidate-is}
 
 same_kind : (a b : PeriodType) → sameb the_type a b ≡ true → a ≡ b
 same_kind a b e = same_true the_type (search rules) a b e
@@ -23,11 +19,6 @@ same_parts : (a b : PeriodName) → a.kind ≡ b.kind → a.year ≡ b.year → 
 same_parts a b k y n d =
     let made : a ≡ record { kind = b.kind; year = b.year; number = b.number; day = b.day } = rw (← k, ← y, ← n, ← d) refl in
     made
-
-same_candidate : (a b : PeriodName) → a.kind ≡ b.kind → first_day a ≡ first_day b → candidate a.kind (first_day a) ≡ candidate b.kind (first_day b)
-same_candidate a b k f =
-    let day = first_day a in
-    ap (λ (t : PeriodType). candidate t day) k ∙ ap (candidate b.kind) f
 
 -- a period compares as equal to itself
 same_period-self : (a : PeriodName) → same_period a a ≡ true
@@ -56,12 +47,3 @@ same_period-Decides a b = (
       let P : PeriodName → Type 0 = λ c. same_period a c ≡ true in
       subst P e (same_period-self a),
 )
-
--- a period is its type and its first day
-pub period-is : (a b : PeriodName) → is_listed a ≡ true → is_listed b ≡ true → a.kind ≡ b.kind → first_day a ≡ first_day b → a ≡ b
-period-is a b ha hb kind first =
-    let da = day-bounds a ha in
-    let db = day-bounds b hb in
-    let one : candidate a.kind (first_day a) ≡ a = candidate-is a (first_day a) ha (omega (arith, signed_arith)) da.1 in
-    let two : candidate b.kind (first_day b) ≡ b = candidate-is b (first_day b) hb (omega (arith, signed_arith)) db.1 in
-    sym one ∙ same_candidate a b kind first ∙ two

@@ -202,6 +202,15 @@ pub relative_of-none : (name : List ℕ) (day : ℤ) → None ≡ relative_named
 unfolding relative_of
 relative_of-none name day none = rw (← none) refl
 
+-- a name of one period, and one of several
+pub named-single : (name : List ℕ) (found : Stretch) → Some found ≡ single_named name → Some found ≡ relative_named name
+unfolding relative_named
+named-single name found is = ap (λ o. some_or o (several_named name)) is
+
+pub named-several : (name : List ℕ) (found : Option Stretch) → None ≡ single_named name → found ≡ several_named name → found ≡ relative_named name
+unfolding relative_named
+named-several name found none is = is ∙ ap (λ o. some_or o (several_named name)) none
+
 -- ---- how far the named ones reach back
 
 record IsNear (found : Option Stretch) : Type 0 where

@@ -10,8 +10,10 @@ use Rattle.dh_periods.specs.declared.windows.Stretch.TheVariants.{Before, OfYear
 use Rattle.dh_periods.specs.Calendar.{year_with}
 use Rattle.dh_periods.specs.Places.{nth_period, place_with}
 
-abbrev pub before_of : PeriodType → ℕ → ℕ → Option Stretch
-before_of kind back count = Some (Before kind back count)
+-- what stands beside a name in a table
+abbrev pub beside : List (List ℕ × Stretch) → List ℕ → Option Stretch
+beside [] name = None
+beside (entry ∷ more) name = if bytes_eq name entry.0 then Some entry.1 else beside more name
 
 -- one period: that of the day, or the one before it
 abbrev pub single_named : List ℕ → Option Stretch

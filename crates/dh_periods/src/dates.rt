@@ -1,7 +1,7 @@
 //! Calendar dates as text.
-ghost use Rattle.std.specs.Prelude.{◌≡◌, IsTrue, IfSome, IfNone, option_and_then};
+ghost use Rattle.std.specs.Prelude.{◌≡◌, IfSome, IfNone};
 ghost use Rattle.dh_periods.specs.declared.name.PeriodName.{PeriodName};
-ghost use Rattle.dh_periods.specs.Days.{listed, first_day};
+ghost use Rattle.dh_periods.specs.Days.{first_day};
 ghost use Rattle.dh_periods.specs.Civil.{read_date, civil_of, IsDateText};
 
 use crate::name::PeriodName;
@@ -23,17 +23,12 @@ fn read_date(text: &[u8]) -> Option<PeriodName>
     dated(year, month, number_of_two(text[8], text[9]))
 }
 
-fn day_in(text: &[u8]) -> Option<Period>
-    ensures { result ≡ option_and_then listed (read_date text.now) }
-{
-    Period::named(read_date(text)?)
-}
-
 #[tactic(auto, unfolding(crate::specs::Civil::civil_of))]
 fn civil_in(text: &[u8]) -> Option<i32>
     ensures { result ≡ civil_of text.now }
 {
-    match day_in(text) {
+    let name = read_date(text)?;
+    match Period::named(name) {
         Some(period) => Some(period.first()),
         None => None,
     }

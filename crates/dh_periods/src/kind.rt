@@ -1,5 +1,5 @@
 //! The types of periods.
-ghost use Rattle.std.specs.Prelude.{◌≡◌, ◌≢◌, IfSome, IfNone};
+ghost use Rattle.std.specs.Prelude.{◌≡◌, ◌≢◌, IfSome, IfNone, find, bytes_eq};
 ghost use Rattle.dh_periods.specs.declared.kind.PeriodType.{PeriodType};
 ghost use Rattle.dh_periods.specs.declared.kind.Shape.TheVariants.{Months};
 ghost use Rattle.dh_periods.specs.Types.{shape_of, type_name, type_named, IsShape};
@@ -35,11 +35,23 @@ const ALL_TYPES: [PeriodType; 11] = [
     PeriodType::FinancialOct,
 ];
 
+/// The first of the types that has the name.
+fn first_named(types: &[PeriodType], name: &[u8]) -> Option<PeriodType>
+    ensures { result ≡ find (λ kind. bytes_eq (type_name kind) name.now) types.now }
+{
+    for kind in types {
+        if kind.name() == name {
+            return Some(*kind);
+        }
+    }
+    None
+}
+
 #[tactic(auto, unfolding(crate::specs::Types::type_named))]
 fn type_named(name: &[u8]) -> Option<PeriodType>
     ensures { result ≡ type_named name.now }
 {
-    ALL_TYPES.iter().copied().find(|kind| kind.name() == name)
+    first_named(&ALL_TYPES, name)
 }
 
 impl PeriodType {

@@ -1,12 +1,11 @@
 //! Reading the text of a period.
 ghost use Rattle.std.specs.Prelude.{◌≡◌, ◌≤◌, ◌+◌, ◌-◌, Some, None, if◌then◌else◌, bytes_eq};
-ghost use Rattle.dh_periods.specs.Texts.{number_of_one, number_of_two, number_of_four, whole, numbered, dated, read_two, read_three, read_ending, read_name};
+ghost use Rattle.dh_periods.specs.Texts.{number_of_one, number_of_two, number_of_four, numbered, dated, read_two, read_three, read_ending, read_name};
 
 use crate::kind::PeriodType;
 use crate::name::PeriodName;
 
-/// Whether the bytes are those of the text.
-pub(crate) fn is_text(bytes: &[u8], text: &str) -> bool
+fn is_text(bytes: &[u8], text: &str) -> bool
     ensures { result ≡ bytes_eq bytes.now text.now }
 {
     bytes == text.as_bytes()
@@ -38,17 +37,6 @@ pub(crate) fn number_of_four(thousands: u8, hundreds: u8, tens: u8, ones: u8) ->
     let high = number_of_two(thousands, hundreds)?;
     let low = number_of_two(tens, ones)?;
     Some(100 * u16::from(high) + u16::from(low))
-}
-
-fn whole(kind: PeriodType, year: u16) -> Option<PeriodName>
-    ensures { result ≡ whole kind year }
-{
-    Some(PeriodName {
-        kind,
-        year,
-        number: 1,
-        day: 1,
-    })
 }
 
 fn numbered(kind: PeriodType, year: u16, number: Option<u8>) -> Option<PeriodName>
@@ -107,26 +95,26 @@ fn read_ending(year: u16, rest: &[u8]) -> Option<PeriodName>
     ensures { result ≡ read_ending year rest.now }
 {
     if rest.len() == 0 {
-        return whole(PeriodType::Yearly, year);
+        return numbered(PeriodType::Yearly, year, Some(1));
     }
     if rest.len() == 2 {
         return read_two(year, rest[0], rest[1]);
     }
     if is_text(rest, "Oct") {
-        return whole(PeriodType::FinancialOct, year);
+        return numbered(PeriodType::FinancialOct, year, Some(1));
     }
     if rest.len() == 3 {
         return read_three(year, rest[0], rest[1], rest[2]);
     }
     if is_text(rest, "July") {
-        return whole(PeriodType::FinancialJuly, year);
+        return numbered(PeriodType::FinancialJuly, year, Some(1));
     }
     if rest.len() == 4 {
         let month = number_of_two(rest[0], rest[1]);
         return dated(year, month, number_of_two(rest[2], rest[3]));
     }
     if is_text(rest, "April") {
-        return whole(PeriodType::FinancialApril, year);
+        return numbered(PeriodType::FinancialApril, year, Some(1));
     }
     if rest.len() == 7 && is_text(&rest[..6], "AprilS") {
         return numbered(PeriodType::SixMonthlyApril, year, number_of_one(rest[6]));

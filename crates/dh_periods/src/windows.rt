@@ -1,107 +1,78 @@
 //! Relative periods.
-ghost use Rattle.std.specs.Prelude.{◌≡◌, ◌≤◌, ◌<◌, ◌+◌, ◌-◌, ◌*◌, ℕ, ◌≤ℤ◌, IsTrue, IfOk, option_map};
+ghost use Rattle.std.specs.Prelude.{◌≡◌, ◌≤◌, ◌<◌, ◌+◌, ◌-◌, ◌*◌, ℕ, ◌≤ℤ◌, IsTrue, IfOk, map, option_map};
 ghost use Rattle.dh_base.specs.declared.limits.TheConstants.{FIRST_QUERY_DAY, LAST_QUERY_DAY};
 ghost use Rattle.dh_periods.specs.Days.{is_listed};
 ghost use Rattle.dh_periods.specs.Places.{nth_period, place_with};
-ghost use Rattle.dh_periods.specs.Relative.{before_of, single_named, several_named, relative_named, IsReach, IsYearRun, HasReach, run_of, periods_on};
-ghost use Rattle.dh_periods.specs.Relative.{relative_of};
+ghost use Rattle.dh_periods.specs.Relative.{beside, relative_named, IsReach, IsYearRun, HasReach, run_of, periods_on, relative_of};
 ghost use Rattle.dh_periods.specs.Calendar.{year_with};
 
 use crate::days::FIRST_YEAR;
 use crate::kind::PeriodType;
 use crate::period::Period;
 use crate::places::{date_at, nth, place_of, place_with};
-use crate::read::is_text;
 use dh_base::memory::Memory;
 use std::alloc::Global;
 
 /// A relative period, as it stands to the day on which it is asked for.
 #[derive(Clone, Copy)]
 pub(crate) enum Stretch {
-    /// So many periods, the first of which is `back` before the one with the day.
-    Before {
-        kind: PeriodType,
-        back: u32,
-        count: u32,
-    },
+    /// Periods from so many before the one with the day on, and how many.
+    Before(PeriodType, u32, u32),
     /// The so many periods of the year with the day.
-    OfYear {
-        kind: PeriodType,
-        count: u32,
-    },
+    OfYear(PeriodType, u32),
 }
 
-fn before(kind: PeriodType, back: u32, count: u32) -> Option<Stretch>
-    ensures { result ≡ before_of kind back count }
-{
-    Some(Stretch::Before { kind, back, count })
-}
+/// The names of one period: that of the day, or the one before it.
+const SINGLE: [(&[u8], Stretch); 10] = [
+    (b"TODAY", Stretch::Before(PeriodType::Daily, 0, 1)),
+    (b"YESTERDAY", Stretch::Before(PeriodType::Daily, 1, 1)),
+    (b"THIS_WEEK", Stretch::Before(PeriodType::Weekly, 0, 1)),
+    (b"LAST_WEEK", Stretch::Before(PeriodType::Weekly, 1, 1)),
+    (b"THIS_MONTH", Stretch::Before(PeriodType::Monthly, 0, 1)),
+    (b"LAST_MONTH", Stretch::Before(PeriodType::Monthly, 1, 1)),
+    (
+        b"THIS_QUARTER",
+        Stretch::Before(PeriodType::Quarterly, 0, 1),
+    ),
+    (
+        b"LAST_QUARTER",
+        Stretch::Before(PeriodType::Quarterly, 1, 1),
+    ),
+    (b"THIS_YEAR", Stretch::Before(PeriodType::Yearly, 0, 1)),
+    (b"LAST_YEAR", Stretch::Before(PeriodType::Yearly, 1, 1)),
+];
 
-fn single_named(name: &[u8]) -> Option<Stretch>
-    ensures { result ≡ single_named name.now }
-{
-    if is_text(name, "TODAY") {
-        return before(PeriodType::Daily, 0, 1);
-    }
-    if is_text(name, "YESTERDAY") {
-        return before(PeriodType::Daily, 1, 1);
-    }
-    if is_text(name, "THIS_WEEK") {
-        return before(PeriodType::Weekly, 0, 1);
-    }
-    if is_text(name, "LAST_WEEK") {
-        return before(PeriodType::Weekly, 1, 1);
-    }
-    if is_text(name, "THIS_MONTH") {
-        return before(PeriodType::Monthly, 0, 1);
-    }
-    if is_text(name, "LAST_MONTH") {
-        return before(PeriodType::Monthly, 1, 1);
-    }
-    if is_text(name, "THIS_QUARTER") {
-        return before(PeriodType::Quarterly, 0, 1);
-    }
-    if is_text(name, "LAST_QUARTER") {
-        return before(PeriodType::Quarterly, 1, 1);
-    }
-    if is_text(name, "THIS_YEAR") {
-        return before(PeriodType::Yearly, 0, 1);
-    }
-    if is_text(name, "LAST_YEAR") {
-        return before(PeriodType::Yearly, 1, 1);
-    }
-    None
-}
+/// The names of several: those before that of the day, or all of the day's year.
+const SEVERAL: [(&[u8], Stretch); 7] = [
+    (b"LAST_3_MONTHS", Stretch::Before(PeriodType::Monthly, 3, 3)),
+    (b"LAST_6_MONTHS", Stretch::Before(PeriodType::Monthly, 6, 6)),
+    (
+        b"LAST_12_MONTHS",
+        Stretch::Before(PeriodType::Monthly, 12, 12),
+    ),
+    (
+        b"LAST_4_QUARTERS",
+        Stretch::Before(PeriodType::Quarterly, 4, 4),
+    ),
+    (b"LAST_5_YEARS", Stretch::Before(PeriodType::Yearly, 5, 5)),
+    (
+        b"MONTHS_THIS_YEAR",
+        Stretch::OfYear(PeriodType::Monthly, 12),
+    ),
+    (
+        b"QUARTERS_THIS_YEAR",
+        Stretch::OfYear(PeriodType::Quarterly, 4),
+    ),
+];
 
-fn several_named(name: &[u8]) -> Option<Stretch>
-    ensures { result ≡ several_named name.now }
+/// What stands beside a name in a table.
+fn beside(table: &[(&[u8], Stretch)], name: &[u8]) -> Option<Stretch>
+    ensures { result ≡ beside (map (λ entry. (entry.0.now, entry.1)) table.now) name.now }
 {
-    if is_text(name, "LAST_3_MONTHS") {
-        return before(PeriodType::Monthly, 3, 3);
-    }
-    if is_text(name, "LAST_6_MONTHS") {
-        return before(PeriodType::Monthly, 6, 6);
-    }
-    if is_text(name, "LAST_12_MONTHS") {
-        return before(PeriodType::Monthly, 12, 12);
-    }
-    if is_text(name, "LAST_4_QUARTERS") {
-        return before(PeriodType::Quarterly, 4, 4);
-    }
-    if is_text(name, "LAST_5_YEARS") {
-        return before(PeriodType::Yearly, 5, 5);
-    }
-    if is_text(name, "MONTHS_THIS_YEAR") {
-        return Some(Stretch::OfYear {
-            kind: PeriodType::Monthly,
-            count: 12,
-        });
-    }
-    if is_text(name, "QUARTERS_THIS_YEAR") {
-        return Some(Stretch::OfYear {
-            kind: PeriodType::Quarterly,
-            count: 4,
-        });
+    for entry in table {
+        if name == entry.0 {
+            return Some(entry.1);
+        }
     }
     None
 }
@@ -111,9 +82,9 @@ fn several_named(name: &[u8]) -> Option<Stretch>
 fn relative_named(name: &[u8]) -> Option<Stretch>
     ensures { result ≡ relative_named name.now }
 {
-    match single_named(name) {
+    match beside(&SINGLE, name) {
         Some(relative) => Some(relative),
-        None => several_named(name),
+        None => beside(&SEVERAL, name),
     }
 }
 
@@ -175,8 +146,8 @@ fn periods_on(alloc: Global, relative: Stretch, place: u32) -> Result<Vec<Period
     ensures { IfOk result (λ periods. periods.items ≡ periods_on place relative) }
 {
     match relative {
-        Stretch::Before { kind, back, count } => before_on(alloc, kind, back, count, place),
-        Stretch::OfYear { kind, count } => year_on(alloc, kind, count, place),
+        Stretch::Before(kind, back, count) => before_on(alloc, kind, back, count, place),
+        Stretch::OfYear(kind, count) => year_on(alloc, kind, count, place),
     }
 }
 
