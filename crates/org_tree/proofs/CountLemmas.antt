@@ -134,13 +134,6 @@ first_below-found p (suc n) i none on h =
           rw before refl
     ]
 
--- the steps of a count
-pub count_below-more_yes : (p : ℕ → Bool) (i : ℕ) → p i ≡ true → count_below p (i + 1) ≡ count_below p i + 1
-count_below-more_yes p i on = rw add-one (rw on refl)
-
-pub count_below-more_no : (p : ℕ → Bool) (i : ℕ) → p i ≡ false → count_below p (i + 1) ≡ count_below p i
-count_below-more_no p i off = rw add-one (rw off (omega arith))
-
 pub ruleset searches = (first_below-more, first_below-found)
 
 pub first_below-agree : (p q : ℕ → Bool) (n : ℕ) → ((k : ℕ) → k < n → p k ≡ q k) → first_below p n ≡ first_below q n

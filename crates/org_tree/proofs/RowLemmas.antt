@@ -1,7 +1,7 @@
 -- What the code reads of a row.
 use Rattle.std.proofs.Common.{◌≡◌, ◌==◌, ℕ, ◌+◌, ◌<◌, true, false, List, [], ◌∷◌, ◌++◌, length, get_or, take, drop, map, Option, Some, None, refl, sym, ap, ◌∙◌}
 use Rattle.std.proofs.Common.{arith, add-one}
-use Rattle.std.proofs.lemmas.List.{append-nil, drop_all, map-append, take_all}
+use Rattle.std.proofs.lemmas.List.{append-nil, drop_all, map-append, map_more, take_all}
 use Rattle.std.proofs.lemmas.Bool.{false≢true, eq-eqb, eqb-true}
 use Rattle.std.specs.Prelude.{option_and_then}
 use Rattle.std.specs.Option.{option_map_or}
@@ -44,3 +44,9 @@ pub each-more : {A : Type 0} (f : ℕ → A) (n : ℕ) (before after : List A) (
 each-more f n before after here pushed so_far is =
     pushed ∙ ap (λ list. list ++ here ∷ []) so_far ∙ ap (λ x. map f (numbers n) ++ x ∷ []) is
     ∙ sym (ap (λ (v : ℕ). map f (numbers v)) (add-one n) ∙ map-append f (numbers n) (n ∷ []))
+
+-- what is made of each member of a list, by one member more
+pub made-more : {A B : Type 0} (f : A → B) (xs : List A) (i : ℕ) (x : A) (before after : List B) → i < length xs → x ≡ get_or xs i x → before ≡ map f (take i xs)
+    → after ≡ before ++ f x ∷ [] → after ≡ map f (take (i + 1) xs)
+made-more f xs i x before after within at so_far pushed =
+    pushed ∙ ap (λ y. before ++ f y ∷ []) at ∙ ap (λ list. list ++ f (get_or xs i x) ∷ []) so_far ∙ sym (map_more f xs i x within)

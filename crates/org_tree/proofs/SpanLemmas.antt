@@ -1,5 +1,5 @@
 -- The part of the list by families where a unit's children stand.
-use Rattle.std.proofs.Common.{◌≡◌, ℕ, ◌+◌, ◌-◌, ◌<◌, true, cond, ◌==◌, List, length, get_or, take, drop, set, Some, None, sym, ap, ◌∙◌, subst, inl, inr}
+use Rattle.std.proofs.Common.{◌≡◌, ℕ, ◌+◌, ◌-◌, ◌<◌, true, cond, ◌==◌, List, length, get_or, take, drop, set, Some, sym, ap, ◌∙◌, subst, inl, inr}
 use Rattle.std.proofs.Common.{arith, get_or-set_same, get_or-set_other}
 use Rattle.std.specs.Prelude.{Contains, option_and_then}
 use Rattle.std.specs.Ordering.{nat_cmp, is_lt}
@@ -10,14 +10,6 @@ use Rattle.std.specs.Cmp.Lexicographic.{slice_cmp}
 use Rattle.org_tree.specs.Units.{UnitRow, id_at, parent_of, IsTree}
 use Rattle.org_tree.specs.Families.{InFamilies, Spans, AreSpans, AreChildren}
 use Rattle.org_tree.proofs.KinLemmas.{sibling_keys, same_family_between, parent_from_keys, StandsBefore-from_Less}
-
-pub span-none : (us : List UnitRow) (kin : List ℕ) (x : ℕ) → Spans us kin 0 x 0 0
-span-none us kin x = record {
-  end_in_range = omega arith;
-  first_in_range = omega arith;
-  inside = λ i l h. absurd (omega arith);
-  outside = λ i h up. absurd (omega arith);
-}
 
 pub span-other : (us : List UnitRow) (kin : List ℕ) (i x first end : ℕ) → ¬ (parent_of us (get_or kin i 0) ≡ Some x) → Spans us kin i x first end
     → Spans us kin (i + 1) x first end
@@ -114,14 +106,6 @@ AreSpans-more us kin spans i above span t fam h inside up end first so_far = rec
               (subst (λ (v : ℕ). Spans us kin (i + 1) above (get_or spans above (0, 0)).0 v) (sym end)
               (span-more us kin t fam i above _ _ h up some (so_far.each above inside)))
         ]
-
--- and when it has no parent
-pub AreSpans-same : (us : List UnitRow) (kin : List ℕ) (spans : List (ℕ × ℕ)) (i : ℕ) → parent_of us (get_or kin i 0) ≡ None → AreSpans us kin i spans
-    → AreSpans us kin (i + 1) spans
-AreSpans-same us kin spans i top so_far = record {
-  same_length = so_far.same_length;
-  each = λ x l. span-other us kin i x _ _ (λ up. (let e : None ≡ Some x = sym top ∙ up in cc)) (so_far.each x l);
-}
 
 -- what stands in a unit's span are its children
 pub children_in_span : (us : List UnitRow) (kin : List ℕ) → IsTree us → InFamilies us kin → (x first end : ℕ) → Spans us kin (length us) x first end

@@ -1,6 +1,6 @@
 -- Steps of the loops that count subtrees and number the walk.
 use Rattle.std.proofs.Common.{◌≡◌, ℕ, zero, suc, ◌+◌, ◌-◌, ◌<◌, ◌≤◌, Bool, true, false, cond, ◌==◌, ◌||◌, List, [], ◌∷◌, length, get_or, set, Some, refl}
-use Rattle.std.proofs.Common.{sym, ap, ◌∙◌, subst, inl, inr, arith, add-one, get_or-set_same, get_or-set_other}
+use Rattle.std.proofs.Common.{sym, ap, ◌∙◌, subst, inl, inr, arith, get_or-set_same, get_or-set_other}
 use Rattle.std.specs.Prelude.{◌^◌}
 use Rattle.std.specs.Option.{option_map_or}
 use Rattle.std.specs.List.{IsDistinct, AllByRecursion, list_any}
@@ -48,9 +48,6 @@ ahead-step us t p y h =
               absurd (false≢true (sym (under-not_before us t q p (t.parent_in_range p q up) at_p) ∙ parent-before us t p q h up))
         ]
 
-pub count-step : (p : ℕ → Bool) (i : ℕ) → count_below p (i + 1) ≡ count_below p i + cond (p i) 1 0
-count-step p i = ap (count_below p) (add-one i)
-
 -- a number one larger at one place
 pub added_at : (xs : List ℕ) (i y : ℕ) → i < length xs → get_or (set xs i (get_or xs i 0 + 1)) y 0 ≡ get_or xs y 0 + cond (i == y) 1 0
 added_at xs i y h =
@@ -62,23 +59,6 @@ added_at xs i y h =
           let test : (i == y) ≡ false = ne_eqb i y other in
           rw test (get_or-set_other xs i y (get_or xs i 0 + 1) 0 (λ e. other (sym e)) ∙ omega arith)
     ]
-
--- the next unit of the list by families gets its place
-pub OrdersSoFar-more : (us : List UnitRow) (kin orders : List ℕ) (i order : ℕ) → InFamilies us kin → i < length us → OrdersSoFar us kin i orders
-    → order ≡ order_of us (get_or kin i 0) → OrdersSoFar us kin (i + 1) (set orders (get_or kin i 0) order)
-OrdersSoFar-more us kin orders i order fam h so_far right = record {
-  same_length = length-set orders (get_or kin i 0) order ∙ so_far.same_length;
-  each = λ j l.
-      elim (cases_eq (get_or kin j 0) (get_or kin i 0)) [
-        | inl same ↦
-            let inside : get_or kin i 0 < length orders = let e = so_far.same_length in let r = fam.in_range i h in omega arith in
-            subst (λ (v : ℕ). get_or (set orders (get_or kin i 0) order) v 0 ≡ order_of us v) (sym same)
-            (get_or-set_same orders (get_or kin i 0) order 0 inside ∙ right)
-        | inr other ↦
-            get_or-set_other orders (get_or kin i 0) (get_or kin j 0) order 0 other
-            ∙ so_far.each j (elim (cases_eq j i) [ inl e ↦ absurd (other (ap (λ (v : ℕ). get_or kin v 0) e)) | inr e ↦ omega arith ])
-      ];
-}
 
 pub AreOrders-from_all : (us : List UnitRow) (kin orders : List ℕ) (i : ℕ) → InFamilies us kin → length us ≤ i → OrdersSoFar us kin i orders
     → AreOrders us orders

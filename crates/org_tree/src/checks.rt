@@ -1,6 +1,6 @@
 ghost use Rattle.std.specs.Prelude.{◌≡◌, ◌^◌, ◌<◌, length};
 ghost use Rattle.org_tree.specs.Count.{first_below};
-ghost use Rattle.org_tree.specs.Faults.{has_bad_parent, is_root, is_second_root, root_fault, shape_fault};
+ghost use Rattle.org_tree.specs.Faults.{has_bad_parent, is_root, is_second_root, shape_fault};
 
 use crate::fault::TreeFault;
 use crate::rows::parent;
@@ -13,19 +13,12 @@ pub fn fault_of_shape(units: &[(Uid, Option<u32>)]) -> Option<TreeFault>
 {
     match first_bad_parent(units) {
         Some(node) => Some(TreeFault::NoParent { node }),
-        None => fault_of_roots(units),
-    }
-}
-
-fn fault_of_roots(units: &[(Uid, Option<u32>)]) -> Option<TreeFault>
-    requires { length units.now < 2 ^ 32 }
-    ensures { result ≡ root_fault units.now }
-{
-    match first_root(units) {
-        None => Some(TreeFault::NoRoot),
-        Some(_) => match second_root(units) {
-            None => None,
-            Some(second) => Some(TreeFault::TwoRoots { second }),
+        None => match first_root(units) {
+            None => Some(TreeFault::NoRoot),
+            Some(_) => match second_root(units) {
+                None => None,
+                Some(second) => Some(TreeFault::TwoRoots { second }),
+            },
         },
     }
 }

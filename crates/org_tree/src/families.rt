@@ -39,7 +39,11 @@ fn rows(alloc: Global, units: &[(Uid, Option<u32>)], levels: &[u8]) -> Result<Ve
 fn places(alloc: Global, rows: &[Kin]) -> Result<Vec<u32>, AllocError>
     ensures { IfOk result (λ places. places.items ≡ map (λ row. row.place) rows.now) }
 {
-    rows.iter().map(|row| row.place).collect(alloc)
+    let mut places = Vec::with_capacity(alloc, rows.len())?;
+    for row in rows {
+        places.push(row.place)?;
+    }
+    Ok(places)
 }
 
 fn row_at(units: &[(Uid, Option<u32>)], levels: &[u8], unit: u32) -> Kin

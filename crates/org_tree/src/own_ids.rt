@@ -18,7 +18,11 @@ pub fn own_ids(alloc: Global, units: &[(Uid, Option<u32>)]) -> Result<bool, Memo
 fn ids(alloc: Global, units: &[(Uid, Option<u32>)]) -> Result<Vec<Uid>, AllocError>
     ensures { IfOk result (λ ids. ids.items ≡ map (λ unit. unit.0) units.now) }
 {
-    units.iter().map(|unit| unit.0).collect(alloc)
+    let mut ids = Vec::with_capacity(alloc, units.len())?;
+    for unit in units {
+        ids.push(unit.0)?;
+    }
+    Ok(ids)
 }
 
 fn neighbours_differ(ids: &[Uid]) -> bool
