@@ -1,5 +1,5 @@
 -- A reference to another object of a file.
-use Rattle.std.specs.Prelude.{List, codes, Ok}
+use Rattle.std.specs.Prelude.{codes, Ok}
 use Rattle.serde_json.specs.Data.{Data}
 use Rattle.json_read.specs.Forms.{Formed, and_then, object_of, field_of, identifier_of}
 use Rattle.json_read.specs.declared.reference.Reference.{Reference}

@@ -51,43 +51,28 @@ fn are_members_within(members: &Vec<(&str, Value<'_>)>) -> bool
     true
 }
 
-// The tree of a text.
+// The tree of a text, if each number in it is within range.
 fn tree<'a>(
-    alloc: Global,
-    text: &'a str,
-    scratch: &'a mut Scratch,
-) -> Result<Option<Value<'a>>, Memory>
-    ensures { IfOk result (λ tree. option_map value_view tree ≡ tree_of text.now) }
-{
-    let mut reader = Reader::new(text, scratch)?;
-    match Value::read(alloc, &mut reader, MOST_LEVELS) {
-        Ok(value) => if reader.next().is_none() {
-            Ok(Some(value))
-        } else {
-            Ok(None)
-        },
-        Err(Error::Invalid) => Ok(None),
-        Err(_) => Err(Memory),
-    }
-}
-
-// A tree each number of which is within range.
-fn kept(value: Value<'_>) -> Option<Value<'_>>
-    ensures { option_map value_view result ≡ kept (Some (value_view value.entry)) }
-{
-    if is_within(&value) { Some(value) } else { None }
-}
-
-fn kept_tree<'a>(
     alloc: Global,
     text: &'a str,
     scratch: &'a mut Scratch,
 ) -> Result<Option<Value<'a>>, Memory>
     ensures { IfOk result (λ tree. option_map value_view tree ≡ kept (tree_of text.now)) }
 {
-    match tree(alloc, text, scratch)? {
-        Some(value) => Ok(kept(value)),
-        None => Ok(None),
+    let mut reader = Reader::new(text, scratch)?;
+    match Value::read(alloc, &mut reader, MOST_LEVELS) {
+        Ok(value) => {
+            if reader.next().is_some() {
+                return Ok(None);
+            }
+            if is_within(&value) {
+                Ok(Some(value))
+            } else {
+                Ok(None)
+            }
+        }
+        Err(Error::Invalid) => Ok(None),
+        Err(_) => Err(Memory),
     }
 }
 
@@ -102,7 +87,7 @@ pub fn read<'a>(
     ensures { IfOk result (λ value. option_map data_of value ≡ document_of bytes.now) }
 {
     match str::from_utf8(bytes) {
-        Ok(text) => kept_tree(alloc, text, scratch),
+        Ok(text) => tree(alloc, text, scratch),
         Err(_) => Ok(None),
     }
 }

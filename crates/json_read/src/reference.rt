@@ -9,7 +9,7 @@ use json::Value;
 use std::alloc::Global;
 
 /// A reference to another object, as `{"id":"OuCountry01"}`.
-#[derive(Clone, Copy, Drop, PartialEq, Eq)]
+#[derive(Drop)]
 pub struct Reference {
     pub id: Uid,
 }
