@@ -47,9 +47,6 @@ itself Greater e = absurd (cc)
 self_equal : {K : Type 0} (order : K → K → Ordering) → IsTotalOrder order → (p : K) → order p p ≡ Equal
 self_equal order t p = itself (order p p) (t.antisymm p p)
 
-same_series-self : (a : Series) → same_series a a ≡ true
-same_series-self a = series_ties a a ∙ ap is_eq (self_equal series_cmp series_total a)
-
 equal_from : (o : Ordering) → is_eq o ≡ true → o ≡ Equal
 equal_from Less e = absurd (cc)
 equal_from Equal e = refl
@@ -445,10 +442,6 @@ stays order o ns x best run may same below held =
     }
 
 -- ---- the step
-
-held_from_run : (order : PeriodName → PeriodName → Ordering) (n : Sample) (ns : List Sample) (run : Run) (best : Sample) → IsRun order (n ∷ ns) run best
-    → Held order (n ∷ ns) run best
-held_from_run order n ns run best is = is
 
 not_zero : (k m : ℕ) → k ≡ suc m → nat_eq k 0 ≡ false
 not_zero k m e = ne_eqb k 0 (λ z. (let bad : suc m ≡ 0 = sym e ∙ z in absurd (omega arith)))

@@ -181,14 +181,6 @@ pub length_counts : {X : Type 0} (xs : List X) → how_many (λ x. true) xs ≡ 
 length_counts [] = refl
 length_counts (x ∷ xs) = ap (λ n. 1 + n) (length_counts xs) ∙ omega arith
 
--- as many members that differ
-pub once-permutation : {X : Type 0} (same : X → X → Bool) → Tells same → (xs ys : List X) → IsPermutation xs ys
-    → length (each_once same xs) ≡ length (each_once same ys)
-once-permutation same tells xs ys moved =
-    sym (length_counts (each_once same xs))
-    ∙ closed-permutation (λ us vs. (p : _) → how_many p (each_once same us) ≡ how_many p (each_once same vs)) (closed-once same tells) xs ys moved (λ x. true)
-    ∙ length_counts (each_once same ys)
-
 -- ---- extremes
 
 -- a choice between two that may be made in any order

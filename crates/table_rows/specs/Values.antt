@@ -1,5 +1,5 @@
 -- The value of some samples by an aggregation type.
-use Rattle.std.specs.Prelude.{ℕ, ◌*◌, nat_eq, if◌then◌else◌, ℤ, pos, int_le, List, [], ◌∷◌, length, map, Option, Some, None, option_map}
+use Rattle.std.specs.Prelude.{ℕ, ◌*◌, Bool, true, false, nat_eq, if◌then◌else◌, ℤ, pos, int_le, List, [], ◌∷◌, length, map, Option, Some, None, option_map}
 use Rattle.dh_base.specs.declared.plain.AggType.{AggType}
 use Rattle.dh_base.specs.declared.plain.AggType.TheVariants as kind
 use Rattle.dh_base.specs.Fractions.{Fraction, fraction_of, of_micros}
@@ -38,6 +38,10 @@ abbrev pub with_choice : (ℤ → ℤ → ℤ) → Option ℤ → Option ℤ →
 with_choice choice found None = found
 with_choice choice None (Some number) = Some number
 with_choice choice (Some found) (Some number) = Some (choice found number)
+
+abbrev pub choice_of : Bool → ℤ → ℤ → ℤ
+choice_of false = lesser
+choice_of true = greater
 
 abbrev pub least : List ℤ → Option ℤ
 least = left_of lesser

@@ -1,7 +1,6 @@
 //! Rows of events and of registrations.
 ghost use Rattle.std.specs.Prelude.{◌≡◌, ◌++◌, ◌∷◌, [], map, IfOk, OnOk};
-ghost use Rattle.std.specs.Ordering.{is_lt};
-ghost use Rattle.table_rows.specs.Events.{event_cmp, reg_cmp, events_of, is_event_of, is_reg_of};
+ghost use Rattle.table_rows.specs.Events.{events_of, is_event_of, is_reg_of};
 
 use dh_base::items::Items;
 use dh_base::memory::Memory;
@@ -92,13 +91,6 @@ impl EventRow {
         self.program == program && from_day <= self.day && self.day <= to_day
     }
 
-    /// Whether it stands before the other, by day and identifier.
-    pub fn is_before(&self, other: &EventRow) -> bool
-        ensures { result ≡ is_lt (event_cmp self.now other.now) }
-    {
-        (self.day, self.id).cmp(&(other.day, other.id)).is_lt()
-    }
-
     /// A copy of it.
     pub fn copy(&self, alloc: Global) -> Result<EventRow, Memory>
         ensures { IfOk result (λ copy. copy ≡ self.now) }
@@ -152,14 +144,5 @@ impl RegRow {
         ensures { result ≡ is_reg_of set self.now }
     {
         self.set == set
-    }
-
-    /// Whether it stands before the other, by data set, period, unit and attribute combination.
-    pub fn is_before(&self, other: &RegRow) -> bool
-        ensures { result ≡ is_lt (reg_cmp self.now other.now) }
-    {
-        let own = (self.set, (self.period, (self.order, self.attribute)));
-        let others = (other.set, (other.period, (other.order, other.attribute)));
-        own.cmp(&others).is_lt()
     }
 }

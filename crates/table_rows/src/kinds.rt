@@ -1,15 +1,15 @@
 //! The value of samples by an aggregation type.
-ghost use Rattle.std.specs.Prelude.{◌≡◌, ◌≤◌, ◌<◌, ◌*◌, ◌^◌, pos, IsTrue, unsigned_abs, length, map, option_map};
-ghost use Rattle.dh_base.specs.Fractions.{fraction_of, of_micros};
+ghost use Rattle.std.specs.Prelude.{◌≡◌, ◌≤◌, ◌<◌, ◌*◌, ◌^◌, IsTrue, unsigned_abs, length, map, option_map};
+ghost use Rattle.dh_base.specs.Fractions.{of_micros};
 ghost use Rattle.table_rows.specs.Samples.{in_series_order, numbered, number_of, weighted, total, outermost, series_of};
-ghost use Rattle.table_rows.specs.Values.{value_by, value_of_sum, mean, if_any, least, greatest, unless_none};
+ghost use Rattle.table_rows.specs.Values.{value_by, value_of_sum, mean, if_any, choice_of, left_of, sum_of_samples};
 ghost use Rattle.table_rows.specs.Ends.{order_of};
 ghost use Rattle.dh_base.specs.declared.limits.TheConstants.{MOST_RECORDS};
 
 use crate::Sum;
 use crate::ends::{End, outermost};
 use crate::sample::Sample;
-use crate::sums::{any_number, greatest, least, sum_of, weighted_sum};
+use crate::sums::{any_number, extreme, sum_of, weighted_sum};
 use dh_base::frac::Frac;
 use dh_base::plain::AggType;
 
@@ -26,12 +26,6 @@ fn mean(micros: i128, count: u64) -> Frac
     ensures { result ≡ mean micros count }
 {
     Frac::of(micros, 1_000_000 * i128::from(count))
-}
-
-fn whole(count: u64) -> Frac
-    ensures { result ≡ fraction_of (pos count) 1 }
-{
-    Frac::of(i128::from(count), 1)
 }
 
 /// The value of rows by their sum, for the types SUM, AVERAGE and COUNT. There is none for other
@@ -60,33 +54,18 @@ pub fn value_of_sum(kind: AggType, sum: &Sum) -> Option<Frac>
             if sum.count == 0 {
                 None
             } else {
-                Some(whole(sum.count))
+                Some(Frac::of(i128::from(sum.count), 1))
             }
         }
         _ => None,
     }
 }
 
-fn total_value(samples: &[Sample]) -> Option<Frac>
+fn value_by_sum(kind: AggType, samples: &[Sample]) -> Option<Frac>
     requires { length samples.now ≤ MOST_RECORDS }
-    ensures { result ≡ if_any (numbered samples.now) (of_micros (total number_of (numbered samples.now))) }
+    ensures { result ≡ value_of_sum kind (sum_of_samples samples.now) }
 {
-    value_of_sum(AggType::Sum, &sum_of(samples))
-}
-
-fn mean_value(samples: &[Sample]) -> Option<Frac>
-    requires { length samples.now ≤ MOST_RECORDS }
-    ensures { result ≡ if_any (numbered samples.now)
-        (mean (total number_of (numbered samples.now)) (length (numbered samples.now))) }
-{
-    value_of_sum(AggType::Average, &sum_of(samples))
-}
-
-fn count_value(samples: &[Sample]) -> Option<Frac>
-    requires { length samples.now ≤ MOST_RECORDS }
-    ensures { result ≡ if_any samples.now (fraction_of (pos (length samples.now)) 1) }
-{
-    value_of_sum(AggType::Count, &sum_of(samples))
+    value_of_sum(kind, &sum_of(samples))
 }
 
 fn over_days(samples: &[Sample], days: u32) -> Option<Frac>
@@ -122,17 +101,11 @@ fn mean_of_ends(samples: &[Sample], end: End) -> Option<Frac>
     Some(mean(found.micros, found.series))
 }
 
-fn least_value(samples: &[Sample]) -> Option<Frac>
-    ensures { result ≡ option_map of_micros (least (map number_of (numbered samples.now))) }
+// The greatest number or the least.
+fn extreme_value(samples: &[Sample], greatest: bool) -> Option<Frac>
+    ensures { result ≡ option_map of_micros (left_of (choice_of greatest) (map number_of (numbered samples.now))) }
 {
-    let micros = least(samples)?;
-    Some(of_micros(i128::from(micros)))
-}
-
-fn greatest_value(samples: &[Sample]) -> Option<Frac>
-    ensures { result ≡ option_map of_micros (greatest (map number_of (numbered samples.now))) }
-{
-    let micros = greatest(samples)?;
+    let micros = extreme(samples, greatest)?;
     Some(of_micros(i128::from(micros)))
 }
 
@@ -146,16 +119,16 @@ pub fn aggregate(kind: AggType, samples: &[Sample], days: u32) -> Option<Frac>
     ensures { result ≡ value_by kind samples.now days }
 {
     match kind {
-        AggType::Sum => total_value(samples),
-        AggType::Average => mean_value(samples),
+        AggType::Sum => value_by_sum(AggType::Sum, samples),
+        AggType::Average => value_by_sum(AggType::Average, samples),
         AggType::AverageSumOrgUnit => over_days(samples, days),
         AggType::Last => sum_of_ends(samples, End::Last),
         AggType::First => sum_of_ends(samples, End::First),
         AggType::LastAverageOrgUnit => mean_of_ends(samples, End::Last),
         AggType::FirstAverageOrgUnit => mean_of_ends(samples, End::First),
-        AggType::Count => count_value(samples),
-        AggType::Min => least_value(samples),
-        AggType::Max => greatest_value(samples),
+        AggType::Count => value_by_sum(AggType::Count, samples),
+        AggType::Min => extreme_value(samples, false),
+        AggType::Max => extreme_value(samples, true),
         AggType::None => None,
     }
 }

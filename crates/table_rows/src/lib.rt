@@ -22,7 +22,7 @@ pub use kinds::{aggregate, value_of_sum};
 pub use list_rows::ListRows;
 pub use plain::add_group;
 pub use ranked::{Ranked, rise};
-pub use row::{Group, Row, RowKey, meets};
+pub use row::{Group, Row, RowKey, meets, position_of};
 pub use sample::{Sample, Series, is_sorted};
 pub use store::RowStore;
 pub use sum::Sum;

@@ -1,5 +1,5 @@
 //! What a store answers, from the lists that it stands for.
-ghost use Rattle.std.specs.Prelude.{◌≡◌, ◌≤◌, ◌<◌, ◌+◌, ◌*◌, ◌^◌, ◌∷◌, ◌++◌, [], true, cond, length, map, unsigned_abs, IfOk, OnOk};
+ghost use Rattle.std.specs.Prelude.{◌≡◌, ◌≤◌, ◌<◌, ◌+◌, ◌*◌, ◌^◌, ◌∷◌, [], true, cond, length, map, unsigned_abs, IfOk, OnOk};
 ghost use Rattle.table_rows.specs.Events.{events_of, regs_of};
 ghost use Rattle.table_rows.specs.Groups.{groups_of, differs_from_last, with_group};
 ghost use Rattle.table_rows.specs.Rows.{group_of, wanted_rows};
@@ -73,21 +73,7 @@ fn with_row(sum: &Sum, row: &Row, wanted: bool) -> Sum
     ensures plain { result.plain ≤ result.count }
     ensures few { result.count ≤ sum.now.count + 1 }
 {
-    if wanted {
-        sum.join(&Sum::of(row.micros))
-    } else {
-        *sum
-    }
-}
-
-// Adds the row, where it is wanted.
-fn put_row(found: &mut Vec<Row>, row: &Row, wanted: bool) -> Result<(), Memory>
-    ensures { OnOk result (found.new.items ≡ found.old.items ++ cond wanted (row.now ∷ []) []) }
-{
-    if wanted {
-        found.push(*row)?;
-    }
-    Ok(())
+    if wanted { sum.more(row.micros) } else { *sum }
 }
 
 pub(crate) fn rows_of(
@@ -102,7 +88,9 @@ pub(crate) fn rows_of(
 {
     let mut found: Vec<Row> = Vec::new(alloc);
     for row in rows {
-        put_row(&mut found, row, row.is_wanted(group, need, from, to))?;
+        if row.is_wanted(group, need, from, to) {
+            found.push(*row)?;
+        }
     }
     Ok(Items::from(found))
 }

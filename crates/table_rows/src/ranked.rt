@@ -43,7 +43,7 @@ impl Ranked for EventRow {
     ghost rank = { event_cmp };
 
     fn stands_before(&self, other: &EventRow) -> bool {
-        self.is_before(other)
+        (self.day, self.id).cmp(&(other.day, other.id)).is_lt()
     }
 }
 
@@ -53,7 +53,9 @@ impl Ranked for RegRow {
     ghost rank = { reg_cmp };
 
     fn stands_before(&self, other: &RegRow) -> bool {
-        self.is_before(other)
+        let own = (self.set, (self.period, (self.order, self.attribute)));
+        let others = (other.set, (other.period, (other.order, other.attribute)));
+        own.cmp(&others).is_lt()
     }
 }
 

@@ -1,7 +1,7 @@
 //! Rows of values, and what they are grouped and ordered by.
 ghost use Rattle.std.specs.Prelude.{◌≡◌};
 ghost use Rattle.std.specs.Ordering.{is_lt};
-ghost use Rattle.table_rows.specs.Rows.{group_of, key_of, position_of, meets, in_range, is_in_group, is_wanted, is_of_element, same_place};
+ghost use Rattle.table_rows.specs.Rows.{group_of, key_of, position_of, meets, is_in_group, is_wanted, same_place};
 ghost use Rattle.table_rows.specs.Order.{row_cmp, key_cmp};
 
 use dh_base::plain::Need;
@@ -40,7 +40,8 @@ pub struct RowKey {
     pub order: u32,
 }
 
-fn position(approved: Option<u8>) -> u16
+/// An approved position in the order of rows, where none comes last.
+pub fn position_of(approved: Option<u8>) -> u16
     ensures { result ≡ position_of approved }
 {
     match approved {
@@ -90,7 +91,7 @@ impl Row {
     {
         RowKey {
             group: self.group(),
-            position: position(self.approved),
+            position: position_of(self.approved),
             order: self.order,
         }
     }
@@ -116,17 +117,10 @@ impl Row {
         self.is_in(&other.group()) && self.order == other.order
     }
 
-    /// Whether its unit's order is from `from` up to below `to`.
-    pub fn is_between(&self, from: u32, to: u32) -> bool
-        ensures { result ≡ in_range from to self.now }
-    {
-        from <= self.order && self.order < to
-    }
-
     /// Whether it is in the group, meets the need and lies in the range of orders.
     pub fn is_wanted(&self, group: &Group, need: Need, from: u32, to: u32) -> bool
         ensures { result ≡ is_wanted group.now need from to self.now }
     {
-        self.is_in(group) && meets(need, self.approved) && self.is_between(from, to)
+        self.is_in(group) && meets(need, self.approved) && from <= self.order && self.order < to
     }
 }

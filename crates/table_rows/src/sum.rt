@@ -1,6 +1,7 @@
 //! Sums of rows.
-ghost use Rattle.std.specs.Prelude.{◌≡◌, ◌≤◌, ◌+◌, ◌*◌, ◌^◌, unsigned_abs};
+ghost use Rattle.std.specs.Prelude.{◌≡◌, ◌≤◌, ◌<◌, ◌+◌, ◌*◌, ◌^◌, unsigned_abs};
 ghost use Rattle.table_rows.specs.Sums.{joined, no_sum, sum_of_number};
+ghost use Rattle.dh_base.specs.declared.limits.TheConstants.{MOST_RECORDS};
 
 /// The sum of some rows.
 #[derive(Clone, Copy, Drop)]
@@ -41,6 +42,20 @@ impl Sum {
             count: self.count + other.count,
             plain: self.plain + other.plain,
         }
+    }
+
+    /// The sum with one more row.
+    pub fn more(&self, micros: Option<i64>) -> Sum
+        requires size { unsigned_abs self.now.micros ≤ 2 ^ 63 * self.now.count }
+        requires plain { self.now.plain ≤ self.now.count }
+        requires few { self.now.count < MOST_RECORDS }
+        ensures sum { result ≡ joined self.now (sum_of_number micros) }
+        ensures size { unsigned_abs result.micros ≤ 2 ^ 63 * result.count }
+        ensures plain { result.plain ≤ result.count }
+        ensures few { result.count ≤ self.now.count + 1 }
+        ensures fit { unsigned_abs (sum_of_number micros).micros ≤ 2 ^ 63 * (sum_of_number micros).count }
+    {
+        self.join(&Sum::of(micros))
     }
 
     /// The sum of one row.

@@ -1,14 +1,12 @@
 //! Sums and extremes of samples.
 ghost use Rattle.std.specs.Prelude.{◌≡◌, ◌≤◌, ◌<◌, ◌+◌, ◌*◌, ◌^◌, ◌+ℤ◌, ◌*ℤ◌, pos, unsigned_abs, length, map};
 ghost use Rattle.std.specs.List.{list_any};
-ghost use Rattle.table_rows.specs.Sums.{joined};
-ghost use Rattle.table_rows.specs.Samples.{days_of, has_number, numbered, number_of, weighted, total};
-ghost use Rattle.table_rows.specs.Values.{sum_of_sample, sum_of_samples, least, greatest, lesser, greater, with_choice};
+ghost use Rattle.table_rows.specs.Samples.{has_number, numbered, number_of, weighted, total};
+ghost use Rattle.table_rows.specs.Values.{sum_of_samples, choice_of, left_of, with_choice};
 ghost use Rattle.dh_base.specs.declared.limits.TheConstants.{MOST_RECORDS};
 
 use crate::Sum;
 use crate::sample::Sample;
-use dh_periods::Period;
 
 /// Whether a sample has a number.
 pub(crate) fn any_number(samples: &[Sample]) -> bool
@@ -32,21 +30,9 @@ pub(crate) fn sum_of(samples: &[Sample]) -> Sum
 {
     let mut sum = Sum::none();
     for sample in samples {
-        sum = with_sample(&sum, sample);
+        sum = sum.more(sample.micros);
     }
     sum
-}
-
-fn with_sample(sum: &Sum, sample: &Sample) -> Sum
-    requires size { unsigned_abs sum.now.micros ≤ 2 ^ 63 * sum.now.count }
-    requires plain { sum.now.plain ≤ sum.now.count }
-    requires few { sum.now.count < MOST_RECORDS }
-    ensures sum { result ≡ joined sum.now (sum_of_sample sample.now) }
-    ensures size { unsigned_abs result.micros ≤ 2 ^ 63 * result.count }
-    ensures plain { result.plain ≤ result.count }
-    ensures few { result.count ≤ sum.now.count + 1 }
-{
-    sum.join(&Sum::of(sample.micros))
 }
 
 /// The sum of the numbers times the days of their periods.
@@ -71,21 +57,15 @@ fn plus(sum: i128, more: i128) -> i128
     sum + more
 }
 
+#[tactic(auto, using(crate::proofs::TotalLemmas::days_told), unfolding(crate::specs::Samples::days_of))]
 fn weight(sample: &Sample) -> i128
     ensures weight { result ≡ weighted sample.now }
     ensures size { unsigned_abs result ≤ 2 ^ 95 }
 {
     match sample.micros {
-        Some(micros) => times_days(micros, days_of(&sample.period)),
+        Some(micros) => times_days(micros, sample.period.days()),
         None => 0,
     }
-}
-
-#[tactic(auto, using(crate::proofs::TotalLemmas::days_told), unfolding(crate::specs::Samples::days_of))]
-fn days_of(period: &Period) -> u32
-    ensures { result ≡ days_of period.now }
-{
-    period.days()
 }
 
 fn times_days(micros: i64, days: u32) -> i128
@@ -95,48 +75,31 @@ fn times_days(micros: i64, days: u32) -> i128
     i128::from(micros) * i128::from(days)
 }
 
-fn lesser(least: Option<i64>, number: Option<i64>) -> Option<i64>
-    ensures { result ≡ with_choice lesser least number }
+fn with_number(greatest: bool, found: Option<i64>, number: Option<i64>) -> Option<i64>
+    ensures { result ≡ with_choice (choice_of greatest) found number }
 {
     match number {
-        Some(number) => match least {
-            Some(least) => Some(if least <= number { least } else { number }),
+        Some(number) => match found {
+            Some(found) => {
+                if greatest {
+                    Some(if found <= number { number } else { found })
+                } else {
+                    Some(if found <= number { found } else { number })
+                }
+            }
             None => Some(number),
         },
-        None => least,
+        None => found,
     }
 }
 
-fn greater(greatest: Option<i64>, number: Option<i64>) -> Option<i64>
-    ensures { result ≡ with_choice greater greatest number }
+/// The greatest number or the least.
+pub(crate) fn extreme(samples: &[Sample], greatest: bool) -> Option<i64>
+    ensures { result ≡ left_of (choice_of greatest) (map number_of (numbered samples.now)) }
 {
-    match number {
-        Some(number) => match greatest {
-            Some(greatest) => Some(if greatest <= number { number } else { greatest }),
-            None => Some(number),
-        },
-        None => greatest,
-    }
-}
-
-/// The least number.
-pub(crate) fn least(samples: &[Sample]) -> Option<i64>
-    ensures { result ≡ least (map number_of (numbered samples.now)) }
-{
-    let mut least = None;
+    let mut found = None;
     for sample in samples {
-        least = lesser(least, sample.micros);
+        found = with_number(greatest, found, sample.micros);
     }
-    least
-}
-
-/// The greatest number.
-pub(crate) fn greatest(samples: &[Sample]) -> Option<i64>
-    ensures { result ≡ greatest (map number_of (numbered samples.now)) }
-{
-    let mut greatest = None;
-    for sample in samples {
-        greatest = greater(greatest, sample.micros);
-    }
-    greatest
+    found
 }

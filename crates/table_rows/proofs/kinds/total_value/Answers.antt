@@ -1,8 +1,0 @@
-use Rattle.std.proofs.Common.{◌∙◌, ap}
-use Rattle.dh_base.specs.declared.plain.AggType.TheVariants as kind
-use Rattle.table_rows.specs.Values.{value_of_sum}
-use Rattle.table_rows.proofs.SumValueLemmas.{sum-of-Sum}
-use Rattle.table_rows.proofs.kinds.total_value.Goals as goal
-
-pub returns : goal.returns
-returns c = c.value_of_sum.ensures ∙ ap (value_of_sum kind.Sum) c.sum_of.ensures.sum ∙ sum-of-Sum c.args.samples.now
