@@ -1,5 +1,5 @@
 -- Rows in columns are those that they were made of.
-use Rattle.std.proofs.Common.{◌≡◌, ◌∙◌, ℕ, zero, suc, ◌<◌, Bool, true, false, cond, List, [], ◌∷◌, length, map, get_or, ℤ, pos}
+use Rattle.std.proofs.Common.{◌≡◌, ◌∙◌, ℕ, zero, suc, ◌<◌, cond, List, [], ◌∷◌, length, map, get_or, ℤ}
 use Rattle.std.proofs.Common.{Option, Some, None, refl, sym}
 use Rattle.std.proofs.Common.{ap, arith}
 use Rattle.std.proofs.lemmas.List.{get_or-map, length-map}
@@ -68,25 +68,6 @@ rows_in-at groups members numbers i m n d same within =
     ap (λ h. row_from h (get_or numbers i n)) (sym (get_or-map (head_from groups) members i m (head_from groups m) within))
     ∙ rows-at (map (head_from groups) members) numbers i (head_from groups m) n d (long ∙ same) (omega (arith, long))
 
-plain-again : (b : Bool) (n : ℤ) → is_some (cond b (Some n) None) ≡ b
-plain-again true n = refl
-plain-again false n = refl
-
-with_plain : Head → Bool → Head
-with_plain head b = record {
-  element = head.element;
-  combo = head.combo;
-  attribute = head.attribute;
-  period = head.period;
-  order = head.order;
-  approved = head.approved;
-  is_plain = b;
-}
-
-head_again : (head : Head) (n : ℤ) → head_of (row_from head n) ≡ head
-unfolding with_plain
-head_again head n = ap (with_plain head) (plain-again head.is_plain n)
-
 -- the place of a row is that of a member
 pub within-columns : (groups : List Group) (starts : List ℕ) (members : List Member) (numbers : List ℤ) (rows : List Row) (i : ℕ)
     → AreColumns groups starts members numbers
@@ -101,17 +82,6 @@ pub within-numbers : (groups : List Group) (starts : List ℕ) (members : List M
 within-numbers groups starts members numbers rows i columns are within =
     let short = within-columns groups starts members numbers rows i columns are within in
     omega (arith, short, columns.even)
-
-pub head-here : (groups gs : List Group) (starts : List ℕ) (members ms : List Member) (numbers : List ℤ) (rows : List Row) (i : ℕ) (h : Head)
-    → AreColumns groups starts members numbers
-    → rows ≡ rows_in groups members numbers → i < length rows → gs ≡ groups → ms ≡ members → ((m : Member) → h ≡ head_from gs (get_or ms i m))
-    → (d : Row) → h ≡ head_of (get_or rows i d)
-head-here groups gs starts members ms numbers rows i h columns are within is_groups is_members at d =
-    let short = within-columns groups starts members numbers rows i columns are within in
-    at (member_of d 0) ∙ ap (λ g. head_from g (get_or ms i (member_of d 0))) is_groups ∙ ap (λ v. head_from groups (get_or v i (member_of d 0))) is_members
-    ∙ sym (head_again (head_from groups (get_or members i (member_of d 0))) (get_or numbers i (pos 0)))
-    ∙ ap head_of (rows_in-at groups members numbers i (member_of d 0) (pos 0) d columns.even short)
-    ∙ ap (λ rs. head_of (get_or rs i d)) (sym are)
 
 pub row-here : (groups gs : List Group) (starts : List ℕ) (members ms : List Member) (numbers : List ℤ) (rows : List Row) (i : ℕ) (h : Head) (n : ℤ) (r : Row)
     → AreColumns groups starts members numbers

@@ -1,5 +1,5 @@
 -- Events by day and identifier, of which some days are wanted.
-use Rattle.std.proofs.Common.{◌≡◌, ◌∙◌, ℕ, zero, suc, ◌+◌, ◌<◌, ◌≤◌, inl, inr, Bool, true, false, cond, ◌&&◌, nat_eq, List, [], ◌∷◌, ◌++◌, length}
+use Rattle.std.proofs.Common.{◌≡◌, ◌∙◌, ℕ, zero, suc, ◌<◌, ◌≤◌, inl, inr, Bool, true, false, cond, ◌&&◌, nat_eq, List, [], ◌∷◌, ◌++◌, length}
 use Rattle.std.proofs.Common.{take, drop, get_or, ℤ, ◌≤ℤ◌, ◌<ℤ◌, IsTrue, refl, sym, ap, arith, Ordering, Less, Equal, Greater}
 use Rattle.std.specs.Prelude.{int_le, int_lt}
 use Rattle.std.specs.Cmp.Lexicographic.{slice_cmp}
@@ -13,12 +13,14 @@ use Rattle.std.proofs.lemmas.List.{append-nil, take-append-drop}
 use Rattle.std.proofs.lemmas.List.Elements.{filter-append}
 use Rattle.std.specs.Cmp.{IsTotalOrder}
 use Rattle.table_rows.specs.declared.event.EventRow.{EventRow}
+use Rattle.table_rows.specs.declared.event.EventsAsked.{EventsAsked}
 use Rattle.table_rows.specs.declared.event.RegRow.{RegRow}
 use Rattle.table_rows.specs.declared.row.Row.{Row}
 use Rattle.table_rows.specs.Events.{event_cmp, is_event_of, events_of}
 use Rattle.table_rows.specs.Store.{rises, is_store}
 use Rattle.table_rows.proofs.RiseLemmas.{sorted_from_rises, sorted-far}
 use Rattle.table_rows.proofs.StoreLemmas.{store-holds, true_from}
+use Rattle.table_sums.specs.Days.{is_before}
 use Rattle.table_sums.proofs.BoundLemmas.{lt_or_eq}
 
 event_total : IsTotalOrder event_cmp
@@ -56,7 +58,7 @@ le-at a b h = elim (cases_Bool (int_le a b)) [
   | inr not ↦ absurd (let off : int_le a b ≡ false = not in omega (arith, ints))
 ]
 
-pub before-parted : (events : List EventRow) (day : ℤ) → rises event_cmp events ≡ true → IsPartitionedBy (λ (event : EventRow). int_lt event.day day) events
+before-parted : (events : List EventRow) (day : ℤ) → rises event_cmp events ≡ true → IsPartitionedBy (λ (event : EventRow). int_lt event.day day) events
 before-parted events day up i j d upto within is =
     elim (lt_or_eq i j upto) [
       | inl less ↦
@@ -65,7 +67,7 @@ before-parted events day up i j d upto within is =
       | inr same ↦ ap (λ n. int_lt (get_or events n d).day day) same ∙ is
     ]
 
-pub upto-parted : (events : List EventRow) (day : ℤ) → rises event_cmp events ≡ true → IsPartitionedBy (λ (event : EventRow). int_le event.day day) events
+upto-parted : (events : List EventRow) (day : ℤ) → rises event_cmp events ≡ true → IsPartitionedBy (λ (event : EventRow). int_le event.day day) events
 upto-parted events day up i j d upto within is =
     elim (lt_or_eq i j upto) [
       | inl less ↦
@@ -73,6 +75,11 @@ upto-parted events day up i j d upto within is =
           le-at (get_or events i d).day day (let below : int_le (get_or events j d).day day ≡ true = is in omega (arith, ints))
       | inr same ↦ ap (λ n. int_le (get_or events n d).day day) same ∙ is
     ]
+
+pub days-parted : (asked : EventsAsked) (with_days : Bool) (events : List EventRow) → rises event_cmp events ≡ true
+    → IsPartitionedBy (is_before asked with_days) events
+days-parted asked false events up = before-parted events asked.from_day up
+days-parted asked true events up = upto-parted events asked.to_day up
 
 -- ---- no event of other days is wanted
 

@@ -1,6 +1,5 @@
 -- Events stand in the order of their years.
-use Rattle.std.proofs.Common.{◌≡◌, ◌∙◌, ◌+◌, ◌/◌, ◌<◌, ◌≤◌, ℕ, zero, suc, Bool, true, false, cond, ◌&&◌, nat_eq, List, [], ◌∷◌, ◌++◌, length, take}
-use Rattle.std.proofs.Common.{drop, get_or}
+use Rattle.std.proofs.Common.{◌≡◌, ◌∙◌, ◌+◌, ◌/◌, ◌≤◌, ℕ, zero, suc, Bool, true, false, cond, ◌&&◌, nat_eq, List, [], ◌∷◌, ◌++◌, take, drop}
 use Rattle.std.proofs.Common.{ℤ, pos, ◌-ℤ◌, ◌≤ℤ◌, ◌<ℤ◌, Option, Some, None, refl, sym, ap, append_assoc, arith, Ordering, Less, Equal, Greater}
 use Rattle.std.specs.Cmp.Lexicographic.{slice_cmp}
 use Rattle.std.specs.Prelude.{int_le}
@@ -35,7 +34,7 @@ use Rattle.table_sums.specs.Years.{period_year, day_year, is_year_if_any, is_eve
 use Rattle.table_sums.specs.YearParts.{YearPart, ArePartitions, years_in, together, events_together, in_year}
 use Rattle.table_sums.proofs.AscendingLemmas.{every-to}
 use Rattle.table_sums.proofs.YearLemmas.{HasOneYear, FollowsYears, is_in_any, same-year, filter-swap}
-use Rattle.table_sums.proofs.YearLemmas.{filter-whole, each-true, gathered-map, gathered-more, years-along}
+use Rattle.table_sums.proofs.YearLemmas.{filter-whole, each-true, gathered-map, years-along}
 use Rattle.table_sums.proofs.YearPartLemmas.{event_total, whole, years-sorted}
 use Rattle.table_sums.proofs.SearchLemmas.{turned}
 
@@ -137,17 +136,6 @@ events-all program from to parts are =
     ∙ filter-whole (is_in_any is_event_in (years_in parts)) asked
     (every-filter (λ event. is_in_any is_event_in (years_in parts) event ≡ true) (is_event_of program from to) (events_together parts)
     (each-true (λ event. is_in_any is_event_in (years_in parts) event) (events_together parts) are.whole.events))
-
--- a loop's step
-
-pub events-more : (parts : List YearPart) (part : YearPart) (i program : ℕ) (from to : ℤ) (old new : List EventRow) → i < length parts
-    → part ≡ get_or parts i part
-    → old ≡ gathered (λ (p : YearPart). events_of program from to p.contents.events) (take i parts)
-    → new ≡ old ++ events_of program from to part.contents.events
-    → new ≡ gathered (λ (p : YearPart). events_of program from to p.contents.events) (take (i + 1) parts)
-events-more parts part i program from to old new within at known is =
-    is ∙ ap (λ v. v ++ events_of program from to part.contents.events) known
-    ∙ sym (gathered-more (λ (p : YearPart). events_of program from to p.contents.events) parts i part within at)
 
 -- ---- the years that can't hold an event of these days
 

@@ -72,9 +72,6 @@ below-is a b less = grind (arith, nat_tests)
 upto-is : (a b : ℕ) → b ≤ a → nat_lt a b ≡ false
 upto-is a b upto = grind (arith, nat_tests)
 
-both-lt : (a b c d : ℕ) (v : Bool) → nat_lt a b ≡ v → nat_lt c d ≡ v → nat_lt a b ≡ nat_lt c d
-both-lt a b c d v x y = x ∙ sym y
-
 -- a member more of the last group
 begun-kept : (gs : List Group) (ss : List ℕ) (ms : List Member) (m : Member) → AreBegun gs ss ms → m.group ≡ length gs - 1
     → AreBegun gs ss (ms ++ m ∷ [])

@@ -9,6 +9,7 @@ use Rattle.std.proofs.lemmas.List.{append-nil, append_assoc, take_more, drop-app
 use Rattle.std.proofs.lemmas.Bool.{cases_Bool, false≢true, leb-true}
 use Rattle.std.proofs.lemmas.Bool.Decides.{nat_tests}
 use Rattle.std.proofs.lemmas.List.Elements.{recursion_from_All}
+use Rattle.dh_base.specs.declared.plain.Need.{Need}
 use Rattle.dh_base.specs.declared.plain.Need.TheVariants as need
 use Rattle.table_rows.specs.declared.row.Row.{Row}
 use Rattle.table_rows.specs.Rows.{group_of, position_of, is_in_group, in_range, meets, is_wanted, wanted_rows}
@@ -22,7 +23,7 @@ use Rattle.table_sums.specs.declared.range.Part.{Part}
 use Rattle.table_sums.specs.declared.search.Bound.TheVariants as bound
 use Rattle.table_sums.specs.Bounds.{is_before, is_place_below as below}
 use Rattle.table_sums.specs.Running.{is_placed, IsPlaced, ArePlaced}
-use Rattle.table_sums.specs.Parts.{key_at, is_upto, IsRun}
+use Rattle.table_sums.specs.Parts.{key_at, is_upto, AreEnough, IsRun}
 
 -- ---- lists
 
@@ -277,6 +278,13 @@ cost-some s t d n a few = let e : 2 * d * n ≤ 2 * d * 8 = mul-le-mul_left (2 *
 
 pub cost-all : (s t u d n : ℕ) → t ≤ s + 2 * d * n → n ≤ 8 → u ≤ t + 2 * d → u ≤ s + 18 * d
 cost-all s t u d n a few b = let e : 2 * d * n ≤ 2 * d * 8 = mul-le-mul_left (2 * d) few in omega (arith, a, b, e)
+
+-- ---- the positions of a need
+
+pub enough-upto : (asked : Need) (most : ℕ) (part : Part) (positions : ℕ) (rows : List Row) → AreEnough asked rows positions → asked ≡ need.Upto most
+    → filter (is_upto part positions) rows ≡ wanted_rows part.group asked part.from part.to rows
+enough-upto need.All most part positions rows enough is = absurd (cc)
+enough-upto (need.Upto other) most part positions rows enough is = enough part
 
 -- ---- pushing the rows between two places
 

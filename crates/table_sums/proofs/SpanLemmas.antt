@@ -1,5 +1,5 @@
 -- The rows of a group stand between two places, which its number gives.
-use Rattle.std.proofs.Common.{◌≡◌, ◌∙◌, ℕ, ◌+◌, ◌-◌, ◌<◌, ◌≤◌, Bool, true, false, not, cond, List, length, get_or, inl, inr, refl, sym, ap, subst, arith, ℤ}
+use Rattle.std.proofs.Common.{◌≡◌, ◌∙◌, ℕ, ◌+◌, ◌<◌, ◌≤◌, Bool, true, false, not, cond, List, length, get_or, inl, inr, refl, sym, ap, subst, arith, ℤ}
 use Rattle.std.proofs.Common.{[], ◌∷◌, pos, Ordering, Less, Equal, Greater}
 use Rattle.std.specs.Prelude.{◌&&◌, nat_lt, nat_le, nat_eq}
 use Rattle.std.specs.List.Sorted.{IsPartitionedBy, IsStrictlySortedBy}

@@ -6,3 +6,4 @@ pub mod Gathered
 pub mod Years
 pub mod Ascending
 pub mod YearParts
+pub mod Days

@@ -6,26 +6,11 @@ ghost use Rattle.table_sums.specs.YearParts.{AreOfYears, listed_as, part_of, par
 use crate::by_year::{lists_by_year, take_at};
 use crate::part::Partition;
 use crate::tables::Tables;
-use crate::{SummedRows, with_sums};
+use crate::with_sums;
 use dh_base::items::Items;
 use dh_base::memory::Memory;
 use std::alloc::Global;
 use table_rows::{EventRow, RegRow, Row};
-
-// The store of the lists of one year; the list of rows is dropped.
-fn store_of(
-    alloc: Global,
-    rows: Vec<Row>,
-    events: Vec<EventRow>,
-    regs: Vec<RegRow>,
-) -> Result<SummedRows, Memory>
-    requires { is_store rows.items events.items regs.items [] ≡ true }
-    ensures rows { IfOk result (λ store. store.rows ≡ rows.items) }
-    ensures events { IfOk result (λ store. store.events ≡ events.items) }
-    ensures regs { IfOk result (λ store. store.regs ≡ regs.items) }
-{
-    with_sums(alloc, &rows, events, regs, Vec::new(alloc))
-}
 
 /// The part of a year that holds these lists.
 pub fn part_from(
@@ -38,7 +23,7 @@ pub fn part_from(
     requires { is_store rows.items events.items regs.items [] ≡ true }
     ensures { IfOk result (λ part. part ≡ part_with year (listed_as rows.items events.items regs.items)) }
 {
-    let store = store_of(alloc, rows, events, regs)?;
+    let store = with_sums(alloc, &rows, events, regs, Vec::new(alloc))?;
     Ok(Partition::of(year, store))
 }
 

@@ -44,24 +44,18 @@ fn put_start(starts: &mut Vec<u32>, groups: usize, place: usize) -> Result<(), M
     Ok(())
 }
 
-fn member_of(row: &Row, group: u32) -> Member
-    ensures { result ≡ member_of row.now group }
-{
-    Member {
-        group,
-        order: row.order,
-        approved: row.approved,
-        is_plain: row.micros.is_some(),
-    }
-}
-
 // Puts the row into the last of the groups.
 fn put_member(members: &mut Vec<Member>, row: &Row, groups: usize) -> Result<(), Memory>
     requires some { 0 < groups }
     requires few { groups ≤ MOST_RECORDS }
     ensures { OnOk result (members.new.items ≡ members.old.items ++ member_of row.now (groups - 1) ∷ []) }
 {
-    members.push(member_of(row, (groups - 1) as u32))?;
+    members.push(Member {
+        group: (groups - 1) as u32,
+        order: row.order,
+        approved: row.approved,
+        is_plain: row.micros.is_some(),
+    })?;
     Ok(())
 }
 

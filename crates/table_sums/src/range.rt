@@ -1,15 +1,12 @@
 //! The rows of a group between two orders, one approved position after the other.
-ghost use Rattle.std.specs.Prelude.{◌≡◌, ◌+◌, ◌-◌, ◌*◌, ◌≤◌, ◌<◌, ◌^◌, ◌++◌, ◌∷◌, [], ℕ, true, All, max, min, length, take, drop, get_or, OnOk, IfOk};
+ghost use Rattle.std.specs.Prelude.{◌≡◌, ◌+◌, ◌-◌, ◌*◌, ◌≤◌, ◌<◌, ◌^◌, ◌++◌, ℕ, true, All, max, min, length, take, drop, OnOk, IfOk};
 ghost use Rattle.std.specs.List.{filter};
-ghost use Rattle.dh_base.specs.declared.plain.Need.TheVariants as need;
-ghost use Rattle.table_rows.specs.declared.row.Row.{Row};
-ghost use Rattle.table_sums.specs.declared.range.Part.{Part};
 ghost use Rattle.table_rows.specs.Order.{row_cmp};
 ghost use Rattle.table_rows.specs.Rows.{wanted_rows};
 ghost use Rattle.table_rows.specs.Store.{rises};
 ghost use Rattle.table_rows.specs.Sums.{sum_of_rows, joined, IsSized};
 ghost use Rattle.table_sums.specs.Bounds.{is_before, IsCut};
-ghost use Rattle.table_sums.specs.Parts.{is_upto, bound_of, key_at};
+ghost use Rattle.table_sums.specs.Parts.{is_upto, bound_of, key_at, AreEnough};
 ghost use Rattle.table_sums.specs.Running.{IsPlaced};
 
 use crate::rows::Rows;
@@ -108,31 +105,16 @@ fn sum_upto<L: Ledger>(list: &RunningRows, part: &Part, positions: u16, steps: &
     sum
 }
 
-// How many positions are up to this one, of those at which rows stand.
-fn positions_to(list: &RunningRows, most: u8) -> u16
+// How many positions there are of those at which rows stand that meet the need.
+fn positions_for(list: &RunningRows, need: Need) -> u16
     ensures few { All (IsPlaced 8) list.now → result ≤ 8 }
-    ensures rows { (part : Part) → filter (is_upto part result) list.now ≡ wanted_rows part.group (need.Upto most) part.from part.to list.now }
-{
-    (u16::from(most) + 1).min(list.positions())
-}
-
-fn sum_to<L: Ledger>(list: &RunningRows, part: &Part, most: u8, steps: &mut Steps<L>) -> Sum
-    ensures sum { result ≡ sum_of_rows (wanted_rows part.now.group (need.Upto most) part.now.from part.now.to list.now) }
-    ensures size { IsSized result }
-    ensures cost { (d : ℕ) → All (IsPlaced 8) list.now → length list.now < 2 ^ d → steps.new ≤ steps.old + 18 * d }
-{
-    let positions = positions_to(list, most);
-    sum_upto(list, part, positions, steps)
-}
-
-fn sum_of_all<L: Ledger>(list: &RunningRows, part: &Part, steps: &mut Steps<L>) -> Sum
-    ensures sum { result ≡ sum_of_rows (wanted_rows part.now.group need.All part.now.from part.now.to list.now) }
-    ensures size { IsSized result }
-    ensures cost { (d : ℕ) → All (IsPlaced 8) list.now → length list.now < 2 ^ d → steps.new ≤ steps.old + 18 * d }
+    ensures enough { AreEnough need list.now result }
 {
     let positions = list.positions();
-    let sum = sum_upto(list, part, positions, steps);
-    add_position(list, part, 256, &sum, steps)
+    match need {
+        Need::All => positions,
+        Need::Upto(most) => (u16::from(most) + 1).min(positions),
+    }
 }
 
 /// The sum of the rows of the part that meet the need. It reads at most eighteen times as many rows as the number of
@@ -147,23 +129,12 @@ pub fn sum_of_part<L: Ledger>(
     ensures size { IsSized result }
     ensures cost { (d : ℕ) → All (IsPlaced 8) list.now → length list.now < 2 ^ d → steps.new ≤ steps.old + 18 * d }
 {
+    let positions = positions_for(list, need);
+    let sum = sum_upto(list, part, positions, steps);
     match need {
-        Need::All => sum_of_all(list, part, steps),
-        Need::Upto(most) => sum_to(list, part, most, steps),
+        Need::All => add_position(list, part, 256, &sum, steps),
+        Need::Upto(_) => sum,
     }
-}
-
-fn push_row<L: Ledger>(
-    found: &mut Vec<Row>,
-    rows: &Rows,
-    place: usize,
-    steps: &mut Steps<L>,
-) -> Result<(), Memory>
-    requires { place < length rows.now }
-    ensures { OnOk result ((d : Row) → found.new.items ≡ found.old.items ++ get_or rows.now place d ∷ []) }
-{
-    found.push(rows.row(place, steps))?;
-    Ok(())
 }
 
 // Adds the rows between two places.
@@ -179,7 +150,7 @@ fn push_rows<L: Ledger>(
     ensures { OnOk result (found.new.items ≡ found.old.items ++ drop low (take high rows.now)) }
 {
     for place in low..high {
-        push_row(found, rows, place, steps)?;
+        found.push(rows.row(place, steps))?;
     }
     Ok(())
 }
@@ -217,34 +188,6 @@ fn rows_upto<L: Ledger>(
     Ok(found)
 }
 
-fn rows_to<L: Ledger>(
-    alloc: Global,
-    list: &RunningRows,
-    part: &Part,
-    most: u8,
-    steps: &mut Steps<L>,
-) -> Result<Vec<Row>, Memory>
-    ensures { IfOk result (λ found. found.items ≡ wanted_rows part.now.group (need.Upto most) part.now.from part.now.to list.now) }
-{
-    let positions = positions_to(list, most);
-    let found = rows_upto(alloc, list.rows(), part, positions, steps)?;
-    Ok(found)
-}
-
-fn rows_of_all<L: Ledger>(
-    alloc: Global,
-    list: &RunningRows,
-    part: &Part,
-    steps: &mut Steps<L>,
-) -> Result<Vec<Row>, Memory>
-    ensures { IfOk result (λ found. found.items ≡ wanted_rows part.now.group need.All part.now.from part.now.to list.now) }
-{
-    let positions = list.positions();
-    let mut found = rows_upto(alloc, list.rows(), part, positions, steps)?;
-    push_position(&mut found, list.rows(), part, 256, steps)?;
-    Ok(found)
-}
-
 /// The rows of the part that meet the need, in row order.
 pub fn rows_of_part<L: Ledger>(
     alloc: Global,
@@ -255,9 +198,14 @@ pub fn rows_of_part<L: Ledger>(
 ) -> Result<Items<Row>, Memory>
     ensures { IfOk result (λ found. found ≡ wanted_rows part.now.group need part.now.from part.now.to list.now) }
 {
-    let found = match need {
-        Need::All => rows_of_all(alloc, list, part, steps)?,
-        Need::Upto(most) => rows_to(alloc, list, part, most, steps)?,
-    };
-    Ok(Items::from(found))
+    let rows = list.rows();
+    let positions = positions_for(list, need);
+    let mut found = rows_upto(alloc, rows, part, positions, steps)?;
+    match need {
+        Need::All => {
+            push_position(&mut found, rows, part, 256, steps)?;
+            Ok(Items::from(found))
+        }
+        Need::Upto(_) => Ok(Items::from(found)),
+    }
 }

@@ -7,7 +7,7 @@ ghost use Rattle.table_rows.specs.Order.{row_cmp};
 ghost use Rattle.table_rows.specs.Store.{rises};
 ghost use Rattle.table_sums.specs.Bounds.{is_before, is_group_before, is_place_below, place_after, IsCut, IsSpan};
 ghost use Rattle.table_sums.specs.declared.search.Bound.TheVariants as bounds;
-ghost use Rattle.table_sums.specs.Columns.{head_in, head_from, number_of, row_from, IsKnown};
+ghost use Rattle.table_sums.specs.Columns.{head_from, number_of, row_from, IsKnown};
 ghost use Rattle.table_sums.specs.declared.gather.Member.{Member};
 
 use crate::gather::{Member, gather};
@@ -18,7 +18,7 @@ use dh_periods::Period;
 use std::alloc::Global;
 use std::marker::Model;
 use std::sync::ledger::Ledger;
-use table_rows::{Group, Row, RowKey};
+use table_rows::{Group, Row, RowKey, position_of};
 
 // A row without its number.
 #[derive(Clone, Copy)]
@@ -31,15 +31,6 @@ struct Head {
     approved: Option<u8>,
     // whether it has a number
     is_plain: bool,
-}
-
-fn position_of(approved: Option<u8>) -> u16
-    ensures { result ≡ position_of approved }
-{
-    match approved {
-        Some(position) => u16::from(position),
-        None => 256,
-    }
 }
 
 /// A list of rows: the groups that they are in, each row in its group, and its number, or 0 where it has none: 20 bytes a row,
@@ -63,12 +54,6 @@ impl Model for Rows {
     ghost view = { λ rows. rows_in rows.groups.items rows.members.items rows.numbers.items };
 
     ghost invariant = { λ rows. AreColumns rows.groups.items rows.starts.items rows.members.items rows.numbers.items };
-}
-
-fn number_of(row: &Row) -> i64
-    ensures { result ≡ number_of row.now }
-{
-    row.micros.unwrap_or(0)
 }
 
 // How many rows are of the first so many groups.
@@ -100,9 +85,11 @@ fn is_member_before(member: &Member, key: &RowKey) -> bool
     position < key.position || (position == key.position && member.order < key.order)
 }
 
-fn head_in(group: &Group, member: &Member) -> Head
-    ensures { result ≡ head_in group.now member.now }
+fn head_from(groups: &[Group], member: &Member) -> Head
+    requires { member.now.group < length groups.now }
+    ensures { result ≡ head_from groups.now member.now }
 {
+    let group = &groups[member.group as usize];
     Head {
         element: group.element,
         combo: group.combo,
@@ -112,13 +99,6 @@ fn head_in(group: &Group, member: &Member) -> Head
         approved: member.approved,
         is_plain: member.is_plain,
     }
-}
-
-fn head_from(groups: &[Group], member: &Member) -> Head
-    requires { member.now.group < length groups.now }
-    ensures { result ≡ head_from groups.now member.now }
-{
-    head_in(&groups[member.group as usize], member)
 }
 
 fn head_at(groups: &[Group], members: &[Member], place: usize) -> Head
@@ -149,7 +129,7 @@ fn numbers_of(alloc: Global, rows: &[Row]) -> Result<Vec<i64>, Memory>
     let mut numbers = Vec::new(alloc);
     numbers.reserve(rows.len())?;
     for row in rows {
-        numbers.push(number_of(row))?;
+        numbers.push(row.micros.unwrap_or(0))?;
     }
     Ok(numbers)
 }

@@ -1,9 +1,9 @@
 //! Rows with running sums beside them.
-ghost use Rattle.std.specs.Prelude.{◌≡◌, ◌+◌, ◌-◌, ◌-ℤ◌, ◌*◌, ◌≤◌, ◌<◌, ◌^◌, ◌∷◌, ◌++◌, [], ℕ, ℤ, pos, true, All, unsigned_abs, length, take, drop, get_or};
+ghost use Rattle.std.specs.Prelude.{◌≡◌, ◌+◌, ◌-◌, ◌-ℤ◌, ◌≤◌, ◌<◌, ◌^◌, ◌∷◌, ◌++◌, [], ℕ, ℤ, pos, true, All, unsigned_abs, length, take, drop, get_or};
 ghost use Rattle.std.specs.Prelude.{IfOk, OnOk};
 ghost use Rattle.table_rows.specs.Order.{row_cmp};
 ghost use Rattle.table_rows.specs.Store.{rises};
-ghost use Rattle.table_rows.specs.Sums.{sum_of_rows, sum_of_row, joined};
+ghost use Rattle.table_rows.specs.Sums.{sum_of_rows};
 ghost use Rattle.table_sums.specs.Running.{AreSums, ArePlaced, IsFit, IsPlaced};
 ghost use Rattle.dh_base.specs.declared.limits.TheConstants.{MOST_RECORDS};
 
@@ -49,20 +49,6 @@ fn first_sum(alloc: Global, count: usize) -> Result<Sums, Memory>
     Ok(Sums { micros, plain })
 }
 
-// The sum with one more row.
-fn with_row(sum: &Sum, row: &Row) -> Sum
-    requires size { unsigned_abs sum.now.micros ≤ 2 ^ 63 * sum.now.count }
-    requires plain { sum.now.plain ≤ sum.now.count }
-    requires few { sum.now.count < MOST_RECORDS }
-    ensures sum { result ≡ joined sum.now (sum_of_row row.now) }
-    ensures size { unsigned_abs result.micros ≤ 2 ^ 63 * result.count }
-    ensures plain { result.plain ≤ result.count }
-    ensures few { result.count ≤ sum.now.count + 1 }
-    ensures fit { IsFit row.now }
-{
-    sum.join(&Sum::of(row.micros))
-}
-
 fn sums_of(alloc: Global, rows: &[Row]) -> Result<Sums, Memory>
     requires { length rows.now ≤ MOST_RECORDS }
     ensures sums { IfOk result (λ sums. AreSums rows.now (length rows.now) sums.micros.items sums.plain.items) }
@@ -71,7 +57,7 @@ fn sums_of(alloc: Global, rows: &[Row]) -> Result<Sums, Memory>
     let mut sums = first_sum(alloc, rows.len())?;
     let mut sum = Sum::none();
     for row in rows {
-        sum = with_row(&sum, row);
+        sum = sum.more(row.micros);
         put_sum(&mut sums, &sum)?;
     }
     Ok(sums)

@@ -1,6 +1,5 @@
 //! Where the rows end that stand before a bound.
-ghost use Rattle.std.specs.Prelude.{◌≡◌, ◌+◌, ◌-◌, ◌<◌, ◌≤◌, ◌^◌, ℕ, true, false, not, length, get_or};
-ghost use Rattle.std.specs.Ordering.{is_gt};
+ghost use Rattle.std.specs.Prelude.{◌≡◌, ◌+◌, ◌-◌, ◌<◌, ◌≤◌, ◌^◌, ℕ, true, false, length, get_or};
 ghost use Rattle.table_rows.specs.declared.row.Row.{Row};
 ghost use Rattle.table_rows.specs.Order.{row_cmp, group_cmp};
 ghost use Rattle.table_rows.specs.Store.{rises};
@@ -26,12 +25,6 @@ pub enum Bound {
     UptoGroup(Group),
 }
 
-fn is_upto(group: &Group, other: &Group) -> bool
-    ensures { result ≡ not (is_gt (group_cmp group.now other.now)) }
-{
-    !group.cmp(other).is_gt()
-}
-
 // Whether all rows of the group stand before the bound; of a key, those of groups below the key's.
 fn is_group_before(bound: &Bound, group: &Group) -> bool
     ensures { result ≡ is_group_before bound.now group.now }
@@ -40,7 +33,7 @@ fn is_group_before(bound: &Bound, group: &Group) -> bool
         Bound::Key(key) => group.stands_before(&key.group),
         Bound::Element(element) => group.element < *element,
         Bound::UptoElement(element) => group.element <= *element,
-        Bound::UptoGroup(last) => is_upto(group, last),
+        Bound::UptoGroup(last) => !group.cmp(last).is_gt(),
     }
 }
 

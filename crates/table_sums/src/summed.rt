@@ -1,5 +1,5 @@
 //! The store that keeps running sums of its rows.
-ghost use Rattle.std.specs.Prelude.{◌≡◌, ◌<◌, [], IsTrue, IfOk};
+ghost use Rattle.std.specs.Prelude.{◌≡◌, ◌<◌, IsTrue, IfOk};
 ghost use Rattle.table_rows.specs.Groups as known;
 ghost use Rattle.table_rows.specs.Rows.{wanted_rows};
 ghost use Rattle.table_rows.specs.Store.{is_store};
@@ -48,15 +48,6 @@ impl Model for SummedRows {
     ghost invariant = { λ store. IsTrue (is_store store.list store.events.items store.rest.regs store.rest.years) };
 }
 
-// A store of no rows and no events.
-fn rest_of(alloc: Global, regs: Vec<RegRow>, years: Vec<i32>) -> ListRows
-    requires { IsTrue (is_store [] [] regs.items years.items) }
-    ensures regs { result.regs ≡ regs.items }
-    ensures years { result.years ≡ years.items }
-{
-    ListRows::of(Vec::new(alloc), Vec::new(alloc), regs, years)
-}
-
 /// The store of these lists. Of the rows each takes 40 bytes.
 pub fn with_sums(
     alloc: Global,
@@ -72,7 +63,7 @@ pub fn with_sums(
     ensures years { IfOk result (λ store. store.years ≡ years.items) }
 {
     let list = RunningRows::of(alloc, rows)?;
-    let rest = rest_of(alloc, regs, years);
+    let rest = ListRows::of(Vec::new(alloc), Vec::new(alloc), regs, years);
     Ok(SummedRows { list, events, rest })
 }
 

@@ -10,5 +10,5 @@ loop-place-init c =
 
 pub returns : goal.returns
 returns c =
-    days-done c.args.asked.now.program c.args.asked.now.from_day c.args.asked.now.to_day c.args.events.now c.loop-place.place c.count_upto-end.result
-    (map (λ event. event.now) c.loop-place.found.items) c.loop-place-test.false c.count_upto-end.ensures.after c.loop-place.invariant
+    days-done c.args.asked.now.program c.args.asked.now.from_day c.args.asked.now.to_day c.args.events.now c.loop-place.place c.count_before-end.result
+    (map (λ event. event.now) c.loop-place.found.items) c.loop-place-test.false c.count_before-end.ensures.after c.loop-place.invariant

@@ -1,4 +1,4 @@
-use Rattle.std.proofs.Common.{◌≡◌, ◌∙◌, ◌-◌, true, false, get_or, subst, sym, ap, arith}
+use Rattle.std.proofs.Common.{◌≡◌, ◌∙◌, true, false, get_or, subst, sym, ap, arith}
 use Rattle.table_rows.specs.declared.row.RowKey.{RowKey}
 use Rattle.table_sums.specs.declared.search.Bound.TheVariants as bound
 use Rattle.table_sums.specs.Bounds.{is_before, IsCut, IsSpan}

@@ -18,17 +18,17 @@ loop-row-init c =
 
 pub loop-row-preserved : goal.loop-row-preserved
 loop-row-preserved c =
-    let is = sum-next c.args.rows.now c.loop-row.row-index c.row-item.result c.loop-row.sum c.with_row-sum.result c.loop-row-test.true c.row-item.is
+    let is = sum-next c.args.rows.now c.loop-row.row-index c.row-item.result c.loop-row.sum c.more-sum.result c.loop-row-test.true c.row-item.is
     c.loop-row.invariant.is
-    c.with_row-sum.ensures.sum in
+    c.more-sum.ensures.sum in
     record {
       is = is;
-      size = c.with_row-sum.ensures.size;
-      plain = c.with_row-sum.ensures.plain;
-      few = omega (arith, c.with_row-sum.ensures.few, c.loop-row.invariant.few);
+      size = c.more-sum.ensures.size;
+      plain = c.more-sum.ensures.plain;
+      few = omega (arith, c.more-sum.ensures.few, c.loop-row.invariant.few);
       sums = sums-more c.args.rows.now c.loop-row.row-index c.loop-row.sums.micros.items c.put_sum.new.sums.micros.items c.loop-row.sums.plain.items
           c.put_sum.new.sums.plain.items
-          c.with_row-sum.result c.loop-row.invariant.sums is c.in_ok-put_sum.ensures.micros c.in_ok-put_sum.ensures.plain;
+          c.more-sum.result c.loop-row.invariant.sums is c.in_ok-put_sum.ensures.micros c.in_ok-put_sum.ensures.plain;
       fit = All-more IsFit c.args.rows.now c.loop-row.row-index c.row-item.result c.loop-row-test.true c.loop-row.invariant.fit
-          (subst IsFit c.row-item.is c.with_row-sum.ensures.fit);
+          (subst IsFit c.row-item.is c.more-sum.ensures.fit);
     }

@@ -12,7 +12,8 @@ of-requires-clause-few c =
     leb-true (length c.args.rows.now) 4194304 (store-holds c.args.rows.now c.args.events.items c.args.regs.items c.args.years.items (true_from _
     c.requires)).few_rows
 
-pub rest_of-rest-requires : goal.rest_of-rest-requires
-rest_of-rest-requires c =
-    no-rows c.args.rows.now c.args.events.items c.args.regs.items c.args.years.items
-    (store-holds c.args.rows.now c.args.events.items c.args.regs.items c.args.years.items (true_from _ c.requires))
+pub of-rest-requires : goal.of-rest-requires
+of-rest-requires c =
+    rw (c.new.ensures.items, c.new-2.ensures.items)
+    (no-rows c.args.rows.now c.args.events.items c.args.regs.items c.args.years.items
+    (store-holds c.args.rows.now c.args.events.items c.args.regs.items c.args.years.items (true_from _ c.requires)))
