@@ -6,4 +6,3 @@ pub mod GroupLemmas
 pub mod OverLemmas
 pub mod LaterLemmas
 pub mod ReplacedLemmas
-pub mod LoopLemmas

@@ -1,5 +1,5 @@
 -- When tables under a latest part stand for later ones.
-use Rattle.std.specs.Prelude.{◌≡◌, Bool, true, ℤ, List, []}
+use Rattle.std.specs.Prelude.{◌≡◌, Bool, true, ℤ, List}
 use Rattle.std.specs.List.{filter, list_all}
 use Rattle.table_rows.specs.Store.{Contents, Listed, contents_in, is_store}
 use Rattle.table_latest.specs.Latest.{LatestPart, is_row_touched, is_event_touched, is_reg_touched, is_in_reach, untouched, overlaid}
@@ -23,9 +23,6 @@ pub record Bridges (base : Listed) (latest : LatestPart) (later : Contents) : Ty
   pub leads : LeadsTo (contents_in base) latest later
   pub store : IsStoreOf later base.years
   pub reach : list_all is_in_reach base.rows ≡ true
-
-abbrev pub no_contents : Contents
-no_contents = record { rows = []; events = []; regs = [] }
 
 -- laid over any store, it changes nothing
 abbrev pub ChangesNothing : LatestPart → Type 0

@@ -1,12 +1,12 @@
 //! The latest part.
-ghost use Rattle.std.specs.Prelude.{◌≡◌, IfOk};
+ghost use Rattle.std.specs.Prelude.{◌≡◌, [], true, IfOk};
 ghost use Rattle.std.specs.List.Sorted.{IsStrictlySortedBy};
-ghost use Rattle.table_rows.specs.Store.{contents_in};
+ghost use Rattle.table_rows.specs.Store.{contents_in, is_store};
 ghost use Rattle.table_latest.specs.Keys.{place_cmp};
 ghost use Rattle.table_latest.specs.Latest as known;
-ghost use Rattle.table_latest.specs.Later.{ChangesNothing, no_contents};
+ghost use Rattle.table_latest.specs.Later.{ChangesNothing};
 
-use crate::places::{RegPlace, RowPlace, place_of, reg_place_of};
+use crate::places::{RegPlace, RowPlace, reg_place_of};
 use crate::search::is_among;
 use dh_base::memory::Memory;
 use dh_base::uid::Uid;
@@ -65,14 +65,16 @@ impl Model for Latest {
     ghost invariant = { λ latest. AreInOrder (touched_in latest.keys) };
 }
 
-#[tactic(auto, unfolding(table_rows::specs::Store::is_store))]
-fn empty_store(alloc: Global) -> Result<SummedRows, Memory>
-    ensures { IfOk result (λ store. contents_in store ≡ no_contents) }
+/// The store of these rows alone.
+pub(crate) fn store_of(alloc: Global, rows: &[Row]) -> Result<SummedRows, Memory>
+    requires { is_store rows.now [] [] [] ≡ true }
+    ensures rows { IfOk result (λ store. store.rows ≡ rows.now) }
+    ensures events { IfOk result (λ store. store.events ≡ []) }
+    ensures regs { IfOk result (λ store. store.regs ≡ []) }
 {
-    let rows: Vec<Row> = Vec::new(alloc);
     with_sums(
         alloc,
-        &rows,
+        rows,
         Vec::new(alloc),
         Vec::new(alloc),
         Vec::new(alloc),
@@ -98,32 +100,19 @@ impl Latest {
     }
 
     /// The latest part of no changes: it touches nothing.
+    #[tactic(auto, unfolding(table_rows::specs::Store::is_store))]
     pub fn none(alloc: Global, at: u64) -> Result<Latest, Memory>
         ensures nothing { IfOk result (λ latest. ChangesNothing latest) }
         ensures from { IfOk result (λ latest. latest.from ≡ at) }
         ensures to { IfOk result (λ latest. latest.to ≡ at) }
     {
-        let store = empty_store(alloc)?;
+        let store = store_of(alloc, &[])?;
         let keys = TouchedKeys {
             rows: Vec::new(alloc),
             events: Vec::new(alloc),
             regs: Vec::new(alloc),
         };
         Ok(Latest::of(keys, store, at, at))
-    }
-
-    /// After how many changes of the log its own begin.
-    pub fn from(&self) -> u64
-        ensures { result ≡ self.now.from }
-    {
-        self.from
-    }
-
-    /// For how many changes of the log the tables stand with it.
-    pub fn to(&self) -> u64
-        ensures { result ≡ self.now.to }
-    {
-        self.to
     }
 
     /// The keys of rows, in their order.
@@ -139,12 +128,6 @@ impl Latest {
         ensures { contents_in result.now ≡ self.now.holds }
     {
         &self.store
-    }
-
-    pub(crate) fn touches_row(&self, row: &Row) -> bool
-        ensures { result ≡ known.is_row_touched self.now.touched row.now }
-    {
-        is_among(self.keys.rows.as_slice(), &place_of(row))
     }
 
     pub(crate) fn touches_event(&self, event: &EventRow) -> bool

@@ -2,12 +2,11 @@
 ghost use Rattle.std.specs.Prelude.{◌≡◌, map, IfOk};
 ghost use Rattle.table_latest.specs.Latest.{is_event_touched, untouched};
 
-use crate::held::Ranked;
 use crate::latest::Latest;
 use dh_base::memory::Memory;
 use std::alloc::Global;
 use std::marker::Model;
-use table_rows::EventRow;
+use table_rows::{EventRow, Ranked};
 
 /// An event that a store lends. Contracts see the event itself.
 #[derive(Drop)]
@@ -29,7 +28,7 @@ impl<'a> Ranked for LentEvent<'a> {
     ghost rank = { event_cmp };
 
     fn stands_before(&self, other: &LentEvent<'a>) -> bool {
-        self.event.is_before(other.event)
+        self.event.stands_before(other.event)
     }
 }
 

@@ -6,10 +6,11 @@ ghost use Rattle.table_sums.specs.Ascending.{ascending};
 ghost use Rattle.table_latest.specs.Latest.{untouched};
 ghost use Rattle.table_latest.specs.Merged.{TakesAbove};
 
-use crate::held::{Keyed, Ranked};
+use crate::held::Keyed;
 use crate::latest::Latest;
 use dh_base::memory::Memory;
 use std::alloc::Global;
+use table_rows::Ranked;
 
 /// The members that the latest part doesn't touch.
 pub(crate) fn untouched<T: Drop + Keyed>(

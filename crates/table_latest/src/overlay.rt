@@ -20,7 +20,7 @@ use dh_base::plain::Need;
 use std::alloc::Global;
 use std::marker::Model;
 use std::sync::Arc;
-use table_rows::{EventRow, Group, RegRow, Row, RowStore, Sum};
+use table_rows::{EventRow, EventsAsked, Group, RegRow, Row, RowStore, Sum};
 use table_sums::SummedRows;
 
 /// A base store with a latest part over it. A touched key has what the latest part holds, or nothing; each other key has
@@ -105,19 +105,11 @@ fn rows_in<S: RowStore>(
     Ok(Items::from(rows))
 }
 
-/// The events that are asked for, by program and days.
-#[derive(Clone, Copy)]
-struct AskedEvents {
-    program: u32,
-    from_day: i32,
-    to_day: i32,
-}
-
 fn events_in<'a, S: RowStore>(
     alloc: Global,
     base: &'a S,
     latest: &'a Latest,
-    asked: &AskedEvents,
+    asked: &EventsAsked,
 ) -> Result<Vec<&'a EventRow>, Memory>
     requires { IsOverlay (listed_from (S.rows base.now) (S.events base.now) (S.regs base.now) (S.built base.now)) latest.now }
     ensures { IfOk result (λ found. map (λ event. event.now) found.items ≡ events_of asked.now.program asked.now.from_day asked.now.to_day
@@ -227,7 +219,7 @@ impl<S: RowStore> RowStore for Overlay<S> {
         from_day: i32,
         to_day: i32,
     ) -> Result<Vec<&EventRow>, Memory> {
-        let asked = AskedEvents {
+        let asked = EventsAsked {
             program,
             from_day,
             to_day,

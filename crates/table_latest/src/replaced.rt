@@ -3,10 +3,11 @@ ghost use Rattle.std.specs.Prelude.{◌≡◌, ◌∷◌, [], true, IfOk};
 ghost use Rattle.std.specs.List.{list_all};
 ghost use Rattle.std.specs.List.Sorted.{IsStrictlySortedBy};
 ghost use Rattle.table_rows.specs.Order.{row_cmp};
-ghost use Rattle.table_rows.specs.Store.{is_store, rises};
+ghost use Rattle.table_rows.specs.Store.{rises};
 ghost use Rattle.table_latest.specs.Keys.{place_cmp};
 ghost use Rattle.table_latest.specs.Latest.{is_in_reach, touched_rows};
 
+use crate::latest::store_of;
 use crate::merged::merged;
 use crate::places::RowPlace;
 use dh_base::items::Items;
@@ -14,7 +15,7 @@ use dh_base::memory::Memory;
 use dh_base::plain::Need;
 use std::alloc::Global;
 use table_rows::{Row, RowStore};
-use table_sums::{SummedRows, with_sums};
+use table_sums::SummedRows;
 
 // The base's row of a place, if it has one.
 fn row_at<S: RowStore>(alloc: Global, base: &S, place: &RowPlace) -> Result<Vec<Row>, Memory>
@@ -54,20 +55,6 @@ fn rows_at<S: RowStore>(alloc: Global, base: &S, places: &[RowPlace]) -> Result<
     let more = rows_at(alloc, base, back)?;
     let rows = merged(alloc, first, more)?;
     Ok(rows)
-}
-
-// The store of these rows alone.
-fn store_of(alloc: Global, rows: &[Row]) -> Result<SummedRows, Memory>
-    requires { is_store rows.now [] [] [] ≡ true }
-    ensures { IfOk result (λ store. store.rows ≡ rows.now) }
-{
-    with_sums(
-        alloc,
-        rows,
-        Vec::new(alloc),
-        Vec::new(alloc),
-        Vec::new(alloc),
-    )
 }
 
 /// The store of the base's rows of these places.

@@ -1,4 +1,4 @@
-use Rattle.std.proofs.Common.{◌≡◌, ◌∙◌, ◌≤◌, List, true, length, ap, sym, subst, rules}
+use Rattle.std.proofs.Common.{◌≡◌, ◌∙◌, true, ap, sym, subst, rules}
 use Rattle.std.specs.List.{filter}
 use Rattle.std.specs.List.Sorted.{IsStrictlySortedBy}
 use Rattle.table_rows.specs.Groups.{groups_of}
@@ -6,7 +6,6 @@ use Rattle.table_rows.specs.Order.{group_cmp, row_cmp}
 use Rattle.table_rows.specs.Store.{Contents, rises}
 use Rattle.table_rows.proofs.OrderLemmas.{group_total}
 use Rattle.table_rows.proofs.StoreLemmas.{store-holds, true_from}
-use Rattle.table_latest.specs.declared.places.RowPlace.{RowPlace}
 use Rattle.table_latest.specs.Latest.{is_kept_group, is_row_touched, listed_from, untouched, untouched_rows}
 use Rattle.table_latest.proofs.GroupLemmas.{groups-over, kept-groups-sorted, now-groups-sorted}
 use Rattle.table_latest.proofs.OverLemmas.{holds}

@@ -1,4 +1,3 @@
-use Rattle.std.proofs.Common.{◌∙◌, sym}
 use Rattle.table_latest.proofs.ReplacedLemmas.{clear-kept, kept-left}
 use Rattle.table_latest.proofs.groups.has_kept.Goals as goal
 

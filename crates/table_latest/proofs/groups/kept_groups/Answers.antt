@@ -2,8 +2,8 @@ use Rattle.std.proofs.Common.{◌∙◌, Bool, true, false, append-nil, sym, ap}
 use Rattle.std.specs.List.{filter}
 use Rattle.std.proofs.lemmas.List.{take_all}
 use Rattle.table_rows.specs.declared.row.Group.{Group}
+use Rattle.table_rows.proofs.KeptLemmas.{kept-more}
 use Rattle.table_latest.specs.Latest.{is_kept_group, untouched_rows}
-use Rattle.table_latest.proofs.LoopLemmas.{kept-more}
 use Rattle.table_latest.proofs.groups.kept_groups.Goals.{then-is_kept+in_ok-push, else-is_kept}
 use Rattle.table_latest.proofs.groups.kept_groups.Goals as goal
 
@@ -20,12 +20,12 @@ loop-group-preserved g c =
     elim c.if-is_kept.branch [
       | then-is_kept+in_ok-push w ↦
           ap (λ kept. kept.items) w.kept-is
-          ∙ kept-more stays groups found w.push.new.self.items at x true c.loop-group-test.true c.group-item.is c.loop-group.invariant
-          w.in_ok-push.ensures.items (sym w.if-is_kept.true ∙ c.is_kept.ensures)
+          ∙ kept-more stays groups at x true found w.push.new.self.items c.loop-group-test.true c.group-item.is
+          (sym w.if-is_kept.true ∙ c.is_kept.ensures) w.in_ok-push.ensures.items c.loop-group.invariant
       | else-is_kept w ↦
           ap (λ kept. kept.items) w.kept-is
-          ∙ kept-more stays groups found found at x false c.loop-group-test.true c.group-item.is c.loop-group.invariant (sym (append-nil found))
-          (sym w.if-is_kept.false ∙ c.is_kept.ensures)
+          ∙ kept-more stays groups at x false found found c.loop-group-test.true c.group-item.is (sym w.if-is_kept.false ∙ c.is_kept.ensures)
+          (sym (append-nil found)) c.loop-group.invariant
     ]
 
 pub returns : goal.returns

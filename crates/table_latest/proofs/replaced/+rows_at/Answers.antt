@@ -1,4 +1,4 @@
-use Rattle.std.proofs.Common.{◌≡◌, ◌∙◌, ◌<◌, length, sym, subst, rules}
+use Rattle.std.proofs.Common.{◌<◌, length, rules}
 use Rattle.std.specs.List.Sorted.{IsStrictlySortedBy}
 use Rattle.table_rows.proofs.OrderLemmas.{row_total}
 use Rattle.table_latest.specs.Keys.{place_cmp}

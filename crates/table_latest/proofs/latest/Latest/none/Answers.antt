@@ -12,4 +12,5 @@ pub returns-clause-nothing : goal.returns-clause-nothing
 returns-clause-nothing c =
     nothing-over c.of.result
     (c.of.ensures.touched ∙ (λ i. record { rows = c.new.ensures.items i; events = c.new-2.ensures.items i; regs = c.new-3.ensures.items i }))
-    (c.of.ensures.holds ∙ c.in_ok-store.ensures)
+    (c.of.ensures.holds
+    ∙ (λ i. record { rows = c.in_ok-store.ensures.rows i; events = c.in_ok-store.ensures.events i; regs = c.in_ok-store.ensures.regs i }))
