@@ -75,21 +75,9 @@ any-filter test id (x ∷ xs) =
     ] refl
 
 -- what hangs on another is noted under it
-noted-from_linked : {S : Type 0} (children : HashMap (List ℕ) (List (List ℕ)) S) (parent : Option (List ℕ)) (asked id : List ℕ)
+pub noted-from_linked : {S : Type 0} (children : HashMap (List ℕ) (List (List ℕ)) S) (parent : Option (List ℕ)) (asked id : List ℕ)
     → is_linked children parent id ≡ true → hangs_on parent asked ≡ true → is_noted children asked id ≡ true
 noted-from_linked children None asked id linked hangs = absurd (cc)
 noted-from_linked children (Some parent) asked id linked hangs =
     let equal : parent ≡ asked = same_text parent asked (sym hangs) in
     ap (λ p. is_noted children p id) (sym equal) ∙ linked
-
--- those that hang on another are the ones noted under it that do
-pub any-hanging : {S : Type 0} (children : HashMap (List ℕ) (List (List ℕ)) S) (parent_of : List ℕ → Option (List ℕ)) (asked : List ℕ) (noted : List (List ℕ))
-    → ((id : List ℕ) → is_noted children asked id ≡ list_any (λ other. same_id id other) noted)
-    → ((id : List ℕ) → is_linked children (parent_of id) id ≡ true)
-    → (id : List ℕ) → list_any (λ other. same_id id other) (filter (λ other. hangs_on (parent_of other) asked) noted) ≡ hangs_on (parent_of id) asked
-any-hanging children parent_of asked noted those linked id =
-    any-filter (λ other. hangs_on (parent_of other) asked) id noted
-    ∙ elim (hangs_on (parent_of id) asked) as (λ b. hangs_on (parent_of id) asked ≡ b → cond b (list_any (λ other. same_id id other) noted) false ≡ b) [
-      | true ↦ λ hangs. sym (those id) ∙ noted-from_linked children (parent_of id) asked id (linked id) hangs
-      | false ↦ λ apart. refl
-    ] refl

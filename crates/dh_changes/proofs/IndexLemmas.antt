@@ -37,18 +37,6 @@ there-put same old new key value update q there =
 
 -- ---- what is ready stays ready
 
-pub keeps-same : (i : Index) → Keeps i i
-keeps-same i = record {
-  values = λ q there. there;
-  events = λ q there. there;
-  enrollments = λ q there. there;
-  entities = λ q there. there;
-  approvals = λ q there. there;
-  registrations = λ q there. there;
-  events_of = λ p q noted. noted;
-  enrollments_of = λ p q noted. noted;
-}
-
 linked-stays : {S : Type 0} (old new : HashMap (List ℕ) (List (List ℕ)) S) → ((p c : List ℕ) → is_noted old p c ≡ true → is_noted new p c ≡ true)
     → (parent : Option (List ℕ)) (child : List ℕ) → is_linked old parent child ≡ true → is_linked new parent child ≡ true
 linked-stays old new stays None child linked = linked
@@ -278,16 +266,6 @@ same-step old new s rest right others after same = record {
   registration =
       λ q. step (last_said (of_registration q) rest) (of_registration q s) (registration_held old q) (registration_held new q)
       (unwrap_or (last_said (of_registration q) others) (registration_held right q)) (after.registration q) (same.registration q);
-}
-
-pub same-itself : (i : Held) (xs : List Said) → HoldSame i xs i xs
-same-itself i xs = record {
-  value = λ q. refl;
-  event = λ q. refl;
-  enrollment = λ q. refl;
-  entity = λ q. refl;
-  approval = λ q. refl;
-  registration = λ q. refl;
 }
 
 pub same-through : (a : Held) (xs : List Said) (b : Held) (ys : List Said) (c : Held) (zs : List Said) → HoldSame a xs b ys → HoldSame b ys c zs

@@ -90,13 +90,6 @@ any-covered parent_of ids parent covers id =
       | false ↦ λ apart. refl
     ] refl
 
--- an ascending list of just those that hang on the parent is the list of these
-pub hanging-is : (parent_of : List ℕ → Option (List ℕ)) (ids : List (List ℕ)) (parent : List ℕ) → Covers parent_of parent ids
-    → (xs : List (List ℕ)) → IsStrictlySortedBy by_bytes xs → ((id : List ℕ) → list_any (λ other. same_id id other) xs ≡ hangs_on (parent_of id) parent)
-    → xs ≡ hanging parent_of ids parent
-hanging-is parent_of ids parent covers xs sorted same =
-    in_order-is xs (filter (λ id. hangs_on (parent_of id) parent) ids) sorted (λ id. same id ∙ sym (any-covered parent_of ids parent covers id))
-
 -- the same objects hang on the parent, whichever lists they are taken from
 pub hanging-same : (f g : List ℕ → Option (List ℕ)) (ids others : List (List ℕ)) (parent : List ℕ) → ((id : List ℕ) → f id ≡ g id)
     → Covers f parent ids → Covers g parent others → hanging f ids parent ≡ hanging g others parent

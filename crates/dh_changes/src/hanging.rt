@@ -1,8 +1,4 @@
-ghost use Rattle.std.specs.Prelude.{◌≡◌, ◌++◌, ◌∷◌, ℕ, [], List, None, IfOk, OnOk, if◌then◌else◌};
-ghost use Rattle.std.specs.List.{filter, list_any};
-ghost use Rattle.std.specs.List.Sorted.{IsStrictlySortedBy};
-ghost use Rattle.std.specs.Cmp.Lexicographic.{slice_cmp};
-ghost use Rattle.std.specs.Ordering.{nat_cmp};
+ghost use Rattle.std.specs.Prelude.{◌≡◌, ◌++◌, ◌∷◌, [], None, IfOk, OnOk, if◌then◌else◌};
 ghost use Rattle.dh_changes.specs.Said.{same_id};
 ghost use Rattle.dh_changes.specs.Maps as maps;
 ghost use Rattle.dh_changes.specs.Hanging as hang;
@@ -42,31 +38,22 @@ fn keep_if(found: &mut Vec<Uid>, id: Uid, keep: bool) -> Result<(), Memory>
     Ok(())
 }
 
-/// Those noted under a parent that are there and hang on it.
+/// Those noted under a parent that are there and hang on it, ascending by their bytes, each once.
 pub fn live<V: Hangs>(
     alloc: Global,
     children: &HashMap<Uid, Items<Uid>>,
     objects: &HashMap<Uid, Option<V>>,
     parent: Uid,
-) -> Result<Vec<Uid>, Memory>
-    ensures { IfOk result (λ found. found.items
-        ≡ filter (λ id. hang.hangs_on (V.parent (maps.held same_id None objects.now id)) parent)
-        (maps.held same_id [] children.now parent)) }
+) -> Result<Items<Uid>, Memory>
+    ensures { IfOk result (λ ids. ids
+        ≡ hang.hanging (λ id. V.parent (maps.held same_id None objects.now id)) (maps.held same_id [] children.now parent) parent) }
 {
     let mut found = Vec::new(alloc);
     for id in children_of(children, &parent) {
         let hangs = hangs_on(V::parent_of(look(objects, id)), parent);
         keep_if(&mut found, *id, hangs)?;
     }
-    Ok(found)
-}
-
-/// The same identifiers, ascending by their bytes, each once.
-pub fn put_in_order(mut ids: Vec<Uid>) -> Items<Uid>
-    ensures ascending { IsStrictlySortedBy (slice_cmp nat_cmp) result }
-    ensures same { (id : List ℕ) → list_any (λ other. same_id id other) result ≡ list_any (λ other. same_id id other) ids.items }
-{
-    ids.sort_unstable();
-    ids.dedup();
-    Items::from(ids)
+    found.sort_unstable();
+    found.dedup();
+    Ok(Items::from(found))
 }

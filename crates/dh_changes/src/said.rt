@@ -53,7 +53,10 @@ pub fn said_by(alloc: Global, write: &Write) -> Result<Said, Memory>
     ensures { IfOk result (λ said. said ≡ holds.said_by write.now) }
 {
     match write {
-        Write::ValueSet { key, value } => said_of_value(alloc, key, value.as_slice()),
+        Write::ValueSet { key, value } => Ok(Said::Value {
+            key: *key,
+            value: Some(Text::of(alloc, value.as_slice())?),
+        }),
         Write::ValueCleared { key } => Ok(Said::Value {
             key: *key,
             value: None,
@@ -96,23 +99,23 @@ pub fn said_by(alloc: Global, write: &Write) -> Result<Said, Memory>
     }
 }
 
-fn said_of_value(alloc: Global, key: &ValueKey, value: &[u8]) -> Result<Said, Memory>
-    ensures { IfOk result (λ found. found ≡ said.Value key.now (Some value.now)) }
-{
-    let value = Text::of(alloc, value)?;
-    Ok(Said::Value {
-        key: *key,
-        value: Some(value),
-    })
-}
-
 fn said_of_event(alloc: Global, event: &Event) -> Result<Said, Memory>
     ensures { IfOk result (λ found. found ≡ said.Event event.now.id (Some event.now)) }
 {
-    let copy = copy_event(alloc, event)?;
+    let values = copy_pairs(alloc, event.values.as_slice())?;
     Ok(Said::Event {
         id: event.id,
-        event: Some(copy),
+        event: Some(Event {
+            id: event.id,
+            enrollment: event.enrollment,
+            program: event.program,
+            stage: event.stage,
+            unit: event.unit,
+            status: event.status,
+            occurred: event.occurred,
+            scheduled: event.scheduled,
+            values,
+        }),
     })
 }
 
@@ -121,24 +124,31 @@ fn said_of_enrollment(enrollment: &Enrollment) -> Said
 {
     Said::Enrollment {
         id: enrollment.id,
-        enrollment: Some(copy_enrollment(enrollment)),
+        enrollment: Some(Enrollment {
+            id: enrollment.id,
+            entity: enrollment.entity,
+            program: enrollment.program,
+            unit: enrollment.unit,
+            status: enrollment.status,
+            enrolled: enrollment.enrolled,
+            occurred: enrollment.occurred,
+        }),
     }
 }
 
 fn said_of_entity(alloc: Global, entity: &Entity) -> Result<Said, Memory>
     ensures { IfOk result (λ found. found ≡ said.Entity entity.now.id (Some entity.now)) }
 {
-    let copy = copy_entity(alloc, entity)?;
+    let attributes = copy_pairs(alloc, entity.attributes.as_slice())?;
     Ok(Said::Entity {
         id: entity.id,
-        entity: Some(copy),
+        entity: Some(Entity {
+            id: entity.id,
+            kind: entity.kind,
+            unit: entity.unit,
+            attributes,
+        }),
     })
-}
-
-fn copy_text(alloc: Global, text: &[u8]) -> Result<Items<u8>, Memory>
-    ensures { IfOk result (λ copy. copy ≡ text.now) }
-{
-    Ok(Items::from(Vec::from_slice(alloc, text)?))
 }
 
 fn copy_pairs(alloc: Global, pairs: &[(Uid, Items<u8>)]) -> Result<Items<(Uid, Items<u8>)>, Memory>
@@ -146,51 +156,8 @@ fn copy_pairs(alloc: Global, pairs: &[(Uid, Items<u8>)]) -> Result<Items<(Uid, I
 {
     let mut copies = Vec::with_capacity(alloc, pairs.len())?;
     for pair in pairs {
-        let text = copy_text(alloc, pair.1.as_slice())?;
+        let text = Items::from(Vec::from_slice(alloc, pair.1.as_slice())?);
         copies.push((pair.0, text))?;
     }
     Ok(Items::from(copies))
-}
-
-fn copy_event(alloc: Global, event: &Event) -> Result<Event, Memory>
-    ensures { IfOk result (λ copy. copy ≡ event.now) }
-{
-    let values = copy_pairs(alloc, event.values.as_slice())?;
-    Ok(Event {
-        id: event.id,
-        enrollment: event.enrollment,
-        program: event.program,
-        stage: event.stage,
-        unit: event.unit,
-        status: event.status,
-        occurred: event.occurred,
-        scheduled: event.scheduled,
-        values,
-    })
-}
-
-fn copy_enrollment(enrollment: &Enrollment) -> Enrollment
-    ensures { result ≡ enrollment.now }
-{
-    Enrollment {
-        id: enrollment.id,
-        entity: enrollment.entity,
-        program: enrollment.program,
-        unit: enrollment.unit,
-        status: enrollment.status,
-        enrolled: enrollment.enrolled,
-        occurred: enrollment.occurred,
-    }
-}
-
-fn copy_entity(alloc: Global, entity: &Entity) -> Result<Entity, Memory>
-    ensures { IfOk result (λ copy. copy ≡ entity.now) }
-{
-    let attributes = copy_pairs(alloc, entity.attributes.as_slice())?;
-    Ok(Entity {
-        id: entity.id,
-        kind: entity.kind,
-        unit: entity.unit,
-        attributes,
-    })
 }

@@ -1,6 +1,6 @@
 //! Texts of values. Most are a few digits, so those stand where their owner stands.
 
-ghost use Rattle.std.specs.Prelude.{◌≡◌, ◌≤◌, length, take, min, IfOk};
+ghost use Rattle.std.specs.Prelude.{◌≡◌, length, take, min, IfOk};
 ghost use Rattle.dh_changes.specs.Text.{bytes_of};
 
 use dh_base::items::Items;
@@ -52,39 +52,25 @@ fn copy_first(bytes: &[u8], into: &mut [u8]) -> usize
     count
 }
 
-fn inside(text: &[u8]) -> Text
-    requires { length text.now ≤ 14 }
-    ensures { result ≡ text.now }
-{
-    let mut bytes = [0u8; 14];
-    let len = copy_first(text, &mut bytes);
-    Text {
-        kept: Kept::Inside {
-            len: len as u8,
-            bytes,
-        },
-    }
-}
-
-fn apart(alloc: Global, text: &[u8]) -> Result<Text, Memory>
-    ensures { IfOk result (λ made. made ≡ text.now) }
-{
-    let copy = Items::from(Vec::from_slice(alloc, text)?);
-    Ok(Text {
-        kept: Kept::Apart(Box::new(alloc, copy)?),
-    })
-}
-
 impl Text {
     /// A copy of these bytes.
     pub fn of(alloc: Global, text: &[u8]) -> Result<Text, Memory>
         ensures { IfOk result (λ made. made ≡ text.now) }
     {
         if text.len() <= MOST_INSIDE {
-            Ok(inside(text))
-        } else {
-            apart(alloc, text)
+            let mut bytes = [0u8; 14];
+            let len = copy_first(text, &mut bytes);
+            return Ok(Text {
+                kept: Kept::Inside {
+                    len: len as u8,
+                    bytes,
+                },
+            });
         }
+        let copy = Items::from(Vec::from_slice(alloc, text)?);
+        Ok(Text {
+            kept: Kept::Apart(Box::new(alloc, copy)?),
+        })
     }
 
     /// The bytes, lent.

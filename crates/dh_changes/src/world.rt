@@ -1,4 +1,4 @@
-ghost use Rattle.std.specs.Prelude.{◌≡◌, ◌++◌, ◌∷◌, [], List, map, reverse, OnOk, OnErr, IfOk};
+ghost use Rattle.std.specs.Prelude.{◌≡◌, ◌++◌, [], List, map, reverse, OnOk, OnErr, IfOk};
 ghost use Rattle.std.specs.Option.{option_copied};
 ghost use Rattle.dh_changes.specs.declared.change.Write.{Write};
 ghost use Rattle.dh_changes.specs.Said as says;
@@ -8,7 +8,7 @@ ghost use Rattle.dh_changes.specs.Facts as known;
 ghost use Rattle.dh_changes.specs.World.{facts};
 
 use crate::change::{Change, Write};
-use crate::hanging::{live, put_in_order};
+use crate::hanging::live;
 use crate::held::look;
 use crate::index::{Index, make_ready, take_in};
 use crate::keys::{ApprovalKey, RegKey, ValueKey};
@@ -243,13 +243,12 @@ impl World {
     pub fn enrollments_of(&self, alloc: Global, entity: Uid) -> Result<Items<Uid>, Memory>
         ensures { IfOk result (λ ids. ids ≡ (facts self.now).enrollments_of entity) }
     {
-        let found = live(
+        live(
             alloc,
             &self.index.enrollments_of,
             &self.index.enrollments,
             entity,
-        )?;
-        Ok(put_in_order(found))
+        )
     }
 
     /// The events that hang on an enrollment, ascending by identifier. It looks at the events that
@@ -258,7 +257,6 @@ impl World {
     pub fn events_of(&self, alloc: Global, enrollment: Uid) -> Result<Items<Uid>, Memory>
         ensures { IfOk result (λ ids. ids ≡ (facts self.now).events_of enrollment) }
     {
-        let found = live(alloc, &self.index.events_of, &self.index.events, enrollment)?;
-        Ok(put_in_order(found))
+        live(alloc, &self.index.events_of, &self.index.events, enrollment)
     }
 }
