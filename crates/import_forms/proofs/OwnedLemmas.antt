@@ -1,7 +1,8 @@
 -- Loops over owned lists, which put what they make of each member at the end of another list.
-use Rattle.std.proofs.Common.{◌≡◌, ◌∙◌, List, [], ◌∷◌, ◌++◌, length, map, refl, sym, ap, append_assoc, arith}
+use Rattle.std.proofs.Common.{◌≡◌, ◌∙◌, List, [], ◌∷◌, ◌++◌, length, map, refl, sym, ap, append_assoc, arith, Ok}
 use Rattle.std.proofs.lemmas.List.{append-nil}
 use Rattle.std.specs.List.{flat_map}
+use Rattle.json_read.specs.Forms.{Formed}
 
 -- one member more of each
 pub made-more : {X Y : Type 0} (f : X → Y) (whole before after : List Y) (left rest : List X) (x : X) (y : Y) → whole ≡ before ++ map f left
@@ -32,3 +33,14 @@ made-all f whole before left known none = sym (known ∙ ap (λ l. before ++ map
 pub joined-all : {X Y : Type 0} (f : X → List Y) (whole before : List Y) (left : List X) → whole ≡ before ++ flat_map f left → length left ≡ 0
     → before ≡ whole
 joined-all f whole before left known none = sym (known ∙ ap (λ l. before ++ flat_map f l) (nothing left none) ∙ append-nil before)
+
+-- the same of what a form means
+
+pub formed-more : {X Y : Type 0} (f : X → Y) (whole : Formed (List Y)) (before after : List Y) (left rest : List X) (x : X) (y : Y)
+    → whole ≡ Ok (before ++ map f left) → left ≡ x ∷ rest → y ≡ f x → after ≡ before ++ y ∷ [] → whole ≡ Ok (after ++ map f rest)
+formed-more f whole before after left rest x y known next made is =
+    known ∙ ap (λ l. Ok l) (made-more f (before ++ map f left) before after left rest x y refl next made is)
+
+pub formed-all : {X Y : Type 0} (f : X → Y) (whole : Formed (List Y)) (before : List Y) (left : List X) → whole ≡ Ok (before ++ map f left)
+    → length left ≡ 0 → whole ≡ Ok before
+formed-all f whole before left known none = known ∙ ap (λ l. Ok l) (sym (made-all f (before ++ map f left) before left refl none))

@@ -1,11 +1,9 @@
 -- Bodies of requests, which are JSON data of a stated form.
-use Rattle.std.specs.Prelude.{◌≡◌, ℕ, List, Option, None, Some, Result}
+use Rattle.std.specs.Prelude.{ℕ, List, Option, None, Some, Result}
 use Rattle.serde_json.specs.Data.{Data}
 use Rattle.dh_base.specs.Memory.{Answers}
 use Rattle.json_read.specs.Bytes.{document_of}
 use Rattle.json_read.specs.Forms.{Formed, and_then, or_fault}
-use Rattle.json_read.specs.declared.fault.FormFault.{FormFault}
-use Rattle.json_read.specs.declared.fault.FormFault.TheVariants as form
 use Rattle.dh_changes.specs.declared.outcome.BodyFault.{BodyFault}
 use Rattle.dh_changes.specs.declared.outcome.BodyFault.TheVariants as fault
 
@@ -21,8 +19,3 @@ path_of fault.Memory = None
 -- the value that is meant, or the path of the first fault, or that memory ran out
 abbrev pub Gives : {A : Type 0} → Formed A → Result A BodyFault → Type 0
 Gives meant result = Answers path_of meant result
-
--- a fault of a form, as that of a body
-abbrev pub Told : FormFault → BodyFault → Type 0
-Told (form.At path) told = told ≡ fault.Bad path
-Told form.Memory told = told ≡ fault.Memory

@@ -1,11 +1,10 @@
 //! Bodies of requests.
 
-ghost use Rattle.std.specs.Prelude.{◌≡◌, []};
 ghost use Rattle.serde_json.specs.Data.{Data};
 ghost use Rattle.json_read.specs.Forms.{Formed};
 ghost use Rattle.json_read.specs.Given as forms;
 ghost use Rattle.json_read.specs.Views.{data_of};
-ghost use Rattle.import_forms.specs.Bodies.{Told, body_of, Gives};
+ghost use Rattle.import_forms.specs.Bodies.{body_of, Gives};
 
 use dh_base::items::Items;
 use dh_changes::outcome::BodyFault;
@@ -24,25 +23,6 @@ pub(crate) trait BodyForm<T: Drop> {
         ensures { forms.Gives (meant self.now (data_of value.now)) result };
 }
 
-// The fault of a body that isn't JSON.
-fn no_document(alloc: Global) -> BodyFault
-    ensures { result ≡ BodyFault.Bad [] }
-{
-    BodyFault::Bad {
-        path: Items::new(alloc),
-    }
-}
-
-// A fault of a form, as that of a body.
-fn fault_of(fault: FormFault) -> BodyFault
-    ensures { Told fault result }
-{
-    match fault {
-        FormFault::At(path) => BodyFault::Bad { path },
-        FormFault::Memory => BodyFault::Memory,
-    }
-}
-
 /// What a body stands for. A body that isn't JSON is at fault with the empty path.
 pub(crate) fn read_body<T: Drop, F: BodyForm<T>>(
     alloc: Global,
@@ -55,9 +35,12 @@ pub(crate) fn read_body<T: Drop, F: BodyForm<T>>(
     match read(alloc, body, &mut scratch) {
         Ok(Some(value)) => match form.form(alloc, &value) {
             Ok(made) => Ok(made),
-            Err(fault) => Err(fault_of(fault)),
+            Err(FormFault::At(path)) => Err(BodyFault::Bad { path }),
+            Err(FormFault::Memory) => Err(BodyFault::Memory),
         },
-        Ok(None) => Err(no_document(alloc)),
+        Ok(None) => Err(BodyFault::Bad {
+            path: Items::new(alloc),
+        }),
         Err(_) => Err(BodyFault::Memory),
     }
 }

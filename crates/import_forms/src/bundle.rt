@@ -4,7 +4,7 @@ ghost use Rattle.std.specs.Prelude.{◌≡◌, IfOk};
 ghost use Rattle.json_read.specs.Views.{data_of};
 ghost use Rattle.json_read.specs.Given as forms;
 ghost use Rattle.import_forms.specs.Bodies.{body_of, Gives};
-ghost use Rattle.import_forms.specs.Bundles.{three_lists, lists_of, in_order, bundle_of};
+ghost use Rattle.import_forms.specs.Bundles.{three_lists, in_order, bundle_of};
 
 use crate::body::{BodyForm, read_body};
 use crate::both::both;
@@ -28,14 +28,6 @@ pub struct BundleParams {
     pub atomic: bool,
 }
 
-/// The three lists of a body, each object with those that stand in it.
-#[derive(Drop)]
-pub struct BundleLists {
-    pub entities: Items<EntityForm>,
-    pub enrollments: Items<EnrollmentForm>,
-    pub events: Items<BundleEvent>,
-}
-
 /// A tracker bundle, each of its lists in the order in which its objects are judged: those of the body's list first, then
 /// those that stand in other objects, in the order of these.
 pub struct Bundle {
@@ -57,6 +49,7 @@ impl Drop for Bundle {
     }
 }
 
+// The three lists of a body, each object with those that stand in it.
 type Lists = (
     Items<EntityForm>,
     (Items<EnrollmentForm>, Items<BundleEvent>),
@@ -74,28 +67,11 @@ fn three_lists(alloc: Global, value: &Value<'_>) -> Result<Lists, FormFault>
     )
 }
 
-#[tactic(auto, unfolding(crate::specs::Bundles::lists_of))]
-fn lists_of(alloc: Global, value: &Value<'_>) -> Result<BundleLists, FormFault>
-    ensures { forms.Gives (lists_of (data_of value.now)) result }
-{
-    require_object(alloc, value)?;
-    let (entities, (enrollments, events)) = three_lists(alloc, value)?;
-    Ok(BundleLists {
-        entities,
-        enrollments,
-        events,
-    })
-}
-
 #[tactic(auto, unfolding(crate::specs::Bundles::in_order))]
-fn in_order(alloc: Global, params: BundleParams, lists: BundleLists) -> Result<Bundle, Memory>
+fn in_order(alloc: Global, params: BundleParams, lists: Lists) -> Result<Bundle, Memory>
     ensures { IfOk result (λ bundle. bundle ≡ in_order params lists) }
 {
-    let BundleLists {
-        entities: forms,
-        enrollments: mut all,
-        mut events,
-    } = lists;
+    let (forms, (mut all, mut events)) = lists;
     let mut entities = Items::new(alloc);
     let mut enrollments = Items::new(alloc);
     put_entities(forms, &mut entities, &mut all)?;
@@ -115,7 +91,8 @@ impl BodyForm<Bundle> for BundleParams {
 
     #[tactic(auto, unfolding(crate::specs::Bundles::bundle_of))]
     fn form(&self, alloc: Global, value: &Value<'_>) -> Result<Bundle, FormFault> {
-        let lists = lists_of(alloc, value)?;
+        require_object(alloc, value)?;
+        let lists = three_lists(alloc, value)?;
         match in_order(alloc, *self, lists) {
             Ok(bundle) => Ok(bundle),
             Err(_) => Err(FormFault::Memory),

@@ -2,7 +2,6 @@
 
 ghost use Rattle.std.specs.Prelude.{◌≡◌, IfOk};
 ghost use Rattle.json_read.specs.Views.{data_of};
-ghost use Rattle.json_read.specs.Given as forms;
 ghost use Rattle.import_forms.specs.Bodies.{body_of, Gives};
 ghost use Rattle.import_forms.specs.Completions.{completion_of, completions_of};
 

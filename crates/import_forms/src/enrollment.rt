@@ -5,11 +5,11 @@ ghost use Rattle.std.specs.Option.{option_or};
 ghost use Rattle.std.specs.List.{flat_map};
 ghost use Rattle.json_read.specs.Views.{data_of};
 ghost use Rattle.json_read.specs.Given.{Gives};
-ghost use Rattle.import_forms.specs.Enrollments.{enrollment_of, whole_enrollment, in_enrollment, with_events, enrollment_parts};
+ghost use Rattle.import_forms.specs.Enrollments.{enrollment_of, whole_enrollment, enrollment_parts};
 
 use crate::both::both;
 use crate::event::BundleEvent;
-use crate::lists::{append, list_at};
+use crate::lists::{Inner, all_inside, append, list_at};
 use crate::pair::{Pair, attributes_of};
 use crate::text::{four_texts_in, text_in};
 use dh_base::items::Items;
@@ -104,49 +104,23 @@ pub(crate) fn fill_in(
     Ok(())
 }
 
-fn in_enrollment(
-    alloc: Global,
-    id: &Option<Items<u8>>,
-    event: BundleEvent,
-) -> Result<BundleEvent, AllocError>
-    ensures { IfOk result (λ filled. filled ≡ in_enrollment id.now event) }
-{
-    let mut event = event;
-    match fill_in(alloc, &mut event.enrollment, id) {
-        Ok(()) => Ok(event),
-        Err(fault) => {
-            drop(event);
-            Err(fault)
-        }
-    }
-}
+impl Inner for BundleEvent {
+    ghost use Rattle.import_forms.specs.Enrollments.{in_enrollment};
 
-fn all_in_enrollment(
-    alloc: Global,
-    id: &Option<Items<u8>>,
-    events: Items<BundleEvent>,
-) -> Result<Items<BundleEvent>, AllocError>
-    ensures { IfOk result (λ filled. filled ≡ map (in_enrollment id.now) events) }
-{
-    let mut filled = Vec::new(alloc);
-    for event in events.items {
-        filled.push(in_enrollment(alloc, id, event)?)?;
-    }
-    Ok(Items::from(filled))
-}
+    ghost inside = { in_enrollment };
 
-fn with_events(
-    alloc: Global,
-    own: BundleEnrollment,
-    events: Items<BundleEvent>,
-) -> Result<EnrollmentForm, AllocError>
-    ensures { IfOk result (λ form. form ≡ with_events own events) }
-{
-    match all_in_enrollment(alloc, &own.id, events) {
-        Ok(events) => Ok(EnrollmentForm { own, events }),
-        Err(fault) => {
-            drop(own);
-            Err(fault)
+    fn put_inside(
+        alloc: Global,
+        id: &Option<Items<u8>>,
+        object: BundleEvent,
+    ) -> Result<BundleEvent, AllocError> {
+        let mut event = object;
+        match fill_in(alloc, &mut event.enrollment, id) {
+            Ok(()) => Ok(event),
+            Err(fault) => {
+                drop(event);
+                Err(fault)
+            }
         }
     }
 }
@@ -173,7 +147,13 @@ impl ReadJson for EnrollmentForm {
     fn read(alloc: Global, value: &Value<'_>) -> Result<EnrollmentForm, FormFault> {
         require_object(alloc, value)?;
         let (events, own) = enrollment_parts(alloc, value)?;
-        Ok(with_events(alloc, own, events)?)
+        match all_inside(alloc, &own.id, events) {
+            Ok(events) => Ok(EnrollmentForm { own, events }),
+            Err(_) => {
+                drop(own);
+                Err(FormFault::Memory)
+            }
+        }
     }
 }
 

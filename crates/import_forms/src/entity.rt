@@ -4,11 +4,11 @@ ghost use Rattle.std.specs.Prelude.{◌≡◌, ◌++◌, [], IfOk, OnOk, map};
 ghost use Rattle.std.specs.List.{flat_map};
 ghost use Rattle.json_read.specs.Views.{data_of};
 ghost use Rattle.json_read.specs.Given.{Gives};
-ghost use Rattle.import_forms.specs.Entities.{entity_of, whole_entity, in_entity, with_enrollments, entity_parts};
+ghost use Rattle.import_forms.specs.Entities.{entity_of, whole_entity, entity_parts};
 
 use crate::both::both;
 use crate::enrollment::{EnrollmentForm, fill_in};
-use crate::lists::{append, list_at};
+use crate::lists::{Inner, all_inside, append, list_at};
 use crate::pair::{Pair, attributes_of};
 use crate::text::text_in;
 use dh_base::items::Items;
@@ -65,49 +65,23 @@ fn whole_entity(alloc: Global, value: &Value<'_>) -> Result<BundleEntity, FormFa
     Ok(own)
 }
 
-fn in_entity(
-    alloc: Global,
-    id: &Option<Items<u8>>,
-    form: EnrollmentForm,
-) -> Result<EnrollmentForm, AllocError>
-    ensures { IfOk result (λ filled. filled ≡ in_entity id.now form) }
-{
-    let mut form = form;
-    match fill_in(alloc, &mut form.own.entity, id) {
-        Ok(()) => Ok(form),
-        Err(fault) => {
-            drop(form);
-            Err(fault)
-        }
-    }
-}
+impl Inner for EnrollmentForm {
+    ghost use Rattle.import_forms.specs.Entities.{in_entity};
 
-fn all_in_entity(
-    alloc: Global,
-    id: &Option<Items<u8>>,
-    forms: Items<EnrollmentForm>,
-) -> Result<Items<EnrollmentForm>, AllocError>
-    ensures { IfOk result (λ filled. filled ≡ map (in_entity id.now) forms) }
-{
-    let mut filled = Vec::new(alloc);
-    for form in forms.items {
-        filled.push(in_entity(alloc, id, form)?)?;
-    }
-    Ok(Items::from(filled))
-}
+    ghost inside = { in_entity };
 
-fn with_enrollments(
-    alloc: Global,
-    own: BundleEntity,
-    enrollments: Items<EnrollmentForm>,
-) -> Result<EntityForm, AllocError>
-    ensures { IfOk result (λ form. form ≡ with_enrollments own enrollments) }
-{
-    match all_in_entity(alloc, &own.id, enrollments) {
-        Ok(enrollments) => Ok(EntityForm { own, enrollments }),
-        Err(fault) => {
-            drop(own);
-            Err(fault)
+    fn put_inside(
+        alloc: Global,
+        id: &Option<Items<u8>>,
+        object: EnrollmentForm,
+    ) -> Result<EnrollmentForm, AllocError> {
+        let mut form = object;
+        match fill_in(alloc, &mut form.own.entity, id) {
+            Ok(()) => Ok(form),
+            Err(fault) => {
+                drop(form);
+                Err(fault)
+            }
         }
     }
 }
@@ -134,7 +108,13 @@ impl ReadJson for EntityForm {
     fn read(alloc: Global, value: &Value<'_>) -> Result<EntityForm, FormFault> {
         require_object(alloc, value)?;
         let (enrollments, own) = entity_parts(alloc, value)?;
-        Ok(with_enrollments(alloc, own, enrollments)?)
+        match all_inside(alloc, &own.id, enrollments) {
+            Ok(enrollments) => Ok(EntityForm { own, enrollments }),
+            Err(_) => {
+                drop(own);
+                Err(FormFault::Memory)
+            }
+        }
     }
 }
 

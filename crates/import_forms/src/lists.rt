@@ -1,6 +1,6 @@
 //! Lists under the keys of JSON objects.
 
-ghost use Rattle.std.specs.Prelude.{◌≡◌, ◌++◌, OnOk};
+ghost use Rattle.std.specs.Prelude.{◌≡◌, ◌++◌, IfOk, OnOk, map};
 ghost use Rattle.serde_json.specs.Find.{get};
 ghost use Rattle.json_read.specs.Views.{data_of};
 ghost use Rattle.json_read.specs.Given.{Gives};
@@ -35,6 +35,33 @@ pub(crate) fn list_at<T: ReadJson>(
         return Ok(Items::new(alloc));
     }
     listed(alloc, value, key)
+}
+
+/// An object that may stand in another.
+pub(crate) trait Inner: Sized {
+    ghost use Rattle.std.specs.Prelude.{ℕ, List, Option};
+
+    /// The object in one of this identifier, which counts where the object names none.
+    ghost inside: { Option (List ℕ) → Self → Self };
+
+    /// The same object, with the identifier of the one around filled in.
+    fn put_inside(alloc: Global, id: &Option<Items<u8>>, object: Self) -> Result<Self, AllocError>
+        ensures { IfOk result (λ filled. filled ≡ inside id.now object) };
+}
+
+/// Fills in the identifier of the object around in each object of a list.
+pub(crate) fn all_inside<T: Inner + Drop>(
+    alloc: Global,
+    id: &Option<Items<u8>>,
+    objects: Items<T>,
+) -> Result<Items<T>, AllocError>
+    ensures { IfOk result (λ filled. filled ≡ map (T.inside id.now) objects) }
+{
+    let mut filled = Vec::new(alloc);
+    for object in objects.items {
+        filled.push(T::put_inside(alloc, id, object)?)?;
+    }
+    Ok(Items::from(filled))
 }
 
 /// Puts the items of a list at the end of another.

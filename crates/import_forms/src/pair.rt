@@ -1,6 +1,6 @@
 //! Attributes and data elements with their values, as they stand in a bundle.
 
-ghost use Rattle.std.specs.Prelude.{◌≡◌, IfOk, map};
+ghost use Rattle.std.specs.Prelude.{◌≡◌, IfOk};
 ghost use Rattle.json_read.specs.Views.{data_of};
 ghost use Rattle.json_read.specs.Given.{Gives};
 ghost use Rattle.import_forms.specs.Pairs.{pair_of, attributes_of, values_of};
@@ -69,29 +69,17 @@ impl ReadJson for ValuePair {
     }
 }
 
-fn of_attributes(alloc: Global, list: Items<AttributePair>) -> Result<Items<Pair>, AllocError>
-    ensures { IfOk result (λ pairs. pairs ≡ map (λ each. each.pair) list) }
-{
-    Ok(Items {
-        items: list.items.into_iter().map(|each| each.pair).collect(alloc)?,
-    })
-}
-
-fn of_values(alloc: Global, list: Items<ValuePair>) -> Result<Items<Pair>, AllocError>
-    ensures { IfOk result (λ pairs. pairs ≡ map (λ each. each.pair) list) }
-{
-    Ok(Items {
-        items: list.items.into_iter().map(|each| each.pair).collect(alloc)?,
-    })
-}
-
 /// The attributes of an object.
 #[tactic(auto, unfolding(crate::specs::Pairs::attributes_of))]
 pub(crate) fn attributes_of(alloc: Global, value: &Value<'_>) -> Result<Items<Pair>, FormFault>
     ensures { Gives (attributes_of (data_of value.now)) result }
 {
     let found: Items<AttributePair> = list_at(alloc, value, "attributes")?;
-    Ok(of_attributes(alloc, found)?)
+    let mut pairs = Vec::new(alloc);
+    for each in found.items {
+        pairs.push(each.pair)?;
+    }
+    Ok(Items::from(pairs))
 }
 
 /// The data values of an event.
@@ -100,5 +88,9 @@ pub(crate) fn values_of(alloc: Global, value: &Value<'_>) -> Result<Items<Pair>,
     ensures { Gives (values_of (data_of value.now)) result }
 {
     let found: Items<ValuePair> = list_at(alloc, value, "dataValues")?;
-    Ok(of_values(alloc, found)?)
+    let mut pairs = Vec::new(alloc);
+    for each in found.items {
+        pairs.push(each.pair)?;
+    }
+    Ok(Items::from(pairs))
 }

@@ -138,17 +138,6 @@ impl ReadJson for SetValues {
     }
 }
 
-#[tactic(auto, unfolding(crate::specs::Sets::values_at))]
-fn values_at(alloc: Global, value: &Value<'_>, key: &str) -> Result<Items<SetValue>, FormFault>
-    ensures { forms.Gives (values_at key.now (data_of value.now)) result }
-{
-    let none = SetValues {
-        values: Items::new(alloc),
-    };
-    let found: SetValues = field_or(alloc, value, key, none)?;
-    Ok(found.values)
-}
-
 type Texts = (Option<Text>, Option<Text>);
 
 // The texts of a set and its values, in their order.
@@ -170,7 +159,7 @@ fn fields_of(
                     text_at(alloc, value, "orgUnit"),
                     text_at(alloc, value, "attributeOptionCombo"),
                 ),
-                values_at(alloc, value, "dataValues"),
+                read_values(alloc, value),
             ),
         ),
     )
@@ -200,10 +189,15 @@ impl BodyForm<ValueSet> for SetParams {
 
 /// The values of a bundle: those under `dataValues`, none where the key is absent or null. No other key is
 /// looked at. A fault has its path from the bundle's top.
+#[tactic(auto, unfolding(crate::specs::Sets::values_at))]
 pub fn read_values(alloc: Global, bundle: &Value<'_>) -> Result<Items<SetValue>, FormFault>
     ensures { forms.Gives (values_at (codes "dataValues") (data_of bundle.now)) result }
 {
-    values_at(alloc, bundle, "dataValues")
+    let none = SetValues {
+        values: Items::new(alloc),
+    };
+    let found: SetValues = field_or(alloc, bundle, "dataValues", none)?;
+    Ok(found.values)
 }
 
 /// The data value set of a body. A body that isn't JSON or no object is at fault with the empty path.

@@ -1,7 +1,6 @@
 //! Texts and truths under the keys of JSON objects.
 
 ghost use Rattle.std.specs.Prelude.{◌≡◌, IfOk, Some, option_and_then};
-ghost use Rattle.std.specs.Fmt.{decimal, signed_decimal};
 ghost use Rattle.json_read.specs.Views.{data_of};
 ghost use Rattle.serde_json.specs.Find.{as_number};
 ghost use Rattle.json_read.specs.Given.{Gives};
@@ -143,26 +142,18 @@ fn truth_text(truth: bool) -> &'static str
     if truth { "true" } else { "false" }
 }
 
-fn unsigned_text(alloc: Global, number: u64) -> Result<Items<u8>, AllocError>
-    ensures { IfOk result (λ text. text ≡ decimal number) }
-{
-    Ok(Items::from(format!(in alloc; "{number}")?.into_bytes()))
-}
-
-fn signed_text(alloc: Global, number: i64) -> Result<Items<u8>, AllocError>
-    ensures { IfOk result (λ text. text ≡ signed_decimal number) }
-{
-    Ok(Items::from(format!(in alloc; "{number}")?.into_bytes()))
-}
-
 fn whole_text(alloc: Global, value: &Value<'_>) -> Result<Option<Items<u8>>, AllocError>
     ensures { IfOk result (λ text. text ≡ option_and_then whole_text (as_number (data_of value.now))) }
 {
     if let Some(number) = natural(value) {
-        return Ok(Some(unsigned_text(alloc, number)?));
+        let digits = format!(in alloc; "{number}")?;
+        return Ok(Some(Items::from(digits.into_bytes())));
     }
     match integer(value) {
-        Some(number) => Ok(Some(signed_text(alloc, number)?)),
+        Some(number) => {
+            let digits = format!(in alloc; "{number}")?;
+            Ok(Some(Items::from(digits.into_bytes())))
+        }
         None => Ok(None),
     }
 }
@@ -194,18 +185,6 @@ pub(crate) fn written_in(
     }
 }
 
-fn held_written(alloc: Global, value: &Value<'_>) -> Result<Option<Text>, Memory>
-    ensures { IfOk result (λ text. text ≡ written_of (data_of value.now)) }
-{
-    if let Some(found) = text(value) {
-        return Ok(Some(Text::of(alloc, found.as_bytes())?));
-    }
-    match written(alloc, value)? {
-        Some(other) => Ok(Some(Text::of(alloc, other.as_slice())?)),
-        None => Ok(None),
-    }
-}
-
 /// The same text where a short one stands in its owner.
 pub(crate) fn held_written_in(
     alloc: Global,
@@ -214,8 +193,14 @@ pub(crate) fn held_written_in(
 ) -> Result<Option<Text>, Memory>
     ensures { IfOk result (λ text. text ≡ written_in key.now (data_of value.now)) }
 {
-    match member(value, key) {
-        Some(found) => held_written(alloc, found),
+    let Some(found) = member(value, key) else {
+        return Ok(None);
+    };
+    if let Some(found) = text(found) {
+        return Ok(Some(Text::of(alloc, found.as_bytes())?));
+    }
+    match written(alloc, found)? {
+        Some(other) => Ok(Some(Text::of(alloc, other.as_slice())?)),
         None => Ok(None),
     }
 }
