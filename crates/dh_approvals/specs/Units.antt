@@ -1,5 +1,5 @@
 -- The units below and above one that an approval depends on.
-use Rattle.std.specs.Prelude.{ℕ, zero, suc, ◌==◌, ◌&&◌, Bool, true, false, not, List, [], Option, None, Some, length, slice_get, is_some, option_and_then, cond}
+use Rattle.std.specs.Prelude.{ℕ, zero, suc, ◌==◌, ◌&&◌, Bool, true, false, List, [], Option, None, Some, length, slice_get, is_some, option_and_then, cond}
 use Rattle.std.specs.Option.{option_map_or, option_or}
 use Rattle.org_tree.specs.Count.{first_below}
 use Rattle.org_tree.specs.Units.{is_under, level_of, ancestor_of}

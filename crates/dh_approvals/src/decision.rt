@@ -10,7 +10,6 @@ use crate::rights::has_right;
 use crate::search::{Asking, Sought, Wanted, first_sought};
 use crate::units::{id_of, nearest_above};
 use dh_changes::change::Write;
-use dh_changes::keys::ApprovalKey;
 use dh_changes::said::ApprovalState;
 use dh_changes::world::World;
 use dh_metadata::kind::Kind;
@@ -36,22 +35,17 @@ fn below(asking: &Asking<'_>, position: u8, unit: u32, wanted: Wanted) -> Option
     )
 }
 
-fn not_ready(asking: &Asking<'_>, position: u8, unit: u32) -> Option<ApprovalFault>
+// What the unit's approval depends on isn't approved, or waits to be accepted where acceptance is required.
+fn not_approvable(asking: &Asking<'_>, position: u8, unit: u32) -> Option<ApprovalFault>
     requires workflow { asking.now.workflow < length asking.now.meta.now.data_approval_workflows }
     requires unit { unit < length asking.now.meta.now.organisation_units }
-    ensures { result ≡ known.not_ready (facts asking.now.world.now) asking.now.meta.now asking.now.scope asking.now.workflow position unit }
+    ensures { result ≡ known.not_approvable (facts asking.now.world.now) asking.now.meta.now asking.now.scope asking.now.workflow position unit }
 {
-    let found = below(asking, position, unit, Wanted::Open)?;
-    Some(ApprovalFault::NotReady {
-        unit: id_of(asking.meta, found),
-    })
-}
-
-fn not_accepted_below(asking: &Asking<'_>, position: u8, unit: u32) -> Option<ApprovalFault>
-    requires workflow { asking.now.workflow < length asking.now.meta.now.data_approval_workflows }
-    requires unit { unit < length asking.now.meta.now.organisation_units }
-    ensures { result ≡ known.not_accepted_below (facts asking.now.world.now) asking.now.meta.now asking.now.scope asking.now.workflow position unit }
-{
+    if let Some(found) = below(asking, position, unit, Wanted::Open) {
+        return Some(ApprovalFault::NotReady {
+            unit: id_of(asking.meta, found),
+        });
+    }
     if !asking.meta.acceptance_required() {
         return None;
     }
@@ -59,17 +53,6 @@ fn not_accepted_below(asking: &Asking<'_>, position: u8, unit: u32) -> Option<Ap
     Some(ApprovalFault::NotAccepted {
         unit: id_of(asking.meta, found),
     })
-}
-
-fn not_approvable(asking: &Asking<'_>, position: u8, unit: u32) -> Option<ApprovalFault>
-    requires workflow { asking.now.workflow < length asking.now.meta.now.data_approval_workflows }
-    requires unit { unit < length asking.now.meta.now.organisation_units }
-    ensures { result ≡ known.not_approvable (facts asking.now.world.now) asking.now.meta.now asking.now.scope asking.now.workflow position unit }
-{
-    match not_ready(asking, position, unit) {
-        Some(fault) => Some(fault),
-        None => not_accepted_below(asking, position, unit),
-    }
 }
 
 fn approved_above(asking: &Asking<'_>, position: u8, unit: u32) -> Option<ApprovalFault>
@@ -150,19 +133,13 @@ fn refused_at(
         world,
         meta,
         workflow,
-        scope: scope_of(&act.key),
+        scope: Scope {
+            workflow: act.key.workflow,
+            period: act.key.period,
+            attribute: act.key.attribute,
+        },
     };
     refused_in(&asking, act, unit, world.approval(&act.key))
-}
-
-fn scope_of(key: &ApprovalKey) -> Scope
-    ensures { result ≡ known.scope_of key.now }
-{
-    Scope {
-        workflow: key.workflow,
-        period: key.period,
-        attribute: key.attribute,
-    }
 }
 
 fn refused(world: &World, meta: &Metadata, user: u32, act: &ApprovalAct) -> Option<ApprovalFault>
@@ -178,17 +155,6 @@ fn refused(world: &World, meta: &Metadata, user: u32, act: &ApprovalAct) -> Opti
     refused_at(world, meta, user, act, workflow, unit)
 }
 
-fn write_of(act: &ApprovalAct) -> Write
-    ensures { result ≡ known.write_of act.now.verb act.now.key }
-{
-    match act.verb {
-        Verb::Approve => Write::Approve(act.key),
-        Verb::Unapprove => Write::Unapprove(act.key),
-        Verb::Accept => Write::Accept(act.key),
-        Verb::Unaccept => Write::Unaccept(act.key),
-    }
-}
-
 /// The write that the act of this user comes to, or the first reason why it is refused. Takes no memory.
 #[tactic(auto, unfolding(crate::specs::Decisions::decided))]
 pub fn decide(
@@ -200,8 +166,13 @@ pub fn decide(
     requires { who < length meta.now.users }
     ensures { result ≡ known.decided (facts world.now) meta.now who act.now }
 {
-    match refused(world, meta, who, act) {
-        Some(fault) => Err(fault),
-        None => Ok(write_of(act)),
+    if let Some(fault) = refused(world, meta, who, act) {
+        return Err(fault);
+    }
+    match act.verb {
+        Verb::Approve => Ok(Write::Approve(act.key)),
+        Verb::Unapprove => Ok(Write::Unapprove(act.key)),
+        Verb::Accept => Ok(Write::Accept(act.key)),
+        Verb::Unaccept => Ok(Write::Unaccept(act.key)),
     }
 }

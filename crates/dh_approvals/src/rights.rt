@@ -13,12 +13,6 @@ use dh_metadata::metadata::Metadata;
 use dh_records::access::tree_of;
 use org_tree::tree::Tree;
 
-fn is_own(captures: &[u32], unit: u32) -> bool
-    ensures { result ≡ known.is_own captures.now unit }
-{
-    captures.contains(&unit)
-}
-
 fn is_lower(tree: &Tree, captures: &[u32], unit: u32) -> bool
     requires unit { unit < length tree.now }
     requires captures { AreBelow (length tree.now) captures.now }
@@ -39,7 +33,7 @@ fn may_approve(world: &World, meta: &Metadata, user: u32, unit: u32) -> bool
     ensures { result ≡ known.may_approve (facts world.now) meta.now user unit }
 {
     let captures = meta.user(user).organisation_units.as_slice();
-    (is_own(captures, unit) && meta.has_authority(user, b"F_APPROVE_DATA"))
+    (captures.contains(&unit) && meta.has_authority(user, b"F_APPROVE_DATA"))
         || (is_lower(tree_of(world, meta), captures, unit)
             && meta.has_authority(user, b"F_APPROVE_DATA_LOWER_LEVELS"))
 }

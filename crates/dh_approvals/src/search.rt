@@ -44,21 +44,15 @@ pub struct Sought {
     pub level: u8,
 }
 
-fn uses(meta: &Metadata, workflow: u32, set: u32) -> bool
-    requires { set < length meta.now.data_sets }
-    ensures { result ≡ units.uses meta.now workflow set }
-{
-    match meta.data_set(set).workflow {
-        Some(own) => own == workflow,
-        None => false,
-    }
-}
-
+// Whether the unit is assigned to a data set, which belongs to the workflow.
 fn is_assigned_by(meta: &Metadata, workflow: u32, unit: u32, set: u32) -> bool
     requires { set < length meta.now.data_sets }
     ensures { result ≡ (units.uses meta.now workflow set && is_assigned meta.now set unit) }
 {
-    uses(meta, workflow, set) && meta.is_assigned(set, unit)
+    match meta.data_set(set).workflow {
+        Some(own) => own == workflow && meta.is_assigned(set, unit),
+        None => false,
+    }
 }
 
 // Whether the unit is assigned to a data set of the workflow.
@@ -90,15 +84,6 @@ fn has_assigned_under(meta: &Metadata, tree: &Tree, workflow: u32, unit: u32) ->
     false
 }
 
-// Whether the unit reports in the workflow.
-#[tactic(auto, unfolding(crate::specs::Units::is_reporting))]
-fn is_reporting(world: &World, meta: &Metadata, workflow: u32, unit: u32) -> bool
-    requires { unit < length meta.now.organisation_units }
-    ensures { result ≡ units.is_reporting (facts world.now) meta.now workflow unit }
-{
-    has_assigned_under(meta, tree_of(world, meta), workflow, unit)
-}
-
 fn is_wanted(wanted: Wanted, state: ApprovalState) -> bool
     ensures { result ≡ units.is_wanted wanted state }
 {
@@ -109,6 +94,7 @@ fn is_wanted(wanted: Wanted, state: ApprovalState) -> bool
     }
 }
 
+#[tactic(auto, unfolding(crate::specs::Units::is_reporting))]
 fn is_sought(asking: &Asking<'_>, tree: &Tree, sought: Sought, unit: u32) -> bool
     requires unit { unit < length asking.now.meta.now.organisation_units }
     requires above { sought.unit < length asking.now.meta.now.organisation_units }
@@ -122,7 +108,7 @@ fn is_sought(asking: &Asking<'_>, tree: &Tree, sought: Sought, unit: u32) -> boo
             sought.wanted,
             state_at(asking.world, asking.meta, &asking.scope, unit),
         )
-        && is_reporting(asking.world, asking.meta, asking.workflow, unit)
+        && has_assigned_under(asking.meta, tree, asking.workflow, unit)
 }
 
 /// The first unit, in the order of the tree, that is sought.

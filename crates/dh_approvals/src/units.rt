@@ -1,9 +1,9 @@
 //! The states of a unit's approval and of those above it.
 
-ghost use Rattle.std.specs.Prelude.{◌≡◌, ◌<◌, IsTrue, length, option_and_then, slice_get};
+ghost use Rattle.std.specs.Prelude.{◌≡◌, ◌<◌, length, option_and_then, slice_get};
 ghost use Rattle.dh_changes.specs.World.{facts};
 ghost use Rattle.dh_metadata.specs.Linked.{IsBelow};
-ghost use Rattle.dh_records.specs.Approved.{counts, is_approved_as};
+ghost use Rattle.dh_records.specs.Approved.{counts};
 ghost use Rattle.dh_approvals.specs.Units as known;
 
 use crate::search::Asking;
@@ -46,28 +46,7 @@ fn counts(state: ApprovalState) -> bool
     }
 }
 
-fn is_approved_as(asking: &Asking<'_>, unit: u32) -> bool
-    ensures value { result ≡ is_approved_as (facts asking.now.world.now) asking.now.meta.now asking.now.scope unit }
-    ensures in_range { IsTrue result → unit < length asking.now.meta.now.organisation_units }
-{
-    unit < asking.meta.tree().count()
-        && counts(state_at(asking.world, asking.meta, &asking.scope, unit))
-}
-
-fn approved_ancestor(asking: &Asking<'_>, unit: u32, level: u8) -> Option<u32>
-    requires { unit < length asking.now.meta.now.organisation_units }
-    ensures value { result ≡ known.approved_ancestor (facts asking.now.world.now) asking.now.meta.now asking.now.scope unit level }
-    ensures in_range { IsBelow (length asking.now.meta.now.organisation_units) result }
-{
-    let above = tree_of(asking.world, asking.meta).ancestor_at(unit, level)?;
-    if is_approved_as(asking, above) {
-        Some(above)
-    } else {
-        None
-    }
-}
-
-// The approved ancestor at a position.
+// The unit's ancestor at the level of a position, if it is approved.
 fn approved_at(asking: &Asking<'_>, levels: &[u8], unit: u32, position: u8) -> Option<u32>
     requires { unit < length asking.now.meta.now.organisation_units }
     ensures value { result
@@ -75,7 +54,14 @@ fn approved_at(asking: &Asking<'_>, levels: &[u8], unit: u32, position: u8) -> O
     ensures in_range { IsBelow (length asking.now.meta.now.organisation_units) result }
 {
     let level = *levels.get(position as usize)?;
-    approved_ancestor(asking, unit, level)
+    let above = tree_of(asking.world, asking.meta).ancestor_at(unit, level)?;
+    if above < asking.meta.tree().count()
+        && counts(state_at(asking.world, asking.meta, &asking.scope, above))
+    {
+        Some(above)
+    } else {
+        None
+    }
 }
 
 /// The nearest approved ancestor at a position below this one.

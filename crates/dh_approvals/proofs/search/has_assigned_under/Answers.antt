@@ -1,7 +1,6 @@
-use Rattle.std.proofs.Common.{rules, ℕ, ◌≡◌, ◌<◌, ◌≤◌, ◌∙◌, sym, subst, arith, length}
-use Rattle.std.specs.Prelude.{min}
+use Rattle.std.proofs.Common.{rules, ◌∙◌, sym}
 use Rattle.dh_approvals.specs.Units.{is_assigned_in}
-use Rattle.dh_approvals.proofs.SearchLemmas.{NoneWithin, some-under, none-under}
+use Rattle.dh_approvals.proofs.SearchLemmas.{some-under, none-under}
 use Rattle.dh_approvals.proofs.search.has_assigned_under.Goals as goal
 
 pub returns-then-is_assigned_in : goal.returns-then-is_assigned_in
