@@ -3,7 +3,7 @@ ghost use Rattle.std.specs.Prelude.{◌≡◌, IfOk};
 ghost use Rattle.std.specs.Str.Lossy.{utf8_lossy};
 ghost use Rattle.serde_json.specs.View.{view};
 ghost use Rattle.http.specs.StatusCode.{IsStatusCode};
-ghost use Rattle.request_session.specs.Bodies.{message_of, error_of, refusal_of, error_text};
+ghost use Rattle.request_session.specs.Bodies.{message_of, error_of, error_text};
 
 use crate::members::{with_text, with_value};
 use crate::response::with_status;
@@ -40,24 +40,17 @@ fn error_value(
     with_status(alloc, members, status, "ERROR")
 }
 
-#[tactic(auto, using(crate::proofs::HeadLemmas::has_status))]
-fn refusal_value(alloc: Global, refusal: &Refusal) -> Result<Value, Memory>
-    ensures { IfOk result (λ v. view v ≡ refusal_of refusal.now) }
+/// The body of a reply that refuses a request.
+#[tactic(auto, using(crate::proofs::HeadLemmas::has_status, crate::proofs::BodyLemmas::error_whole), unfolding(crate::specs::Bodies::error_text))]
+pub fn error_body(alloc: Global, refusal: &Refusal) -> Result<Vec<u8>, Memory>
+    ensures { IfOk result (λ text. text.items ≡ error_text refusal.now) }
 {
     let message = message(alloc, refusal)?;
-    Ok(error_value(
+    let value = error_value(
         alloc,
         refusal.code.number(),
         refusal.code.status(),
         message.as_slice(),
-    )?)
-}
-
-/// The body of a reply that refuses a request.
-#[tactic(auto, using(crate::proofs::BodyLemmas::error_whole), unfolding(crate::specs::Bodies::error_text))]
-pub fn error_body(alloc: Global, refusal: &Refusal) -> Result<Vec<u8>, Memory>
-    ensures { IfOk result (λ text. text.items ≡ error_text refusal.now) }
-{
-    let value = refusal_value(alloc, refusal)?;
+    )?;
     Ok(value.to_vec(alloc)?)
 }

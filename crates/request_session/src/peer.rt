@@ -5,11 +5,9 @@ ghost use Rattle.dh_outside.specs.Faults.{Rose};
 ghost use Rattle.dh_outside.specs.Talk.{Talk};
 ghost use Rattle.http_wire.specs.Reads.{Reads};
 ghost use Rattle.http_wire.specs.declared.fault.WireFault.TheVariants as wire;
-ghost use Rattle.request_session.specs.Replies.{memory_reply, text_in};
 ghost use Rattle.request_session.specs.Turn.{Sent};
 
-use crate::reply::Reply;
-use crate::send::{send_memory, send_reply};
+use crate::send::send_both;
 use dh_outside::{Failed, Link, Sink, Source};
 use http_wire::{Request, Rest, WireFault, next_request};
 use std::alloc::Global;
@@ -42,18 +40,9 @@ pub(crate) trait Peer {
         ensures reading { read_faults self.old ≤ read_faults self.new }
         ensures writing { write_faults self.old ≤ write_faults self.new };
 
-    /// Writes a reply. Nothing is read.
-    fn send_reply(&mut self, reply: &Reply) -> Result<(), Failed>
-        ensures sent { Sent result (written self.old) (written self.new) (talk self.old) (talk self.new) (text_in reply.now) }
-        ensures left { left self.new ≡ left self.old }
-        ensures lends { lends self.new ≡ lends self.old }
-        ensures failed { OnErr result (Rose (write_faults self.old) (write_faults self.new)) }
-        ensures reading { read_faults self.old ≤ read_faults self.new }
-        ensures writing { write_faults self.old ≤ write_faults self.new };
-
-    /// Writes the reply for a lack of memory, which takes none. Nothing is read.
-    fn send_memory(&mut self, keep: bool) -> Result<(), Failed>
-        ensures sent { Sent result (written self.old) (written self.new) (talk self.old) (talk self.new) (memory_reply keep) }
+    /// Writes two texts, one after the other. Nothing is read.
+    fn send(&mut self, first: &[u8], second: &[u8]) -> Result<(), Failed>
+        ensures sent { Sent result (written self.old) (written self.new) (talk self.old) (talk self.new) (first.now ++ second.now) }
         ensures left { left self.new ≡ left self.old }
         ensures lends { lends self.new ≡ lends self.old }
         ensures failed { OnErr result (Rose (write_faults self.old) (write_faults self.new)) }
@@ -85,12 +74,8 @@ impl<'a, 'b, S: Source, O: Sink> Peer for Apart<'a, 'b, S, O> {
         next_request(alloc, self.input, rest)
     }
 
-    fn send_reply(&mut self, reply: &Reply) -> Result<(), Failed> {
-        send_reply(self.output, reply)
-    }
-
-    fn send_memory(&mut self, keep: bool) -> Result<(), Failed> {
-        send_memory(self.output, keep)
+    fn send(&mut self, first: &[u8], second: &[u8]) -> Result<(), Failed> {
+        send_both(self.output, first, second)
     }
 }
 
@@ -117,11 +102,7 @@ impl<'a, N: Link> Peer for Joint<'a, N> {
         next_request(alloc, self.link, rest)
     }
 
-    fn send_reply(&mut self, reply: &Reply) -> Result<(), Failed> {
-        send_reply(self.link, reply)
-    }
-
-    fn send_memory(&mut self, keep: bool) -> Result<(), Failed> {
-        send_memory(self.link, keep)
+    fn send(&mut self, first: &[u8], second: &[u8]) -> Result<(), Failed> {
+        send_both(self.link, first, second)
     }
 }

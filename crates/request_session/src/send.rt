@@ -1,17 +1,15 @@
 //! Writing replies.
-ghost use Rattle.std.specs.Prelude.{◌≡◌, ◌≤◌, ◌++◌, List, ℕ, OnErr, None, length};
+ghost use Rattle.std.specs.Prelude.{◌≡◌, ◌≤◌, ◌++◌, List, ℕ, OnErr};
 ghost use Rattle.dh_outside.specs.Faults.{Rose};
-ghost use Rattle.request_session.specs.Bodies.{memory_text};
-ghost use Rattle.request_session.specs.Heads.{head_of};
 ghost use Rattle.request_session.specs.Replies.{memory_reply, RefusesBy, text_in};
 ghost use Rattle.request_session.specs.Turn.{Sent};
 
 use crate::heads::head;
 use crate::machine::Machine;
+use crate::memory_body;
 use crate::peer::Peer;
 use crate::reply::Reply;
 use crate::texts::refused_reply;
-use crate::{Head, memory_body};
 use dh_base::codes::Code;
 use dh_outside::{Failed, Sink, write_all};
 use http_wire::Request;
@@ -26,9 +24,9 @@ fn send<O: Sink>(output: &mut O, text: &[u8]) -> Result<(), Failed>
     write_all(output, text)
 }
 
-// Writes two texts, one after the other.
+/// Writes two texts, one after the other.
 #[tactic(auto, using(crate::proofs::SendLemmas::sent_behind))]
-fn send_both<O: Sink>(output: &mut O, first: &[u8], second: &[u8]) -> Result<(), Failed>
+pub(crate) fn send_both<O: Sink>(output: &mut O, first: &[u8], second: &[u8]) -> Result<(), Failed>
     ensures sent { Sent result (O.written output.old) (O.written output.new) (O.sink_talk output.old) (O.sink_talk output.new) (first.now ++ second.now) }
     ensures failed { OnErr result (Rose (O.sink_faults output.old) (O.sink_faults output.new)) }
     ensures keeps { O.sink_faults output.old ≤ O.sink_faults output.new }
@@ -39,32 +37,31 @@ fn send_both<O: Sink>(output: &mut O, first: &[u8], second: &[u8]) -> Result<(),
     }
 }
 
-// The head of the reply for a lack of memory.
-#[tactic(auto, using(crate::proofs::HeadLemmas::memory_status))]
-fn memory_head(keep: bool) -> Head
-    ensures { result ≡ head_of 507 (length memory_text) None None keep }
+/// Writes the reply for a lack of memory, which takes none.
+#[tactic(auto, using(crate::proofs::HeadLemmas::memory_status), unfolding(crate::specs::Replies::memory_reply, crate::specs::Replies::reply_text))]
+pub(crate) fn send_memory<P: Peer>(peer: &mut P, keep: bool) -> Result<(), Failed>
+    ensures sent { Sent result (P.written peer.old) (P.written peer.new) (P.talk peer.old) (P.talk peer.new) (memory_reply keep) }
+    ensures left { P.left peer.new ≡ P.left peer.old }
+    ensures lends { P.lends peer.new ≡ P.lends peer.old }
+    ensures failed { OnErr result (Rose (P.write_faults peer.old) (P.write_faults peer.new)) }
+    ensures reading { P.read_faults peer.old ≤ P.read_faults peer.new }
+    ensures writing { P.write_faults peer.old ≤ P.write_faults peer.new }
 {
-    head(507, memory_body().len() as u64, None, None, keep)
-}
-
-// Writes the reply for a lack of memory, which takes none.
-#[tactic(auto, unfolding(crate::specs::Replies::memory_reply, crate::specs::Replies::reply_text))]
-pub(crate) fn send_memory<O: Sink>(output: &mut O, keep: bool) -> Result<(), Failed>
-    ensures sent { Sent result (O.written output.old) (O.written output.new) (O.sink_talk output.old) (O.sink_talk output.new) (memory_reply keep) }
-    ensures failed { OnErr result (Rose (O.sink_faults output.old) (O.sink_faults output.new)) }
-    ensures keeps { O.sink_faults output.old ≤ O.sink_faults output.new }
-{
-    let head = memory_head(keep);
-    send_both(output, head.bytes(), memory_body())
+    let body = memory_body();
+    let head = head(507, body.len() as u64, None, None, keep);
+    peer.send(head.bytes(), body)
 }
 
 // Writes a reply: its head, and then its body.
-pub(crate) fn send_reply<O: Sink>(output: &mut O, reply: &Reply) -> Result<(), Failed>
-    ensures sent { Sent result (O.written output.old) (O.written output.new) (O.sink_talk output.old) (O.sink_talk output.new) (text_in reply.now) }
-    ensures failed { OnErr result (Rose (O.sink_faults output.old) (O.sink_faults output.new)) }
-    ensures keeps { O.sink_faults output.old ≤ O.sink_faults output.new }
+fn send_reply<P: Peer>(peer: &mut P, reply: &Reply) -> Result<(), Failed>
+    ensures sent { Sent result (P.written peer.old) (P.written peer.new) (P.talk peer.old) (P.talk peer.new) (text_in reply.now) }
+    ensures left { P.left peer.new ≡ P.left peer.old }
+    ensures lends { P.lends peer.new ≡ P.lends peer.old }
+    ensures failed { OnErr result (Rose (P.write_faults peer.old) (P.write_faults peer.new)) }
+    ensures reading { P.read_faults peer.old ≤ P.read_faults peer.new }
+    ensures writing { P.write_faults peer.old ≤ P.write_faults peer.new }
 {
-    send_both(output, reply.head.bytes(), reply.body.as_slice())
+    peer.send(reply.head.bytes(), reply.body.as_slice())
 }
 
 /// Writes the machine's reply to a request.
@@ -84,8 +81,8 @@ pub(crate) fn answer<M: Machine, P: Peer>(
     ensures writing { P.write_faults peer.old ≤ P.write_faults peer.new }
 {
     match machine.reply(alloc, request, keep) {
-        Ok(reply) => peer.send_reply(&reply),
-        Err(_) => peer.send_memory(keep),
+        Ok(reply) => send_reply(peer, &reply),
+        Err(_) => send_memory(peer, keep),
     }
 }
 
@@ -99,7 +96,7 @@ pub(crate) fn refuse<P: Peer>(alloc: Global, peer: &mut P, code: Code) -> Result
     ensures writing { P.write_faults peer.old ≤ P.write_faults peer.new }
 {
     match refused_reply(alloc, code) {
-        Ok(refusal) => peer.send_reply(&refusal),
-        Err(_) => peer.send_memory(false),
+        Ok(refusal) => send_reply(peer, &refusal),
+        Err(_) => send_memory(peer, false),
     }
 }

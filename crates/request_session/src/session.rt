@@ -9,19 +9,14 @@ ghost use Rattle.request_session.specs.declared.ended.Ended.TheVariants.{ReadFau
 use crate::ended::{Ended, Turn};
 use crate::machine::Machine;
 use crate::peer::{Apart, Joint, Peer};
+use crate::send::send_memory;
 use crate::turn::turn;
 use dh_outside::{Link, Sink, Source};
 use http_wire::Rest;
 use std::alloc::Global;
 
-// Answers requests, of which at least one is allowed.
-fn answer_each<M: Machine, P: Peer>(
-    alloc: Global,
-    machine: &mut M,
-    peer: &mut P,
-    most: u64,
-) -> Ended
-    requires { 0 < most }
+// Answers requests, at most as many as are allowed.
+fn run<M: Machine, P: Peer>(alloc: Global, machine: &mut M, peer: &mut P, most: u64) -> Ended
     ensures ran { Ran M.step most (P.left peer.old) (P.left peer.new) (P.written peer.old) (P.written peer.new) machine.old machine.new result }
     ensures prompt { Prompt M.step most (P.talk peer.old) (P.talk peer.new) machine.old }
     ensures lends { P.lends peer.new ≡ P.lends peer.old }
@@ -30,6 +25,9 @@ fn answer_each<M: Machine, P: Peer>(
     ensures reading { P.read_faults peer.old ≤ P.read_faults peer.new }
     ensures writing { P.write_faults peer.old ≤ P.write_faults peer.new }
 {
+    if most == 0 {
+        return Ended::Limit;
+    }
     let mut rest = Rest::new(alloc);
     let mut served = 0;
     loop {
@@ -48,39 +46,6 @@ fn answer_each<M: Machine, P: Peer>(
     }
 }
 
-fn run<M: Machine, P: Peer>(alloc: Global, machine: &mut M, peer: &mut P, most: u64) -> Ended
-    ensures ran { Ran M.step most (P.left peer.old) (P.left peer.new) (P.written peer.old) (P.written peer.new) machine.old machine.new result }
-    ensures prompt { Prompt M.step most (P.talk peer.old) (P.talk peer.new) machine.old }
-    ensures lends { P.lends peer.new ≡ P.lends peer.old }
-    ensures read_fault { result ≡ ReadFault → Rose (P.read_faults peer.old) (P.read_faults peer.new) }
-    ensures write_fault { result ≡ WriteFault → Rose (P.write_faults peer.old) (P.write_faults peer.new) }
-    ensures reading { P.read_faults peer.old ≤ P.read_faults peer.new }
-    ensures writing { P.write_faults peer.old ≤ P.write_faults peer.new }
-{
-    if most == 0 {
-        return Ended::Limit;
-    }
-    answer_each(alloc, machine, peer, most)
-}
-
-// The same over a source and a sink.
-fn run_apart<M: Machine, S: Source, O: Sink>(
-    alloc: Global,
-    machine: &mut M,
-    input: &mut S,
-    output: &mut O,
-    most: u64,
-) -> Ended
-    ensures ran { Ran M.step most (S.left input.old) (S.left input.new) (O.written output.old) (O.written output.new) machine.old machine.new result }
-    ensures read_fault { result ≡ ReadFault → Rose (S.source_faults input.old) (S.source_faults input.new) }
-    ensures write_fault { result ≡ WriteFault → Rose (O.sink_faults output.old) (O.sink_faults output.new) }
-    ensures input { S.source_faults input.old ≤ S.source_faults input.new }
-    ensures output { O.sink_faults output.old ≤ O.sink_faults output.new }
-{
-    let mut peer = Apart { input, output };
-    run(alloc, machine, &mut peer, most)
-}
-
 // The last word of a connection: out of memory it is the reply for that, which takes none.
 fn last_word<P: Peer>(peer: &mut P, ended: Ended) -> Ended
     ensures closes { ClosesBy ended result (P.written peer.old) (P.written peer.new) }
@@ -95,28 +60,10 @@ fn last_word<P: Peer>(peer: &mut P, ended: Ended) -> Ended
     if ended != Ended::Memory {
         return ended;
     }
-    match peer.send_memory(false) {
+    match send_memory(peer, false) {
         Ok(()) => Ended::Memory,
         Err(_) => Ended::WriteFault,
     }
-}
-
-// Answers the requests of a peer, and has the last word.
-fn run_to_the_end<M: Machine, P: Peer>(
-    alloc: Global,
-    machine: &mut M,
-    peer: &mut P,
-    most: u64,
-) -> Ended
-    ensures served { Served M.step most (P.left peer.old) (P.left peer.new) (P.written peer.old) (P.written peer.new) machine.old machine.new result }
-    ensures prompt { Prompt M.step most (P.talk peer.old) (P.talk peer.new) machine.old }
-    ensures lends { P.lends peer.new ≡ P.lends peer.old }
-    ensures read_fault { result ≡ ReadFault → Rose (P.read_faults peer.old) (P.read_faults peer.new) }
-    ensures write_fault { result ≡ WriteFault → Rose (P.write_faults peer.old) (P.write_faults peer.new) }
-    ensures reading { P.read_faults peer.old ≤ P.read_faults peer.new }
-{
-    let ended = run(alloc, machine, peer, most);
-    last_word(peer, ended)
 }
 
 /// Answers the requests of a link one after another, `most` of them at most, and writes the replies to it. Whenever
@@ -135,7 +82,8 @@ pub fn serve_link<M: Machine, N: Link>(
     ensures keeps { N.source_faults link.old ≤ N.source_faults link.new }
 {
     let mut peer = Joint { link };
-    run_to_the_end(alloc, machine, &mut peer, most)
+    let ended = run(alloc, machine, &mut peer, most);
+    last_word(&mut peer, ended)
 }
 
 /// Answers the requests of `input` one after another, `most` of them at most, and writes the replies to `output`.
@@ -155,5 +103,6 @@ pub fn serve_requests<M: Machine, S: Source, O: Sink>(
     ensures input { S.source_faults input.old ≤ S.source_faults input.new }
     ensures output { O.sink_faults output.old ≤ O.sink_faults output.new }
 {
-    run_apart(alloc, machine, input, output, most)
+    let mut peer = Apart { input, output };
+    run(alloc, machine, &mut peer, most)
 }

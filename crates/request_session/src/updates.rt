@@ -27,13 +27,6 @@ impl Model for UpdateBody {
 }
 
 impl UpdateBody {
-    fn of(bytes: [u8; 128], len: usize) -> UpdateBody
-        requires { len ≤ 128 }
-        ensures { result ≡ take len bytes }
-    {
-        UpdateBody { bytes, len }
-    }
-
     /// The bytes of the body.
     pub fn bytes(&self) -> &[u8]
         ensures { result.now ≡ self.now }
@@ -56,6 +49,7 @@ fn before_published(kind: CutKind) -> &'static [u8]
     }
 }
 
+// Writes the body's pieces, and says how many bytes they have.
 #[tactic(auto, unfolding(crate::specs::Bodies::update_pieces))]
 fn put_update(buffer: &mut [u8], kind: CutKind, published: u64) -> usize
     requires room { 128 ≤ length buffer.old }
@@ -76,5 +70,5 @@ pub fn update_body(kind: CutKind, published: u64) -> UpdateBody
 {
     let mut bytes = [0; ROOM];
     let len = put_update(&mut bytes, kind, published);
-    UpdateBody::of(bytes, len)
+    UpdateBody { bytes, len }
 }

@@ -1,6 +1,6 @@
 use Rattle.std.proofs.Common.{◌≡◌, ◌≤◌, ◌<◌, ◌-◌}
 use Rattle.request_session.specs.SoFar.{SoFar}
-use Rattle.request_session.proofs.session.answer_each.Given as goal
+use Rattle.request_session.proofs.session.run.Given as goal
 
 abbrev pub invariant-loop-keep : goal.invariant-loop-keep
 invariant-loop-keep g l =
