@@ -1,7 +1,7 @@
 //! What is answered when no more links are accepted.
 
 /// How accepting ended.
-#[derive(Clone, Copy, Drop, PartialEq, Eq)]
+#[derive(Clone, Copy, Drop)]
 pub enum Ending {
     /// As many links were accepted as are wanted.
     Enough,

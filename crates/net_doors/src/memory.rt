@@ -1,7 +1,6 @@
 //! A listener over links in memory.
-ghost use Rattle.std.specs.Prelude.{◌≡◌, ◌≤◌, ◌<◌, ◌+◌, ◌++◌, [], Some, false, length, All, IfOk, IfSome, IfNone, OnErr, nat_eq, vec_capacity, option_to_list};
+ghost use Rattle.std.specs.Prelude.{◌≡◌, ◌≤◌, ◌<◌, ◌+◌, ◌++◌, [], Some, false, length, All, IfOk, IfSome, IfNone, OnErr, vec_capacity, option_to_list};
 ghost use Rattle.std.specs.Result.{is_err};
-ghost use Rattle.std.specs.List.{list_any};
 ghost use Rattle.dh_outside.specs.Faults.{Rose, one_more};
 ghost use Rattle.dh_outside.specs.Memory.{is_listed};
 ghost use Rattle.net_doors.specs.Doors.{Accepts, with_back};
@@ -69,18 +68,6 @@ impl MemDoor {
     }
 }
 
-// Whether a call with this number, counted from 1, is one of those that fail.
-fn is_listed(failing: &[u64], call: u64) -> bool
-    ensures { result ≡ list_any (λ listed. nat_eq listed call) failing.now }
-{
-    for listed in failing {
-        if *listed == call {
-            return true;
-        }
-    }
-    false
-}
-
 // The first of the links that wait.
 fn take_first(waiting: &mut VecDeque<MemLink>) -> Option<MemLink>
     requires { All IsFresh waiting.old.items }
@@ -110,7 +97,7 @@ impl Listener<MemLink> for MemDoor {
         ensures same { (self.new.waiting ≡ self.old.waiting) × (self.new.failing ≡ self.old.failing) }
     {
         self.calls = self.calls.saturating_add(1);
-        if is_listed(&self.failing, self.calls) {
+        if self.failing.contains(&self.calls) {
             self.faults = self.faults.saturating_add(1);
             return Err(Failed);
         }
@@ -128,7 +115,7 @@ impl Listener<MemLink> for MemDoor {
         ensures failing { self.new.failing ≡ self.old.failing }
     {
         self.calls = self.calls.saturating_add(1);
-        if is_listed(&self.failing, self.calls) {
+        if self.failing.contains(&self.calls) {
             self.faults = self.faults.saturating_add(1);
             return Err(Failed);
         }

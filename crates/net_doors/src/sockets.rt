@@ -31,19 +31,19 @@ impl Model for TcpEnd {
 }
 
 // A stream whose calls wait so long at most. A reply's head and body are two writes: what is written is sent at once, since a body
-// that waits until the peer confirms the head costs 40 ms.
-fn patient(stream: TcpStream) -> Result<TcpStream, Failed> {
+// that waits until the peer confirms the head costs 40 ms. A stream whose limits can't be set is dropped, and each call on its end fails.
+fn patient(stream: TcpStream) -> Option<TcpStream> {
     if stream.set_nodelay(true).is_err() {
-        return Err(Failed);
+        return None;
     }
     let most = Some(Duration::from_secs(PATIENCE));
     if stream.set_read_timeout(most).is_err() {
-        return Err(Failed);
+        return None;
     }
     if stream.set_write_timeout(most).is_err() {
-        return Err(Failed);
+        return None;
     }
-    Ok(stream)
+    Some(stream)
 }
 
 fn read_uninterrupted(stream: &mut Option<TcpStream>, into: &mut [u8]) -> Result<usize, Failed>
@@ -182,20 +182,13 @@ fn next_end(listener: &Option<TcpListener>) -> Result<TcpEnd, Failed>
     };
     for _ in 0..TRIES {
         if let Ok((stream, _)) = listener.accept() {
-            return Ok(end_of(stream));
+            return Ok(TcpEnd {
+                stream: patient(stream),
+                faults: 0,
+            });
         }
     }
     Err(Failed)
-}
-
-// A stream whose limits can't be set is dropped, and each call on its end fails.
-fn end_of(stream: TcpStream) -> TcpEnd
-    ensures { result ≡ 0 }
-{
-    TcpEnd {
-        stream: patient(stream).ok(),
-        faults: 0,
-    }
 }
 
 impl<R: Net<Stream = TcpStream, Listener = TcpListener> + Drop> Listener<TcpEnd> for TcpDoor<R> {

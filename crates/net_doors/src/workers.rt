@@ -1,6 +1,6 @@
 //! The workers: each accepts a link under the lock, serves it outside, closes it, and gives it back under the lock.
 ghost use denote.Param.Send.{IsSend, IsSync};
-ghost use Rattle.std.specs.Prelude.{◌≡◌, ◌<◌, ℕ, List, [], length, IfSome, option_to_list};
+ghost use Rattle.std.specs.Prelude.{◌≡◌, ◌<◌, ℕ, List, []};
 ghost use Rattle.net_doors.specs.Doors.{IsUntouched};
 ghost use Rattle.net_doors.specs.Serving.{HasServed, IsServed};
 
@@ -13,39 +13,6 @@ use std::sync::ledger::{Blank, Ledger, Share};
 use std::sync::{Mutex, Wait};
 use std::thread::{Threads, join};
 
-// Accepts a link under the lock, with what it is served with.
-fn accept_one<N: End, P, L: Listener<N>, W: Lender<P>, J: Opening<N, P>, R: Wait>(
-    rt: &R,
-    door: &Mutex<Door<N, P, L, W, J>>,
-    share: &mut Share<J>,
-) -> Option<(N, P)>
-    requires parts { share.old.parts ≡ 1 }
-    requires none { share.old.amount ≡ 0 }
-    ensures parts { share.new.parts ≡ 1 }
-    ensures amount { share.new.amount ≡ length (option_to_list result) }
-    ensures untouched { IfSome result (λ next. IsUntouched (N.source_talk next.0) (N.source_faults next.0)) }
-    ensures starts { IfSome result (λ next. W.starts next.1) }
-{
-    door.lock(rt).next(share)
-}
-
-// Gives a link back under the lock, with what serving it left.
-fn return_one<N: End, P, L: Listener<N>, W: Lender<P>, J: Opening<N, P>, R: Wait>(
-    rt: &R,
-    door: &Mutex<Door<N, P, L, W, J>>,
-    share: &mut Share<J>,
-    link: N,
-    left: P,
-)
-    requires parts { share.old.parts ≡ 1 }
-    requires one { share.old.amount ≡ 1 }
-    requires served { IsServed (λ came. IsUntouched (N.source_talk came) (N.source_faults came)) W.starts J.serves link left }
-    ensures parts { share.new.parts ≡ 1 }
-    ensures none { share.new.amount ≡ 0 }
-{
-    door.lock(rt).give_back(share, link, left)
-}
-
 // Serves a link with what was handed out for it, and closes it.
 fn serve_one<N: End, P, F: Fn(N, P) -> (N, P)>(serve: &F, link: N, given: P) -> (N, P)
     requires { F.pre serve.now link given }
@@ -56,7 +23,7 @@ fn serve_one<N: End, P, F: Fn(N, P) -> (N, P)>(serve: &F, link: N, given: P) -> 
     (link, left)
 }
 
-// Accepts, serves and gives back one link. It answers false when accepting has ended.
+// Accepts a link under the lock, serves it, and gives it back under the lock. It answers false when accepting has ended.
 fn turn<N: End, P, L: Listener<N>, W: Lender<P>, F: Fn(N, P) -> (N, P), J: Opening<N, P>, R: Wait>(
     rt: &R,
     door: &Mutex<Door<N, P, L, W, J>>,
@@ -70,11 +37,12 @@ fn turn<N: End, P, L: Listener<N>, W: Lender<P>, F: Fn(N, P) -> (N, P), J: Openi
     ensures parts { share.new.parts ≡ 1 }
     ensures none { share.new.amount ≡ 0 }
 {
-    let Some((link, given)) = accept_one(rt, door, share) else {
+    let next = door.lock(rt).next(share);
+    let Some((link, given)) = next else {
         return false;
     };
     let (link, left) = serve_one(serve, link, given);
-    return_one(rt, door, share, link, left);
+    door.lock(rt).give_back(share, link, left);
     true
 }
 
@@ -146,36 +114,7 @@ fn crew<
     mine
 }
 
-// Workers go on until accepting has ended.
-fn round<
-    N: End + Send,
-    P: Send,
-    L: Listener<N> + Send,
-    W: Lender<P> + Send,
-    F: Fn(N, P) -> (N, P) + Sync,
-    J: Opening<N, P> + Send + Sync,
-    R: Threads + Wait + Sync,
->(
-    rt: &R,
-    door: Door<N, P, L, W, J>,
-    serve: &F,
-    share: Share<J>,
-    workers: u32,
-) -> (Door<N, P, L, W, J>, Share<J>)
-    requires accepts { (link : N) (given : P) → IsUntouched (N.source_talk link) (N.source_faults link) → W.starts given → F.pre serve.now link given }
-    requires serves { (came : N) (given : P) (served : N × P) → F.post serve.now came given served → J.serves came given served }
-    requires some { 0 < workers }
-    requires parts { share.parts ≡ workers }
-    requires none { share.amount ≡ 0 }
-    ensures parts { result.1.parts ≡ workers }
-    ensures none { result.1.amount ≡ 0 }
-{
-    let door = Mutex::new(door);
-    let share = crew(rt, &door, serve, share, workers);
-    (door.into_inner(), share)
-}
-
-// The same with the name of the call.
+// Serves with the name of the call: the workers go on until accepting has ended.
 fn serve_as<
     N: End + Send,
     P: Send,
@@ -209,12 +148,12 @@ fn serve_as<
     let mut door = Door::new(listener, lender, connections, book);
     let mut share = share;
     for _ in rt.forever() {
-        let (next_door, next_share) = round(rt, door, serve, share, workers);
-        if next_door.is_over() {
-            return next_door.finish(next_share);
+        let lock = Mutex::new(door);
+        share = crew(rt, &lock, serve, share, workers);
+        door = lock.into_inner();
+        if door.is_over() {
+            return door.finish(share);
         }
-        door = next_door;
-        share = next_share;
     }
     unreachable!()
 }
