@@ -1,7 +1,7 @@
 // The real objects: a reader, a writer, the file system and the clock. A reader and a writer lose no byte where
 // theirs are told. The system tells none of its files, so that no clause says what it gives or keeps, nor what the
 // clock shows. Their counts of faults are exact.
-ghost use Rattle.std.specs.Prelude.{◌<◌, ◌≤◌, ◌^◌, None, ⊤, length, IfOk};
+ghost use Rattle.std.specs.Prelude.{None, ⊤};
 ghost use Rattle.std.specs.Io.{ReadsAtMost, WritesAtMost};
 ghost use Rattle.std.specs.Io.KnownBytes.{ReadConsumes, WriteAppends};
 
@@ -129,28 +129,16 @@ impl<R> RealFiles<R> {
     }
 }
 
-fn read_named<R: Files>(
-    system: &R,
-    alloc: Global,
-    name: &str,
-    most: u64,
-) -> Result<Vec<u8>, FileFault>
-    requires { most < 2 ^ 63 }
-    ensures { IfOk result (λ v. length v.items ≤ most) }
-{
-    match fs::File::open(system, name) {
-        Ok(file) => read_all(alloc, &mut StdIn::new(file), most),
-        Err(_) => Err(FileFault::Failed),
-    }
-}
-
 impl<R: Files + Drop> FileSet for RealFiles<R> {
     ghost file = { λ _ _. None };
 
     ghost file_faults = { λ s. s.faults };
 
     fn read_file(&mut self, alloc: Global, name: &str, most: u64) -> Result<Vec<u8>, FileFault> {
-        let result = read_named(&self.system, alloc, name, most);
+        let result = match fs::File::open(&self.system, name) {
+            Ok(file) => read_all(alloc, &mut StdIn::new(file), most),
+            Err(_) => Err(FileFault::Failed),
+        };
         if let Err(FileFault::Failed) = result {
             self.faults = self.faults.saturating_add(1);
         }

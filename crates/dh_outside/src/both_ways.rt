@@ -7,7 +7,7 @@ ghost use Rattle.dh_outside.specs.Faults.{Rose, one_more};
 ghost use Rattle.dh_outside.specs.Memory.{LinkSeen, heard_of, is_listed};
 ghost use Rattle.dh_outside.specs.Talk.{Hears, Says, heard_one, moved};
 
-use crate::calls::{add_fault, fails};
+use crate::calls::fails;
 use crate::memory::copy_from;
 use crate::{Failed, Link, Sink, Source};
 use dh_base::memory::Memory;
@@ -114,7 +114,7 @@ impl Source for MemLink {
         }
         let count = copy_from(&self.bytes, self.at, into);
         if note(self.alloc, &mut self.heard, &self.written, &into[..count]).is_err() {
-            add_fault(&mut self.faults);
+            self.faults = self.faults.saturating_add(1);
             return Err(Failed);
         }
         self.at += count;
@@ -145,7 +145,7 @@ impl Sink for MemLink {
         }
         let count = piece.len();
         if self.written.extend_from_slice(&piece[..count]).is_err() {
-            add_fault(&mut self.faults);
+            self.faults = self.faults.saturating_add(1);
             return Err(Failed);
         }
         Ok(count)

@@ -6,12 +6,11 @@ ghost use Rattle.dh_outside.specs.Files.{file_named, pairs_of, is_failed};
 ghost use Rattle.dh_outside.specs.Memory.{FilesSeen, is_listed};
 ghost use Rattle.dh_outside.specs.declared.files.FileFault.TheVariants.{Failed, TooLong, Memory};
 
-use crate::calls::is_listed;
-use std::alloc::{AllocError, AllocFailed, Global};
+use std::alloc::{AllocError, Global};
 use std::marker::Model;
 
 /// Why the bytes of a file or a source aren't given.
-#[derive(Clone, Copy, Debug, Drop, PartialEq, Eq, thiserror::Error)]
+#[derive(Clone, Copy, Debug, Drop, thiserror::Error)]
 pub enum FileFault {
     /// A call outside failed, and the count of faults rose.
     #[error("the outside failed")]
@@ -36,14 +35,6 @@ impl From<AllocError> for FileFault {
     ghost from_gives = { λ _ e. e ≡ Memory };
 
     fn from(_: AllocError) -> Self {
-        FileFault::Memory
-    }
-}
-
-impl<T: Drop> From<AllocFailed<T>> for FileFault {
-    ghost from_gives = { λ _ e. e ≡ Memory };
-
-    fn from(_: AllocFailed<T>) -> Self {
         FileFault::Memory
     }
 }
@@ -151,7 +142,7 @@ impl FileSet for MemFiles {
         ensures failing { self.new.failing ≡ self.old.failing }
     {
         self.calls = self.calls.saturating_add(1);
-        let result = if is_listed(&self.failing, self.calls) {
+        let result = if self.failing.contains(&self.calls) {
             Err(FileFault::Failed)
         } else {
             copy_of(alloc, &self.files, name.as_bytes(), most)

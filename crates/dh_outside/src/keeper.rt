@@ -1,5 +1,5 @@
 // Bytes that are kept for good, and a keeper in memory.
-ghost use Rattle.std.specs.Prelude.{◌≡◌, refl, ◌≤◌, ◌<◌, ◌+◌, ◌++◌, ◌^◌, ℕ, List, [], Option, Some, length, IfOk, IfSome, OnOk, OnErr, IsErrOf};
+ghost use Rattle.std.specs.Prelude.{◌≡◌, refl, ◌≤◌, ◌<◌, ◌+◌, ◌++◌, ◌^◌, ℕ, List, Option, Some, length, IfOk, IfSome, OnOk, OnErr, IsErrOf};
 ghost use Rattle.std.specs.Io.KnownBytes.{append_known};
 ghost use Rattle.dh_outside.specs.Faults.{Rose, one_more};
 ghost use Rattle.dh_outside.specs.Keeper.{KeeperSeen, is_keep_failed};
@@ -104,38 +104,6 @@ impl MemKeeper {
             faults: 0,
         })
     }
-
-    /// A keeper that is empty and never fails. This takes no memory.
-    pub fn honest(alloc: Global) -> Self
-        ensures { result ≡ record { kept = []; failing = []; calls = 0; faults = 0 } }
-    {
-        MemKeeper {
-            bytes: Vec::new(alloc),
-            failing: Vec::new(alloc),
-            calls: 0,
-            faults: 0,
-        }
-    }
-
-    /// The bytes that are kept.
-    pub fn kept(&self) -> &[u8]
-        ensures { result.now ≡ self.now.kept }
-    {
-        &self.bytes
-    }
-}
-
-// A copy of the bytes, if there are at most `most`.
-fn copy_within(alloc: Global, bytes: &[u8], most: u64) -> Result<Vec<u8>, KeepFault>
-    ensures bytes { IfOk result (λ v. v.items ≡ bytes.now) }
-    ensures fits { IfOk result (λ v. length v.items ≤ most) }
-    ensures too_long { IsErrOf result TooLong → most < length bytes.now }
-    ensures unharmed { IsErrOf result Failed → ⊥ }
-{
-    if bytes.len() as u64 > most {
-        return Err(KeepFault::TooLong);
-    }
-    Ok(bytes.to_vec(alloc)?)
 }
 
 impl Keeper for MemKeeper {
@@ -183,7 +151,10 @@ impl Keeper for MemKeeper {
         if fails(&self.failing, &mut self.calls, &mut self.faults) {
             return Err(KeepFault::Failed);
         }
-        copy_within(alloc, &self.bytes, most)
+        if self.bytes.len() as u64 > most {
+            return Err(KeepFault::TooLong);
+        }
+        Ok(self.bytes.to_vec(alloc)?)
     }
 
     ghost told_len = { λ keeper. refl };

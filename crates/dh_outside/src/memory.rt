@@ -7,7 +7,7 @@ ghost use Rattle.std.specs.Io.KnownBytes.{ReadConsumes, WriteAppends};
 ghost use Rattle.dh_outside.specs.Faults.{Rose, one_more};
 ghost use Rattle.dh_outside.specs.Memory.{SourceSeen, SinkSeen, is_listed};
 
-use crate::calls::{add_fault, fails};
+use crate::calls::fails;
 use crate::{Clock, Failed, Sink, Source};
 use dh_base::memory::Memory;
 use std::alloc::Global;
@@ -153,7 +153,7 @@ impl Sink for MemSink {
         }
         let count = (self.room as usize - self.bytes.len()).min(piece.len());
         if count == 0 && !piece.is_empty() {
-            add_fault(&mut self.faults);
+            self.faults = self.faults.saturating_add(1);
         }
         self.bytes.extend_from_slice(&piece[..count]).unwrap();
         Ok(count)

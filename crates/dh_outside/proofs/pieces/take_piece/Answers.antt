@@ -2,7 +2,12 @@ use Rattle.std.proofs.Common.{arith, ◌∙◌, sym, Result, Ok, Err, OnOk, is_e
 use Rattle.std.proofs.lemmas.Grind.{common_steps}
 use Rattle.std.proofs.lemmas.List.{length-take}
 use Rattle.dh_outside.proofs.PieceLemmas.{Gains-none, Gains-kept, Gains-end, Gains-piece}
+use Rattle.dh_outside.proofs.pieces.take_piece.Given as given
 use Rattle.dh_outside.proofs.pieces.take_piece.Goals as goal
+
+-- a read gives no more than was asked for
+few : (g : given.Over) (c : goal.After-unwrap g) → c.in-Ok.count ≤ c.min-room.result
+few g c = grind (arith, common_steps)
 
 pub returns-then-room-eq0-clause-gains : goal.returns-then-room-eq0-clause-gains
 returns-then-room-eq0-clause-gains g c =
@@ -39,25 +44,21 @@ returns-then-count-eq0-clause-over g c over =
     inl (c.in-Ok.ensures.bytes.1 c.if-count-eq0.true some)
 
 pub overflow_add-read : goal.overflow_add-read
-overflow_add-read g c =
-    let few : c.in-Ok.count ≤ c.min-room.result = grind (arith, common_steps) in
-    omega arith
+overflow_add-read g c = omega (arith, few g c)
 
 pub returns-else-count-eq0-clause-more : goal.returns-else-count-eq0-clause-more
 returns-else-count-eq0-clause-more g c more = omega (arith, c.if-count-eq0.false)
 
 pub returns-else-count-eq0-clause-bound : goal.returns-else-count-eq0-clause-bound
-returns-else-count-eq0-clause-bound g c =
-    let few : c.in-Ok.count ≤ c.min-room.result = grind (arith, common_steps) in
-    omega arith
+returns-else-count-eq0-clause-bound g c = omega (arith, few g c)
 
 -- what a call gives that had no error
 when_ok : {A E : Type 0} (result : Result A E) (P : Type 0) → is_err result ≡ false → OnOk result P → P
-when_ok (Ok done) P is given = given
-when_ok (Err fault) P is given = absurd cc
+when_ok (Ok done) P is holds = holds
+when_ok (Err fault) P is holds = absurd cc
 
 fits_in : (len room capacity count : ℕ) (xs : List ℕ) → count ≤ room → len + room ≤ capacity → len + length (take count xs) ≤ capacity
-fits_in len room capacity count xs few given = omega (arith, length-take count xs)
+fits_in len room capacity count xs less holds = omega (arith, length-take count xs)
 
 pub unwrap-requires : goal.unwrap-requires
 unwrap-requires g c =
