@@ -12,8 +12,8 @@ use crate::expr_fault::{ExprError, ExprFault};
 use crate::names::{is_missing, stage_before};
 use dh_base::uid::Uid;
 use dh_metadata::ids::Ids;
-use expr_grammar::parse_sorted;
 use expr_lang::{DayItems, Expr, Place, Sort};
+use expr_text::parse_sorted;
 use std::alloc::Global;
 
 fn told(uid: Uid, fault: expr_lang::ExprFault) -> ExprError

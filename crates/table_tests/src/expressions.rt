@@ -8,8 +8,8 @@ use dh_base::plain::Strategy;
 use dh_base::uid::Uid;
 use dh_metadata::names::strategy_named;
 use expr_eval::{Postfix, Value, compile, eval};
-use expr_grammar::{parse, parse_sorted, print};
 use expr_lang::{DayItems, Expr, ExprFault, Place, Sort};
+use expr_text::{parse, parse_sorted, print};
 use std::alloc::Global;
 
 pub fn is_written(out: &mut Out, kind: &str, case: &str) -> bool {

@@ -1,7 +1,7 @@
 use Rattle.std.proofs.Common.{None}
 use Rattle.expr_grammar.proofs.OneAnswer.{one_answer}
 use Rattle.expr_grammar.proofs.Readings.{answers_so, one_so, items_so}
-use Rattle.expr_grammar.proofs.parsing.parse.Goals as goal
+use Rattle.expr_text.proofs.parsing.parse.Goals as goal
 
 pub returns-clause-is : goal.returns-clause-is
 returns-clause-is c = answers_so c.args.place c.args.days.now None c.args.text.now c.parse.result c.parse.ensures
