@@ -62,16 +62,11 @@ level_number digits =
     if length digits == 1 then number_of_one (slice_index digits 0)
     else (if length digits == 2 then number_of_two (slice_index digits 0) (slice_index digits 1) else None)
 
-unfoldable pub group_form : List ℕ → Option UnitForm
-group_form text = option_map (λ id. unit.Group id) (uid_of text)
-
-unfoldable pub single_form : List ℕ → Option UnitForm
-single_form text = option_map (λ id. unit.Unit id) (uid_of text)
-
 -- `OU_GROUP-` with an identifier, or an identifier
 unfoldable pub group_or_unit : List ℕ → Option UnitForm
 group_or_unit text =
-    if bytes_eq (take 9 text) (codes "OU_GROUP-") then group_form (drop 9 text) else single_form text
+    if bytes_eq (take 9 text) (codes "OU_GROUP-") then option_map (λ id. unit.Group id) (uid_of (drop 9 text))
+    else option_map (λ id. unit.Unit id) (uid_of text)
 
 -- `LEVEL-` with a number, `OU_GROUP-` with an identifier, or an identifier
 unfoldable pub named_unit : List ℕ → Option UnitForm

@@ -1,5 +1,5 @@
 //! The number of a query's cells.
-ghost use Rattle.std.specs.Prelude.{◌≡◌, ◌<◌, ◌^◌, None, Ok, Err, IfSome, IfOk, decimal};
+ghost use Rattle.std.specs.Prelude.{◌≡◌, ◌<◌, ◌^◌, None, Ok, Err, IfSome};
 ghost use Rattle.dh_base.specs.Memory.{Answers, IsCause};
 ghost use Rattle.query_lang.specs.Given.{cause_of};
 ghost use Rattle.query_lang.specs.Query.{axis_count, cells_of, within};
@@ -7,7 +7,6 @@ ghost use Rattle.query_lang.specs.Query.{axis_count, cells_of, within};
 use crate::fault::refused;
 use crate::{Axis, Query, QueryFault};
 use dh_base::codes::Code;
-use dh_base::memory::Memory;
 use std::alloc::Global;
 
 fn axis_count<T>(axis: &Axis<T>) -> u128
@@ -29,12 +28,6 @@ fn cells_of(query: &Query) -> Option<u128>
     columns.checked_mul(axis_count(&query.units))
 }
 
-fn decimal(alloc: Global, number: u128) -> Result<Vec<u8>, Memory>
-    ensures { IfOk result (λ text. text.items ≡ decimal number) }
-{
-    Ok(format!(in alloc; "{number}")?.into_bytes())
-}
-
 // Why the query is refused, if it has no units or too many cells.
 #[tactic(auto, unfolding(crate::specs::Query::within))]
 fn excess(alloc: Global, query: &Query, most: u64) -> Option<QueryFault>
@@ -48,10 +41,10 @@ fn excess(alloc: Global, query: &Query, most: u64) -> Option<QueryFault>
         return Some(QueryFault::Memory);
     };
     if u128::from(most) < count {
-        let Ok(text) = decimal(alloc, count) else {
+        let Ok(text) = format!(in alloc; "{count}") else {
             return Some(QueryFault::Memory);
         };
-        return Some(refused(alloc, Code::F16, &text));
+        return Some(refused(alloc, Code::F16, text.as_bytes()));
     }
     None
 }

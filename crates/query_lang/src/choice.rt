@@ -62,14 +62,6 @@ fn bounds_of(alloc: Global, tree: &Tree, views: &[u32], parts: &[Part]) -> Resul
     parts_units(alloc, tree, views, parts)
 }
 
-#[tactic(auto, using(crate::proofs::SetLemmas::contained))]
-fn fits_level(tree: &Tree, levels: &[u8], unit: u32) -> bool
-    requires { unit < length tree.now }
-    ensures { result ≡ ((length levels.now == 0) || has levels.now (level_of tree.now unit)) }
-{
-    levels.len() == 0 || levels.contains(&tree.level(unit))
-}
-
 /// Which units are left: those under a bound, at a level if one is named, in a group if one is named.
 #[derive(Clone, Copy)]
 struct Narrowing<'a> {
@@ -80,7 +72,7 @@ struct Narrowing<'a> {
     members: &'a [u32],
 }
 
-#[tactic(auto, unfolding(crate::specs::Choice::is_chosen))]
+#[tactic(auto, unfolding(crate::specs::Choice::is_chosen), using(crate::proofs::SetLemmas::contained))]
 fn is_chosen(
     tree: &Tree,
     narrowing: &Narrowing<'_>,
@@ -94,7 +86,7 @@ fn is_chosen(
     ensures { result ≡ is_chosen tree.now narrowing.now.bounds.now narrowing.now.levels.now narrowing.now.grouped narrowing.now.members.now unit }
 {
     is_covered(tree, ranges, narrowing.bounds, unit)
-        && fits_level(tree, narrowing.levels, unit)
+        && (narrowing.levels.len() == 0 || narrowing.levels.contains(&tree.level(unit)))
         && (!narrowing.grouped || seen.contains(&unit))
 }
 

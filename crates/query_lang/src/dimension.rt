@@ -1,6 +1,6 @@
 //! The items of a dimension.
 ghost use Rattle.std.specs.Prelude.{◌≡◌, IfOk};
-ghost use Rattle.query_lang.specs.Items.{each, dx_item, unit_item, dx_items, unit_items};
+ghost use Rattle.query_lang.specs.Items.{each, dx_item, unit_item, item_texts};
 
 use crate::item::{DxItem, UnitItem, dx_form, unit_form};
 use crate::once::item_texts;
@@ -9,7 +9,7 @@ use dh_base::memory::Memory;
 use std::alloc::Global;
 
 /// An item of a dimension.
-trait ReadItem: Sized + Drop {
+pub(crate) trait ReadItem: Sized + Drop {
     ghost use Rattle.std.specs.Prelude.{ℕ, List, Option};
 
     /// What a text stands for, `None` where it has no form of such an item.
@@ -57,20 +57,10 @@ fn each<T: ReadItem>(alloc: Global, texts: &[Items<u8>]) -> Result<Option<Items<
     Ok(Some(Items::from(items)))
 }
 
-/// The items of the dimension `dx`, each once; `None` where one has no form.
-#[tactic(auto, unfolding(crate::specs::Items::dx_items))]
-pub(crate) fn dx_items(alloc: Global, text: &[u8]) -> Result<Option<Items<DxItem>>, Memory>
-    ensures { IfOk result (λ items. items ≡ dx_items text.now) }
+/// The items of a dimension, each once; `None` where one has no form.
+pub(crate) fn items_of<T: ReadItem>(alloc: Global, text: &[u8]) -> Result<Option<Items<T>>, Memory>
+    ensures { IfOk result (λ items. items ≡ each T.form (item_texts text.now)) }
 {
     let texts = item_texts(alloc, text)?;
-    each::<DxItem>(alloc, &texts)
-}
-
-/// The items of the dimension `ou`, each once; `None` where one has no form.
-#[tactic(auto, unfolding(crate::specs::Items::unit_items))]
-pub(crate) fn unit_items(alloc: Global, text: &[u8]) -> Result<Option<Items<UnitItem>>, Memory>
-    ensures { IfOk result (λ items. items ≡ unit_items text.now) }
-{
-    let texts = item_texts(alloc, text)?;
-    each::<UnitItem>(alloc, &texts)
+    each(alloc, &texts)
 }

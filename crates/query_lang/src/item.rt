@@ -1,6 +1,6 @@
 //! The items of dimensions.
 ghost use Rattle.std.specs.Prelude.{◌≡◌, ◌≤◌, ◌^◌, ◌<◌, ℕ, List, length, map};
-ghost use Rattle.query_lang.specs.Items.{beside, rate_named, part_form, pair_form, dx_form, level_number, group_or_unit, named_unit, unit_form};
+ghost use Rattle.query_lang.specs.Items.{beside, part_form, pair_form, dx_form, level_number, named_unit, unit_form};
 ghost use Rattle.dh_periods.specs.Texts.{number_of_one, number_of_two};
 
 use dh_base::items::Items;
@@ -78,16 +78,10 @@ fn beside<T: Copy>(table: &[(&[u8], T)], name: &[u8]) -> Option<T>
 }
 
 #[tactic(auto, unfolding(crate::specs::Items::rate_named))]
-fn rate_named(name: &[u8]) -> Option<Rate>
-    ensures { result ≡ rate_named name.now }
-{
-    beside(&RATES, name)
-}
-
 fn part_form(id: Uid, rest: &[u8]) -> Option<DxForm>
     ensures { result ≡ part_form id rest.now }
 {
-    match rate_named(rest) {
+    match beside(&RATES, rest) {
         Some(rate) => Some(DxForm::Rate(id, rate)),
         None => {
             let combo = Uid::parse(rest)?;
@@ -150,23 +144,16 @@ fn level_number(digits: &[u8]) -> Option<u8>
     None
 }
 
-#[tactic(auto, unfolding(crate::specs::Items::group_or_unit, crate::specs::Items::group_form, crate::specs::Items::single_form))]
-fn group_or_unit(text: &[u8]) -> Option<UnitForm>
-    ensures { result ≡ group_or_unit text.now }
-{
-    match text.strip_prefix(b"OU_GROUP-".as_slice()) {
-        Some(group) => Some(UnitForm::Group(Uid::parse(group)?)),
-        None => Some(UnitForm::Unit(Uid::parse(text)?)),
-    }
-}
-
-#[tactic(auto, unfolding(crate::specs::Items::named_unit))]
+#[tactic(auto, unfolding(crate::specs::Items::named_unit, crate::specs::Items::group_or_unit))]
 fn named_unit(text: &[u8]) -> Option<UnitForm>
     ensures { result ≡ named_unit text.now }
 {
-    match text.strip_prefix(b"LEVEL-".as_slice()) {
-        Some(level) => Some(UnitForm::Level(level_number(level)?)),
-        None => group_or_unit(text),
+    if let Some(level) = text.strip_prefix(b"LEVEL-".as_slice()) {
+        return Some(UnitForm::Level(level_number(level)?));
+    }
+    match text.strip_prefix(b"OU_GROUP-".as_slice()) {
+        Some(group) => Some(UnitForm::Group(Uid::parse(group)?)),
+        None => Some(UnitForm::Unit(Uid::parse(text)?)),
     }
 }
 

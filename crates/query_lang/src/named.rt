@@ -5,7 +5,7 @@ ghost use Rattle.dh_metadata.specs.Objects.{count_of, is_shared};
 ghost use Rattle.dh_base.specs.Memory.{Answers};
 ghost use Rattle.query_lang.specs.Given.{cause_of};
 ghost use Rattle.query_lang.specs.Each.{each_of};
-ghost use Rattle.query_lang.specs.Named.{readable, alone, object_named, combo_named, operand_named, named, dx_of};
+ghost use Rattle.query_lang.specs.Named.{readable, alone, object_named, operand_named, named, dx_of};
 
 use crate::fault::refused;
 use crate::item::{DxForm, DxItem};
@@ -70,26 +70,16 @@ fn object_named(meta: &Metadata, user: u32, id: Uid) -> Option<Found>
     None
 }
 
-#[tactic(auto, unfolding(crate::specs::Named::combo_named, crate::specs::Named::is_combo_of))]
-fn combo_named(meta: &Metadata, element: u32, id: Uid) -> Option<u32>
-    requires { element < length meta.now.data_elements }
-    ensures { result ≡ combo_named meta.now element id }
-{
-    let part = meta.find(Kind::CategoryOptionCombo, id)?;
-    if meta.option_combo(part).category_combo == meta.element(element).category_combo {
-        Some(part)
-    } else {
-        None
-    }
-}
-
-#[tactic(auto, unfolding(crate::specs::Named::operand_named))]
+#[tactic(auto, unfolding(crate::specs::Named::operand_named, crate::specs::Named::combo_named, crate::specs::Named::is_combo_of))]
 fn operand_named(meta: &Metadata, user: u32, element: Uid, combo: Uid) -> Option<Found>
     requires { user < length meta.now.users }
     ensures { result ≡ operand_named meta.now user element combo }
 {
     let number = readable(meta, user, Kind::DataElement, element)?;
-    let part = combo_named(meta, number, combo)?;
+    let part = meta.find(Kind::CategoryOptionCombo, combo)?;
+    if meta.option_combo(part).category_combo != meta.element(number).category_combo {
+        return None;
+    }
     Some(Found {
         kind: DxKind::Element,
         number,

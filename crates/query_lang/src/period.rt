@@ -75,24 +75,6 @@ fn put_each(
     Ok(true)
 }
 
-fn each_period(
-    alloc: Global,
-    texts: &[Items<u8>],
-    day: i32,
-) -> Result<Option<Items<Period>>, Memory>
-    requires from { FIRST_QUERY_DAY ≤ℤ day }
-    requires to { day ≤ℤ LAST_QUERY_DAY }
-    ensures { IfOk result (λ found. found ≡ periods_from day [] texts.now) }
-{
-    let mut kept = Vec::new(alloc);
-    let mut seen = HashSet::new(alloc);
-    if put_each(alloc, &mut kept, &mut seen, texts, day)? {
-        Ok(Some(Items::from(kept)))
-    } else {
-        Ok(None)
-    }
-}
-
 /// The periods of the items of a dimension, each once; `None` where an item has no form.
 #[tactic(auto, unfolding(crate::specs::Items::period_items))]
 pub(crate) fn period_items(
@@ -105,5 +87,11 @@ pub(crate) fn period_items(
     ensures { IfOk result (λ found. found ≡ period_items day text.now) }
 {
     let texts = item_texts(alloc, text)?;
-    each_period(alloc, &texts, day)
+    let mut kept = Vec::new(alloc);
+    let mut seen = HashSet::new(alloc);
+    if put_each(alloc, &mut kept, &mut seen, &texts, day)? {
+        Ok(Some(Items::from(kept)))
+    } else {
+        Ok(None)
+    }
 }

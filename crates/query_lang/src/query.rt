@@ -14,7 +14,8 @@ use crate::item::UnitItem;
 use crate::named::each_dx;
 use crate::part::Part;
 use crate::text::form_of;
-use crate::units::{each_part, units_of, view_of};
+use crate::units::{each_part, units_of};
+use crate::view::ranges_under;
 use crate::{Axis, Dx, Query, QueryFault};
 use dh_base::items::Items;
 use dh_metadata::metadata::Metadata;
@@ -23,6 +24,8 @@ use std::alloc::Global;
 /// The most cells of a query that is answered.
 pub const MOST_CELLS: u64 = 100_000;
 
+// What the items of the dimension `ou` name, by the ranges of the units that the user sees.
+#[tactic(auto, using(crate::proofs::ViewLemmas::views_in))]
 fn parts_of(
     alloc: Global,
     meta: &Metadata,
@@ -32,7 +35,7 @@ fn parts_of(
     requires { user < length meta.now.users }
     ensures { Answers cause_of (each_of (part_of meta.now user) items.now) result }
 {
-    let view = view_of(alloc, meta, user)?;
+    let view = ranges_under(alloc, meta.tree(), meta.view_units(user))?;
     each_part(alloc, meta, user, &view, items)
 }
 

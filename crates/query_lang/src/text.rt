@@ -10,9 +10,10 @@ ghost use Rattle.query_lang.specs.Form.{head_of, fresh, with_dx, with_periods, w
 ghost use Rattle.query_lang.specs.Form.{form_of};
 
 use crate::Axis;
-use crate::dimension::{dx_items, unit_items};
+use crate::dimension::items_of;
 use crate::fault::refused;
 use crate::form::{Draft, Form};
+use crate::item::{DxItem, UnitItem};
 use crate::period::period_items;
 use crate::plain::QueryFault;
 use dh_base::codes::Code;
@@ -105,12 +106,12 @@ fn fresh<'a, T>(named: &Option<T>, value: &'a [u8]) -> Option<&'a [u8]>
     }
 }
 
-#[tactic(auto, unfolding(crate::specs::Form::with_dx))]
+#[tactic(auto, unfolding(crate::specs::Form::with_dx, crate::specs::Items::dx_items))]
 fn with_dx(alloc: Global, draft: &mut Draft, value: &[u8]) -> Result<(), QueryFault>
     ensures { Answers cause_of (with_dx draft.old value.now) (left_in draft.new result) }
 {
     if let Some(tail) = fresh(&draft.dx, value) {
-        if let Some(items) = dx_items(alloc, tail)? {
+        if let Some(items) = items_of::<DxItem>(alloc, tail)? {
             draft.dx = Some(items);
             return Ok(());
         }
@@ -139,7 +140,7 @@ fn with_periods(
     Err(refused(alloc, Code::F10, value))
 }
 
-#[tactic(auto, unfolding(crate::specs::Form::with_units))]
+#[tactic(auto, unfolding(crate::specs::Form::with_units, crate::specs::Items::unit_items))]
 fn with_units(
     alloc: Global,
     draft: &mut Draft,
@@ -149,7 +150,7 @@ fn with_units(
     ensures { Answers cause_of (with_units draft.old filter value.now) (left_in draft.new result) }
 {
     if let Some(tail) = fresh(&draft.units, value) {
-        if let Some(items) = unit_items(alloc, tail)? {
+        if let Some(items) = items_of::<UnitItem>(alloc, tail)? {
             draft.units = Some(Axis { items, filter });
             return Ok(());
         }

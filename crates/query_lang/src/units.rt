@@ -14,7 +14,7 @@ use crate::choice::chosen_units;
 use crate::fault::refused;
 use crate::item::{UnitForm, UnitItem};
 use crate::part::Part;
-use crate::view::{is_covered, ranges_under};
+use crate::view::is_covered;
 use dh_base::codes::Code;
 use dh_base::items::Items;
 use dh_base::memory::Memory;
@@ -23,15 +23,6 @@ use dh_metadata::kind::Kind;
 use dh_metadata::metadata::Metadata;
 use dh_sharing::ranges::ViewRanges;
 use std::alloc::Global;
-
-/// The ranges of the units that the user sees.
-#[tactic(auto, using(crate::proofs::ViewLemmas::views_in))]
-pub(crate) fn view_of(alloc: Global, meta: &Metadata, user: u32) -> Result<ViewRanges, Memory>
-    requires { user < length meta.now.users }
-    ensures { IfOk result (λ view. Covers (unit_rows meta.now) (view_units_of meta.now user) view) }
-{
-    ranges_under(alloc, meta.tree(), meta.view_units(user))
-}
 
 #[tactic(auto, unfolding(crate::specs::Units::unit_seen), using(crate::proofs::ViewLemmas::unit_in))]
 fn unit_seen(meta: &Metadata, user: u32, view: &ViewRanges, id: Uid) -> Option<u32>
