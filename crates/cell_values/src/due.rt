@@ -2,7 +2,7 @@
 ghost use Rattle.std.specs.Prelude.{◌≡◌, ◌<◌, ◌≤◌, ◌*◌, ◌^◌, length, IfOk};
 ghost use Rattle.dh_sharing.specs.Ranges.{AreApart};
 ghost use Rattle.dh_base.specs.declared.limits.TheConstants.{COUNTED_DAYS};
-ghost use Rattle.cell_values.specs.Reporting.{whole, percentage, rate_with};
+ghost use Rattle.cell_values.specs.Reporting.{whole, rate_with};
 ghost use Rattle.cell_values.specs.Prepared.{AreOrders, IsPrepared, rate_within};
 
 use crate::counts::how_many_within;
@@ -57,13 +57,6 @@ pub(crate) fn whole(count: u64) -> Frac
     Frac::of(i128::from(count), 1)
 }
 
-fn percentage(due: u64, registered: u64) -> Frac
-    requires { 0 < due }
-    ensures { result ≡ percentage due registered }
-{
-    Frac::of(100 * i128::from(registered), i128::from(due))
-}
-
 fn rate_with(which: Rate, due: u64, registered: u64) -> Option<Frac>
     ensures { result ≡ rate_with which due registered }
 {
@@ -73,7 +66,9 @@ fn rate_with(which: Rate, due: u64, registered: u64) -> Option<Frac>
     Some(match which {
         Rate::Expected => whole(due),
         Rate::Actual | Rate::OnTime => whole(registered),
-        Rate::Reported | Rate::ReportedOnTime => percentage(due, registered),
+        Rate::Reported | Rate::ReportedOnTime => {
+            Frac::of(100 * i128::from(registered), i128::from(due))
+        }
     })
 }
 

@@ -1,5 +1,5 @@
 //! The reports of a data set that were registered, and its rates.
-ghost use Rattle.std.specs.Prelude.{◌≡◌, ◌<◌, ◌-ℤ◌, int_le, true, ℕ, List, length, IfOk, OnOk};
+ghost use Rattle.std.specs.Prelude.{◌≡◌, ◌<◌, ◌-ℤ◌, true, ℕ, List, length, IfOk, OnOk};
 ghost use Rattle.dh_periods.specs.declared.name.PeriodName.{PeriodName};
 ghost use Rattle.dh_metadata.specs.Linked.{AreBelow};
 ghost use Rattle.table_rows.specs.declared.event.RegRow.{RegRow};
@@ -48,18 +48,12 @@ fn ahead(day: i32, last: i32) -> i64
     i64::from(day) - i64::from(last)
 }
 
-fn is_at_most(ahead: i64, days: i64) -> bool
-    ensures { result ≡ int_le ahead days }
-{
-    ahead <= days
-}
-
 /// Whether the registration was at most so many days after its period.
 #[tactic(auto, unfolding(crate::specs::Reporting::is_timely))]
 fn is_timely(days: i64, reg: &RegRow) -> bool
     ensures { result ≡ is_timely days reg.now }
 {
-    is_at_most(ahead(reg.day, reg.period.last()), days)
+    ahead(reg.day, reg.period.last()) <= days
 }
 
 /// Whether the registration is on time, where that is asked.
