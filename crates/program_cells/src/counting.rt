@@ -3,7 +3,7 @@
 ghost use Rattle.std.specs.Prelude.{◌≡◌, ◌≤◌, ℕ, List, true, cond, if◌then◌else◌, IfOk, OnOk};
 ghost use Rattle.std.specs.HashSet.{contains};
 ghost use Rattle.dh_metadata.specs.Places.{same_id};
-ghost use Rattle.program_cells.specs.Value.{different, if_some, counted};
+ghost use Rattle.program_cells.specs.Value.{different, counted};
 
 use crate::samples::whole;
 use dh_base::frac::Frac;
@@ -34,16 +34,10 @@ fn different(alloc: Global, ids: &[Uid]) -> Result<usize, Memory>
     Ok(count)
 }
 
-fn if_some(count: usize) -> Option<Frac>
-    ensures { result ≡ if_some count }
-{
-    if count == 0 { None } else { Some(whole(count)) }
-}
-
 /// How many different identifiers these are, if there is one.
 pub(crate) fn count(alloc: Global, ids: &[Uid]) -> Result<Option<Frac>, Memory>
     ensures { IfOk result (λ number. number ≡ counted ids.now) }
 {
     let count = different(alloc, ids)?;
-    Ok(if_some(count))
+    Ok(if count == 0 { None } else { Some(whole(count)) })
 }

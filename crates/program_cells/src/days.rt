@@ -14,22 +14,6 @@ pub(crate) struct Days {
     pub to: i32,
 }
 
-/// The lesser of two days.
-fn lesser(a: i32, b: i32) -> i32
-    ensures first { result ≤ℤ a }
-    ensures second { result ≤ℤ b }
-{
-    if a < b { a } else { b }
-}
-
-/// The greater of two days.
-fn greater(a: i32, b: i32) -> i32
-    ensures first { a ≤ℤ result }
-    ensures second { b ≤ℤ result }
-{
-    if a < b { b } else { a }
-}
-
 /// These days, and those of a period.
 fn widened(days: &Days, period: &Period) -> Days
     ensures from { result.from ≤ℤ days.now.from }
@@ -37,10 +21,10 @@ fn widened(days: &Days, period: &Period) -> Days
     ensures to { days.now.to ≤ℤ result.to }
     ensures last { last_day period.now ≤ℤ result.to }
 {
-    Days {
-        from: lesser(days.from, period.first()),
-        to: greater(days.to, period.last()),
-    }
+    let (first, last) = (period.first(), period.last());
+    let from = if days.from < first { days.from } else { first };
+    let to = if days.to < last { last } else { days.to };
+    Days { from, to }
 }
 
 /// The days from the first of these periods to the last; no day if there is no period.

@@ -4,7 +4,7 @@ ghost use Rattle.std.specs.List.{filter};
 ghost use Rattle.cell_values.specs.Held.{IsSeer};
 ghost use Rattle.cell_values.specs.Seen.{seen_events};
 ghost use Rattle.program_cells.specs.Cells.{is_enrolled_on};
-ghost use Rattle.program_cells.specs.Enrollments.{is_enrolled_in, first_is, enrollments};
+ghost use Rattle.program_cells.specs.Enrollments.{first_is, enrollments};
 ghost use Rattle.program_cells.specs.Kept.{is_seen_enrolled, seen_enrolled};
 
 use crate::days::is_enrolled_on;
@@ -18,19 +18,14 @@ use dh_periods::Period;
 use std::alloc::Global;
 use table_rows::{EventRow, RowStore};
 
-#[tactic(auto, unfolding(crate::specs::Enrollments::is_enrolled_in))]
-fn is_enrolled_in(program: u32, event: &EventRow) -> bool
-    ensures { result ≡ is_enrolled_in program event.now }
-{
-    event.program == program && event.enrolled.is_some() && event.enrollment.is_some()
-}
-
-#[tactic(auto, unfolding(crate::specs::Kept::is_seen_enrolled))]
+/// Whether the event tells an enrollment in the program, and is seen.
+#[tactic(auto, unfolding(crate::specs::Enrollments::is_enrolled_in, crate::specs::Kept::is_seen_enrolled))]
 fn is_seen_enrolled(meta: &Metadata, seer: &Seer, program: u32, event: &EventRow) -> bool
     requires { IsSeer meta.now seer.now }
     ensures { result ≡ is_seen_enrolled meta.now seer.now.user program event.now }
 {
-    is_enrolled_in(program, event) && seer.sees_event(meta, event)
+    let tells = event.program == program && event.enrolled.is_some() && event.enrollment.is_some();
+    tells && seer.sees_event(meta, event)
 }
 
 /// Copies of those of the events that tell an enrollment in the program, and are seen.

@@ -31,18 +31,13 @@ pub(crate) fn by_enrollment(events: Vec<EventRow>) -> Result<Vec<EventRow>, Memo
     Ok(sorted)
 }
 
+// Whether the event tells the enrollment of the subject.
 #[tactic(auto, unfolding(crate::specs::Enrollments::is_one_enrollment))]
-fn is_one_enrollment(one: &EventRow, other: &EventRow) -> bool
-    ensures { result ≡ is_one_enrollment one.now other.now }
-{
-    one.enrolled == other.enrolled && one.enrollment == other.enrollment
-}
-
 fn goes_on(subject: &[EventRow], event: &EventRow) -> bool
     ensures { result ≡ first_is (λ first. is_one_enrollment first event.now) subject.now }
 {
     match subject.first() {
-        Some(first) => is_one_enrollment(first, event),
+        Some(first) => first.enrolled == event.enrolled && first.enrollment == event.enrollment,
         None => false,
     }
 }

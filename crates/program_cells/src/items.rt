@@ -8,7 +8,7 @@ ghost use Rattle.table_rows.specs.declared.event.EventRow.{EventRow};
 ghost use Rattle.table_rows.specs.declared.event.ItemValue.{ItemValue};
 ghost use Rattle.dh_metadata.specs.declared.kind.Kind.TheVariants as kind;
 ghost use Rattle.dh_metadata.specs.Objects.{find_of};
-ghost use Rattle.program_cells.specs.Items.{named_element, named_attribute, named_constant, named_item, day_number, number_of, held_number, held_in, last_held};
+ghost use Rattle.program_cells.specs.Items.{named_element, named_constant, named_item, day_number, number_of, held_number, held_in, last_held};
 ghost use Rattle.program_cells.specs.Items.{first_of, last_of, item_in};
 
 use dh_base::frac::Frac;
@@ -28,15 +28,6 @@ fn element(stage: Option<u32>, element: Option<u32>) -> PiItem
     match (stage, element) {
         (Some(stage), Some(element)) => PiItem::Element { stage, element },
         _ => PiItem::Nothing,
-    }
-}
-
-fn attribute(attribute: Option<u32>) -> PiItem
-    ensures { result ≡ named_attribute attribute }
-{
-    match attribute {
-        Some(attribute) => PiItem::Attribute(attribute),
-        None => PiItem::Nothing,
     }
 }
 
@@ -62,7 +53,10 @@ fn named(meta: &Metadata, item: &Item) -> PiItem
             meta.find(Kind::ProgramStage, *stage),
             meta.find(Kind::DataElement, *held),
         ),
-        Item::Attribute(id) => attribute(meta.find(Kind::TrackedEntityAttribute, *id)),
+        Item::Attribute(id) => match meta.find(Kind::TrackedEntityAttribute, *id) {
+            Some(attribute) => PiItem::Attribute(attribute),
+            None => PiItem::Nothing,
+        },
         Item::Constant(id) => constant(meta, *id),
         Item::EventDate => PiItem::EventDate,
         Item::EnrollmentDate => PiItem::EnrollmentDate,

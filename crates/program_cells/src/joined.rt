@@ -1,6 +1,6 @@
 //! The places of the events of several units.
 ghost use Rattle.std.specs.Prelude.{◌≡◌, ◌++◌, ◌||◌, ◌≤◌, ◌<◌, [], ℕ, List, length, get_or, IfOk, OnOk, IfSome};
-ghost use Rattle.dh_metadata.specs.Members.{has, IsSortedCopy};
+ghost use Rattle.dh_metadata.specs.Members.{has};
 ghost use Rattle.table_rows.specs.declared.event.EventRow.{EventRow};
 ghost use Rattle.program_cells.specs.Kept.{is_placed_in};
 ghost use Rattle.program_cells.specs.Places.{ArePlaces, order_of, is_between, passes_at, places_from};
@@ -59,16 +59,6 @@ fn joined(
     Ok(Some(found))
 }
 
-/// The same places once, ascending.
-fn in_order(places: Vec<usize>) -> Result<Vec<usize>, Memory>
-    ensures { IfOk result (λ list. IsSortedCopy places.items list.items) }
-{
-    let mut list = places;
-    list.sort()?;
-    list.dedup();
-    Ok(list)
-}
-
 /// The places of the events whose units lie in the ranges, ascending. There is no answer where these are more than `most`, or the ranges
 /// have units for which there is no list: then it is as well to look at each event.
 pub(crate) fn joined_places(
@@ -80,12 +70,13 @@ pub(crate) fn joined_places(
     ensures { (events : List EventRow) → ArePlaces order_of events places.now
         → IfOk result (λ all. IfSome all (λ own. own.items ≡ places_from 0 (is_placed_in parts.now) events)) }
 {
-    let Some(found) = joined(alloc, places, parts)? else {
+    let Some(mut own) = joined(alloc, places, parts)? else {
         return Ok(None);
     };
-    if found.len() > most {
+    if own.len() > most {
         return Ok(None);
     }
-    let own = in_order(found)?;
+    own.sort()?;
+    own.dedup();
     Ok(Some(own))
 }

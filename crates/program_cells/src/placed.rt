@@ -38,18 +38,6 @@ impl<'a> Model for PlacedEvents<'a> {
     ghost invariant = { λ placed. ArePlaces order_of (map (λ event. event.now) placed.events.items) placed.places.items };
 }
 
-/// An empty list for each unit, with room for so many places.
-fn empty_lists(alloc: Global, count: u32, room: usize) -> Result<Vec<Items<usize>>, Memory>
-    ensures { IfOk result (λ lists. ArePlaces order_of [] lists.items) }
-{
-    let mut lists = Vec::new(alloc);
-    for _unit in 0..count {
-        let list = Vec::with_capacity(alloc, room)?;
-        lists.push(Items::from(list))?;
-    }
-    Ok(lists)
-}
-
 fn add(lists: &mut Vec<Items<usize>>, unit: usize, at: usize) -> Result<(), Memory>
     requires { unit < length lists.old.items }
     ensures { OnOk result (lists.new.items ≡ set lists.old.items unit (get_or lists.old.items unit [] ++ at ∷ [])) }
@@ -78,7 +66,13 @@ pub(crate) fn lists_for(
 ) -> Result<Vec<Items<usize>>, Memory>
     ensures { IfOk result (λ lists. ArePlaces order_of [] lists.items) }
 {
-    empty_lists(alloc, count, events / (count as usize + 1))
+    let room = events / (count as usize + 1);
+    let mut lists = Vec::new(alloc);
+    for _unit in 0..count {
+        let list = Vec::with_capacity(alloc, room)?;
+        lists.push(Items::from(list))?;
+    }
+    Ok(lists)
 }
 
 /// The places of the events of each of so many units.

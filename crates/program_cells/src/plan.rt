@@ -116,11 +116,6 @@ pub fn program_plan<S: RowStore>(
 // Where the cells have fewer than one in so many of the units, the samples of all events aren't worth working out.
 const MANY: usize = 8;
 
-/// Whether cells of so many units are those of few among all.
-fn are_few(units: usize, meta: &Metadata) -> bool {
-    units < meta.count(Kind::OrganisationUnit) as usize / MANY
-}
-
 fn event_subjects<'a>(
     alloc: Global,
     code: &'a PiCode,
@@ -157,7 +152,8 @@ pub fn subjects_during<'a, S: RowStore>(
     match plan.over {
         AnalyticsType::Event => {
             let events = events_during(alloc, source, plan.code.program, periods)?;
-            event_subjects(alloc, &plan.code, events, are_few(units, source.meta))
+            let are_few = units < source.meta.count(Kind::OrganisationUnit) as usize / MANY;
+            event_subjects(alloc, &plan.code, events, are_few)
         }
         AnalyticsType::Enrollment => {
             let kept = enrolled_during(alloc, periods.periods(), plan.enrollments.as_slice())?;

@@ -2,7 +2,6 @@
 
 ghost use Rattle.std.specs.Prelude.{◌≡◌, ◌<◌, ◌^◌, ◌+ℤ◌, unsigned_abs, option_map, None, Some, IfSome};
 ghost use Rattle.dh_base.specs.Fractions.{add_of, fraction_of, some_if, fits};
-ghost use Rattle.expr_eval.specs.Meaning.{takes_next};
 ghost use Rattle.program_cells.specs.Value.{whole, unless_fault, sum_of, mean_of, some_of, better, better_if_any, best_from, value_by, aggregated};
 
 use dh_base::frac::Frac;
@@ -23,12 +22,6 @@ pub(crate) fn whole(count: usize) -> Frac
     ensures { result ≡ whole count }
 {
     Frac::of(count as i128, 1)
-}
-
-fn plus(sum: Frac, sample: Frac) -> Option<Frac>
-    ensures { result ≡ unless_fault (add_of sum sample) }
-{
-    unless_fault(sum.add(sample))
 }
 
 // The first size that does not fit.
@@ -91,7 +84,7 @@ fn fraction_sum(samples: &[Frac]) -> Option<Frac>
 {
     let mut sum = Frac::of(0, 1);
     for sample in samples {
-        match plus(sum, *sample) {
+        match unless_fault(sum.add(*sample)) {
             Some(next) => sum = next,
             None => return None,
         }
@@ -106,25 +99,13 @@ fn mean(samples: &[Frac]) -> Option<Frac>
     unless_fault(sum.div(whole(samples.len())))
 }
 
-fn takes(greatest: bool, ordering: Ordering) -> bool
-    ensures { result ≡ takes_next greatest ordering }
-{
-    match ordering {
-        Ordering::Less => greatest,
-        Ordering::Equal => false,
-        Ordering::Greater => !greatest,
-    }
-}
-
 fn better(greatest: bool, best: Frac, next: Frac) -> Option<Frac>
     ensures { result ≡ better greatest best next }
 {
     match best.cmp(next) {
-        Ok(ordering) => Some(if takes(greatest, ordering) {
-            next
-        } else {
-            best
-        }),
+        Ok(Ordering::Less) => Some(if greatest { next } else { best }),
+        Ok(Ordering::Equal) => Some(best),
+        Ok(Ordering::Greater) => Some(if greatest { best } else { next }),
         Err(_) => None,
     }
 }

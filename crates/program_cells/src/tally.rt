@@ -4,7 +4,7 @@ ghost use Rattle.std.specs.Option.{option_to_list};
 ghost use Rattle.dh_base.specs.Fractions.{Fraction, fraction_of};
 ghost use Rattle.program_cells.specs.Code.{gathered};
 ghost use Rattle.program_cells.specs.Value.{aggregated};
-ghost use Rattle.program_cells.specs.Tally.{taken_at, summed, numbered, by_sum, tallied};
+ghost use Rattle.program_cells.specs.Tally.{taken_at, summed, numbered, tallied};
 
 use crate::samples::{WholeSum, some_of, unless_fault, whole, with_whole};
 use dh_base::frac::Frac;
@@ -84,17 +84,6 @@ pub(crate) fn tally_at(samples: &[Option<Option<Frac>>], places: &[usize]) -> Op
     Some(tally)
 }
 
-fn by_sum(by: AggType, sum: Frac, count: usize) -> Option<Option<Option<Frac>>>
-    ensures { result ≡ by_sum by sum count }
-{
-    match by {
-        AggType::Sum => Some(Some(Some(sum))),
-        AggType::Average => Some(some_of(unless_fault(sum.div(whole(count))))),
-        AggType::Count => Some(Some(Some(whole(count)))),
-        _ => None,
-    }
-}
-
 #[tactic(auto, unfolding(crate::specs::Tally::tallied))]
 pub(crate) fn tallied(by: AggType, sum: Frac, count: usize) -> Option<Option<Option<Frac>>>
     ensures { result ≡ tallied by sum count }
@@ -102,7 +91,12 @@ pub(crate) fn tallied(by: AggType, sum: Frac, count: usize) -> Option<Option<Opt
     if count == 0 {
         return Some(Some(None));
     }
-    by_sum(by, sum, count)
+    match by {
+        AggType::Sum => Some(Some(Some(sum))),
+        AggType::Average => Some(some_of(unless_fault(sum.div(whole(count))))),
+        AggType::Count => Some(Some(Some(whole(count)))),
+        _ => None,
+    }
 }
 
 /// The one number of the samples at these places by the aggregation type, where their sum and their number tell it and all are whole

@@ -1,7 +1,7 @@
 use Rattle.std.proofs.Common.{◌∙◌}
 use Rattle.program_cells.specs.Places.{order_of}
 use Rattle.program_cells.proofs.PlaceLemmas.{none-yet, empty-more}
-use Rattle.program_cells.proofs.placed.empty_lists.Goals as goal
+use Rattle.program_cells.proofs.placed.lists_for.Goals as goal
 
 pub loop-unit-init : goal.loop-unit-init
 loop-unit-init c = none-yet order_of c.new-lists.result.items c.new-lists.ensures.items
