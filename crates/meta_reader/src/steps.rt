@@ -41,6 +41,9 @@ use meta_rules::stages::first_broken;
 use std::alloc::Global;
 use std::mem::replace;
 
+// How many objects of a kind can be told apart by their numbers, less one.
+const MOST: usize = 4_294_967_295;
+
 // Identifiers are read after a `&`, since this crate can't take them out of another's enum.
 fn twice(fault: &IdsFault) -> MetaFault
     ensures { result ≡ twice_told fault.now }
@@ -131,18 +134,6 @@ fn take_unread(alloc: Global, links: &mut Links) -> Unread
     }
 }
 
-// The objects that were linked, with those whose expressions were read.
-fn records_with(parts: &MetaParts, links: Links, made: Expressions) -> Records
-    ensures { result ≡ records_of parts.now links made }
-{
-    links.with(
-        made.indicators,
-        made.validation_rules,
-        made.program_indicators,
-        parts.acceptance_required,
-    )
-}
-
 /// The objects with their expressions, where each text is one.
 pub(crate) fn with_expressions(
     alloc: Global,
@@ -160,7 +151,12 @@ pub(crate) fn with_expressions(
     let mut links = links;
     let unread = take_unread(alloc, &mut links);
     match read(alloc, ids, parts, unread) {
-        Ok(made) => Ok(records_with(parts, links, made)),
+        Ok(made) => Ok(links.with(
+            made.indicators,
+            made.validation_rules,
+            made.program_indicators,
+            parts.acceptance_required,
+        )),
         Err(fault) => {
             drop(links);
             Err(fault)
@@ -177,12 +173,6 @@ fn broken(fault: RuleFault) -> MetaFault
     }
 }
 
-fn is_many(number: usize) -> bool
-    ensures is { result ≡ nat_lt 4294967295 number }
-{
-    number > 4_294_967_295
-}
-
 /// What the rules between objects hand on, where they are kept.
 #[tactic(auto, unfolding(crate::specs::Faults::rule_fault))]
 pub(crate) fn ruled(alloc: Global, parts: &MetaParts, links: &Links) -> Result<Structure, MetaFault>
@@ -190,9 +180,9 @@ pub(crate) fn ruled(alloc: Global, parts: &MetaParts, links: &Links) -> Result<S
     requires in_range { CombosBelow (length links.now.category_combos) (option_combo_rows links.now.category_option_combos) }
     ensures { Finds meta_cause (rule_fault parts.now links.now) (IsHeld links.now) result }
 {
-    if is_many(links.organisation_units.len())
-        || is_many(links.category_option_combos.len())
-        || is_many(links.data_elements.len())
+    if links.organisation_units.len() > MOST
+        || links.category_option_combos.len() > MOST
+        || links.data_elements.len() > MOST
     {
         return Err(MetaFault::Memory);
     }
@@ -244,30 +234,6 @@ pub(crate) fn tried(
     }
 }
 
-fn unfit(ids: &Ids, records: &Records) -> Option<MetaFault>
-    ensures { result ≡ option_map broken (stages_broken ids.now records.now.program_stages records.now.program_indicators) }
-{
-    match first_broken(
-        ids,
-        records.program_stages.as_slice(),
-        records.program_indicators.as_slice(),
-    ) {
-        Some(fault) => Some(broken(fault)),
-        None => None,
-    }
-}
-
-fn passed(parts: &MetaParts, held: &Structure) -> Option<MetaFault>
-    ensures { result ≡ option_map passed (first_passed parts.now held.now.positions.items) }
-{
-    match first_passed(parts, &held.positions) {
-        Some(limit) => Some(MetaFault::Limit {
-            which: Which::Objects(limit),
-        }),
-        None => None,
-    }
-}
-
 /// The first program indicator that is unfit, else the first limit that is passed.
 pub(crate) fn late(
     ids: &Ids,
@@ -278,8 +244,14 @@ pub(crate) fn late(
     ensures { result ≡ option_or (option_map broken (stages_broken ids.now records.now.program_stages records.now.program_indicators))
         (option_map passed (first_passed parts.now held.now.positions.items)) }
 {
-    match unfit(ids, records) {
-        Some(fault) => Some(fault),
-        None => passed(parts, held),
+    let stages = records.program_stages.as_slice();
+    if let Some(fault) = first_broken(ids, stages, records.program_indicators.as_slice()) {
+        return Some(broken(fault));
     }
+    if let Some(limit) = first_passed(parts, &held.positions) {
+        return Some(MetaFault::Limit {
+            which: Which::Objects(limit),
+        });
+    }
+    None
 }
