@@ -1,3 +1,4 @@
+pub mod Named
 pub mod Reply
 pub mod Load
 pub mod Answer

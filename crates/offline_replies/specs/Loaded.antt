@@ -1,5 +1,5 @@
 -- Sets of samples, which the loader brings to the log of a machine in memory, one after the other.
-use Rattle.std.specs.Prelude.{◌≡◌, ◌≤◌, ◌+◌, ℕ, ℤ, List, [], ◌∷◌, None, Result, Ok, Err}
+use Rattle.std.specs.Prelude.{◌≡◌, ◌≤◌, ◌+◌, ℕ, ℤ, List, [], ◌∷◌, map, None, Result, Ok, Err}
 use Rattle.dh_base.specs.declared.codes.Refusal.{Refusal}
 use Rattle.dh_changes.specs.declared.change.Change.{Change}
 use Rattle.dh_metadata.specs.declared.held.Records.{Records}
@@ -10,11 +10,12 @@ use Rattle.engine.specs.Machine.{judged_in, log_by}
 use Rattle.engine.specs.Seen.{Seen}
 use Rattle.engine.specs.InMemory.{largest, loading, outcome_of}
 use Rattle.offline_replies.specs.declared.samples.draws.Sample.{Sample}
-use Rattle.offline_replies.specs.Sets.{set_of}
+use Rattle.offline_replies.specs.Load.{set_of}
+use Rattle.offline_replies.specs.Sets.{value_of}
 
 -- the loader asks for the import of some samples at a moment
 abbrev pub asked_for : ℤ → List Sample → Asked
-asked_for moment samples = loading moment (Values (set_of samples))
+asked_for moment samples = loading moment (Values (set_of (map value_of samples)))
 
 -- the log by what that comes to: a set for which the log has no room leaves it
 abbrev pub log_after : Records → List Change → Asked → Result Report Refusal → List Change

@@ -4,33 +4,27 @@ use Rattle.dh_base.specs.declared.codes.Code.{Code}
 use Rattle.dh_base.specs.declared.codes.Code.TheVariants.{F18}
 use Rattle.dh_base.specs.declared.codes.Refusal.{Refusal}
 use Rattle.request_session.specs.Bodies.{error_text}
+use Rattle.offline_replies.specs.declared.bundle.reply.Ending.{Ending}
 use Rattle.offline_replies.specs.declared.bundle.reply.Ending.TheVariants as ending
 use Rattle.offline_replies.specs.declared.bundle.reply.Reply.{Reply}
 
--- a text with a line feed after it
-abbrev pub line : List ℕ → List ℕ
-line text = text ++ 10 ∷ []
+-- a text with a line feed after it, told at this end
+unfoldable pub told : Ending → List ℕ → Reply
+told how text = record { ending = how; text = text ++ 10 ∷ [] }
 
 -- the metadata are refused with that fault
 unfoldable pub meta_refused : List ℕ → Reply
-meta_refused fault = record { ending = ending.MetaRefused; text = line (codes "dhis: metadata: " ++ fault) }
+meta_refused fault = told ending.MetaRefused (codes "dhis: metadata: " ++ fault)
 
 unfoldable pub query_refused : Refusal → Reply
-query_refused refusal = record { ending = ending.QueryRefused; text = line (error_text refusal) }
-
--- the values of the bundle are refused, and this body says why
-unfoldable pub data_refused : List ℕ → Reply
-data_refused body = record { ending = ending.DataRefused; text = line body }
-
-unfoldable pub answered : List ℕ → Reply
-answered body = record { ending = ending.Ok; text = line body }
+query_refused refusal = told ending.QueryRefused (error_text refusal)
 
 abbrev pub refusal : Code → List ℕ → Refusal
 refusal code detail = record { code = code; detail = detail }
 
 -- the body of an answer, or the item that is too wide
 unfoldable pub answer_reply : Result (List ℕ) (List ℕ) → Reply
-answer_reply (Ok body) = answered body
+answer_reply (Ok body) = told ending.Ok body
 answer_reply (Err id) = query_refused (refusal F18 id)
 
 -- the reply to this refusal; there is none without one

@@ -5,25 +5,19 @@ use Rattle.std.specs.Option.{option_map_or}
 use Rattle.std.specs.Fmt.{decimal}
 use Rattle.dh_base.specs.Decimals.{printed}
 use Rattle.dh_base.specs.Fractions.{Fraction}
-use Rattle.dh_base.specs.Uid.{uid_of}
 use Rattle.dh_changes.specs.declared.change.Change.{Change}
 use Rattle.dh_periods.specs.declared.name.PeriodName.{PeriodName}
 use Rattle.dh_periods.specs.Texts.{period_of}
 use Rattle.dh_metadata.specs.declared.held.Records.{Records}
-use Rattle.dh_metadata.specs.declared.kind.Kind.{Kind}
 use Rattle.dh_metadata.specs.declared.kind.Kind.TheVariants.{DataElement, OrganisationUnit, User}
-use Rattle.dh_metadata.specs.Objects.{find_of}
 use Rattle.table_rows.specs.declared.row.Row.{Row}
 use Rattle.cell_values.specs.Seen.{seen}
 use Rattle.cell_values.specs.Cells.{cell_of, aggregate_of}
 use Rattle.engine.specs.MetaAfter.{meta_after}
 use Rattle.engine.specs.Tables.{tables_of}
+use Rattle.offline_replies.specs.Named.{named}
 use Rattle.offline_replies.specs.Counts.{rows_counted}
 use Rattle.offline_replies.specs.Ids.{country_id, element_id, user_id}
-
--- the object of a kind with an identifier
-abbrev pub named : Records → Kind → List ℕ → Option ℕ
-named r kind text = option_and_then (find_of r kind) (uid_of text)
 
 -- the two years that samples are of
 unfoldable pub years : List PeriodName

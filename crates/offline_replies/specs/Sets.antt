@@ -1,9 +1,7 @@
--- Samples as data value sets.
-use Rattle.std.specs.Prelude.{ℕ, zero, suc, ◌+◌, ◌-◌, ◌/◌, min, false, List, [], ◌∷◌, map, None, Some}
+-- Samples as data values, and in sets of at most 1,000.
+use Rattle.std.specs.Prelude.{ℕ, zero, suc, ◌+◌, ◌-◌, ◌/◌, min, false, List, [], ◌∷◌, None, Some}
 use Rattle.std.specs.Fmt.{decimal}
-use Rattle.dh_changes.specs.declared.outcome.ImportStrategy.TheVariants.{CreateAndUpdate}
 use Rattle.import_forms.specs.declared.set.SetValue.{SetValue}
-use Rattle.import_forms.specs.declared.set.ValueSet.{ValueSet}
 use Rattle.offline_replies.specs.declared.samples.draws.Sample.{Sample}
 use Rattle.offline_replies.specs.Draws.{start, samples, after_samples}
 use Rattle.offline_replies.specs.Ids.{element_id, facility_id, month_text}
@@ -18,18 +16,6 @@ value_of sample = record {
   period = Some (month_text sample.month);
   unit = Some (facility_id sample.facility);
   deleted = false;
-}
-
--- the set of some samples: they may create and update
-unfoldable pub set_of : List Sample → ValueSet
-set_of list = record {
-  params = record { strategy = CreateAndUpdate; dry = false };
-  data_set = None;
-  complete_date = None;
-  period = None;
-  unit = None;
-  attribute = None;
-  values = map value_of list;
 }
 
 -- so many samples from a state on, 1,000 at a time: the last time what is left

@@ -1,6 +1,5 @@
 //! The reply to a query over a bundle: a metadata file with data values.
 
 pub mod bytes;
-mod load;
 mod over;
 pub mod reply;

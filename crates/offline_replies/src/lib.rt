@@ -3,6 +3,8 @@
 #![tactic(auto)]
 
 pub mod bundle;
+mod load;
+mod named;
 pub mod samples;
 
 pub use bundle::bytes::{reply_to_bytes, reply_to_long};

@@ -1,11 +1,10 @@
 //! The reply over what a bundle says.
 
-ghost use Rattle.std.specs.Prelude.{◌≡◌, ◌<◌, ℕ, List, None, nat_eq, length, IfOk, IfSome};
-ghost use Rattle.dh_metadata.specs.declared.held.Records.{Records};
+ghost use Rattle.std.specs.Prelude.{◌≡◌, ◌<◌, List, None, length, IfOk};
 ghost use Rattle.json_read.specs.Forms.{Formed};
 ghost use Rattle.json_read.specs.Given.{Gives};
 ghost use Rattle.dh_periods.specs.Moment.{day_of};
-ghost use Rattle.engine.specs.InMemory.{started, Loads};
+ghost use Rattle.engine.specs.InMemory.{started};
 ghost use Rattle.engine.specs.MetaAfter.{meta_after};
 ghost use Rattle.query_answer.specs.Answer.{answer_of};
 ghost use Rattle.query_answer.specs.Asked.{CanAnswer};
@@ -15,24 +14,23 @@ ghost use Rattle.query_lang.specs.declared.query.TheConstants.{MOST_CELLS};
 ghost use Rattle.table_rows.specs.Store.{contents_in};
 ghost use Rattle.cell_values.specs.Seen.{seen_of};
 ghost use Rattle.import_forms.specs.declared.set.SetValue.{SetValue as Given};
-ghost use Rattle.offline_replies.specs.Load.{asked_for};
 ghost use Rattle.offline_replies.specs.Reply.{answer_reply, Refuses};
-ghost use Rattle.offline_replies.specs.Answer.{seen_after, reply_to_query, reply_by_status, reply_to_load, user_named, reply_by_user, reply_with_values};
+ghost use Rattle.offline_replies.specs.Answer.{seen_after, reply_to_query, reply_to_load, reply_with_values};
 ghost use Rattle.offline_replies.specs.Bytes.{asked};
 ghost use Rattle.offline_replies.specs.Steps.{IsOverParts};
 
 use crate::bundle::bytes::Forms;
-use crate::bundle::load::request_of;
-use crate::bundle::reply::{Reply, answered, data_refused, meta_refused, query_refused, refusal};
+use crate::bundle::reply::{Ending, Reply, meta_refused, query_refused, told};
+use crate::load::load_values;
+use crate::named::named;
 use cell_values::Seer;
 use dh_base::codes::{Code, Refusal};
 use dh_base::items::Items;
 use dh_base::memory::Memory;
-use dh_base::uid::Uid;
 use dh_metadata::kind::Kind;
 use dh_metadata::metadata::Metadata;
 use dh_periods::day_of;
-use engine::{Engine, Report, Tables, Unkept, engine_in_memory, load, tables_of_all};
+use engine::{Engine, Tables, Unkept, engine_in_memory, tables_of_all};
 use import_forms::set::SetValue;
 use json_read::fault::FormFault;
 use meta_reader::build::build as metadata;
@@ -60,8 +58,14 @@ fn over_tables(
     let found = answer(alloc, meta, tables, &seer, query);
     drop(seer);
     match found {
-        Ok(body) => answered(body.items),
-        Err(AnswerFault::Wide { id }) => query_refused(alloc, &refusal(Code::F18, id)),
+        Ok(body) => told(Ending::Ok, body.items),
+        Err(AnswerFault::Wide { id }) => query_refused(
+            alloc,
+            &Refusal {
+                code: Code::F18,
+                detail: id,
+            },
+        ),
         Err(AnswerFault::Memory) => Err(Memory),
     }
 }
@@ -122,44 +126,7 @@ fn reply_to_query(
     }
 }
 
-// The reply over a log that the values of the bundle are in, unless the report on them says that some are not.
-fn reply_by_report(
-    alloc: Global,
-    engine: &mut Engine<Unkept>,
-    user: u32,
-    query: &[u8],
-    moment: i64,
-    report: Report,
-) -> Result<Reply, Memory>
-    requires free { engine.old.state.full ≡ None }
-    requires more { engine.old.state.ticket < engine.old.limits.updates }
-    requires user { user < length engine.old.meta.users }
-    ensures { IfOk result (λ reply. reply ≡ reply_by_status engine.old.meta user query.now moment engine.old.state.log report (nat_eq report.status 200)) }
-{
-    if report.status == 200 {
-        reply_to_query(alloc, engine, user, query, moment)
-    } else {
-        data_refused(report.body.items)
-    }
-}
-
-// Brings the values to the engine. They are let go of here.
-fn load_values(
-    alloc: Global,
-    engine: &mut Engine<Unkept>,
-    moment: i64,
-    values: Items<SetValue>,
-) -> Result<Result<Report, Refusal>, Memory>
-    requires { engine.old.faults ≡ 0 }
-    ensures { Loads engine.old (asked_for moment values) result engine.new }
-{
-    let request = request_of(values);
-    let found = load(alloc, engine, moment, &request);
-    drop(request);
-    found
-}
-
-// The reply over an engine without a change, to which the values are brought.
+// The reply over an engine without a change, to which the values are brought. All are taken, or the report on them says which are not.
 #[tactic(auto, unfolding(crate::specs::Answer::reply_to_load))]
 fn reply_to_load(
     alloc: Global,
@@ -173,42 +140,15 @@ fn reply_to_load(
     requires user { user < length engine.old.meta.users }
     ensures { IfOk result (λ reply. reply ≡ reply_to_load engine.old.meta user query.now moment values) }
 {
-    let found = load_values(alloc, engine, moment, values)?;
-    match found {
-        Ok(report) => reply_by_report(alloc, engine, user, query, moment, report),
-        Err(refused) => data_refused(error_body(alloc, &refused)?),
-    }
-}
-
-// The user with an identifier.
-fn user_named(meta: &Metadata, name: &[u8]) -> Option<u32>
-    ensures value { result ≡ user_named meta.now name.now }
-    ensures in_range { IfSome result (λ user. user < length meta.now.users) }
-{
-    match Uid::parse(name) {
-        Some(id) => meta.find(Kind::User, id),
-        None => None,
-    }
-}
-
-// The reply to the user with an identifier, over the values of a bundle.
-fn reply_to_user(
-    alloc: Global,
-    engine: &mut Engine<Unkept>,
-    user: &[u8],
-    query: &[u8],
-    moment: i64,
-    values: Items<SetValue>,
-) -> Result<Reply, Memory>
-    requires { engine.old ≡ started engine.old.meta }
-    ensures { IfOk result (λ reply. reply ≡ reply_by_user engine.old.meta (user_named engine.old.meta user.now) query.now moment values) }
-{
-    match user_named(engine.meta(), user) {
-        Some(user) => reply_to_load(alloc, engine, user, query, moment, values),
-        None => {
-            drop(values);
-            query_refused(alloc, &refusal(Code::F8, Items::new(alloc)))
+    match load_values(alloc, engine, moment, values)? {
+        Ok(report) => {
+            if report.status == 200 {
+                reply_to_query(alloc, engine, user, query, moment)
+            } else {
+                told(Ending::DataRefused, report.body.items)
+            }
         }
+        Err(refused) => told(Ending::DataRefused, error_body(alloc, &refused)?),
     }
 }
 
@@ -227,32 +167,25 @@ fn reply_to_values(
         → reply ≡ reply_with_values engine.old.meta user.now query.now moment formed) }
 {
     match values {
-        Ok(values) => reply_to_user(alloc, engine, user, query, moment, values),
+        Ok(values) => match named(engine.meta(), Kind::User, user) {
+            Some(user) => reply_to_load(alloc, engine, user, query, moment, values),
+            None => {
+                drop(values);
+                query_refused(
+                    alloc,
+                    &Refusal {
+                        code: Code::F8,
+                        detail: Items::new(alloc),
+                    },
+                )
+            }
+        },
         Err(FormFault::At(path)) => meta_refused(alloc, &MetaFault::Shape { path }),
         Err(FormFault::Memory) => Err(Memory),
     }
 }
 
-// The same over an engine that nothing uses afterwards. Its memory isn't given back piece by piece: the program ends with the reply.
-fn over_engine(
-    alloc: Global,
-    engine: Engine<Unkept>,
-    user: &[u8],
-    query: &[u8],
-    moment: i64,
-    values: Result<Items<SetValue>, FormFault>,
-) -> Result<Reply, Memory>
-    requires { engine ≡ started engine.meta }
-    ensures { IfOk result (λ reply. (formed : Formed (List Given)) → Gives formed values
-        → reply ≡ reply_with_values engine.meta user.now query.now moment formed) }
-{
-    let mut engine = engine;
-    let reply = reply_to_values(alloc, &mut engine, user, query, moment, values);
-    forget(engine);
-    reply
-}
-
-// The same over metadata.
+// The same over metadata. The memory of their engine isn't given back piece by piece: the program ends with the reply.
 fn over_metadata(
     alloc: Global,
     meta: Metadata,
@@ -264,7 +197,12 @@ fn over_metadata(
     ensures { IfOk result (λ reply. (formed : Formed (List Given)) → Gives formed values → reply ≡ reply_with_values meta user.now query.now moment formed) }
 {
     match engine_in_memory(alloc, meta) {
-        Ok(engine) => over_engine(alloc, engine, user, query, moment, values),
+        Ok(engine) => {
+            let mut engine = engine;
+            let reply = reply_to_values(alloc, &mut engine, user, query, moment, values);
+            forget(engine);
+            reply
+        }
         Err(memory) => {
             drop(values);
             Err(memory)

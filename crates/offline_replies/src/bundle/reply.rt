@@ -1,10 +1,10 @@
 //! How a query over a bundle ends, and what is told.
 
-ghost use Rattle.std.specs.Prelude.{◌≡◌, ◌∷◌, ◌++◌, [], IfOk};
-ghost use Rattle.offline_replies.specs.Reply.{line, meta_refused, query_refused, data_refused, answered, refusal};
+ghost use Rattle.std.specs.Prelude.{◌≡◌, IfOk};
+ghost use Rattle.offline_replies.specs.Reply.{told, meta_refused, query_refused};
 ghost use Rattle.meta_reader.specs.Line.{line_of};
 
-use dh_base::codes::{Code, Refusal};
+use dh_base::codes::Refusal;
 use dh_base::items::Items;
 use dh_base::memory::Memory;
 use meta_reader::fault::MetaFault;
@@ -13,7 +13,7 @@ use request_session::error_body;
 use std::alloc::Global;
 
 /// How a query over a bundle ends.
-#[derive(Clone, Copy, PartialEq, Eq)]
+#[derive(Clone, Copy)]
 pub enum Ending {
     /// It is answered.
     Ok,
@@ -32,33 +32,16 @@ pub struct Reply {
     pub text: Items<u8>,
 }
 
-fn line(text: Vec<u8>) -> Result<Items<u8>, Memory>
-    ensures { IfOk result (λ made. made ≡ line text.items) }
+/// A reply that ends so, with a line feed after its text.
+#[tactic(auto, unfolding(crate::specs::Reply::told))]
+pub(crate) fn told(ending: Ending, text: Vec<u8>) -> Result<Reply, Memory>
+    ensures { IfOk result (λ reply. reply ≡ told ending text.items) }
 {
-    let mut bytes = text;
-    bytes.push(b'\n')?;
-    Ok(Items::from(bytes))
-}
-
-/// The body of an answer.
-#[tactic(auto, unfolding(crate::specs::Reply::answered))]
-pub(crate) fn answered(body: Vec<u8>) -> Result<Reply, Memory>
-    ensures { IfOk result (λ reply. reply ≡ answered body.items) }
-{
+    let mut text = text;
+    text.push(b'\n')?;
     Ok(Reply {
-        ending: Ending::Ok,
-        text: line(body)?,
-    })
-}
-
-/// The values of a bundle are refused with that body.
-#[tactic(auto, unfolding(crate::specs::Reply::data_refused))]
-pub(crate) fn data_refused(body: Vec<u8>) -> Result<Reply, Memory>
-    ensures { IfOk result (λ reply. reply ≡ data_refused body.items) }
-{
-    Ok(Reply {
-        ending: Ending::DataRefused,
-        text: line(body)?,
+        ending,
+        text: Items::from(text),
     })
 }
 
@@ -67,34 +50,16 @@ pub(crate) fn data_refused(body: Vec<u8>) -> Result<Reply, Memory>
 pub(crate) fn query_refused(alloc: Global, refused: &Refusal) -> Result<Reply, Memory>
     ensures { IfOk result (λ reply. reply ≡ query_refused refused.now) }
 {
-    Ok(Reply {
-        ending: Ending::QueryRefused,
-        text: line(error_body(alloc, refused)?)?,
-    })
-}
-
-pub(crate) fn refusal(code: Code, detail: Items<u8>) -> Refusal
-    ensures { result ≡ refusal code detail }
-{
-    Refusal { code, detail }
-}
-
-#[tactic(auto, unfolding(crate::specs::Reply::meta_refused))]
-fn told(alloc: Global, fault: &[u8]) -> Result<Reply, Memory>
-    ensures { IfOk result (λ reply. reply ≡ meta_refused fault.now) }
-{
-    let mut bytes = b"dhis: metadata: ".to_vec(alloc)?;
-    bytes.extend_from_slice(fault)?;
-    Ok(Reply {
-        ending: Ending::MetaRefused,
-        text: line(bytes)?,
-    })
+    told(Ending::QueryRefused, error_body(alloc, refused)?)
 }
 
 /// Refused metadata, by their first fault.
+#[tactic(auto, unfolding(crate::specs::Reply::meta_refused))]
 pub(crate) fn meta_refused(alloc: Global, fault: &MetaFault) -> Result<Reply, Memory>
     ensures { IfOk result (λ reply. reply ≡ meta_refused (line_of fault.now)) }
 {
-    let text = fault_line(alloc, fault)?;
-    told(alloc, text.as_slice())
+    let line = fault_line(alloc, fault)?;
+    let mut text = b"dhis: metadata: ".to_vec(alloc)?;
+    text.extend_from_slice(line.as_slice())?;
+    told(Ending::MetaRefused, text)
 }

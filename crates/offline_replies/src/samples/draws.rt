@@ -6,7 +6,7 @@ use dh_base::memory::Memory;
 use std::alloc::Global;
 
 /// A value at a facility in a month.
-#[derive(Clone, Copy, PartialEq, Eq)]
+#[derive(Drop)]
 pub struct Sample {
     /// The number of the facility, from 0 to 99.
     pub facility: u32,
@@ -16,7 +16,7 @@ pub struct Sample {
     pub amount: u32,
 }
 
-/// Draws of samples, one after the other.
+/// Draws of samples, one after the other, from state 1 on.
 #[derive(Drop)]
 pub struct Draws {
     /// The state of the generator.
@@ -24,13 +24,6 @@ pub struct Draws {
 }
 
 impl Draws {
-    /// Draws from the beginning.
-    pub fn new() -> Draws
-        ensures { result.state ≡ spec.start }
-    {
-        Draws { state: 1 }
-    }
-
     // The next draw.
     #[tactic(auto, unfolding(crate::specs::Draws::next, crate::specs::Draws::drawn))]
     fn next_number(&mut self) -> u32

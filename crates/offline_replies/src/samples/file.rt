@@ -1,6 +1,5 @@
 //! The metadata that samples are of, as a metadata file.
 ghost use Rattle.std.specs.Prelude.{◌≡◌, ◌++◌, IfOk, OnOk};
-ghost use Rattle.offline_replies.specs.Ids.{facility_id, district_id};
 ghost use Rattle.offline_replies.specs.File as spec;
 
 use crate::samples::ids::{COUNTRY, push_district, push_facility};

@@ -1,10 +1,8 @@
 //! The objects that samples are of.
-ghost use Rattle.std.specs.Prelude.{◌≡◌, ◌++◌, IfOk, OnOk};
+ghost use Rattle.std.specs.Prelude.{◌≡◌, ◌++◌, OnOk};
 ghost use Rattle.offline_replies.specs.Ids as spec;
 
-use dh_base::items::Items;
 use dh_base::memory::Memory;
-use std::alloc::Global;
 
 /// The identifier of the one country.
 pub const COUNTRY: &[u8; 11] = b"GenCountry1";
@@ -38,22 +36,4 @@ pub(crate) fn push_facility(text: &mut Vec<u8>, n: u32) -> Result<(), Memory>
     text.extend_from_slice(b"GenFacil")?;
     text.extend_from_slice(&[digit(n / 100), digit(n / 10), digit(n)])?;
     Ok(())
-}
-
-/// The identifier of a facility.
-pub fn facility_id(alloc: Global, n: u32) -> Result<Items<u8>, Memory>
-    ensures { IfOk result (λ id. id ≡ spec.facility_id n) }
-{
-    let mut text = Vec::new(alloc);
-    push_facility(&mut text, n)?;
-    Ok(Items::from(text))
-}
-
-/// The text of a month, counted from January 2023.
-#[tactic(auto, unfolding(crate::specs::Ids::month_text))]
-pub fn month_text(alloc: Global, month: u32) -> Result<Items<u8>, Memory>
-    ensures { IfOk result (λ text. text ≡ spec.month_text month) }
-{
-    let number = 202_301 + u64::from(month) / 12 * 100 + u64::from(month) % 12;
-    Ok(Items::from(format!(in alloc; "{number}")?.into_bytes()))
 }

@@ -1,16 +1,16 @@
 //! Samples, brought to an engine set by set.
 ghost use Rattle.std.specs.Prelude.{◌≡◌, ◌≤◌, ◌<◌, ◌+◌, ◌/◌, ℕ, [], None, OnOk};
 ghost use Rattle.dh_metadata.specs.declared.held.Records.{Records};
-ghost use Rattle.engine.specs.InMemory.{largest, started, Loads};
+ghost use Rattle.engine.specs.InMemory.{largest, started};
 ghost use Rattle.offline_replies.specs.Sets.{sample_sets};
-ghost use Rattle.offline_replies.specs.Loaded.{asked_for, with_set, log_with, HasLoaded, IsUpdated};
+ghost use Rattle.offline_replies.specs.Loaded.{with_set, log_with, HasLoaded, IsUpdated};
 
+use crate::load::load_values;
 use crate::samples::draws::{Draws, Sample};
-use crate::samples::sets::set_of;
-use dh_base::codes::Refusal;
+use crate::samples::sets::values_of;
 use dh_base::memory::Memory;
 use dh_base::plain::CutKind;
-use engine::{ChangeRequest, Engine, Report, Unkept, load};
+use engine::{Engine, Unkept};
 use std::alloc::Global;
 
 // The most samples of a set.
@@ -19,23 +19,7 @@ const MOST_SAMPLES: u32 = 1000;
 // After so many sets, each time, the latest part of the tables is made anew.
 const SETS_BETWEEN: u32 = 10;
 
-// Brings samples to the engine. Their set is let go of here.
-fn load_set(
-    alloc: Global,
-    engine: &mut Engine<Unkept>,
-    moment: i64,
-    samples: &[Sample],
-) -> Result<Result<Report, Refusal>, Memory>
-    requires { engine.old.faults ≡ 0 }
-    ensures { Loads engine.old (asked_for moment samples.now) result engine.new }
-{
-    let request = ChangeRequest::Values(set_of(alloc, samples)?);
-    let found = load(alloc, engine, moment, &request);
-    drop(request);
-    found
-}
-
-// The same, whatever the report on them is.
+// Brings samples to the engine, whatever the report on them is.
 fn bring(
     alloc: Global,
     engine: &mut Engine<Unkept>,
@@ -47,7 +31,8 @@ fn bring(
     ensures loaded { (r : Records) (updates : ℕ) → HasLoaded r updates engine.old → HasLoaded r updates engine.new }
     ensures log { OnOk result (engine.new.state.log ≡ with_set engine.old.meta moment engine.old.state.log samples.now) }
 {
-    let found = load_set(alloc, engine, moment, samples)?;
+    let values = values_of(alloc, samples)?;
+    let found = load_values(alloc, engine, moment, values)?;
     drop(found);
     Ok(())
 }
@@ -104,7 +89,7 @@ pub(crate) fn load_samples(
     ensures loaded { OnOk result (HasLoaded engine.old.meta 200 engine.new) }
     ensures log { OnOk result (engine.new.state.log ≡ log_with engine.old.meta moment [] (sample_sets count)) }
 {
-    let mut draws = Draws::new();
+    let mut draws = Draws { state: 1 };
     let mut left = count;
     let sets = set_count(count);
     for set in 0..sets {

@@ -31,30 +31,18 @@ fn report_by(
     report_of(alloc, engine, count)
 }
 
-// The same by an engine that is let go of afterwards.
-fn report_once(
-    alloc: Global,
-    engine: Engine<Unkept>,
-    moment: i64,
-    count: u32,
-) -> Result<Items<u8>, Memory>
-    requires few { count ≤ 200000 }
-    requires start { engine ≡ started engine.meta }
-    ensures { IfOk result (λ text. text ≡ generated_text engine.meta moment count) }
-{
-    let mut engine = engine;
-    let text = report_by(alloc, &mut engine, moment, count);
-    drop(engine);
-    text
-}
-
 // The report over metadata.
 fn report_over(alloc: Global, meta: Metadata, moment: i64, count: u32) -> Result<Items<u8>, Memory>
     requires { count ≤ 200000 }
     ensures { IfOk result (λ text. text ≡ generated_text meta moment count) }
 {
     match engine_in_memory(alloc, meta) {
-        Ok(engine) => report_once(alloc, engine, moment, count),
+        Ok(engine) => {
+            let mut engine = engine;
+            let text = report_by(alloc, &mut engine, moment, count);
+            drop(engine);
+            text
+        }
         Err(memory) => Err(memory),
     }
 }

@@ -1,54 +1,50 @@
-//! Samples as data value sets.
+//! Samples as data values.
 ghost use Rattle.std.specs.Prelude.{◌≡◌, IfOk, map};
 ghost use Rattle.std.specs.Fmt.{decimal};
-ghost use Rattle.offline_replies.specs.Ids.{element_id, facility_id, month_text};
-ghost use Rattle.offline_replies.specs.Sets.{value_of, set_of};
+ghost use Rattle.offline_replies.specs.Ids.{facility_id, month_text};
+ghost use Rattle.offline_replies.specs.Sets.{value_of};
 
 use crate::samples::draws::Sample;
-use crate::samples::ids::{ELEMENT, facility_id, month_text};
+use crate::samples::ids::{ELEMENT, push_facility};
 use dh_base::items::Items;
 use dh_base::memory::Memory;
-use dh_changes::outcome::ImportStrategy;
 use dh_changes::text::Text;
-use import_forms::set::{SetParams, SetValue, ValueSet};
+use import_forms::set::SetValue;
 use std::alloc::Global;
 
-#[tactic(auto, unfolding(crate::specs::Ids::element_id))]
-fn element_text(alloc: Global) -> Result<Text, Memory>
-    ensures { IfOk result (λ text. text ≡ element_id) }
+fn number_text(alloc: Global, number: u64) -> Result<Text, Memory>
+    ensures { IfOk result (λ text. text ≡ decimal number) }
 {
-    Text::of(alloc, ELEMENT.as_slice())
-}
-
-fn amount_text(alloc: Global, amount: u32) -> Result<Text, Memory>
-    ensures { IfOk result (λ text. text ≡ decimal amount) }
-{
-    let digits = format!(in alloc; "{amount}")?.into_bytes();
+    let digits = format!(in alloc; "{number}")?.into_bytes();
     Text::of(alloc, digits.as_slice())
 }
 
-fn period_text(alloc: Global, month: u32) -> Result<Text, Memory>
+// The text of a month, counted from January 2023.
+#[tactic(auto, unfolding(crate::specs::Ids::month_text))]
+fn month_text(alloc: Global, month: u32) -> Result<Text, Memory>
     ensures { IfOk result (λ text. text ≡ month_text month) }
 {
-    let month = month_text(alloc, month)?;
-    Text::of(alloc, month.as_slice())
+    let number = 202_301 + u64::from(month) / 12 * 100 + u64::from(month) % 12;
+    number_text(alloc, number)
 }
 
-fn unit_text(alloc: Global, facility: u32) -> Result<Text, Memory>
+// The identifier of a facility.
+fn facility_text(alloc: Global, facility: u32) -> Result<Text, Memory>
     ensures { IfOk result (λ text. text ≡ facility_id facility) }
 {
-    let id = facility_id(alloc, facility)?;
+    let mut id = Vec::new(alloc);
+    push_facility(&mut id, facility)?;
     Text::of(alloc, id.as_slice())
 }
 
-#[tactic(auto, unfolding(crate::specs::Sets::value_of))]
+#[tactic(auto, unfolding(crate::specs::Sets::value_of, crate::specs::Ids::element_id))]
 fn value_of(alloc: Global, sample: &Sample) -> Result<SetValue, Memory>
     ensures { IfOk result (λ value. value ≡ value_of sample.now) }
 {
-    let element = element_text(alloc)?;
-    let value = amount_text(alloc, sample.amount)?;
-    let period = period_text(alloc, sample.month)?;
-    let unit = unit_text(alloc, sample.facility)?;
+    let element = Text::of(alloc, ELEMENT.as_slice())?;
+    let value = number_text(alloc, sample.amount as u64)?;
+    let period = month_text(alloc, sample.month)?;
+    let unit = facility_text(alloc, sample.facility)?;
     Ok(SetValue {
         element: Some(element),
         combo: None,
@@ -60,7 +56,8 @@ fn value_of(alloc: Global, sample: &Sample) -> Result<SetValue, Memory>
     })
 }
 
-fn values_of(alloc: Global, samples: &[Sample]) -> Result<Items<SetValue>, Memory>
+/// The values of some samples.
+pub(crate) fn values_of(alloc: Global, samples: &[Sample]) -> Result<Items<SetValue>, Memory>
     ensures { IfOk result (λ values. values ≡ map value_of samples.now) }
 {
     let mut values = Vec::new(alloc);
@@ -68,24 +65,4 @@ fn values_of(alloc: Global, samples: &[Sample]) -> Result<Items<SetValue>, Memor
         values.push(value_of(alloc, sample)?)?;
     }
     Ok(Items::from(values))
-}
-
-/// The set of some samples.
-#[tactic(auto, unfolding(crate::specs::Sets::set_of))]
-pub(crate) fn set_of(alloc: Global, samples: &[Sample]) -> Result<ValueSet, Memory>
-    ensures { IfOk result (λ set. set ≡ set_of samples.now) }
-{
-    let values = values_of(alloc, samples)?;
-    Ok(ValueSet {
-        params: SetParams {
-            strategy: ImportStrategy::CreateAndUpdate,
-            dry: false,
-        },
-        data_set: None,
-        complete_date: None,
-        period: None,
-        unit: None,
-        attribute: None,
-        values,
-    })
 }

@@ -1,33 +1,20 @@
 //! The rows of the samples, and their total, as the user sees it.
-ghost use Rattle.std.specs.Prelude.{◌≡◌, ◌<◌, ℕ, List, length, Some, IfOk, IfSome, pos};
-ghost use Rattle.dh_metadata.specs.Objects.{count_of};
+ghost use Rattle.std.specs.Prelude.{◌≡◌, ◌<◌, length, Some, IfOk};
 ghost use Rattle.offline_replies.specs.Ids.{country_id, element_id, user_id};
-ghost use Rattle.offline_replies.specs.Report.{named, years, records_of, total_for, total_of, total_text};
+ghost use Rattle.offline_replies.specs.Report.{years, records_of, total_for, total_of, total_text};
 
+use crate::named::named;
 use crate::samples::counts::count_rows;
 use crate::samples::ids::{COUNTRY, ELEMENT, USER};
 use cell_values::{CellPeriods, CellUnits, Operand, Seer, Source, element_value};
 use dh_base::frac::Frac;
-use dh_base::items::Items;
 use dh_base::memory::Memory;
 use dh_base::print::print_rounded;
-use dh_base::uid::Uid;
 use dh_metadata::kind::Kind;
 use dh_metadata::metadata::Metadata;
 use dh_periods::Period;
 use std::alloc::Global;
 use table_rows::RowStore;
-
-// The object of a kind with an identifier.
-fn named(meta: &Metadata, kind: Kind, text: &[u8]) -> Option<u32>
-    ensures value { result ≡ named meta.now kind text.now }
-    ensures in_range { IfSome result (λ n. n < count_of meta.now kind) }
-{
-    match Uid::parse(text) {
-        Some(id) => meta.find(kind, id),
-        None => None,
-    }
-}
 
 #[tactic(auto, unfolding(crate::specs::Report::years))]
 fn years(alloc: Global) -> Result<Vec<Period>, Memory>

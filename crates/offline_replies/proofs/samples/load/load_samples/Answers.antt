@@ -1,4 +1,4 @@
-use Rattle.std.proofs.Common.{◌∙◌, ◌+◌, FitsSigned, to_z, of_z, to_z-of_z, w64, subst, arith}
+use Rattle.std.proofs.Common.{◌∙◌, ◌+◌, FitsSigned, to_z, of_z, to_z-of_z, w64, subst, refl, arith}
 use Rattle.dh_metadata.specs.declared.held.Records.{Records}
 use Rattle.offline_replies.specs.Loaded.{HasLoaded}
 use Rattle.offline_replies.proofs.LoadLemmas.{nothing-loaded, own-meta, still_loaded, few_sets, few_sets_done, none-brought, set-step, all-brought}
@@ -8,7 +8,7 @@ pub loop-set-init : goal.loop-set-init
 loop-set-init c = record {
   loaded = nothing-loaded c.args.engine.now c.requires.start;
   within = omega arith;
-  rest = none-brought c.args.engine.now (to_z w64 (of_z w64 c.args.moment)) c.set_count-sets.result c.args.count _ c.requires.start c.new-draws.ensures;
+  rest = none-brought c.args.engine.now (to_z w64 (of_z w64 c.args.moment)) c.set_count-sets.result c.args.count _ c.requires.start refl;
 }
 
 pub update_after-requires-clause-few : goal.update_after-requires-clause-few
