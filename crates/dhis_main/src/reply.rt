@@ -11,7 +11,7 @@ use dh_base::limits::MOST_INPUT_BYTES;
 use dh_base::memory::Memory;
 use dh_outside::{Clock, FileFault, Source, read_all};
 use offline_replies::{Ending, Reply as BundleReply, generated, reply_to_bytes, reply_to_long};
-use std::alloc::{AllocError, AllocFailed, Global};
+use std::alloc::Global;
 
 /// What the program writes, and what it came to.
 #[derive(Drop)]
@@ -33,22 +33,6 @@ impl From<Memory> for Fault {
     ghost from_gives = { λ _ fault. fault ≡ OutOfMemory };
 
     fn from(_: Memory) -> Fault {
-        Fault::Memory
-    }
-}
-
-impl From<AllocError> for Fault {
-    ghost from_gives = { λ _ fault. fault ≡ OutOfMemory };
-
-    fn from(_: AllocError) -> Fault {
-        Fault::Memory
-    }
-}
-
-impl<T: Drop> From<AllocFailed<T>> for Fault {
-    ghost from_gives = { λ _ fault. fault ≡ OutOfMemory };
-
-    fn from(_: AllocFailed<T>) -> Fault {
         Fault::Memory
     }
 }

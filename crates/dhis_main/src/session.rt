@@ -1,6 +1,6 @@
 ghost use Rattle.std.specs.Prelude.{◌≡◌};
 ghost use Rattle.dhis_main.specs.Shown.{shown, side, folder};
-ghost use Rattle.dhis_main.specs.Session.{status_of, status_over, SessionRuns};
+ghost use Rattle.dhis_main.specs.Session.{status_over, SessionRuns};
 
 use crate::status::{Outcome, Status};
 use dh_base::limits::MOST_INPUT_BYTES;
@@ -12,27 +12,19 @@ use std::alloc::Global;
 // The most bytes that a metadata file may have.
 const MOST_BYTES: u64 = MOST_INPUT_BYTES as u64;
 
-fn status_of(ended: Ended) -> Status
-    ensures { result ≡ status_of ended }
-{
-    match ended {
-        Ended::Closed => Status::Done(Outcome::Ok),
-        Ended::Limit => Status::Done(Outcome::RequestLimit),
-        Ended::Truncated => Status::Done(Outcome::Truncated),
-        Ended::Refused(_) => Status::Done(Outcome::WireRefused),
-        Ended::ReadFault => Status::ReadFault,
-        Ended::WriteFault => Status::WriteFault,
-        Ended::Memory => Status::Memory,
-    }
-}
-
 fn status_over(end: SessionEnd) -> Status
     ensures { result ≡ status_over end }
 {
     match end {
         SessionEnd::Refused => Status::Done(Outcome::MetaRefused),
         SessionEnd::Unwritten => Status::WriteFault,
-        SessionEnd::Ended(ended) => status_of(ended),
+        SessionEnd::Ended(Ended::Closed) => Status::Done(Outcome::Ok),
+        SessionEnd::Ended(Ended::Limit) => Status::Done(Outcome::RequestLimit),
+        SessionEnd::Ended(Ended::Truncated) => Status::Done(Outcome::Truncated),
+        SessionEnd::Ended(Ended::Refused(_)) => Status::Done(Outcome::WireRefused),
+        SessionEnd::Ended(Ended::ReadFault) => Status::ReadFault,
+        SessionEnd::Ended(Ended::WriteFault) => Status::WriteFault,
+        SessionEnd::Ended(Ended::Memory) => Status::Memory,
         SessionEnd::Memory => Status::Memory,
     }
 }

@@ -2,9 +2,8 @@ ghost use Rattle.std.specs.Prelude.{◌≡◌, ◌≤◌, ◌<◌, ◌^◌, ◌+
 ghost use Rattle.std.specs.List.{list_all};
 ghost use Rattle.std.specs.Char.{is_ascii_digit};
 ghost use Rattle.std.specs.Str.Parse.{digits_value};
-ghost use Rattle.dhis_main.specs.Words.{fits_query, query_words, session_words, generate_words, counted, one_too_many, command_behind, command_of};
-ghost use Rattle.dhis_main.specs.Words.{serve_words, serving_of, after_workers, after_connections};
-ghost use Rattle.dhis_main.specs.Words.{begins_with_zero, is_plain_number, count_of, count_within, IsFit, is_word, flag_of};
+ghost use Rattle.dhis_main.specs.Words.{query_words, session_words, generate_words, serve_words, after_workers, command_of, serving_of};
+ghost use Rattle.dhis_main.specs.Words.{begins_with_zero, is_plain_number, count_of, IsFit, is_word, flag_of};
 
 /// A command of the command line.
 #[derive(Clone, Copy, Drop)]
@@ -36,7 +35,12 @@ const MOST_CONNECTIONS: u32 = 1_000_000;
 fn has_digits(word: &[u8]) -> bool
     ensures { result ≡ list_all is_ascii_digit word.now }
 {
-    word.iter().all(|byte| byte.is_ascii_digit())
+    for byte in word {
+        if !byte.is_ascii_digit() {
+            return false;
+        }
+    }
+    true
 }
 
 fn begins_with_zero(word: &[u8]) -> bool
@@ -71,18 +75,6 @@ fn digits_value(word: &[u8]) -> u32
     value
 }
 
-fn count_within(most: u32, count: u32) -> Option<u32>
-    ensures value { result ≡ count_within most count }
-    ensures some { IfSome result (λ n. 0 < n) }
-    ensures few { IfSome result (λ n. n ≤ most) }
-{
-    if 0 < count && count <= most {
-        Some(count)
-    } else {
-        None
-    }
-}
-
 // A number from 1 to the most.
 #[tactic(auto, unfolding(crate::specs::Words::count_of))]
 fn count_of(most: u32, word: &[u8]) -> Option<u32>
@@ -90,8 +82,12 @@ fn count_of(most: u32, word: &[u8]) -> Option<u32>
     ensures some { IfSome result (λ n. 0 < n) }
     ensures few { IfSome result (λ n. n ≤ most) }
 {
-    if is_plain_number(word) {
-        count_within(most, digits_value(word))
+    if !is_plain_number(word) {
+        return None;
+    }
+    let count = digits_value(word);
+    if 0 < count && count <= most {
+        Some(count)
     } else {
         None
     }
@@ -132,55 +128,24 @@ fn session_words(words: &[&str]) -> Command
     }
 }
 
-// The command for a number of values, if the word is one.
-fn counted(count: Option<u32>) -> Command
-    requires few { IfSome count (λ n. n ≤ 200000) }
-    ensures command { result ≡ counted count }
-    ensures fits { (words : ℕ) → IsFit result words }
-{
-    match count {
-        Some(count) => Command::Generate(count),
-        None => Command::Bad(2),
-    }
-}
-
-fn one_too_many(count: Option<u32>) -> Command
-    ensures command { result ≡ one_too_many count }
-    ensures fits { (words : ℕ) → IsFit result words }
-{
-    match count {
-        Some(_) => Command::Bad(3),
-        None => Command::Bad(2),
-    }
-}
-
 fn generate_words(words: &[&str]) -> Command
     ensures command { result ≡ generate_words (map (λ word. word.now) words.now) }
     ensures fits { IsFit result (length words.now + 1) }
 {
     match words {
         [] => Command::Bad(2),
-        [count] => counted(count_of(MOST_VALUES, count.as_bytes())),
-        [count, ..] => one_too_many(count_of(MOST_VALUES, count.as_bytes())),
-    }
-}
-
-// The command for so many workers and a number of connections, if the word is one and no word follows.
-fn after_connections(workers: u32, connections: Option<u32>, rest: &[&str]) -> Command
-    requires some { 0 < workers }
-    ensures command { result ≡ after_connections workers connections (map (λ word. word.now) rest.now) }
-    ensures fits { IsFit result (length rest.now + 5) }
-{
-    match (connections, rest) {
-        (None, _) => Command::Bad(5),
-        (Some(connections), []) => Command::Serve {
-            workers,
-            connections,
+        [count] => match count_of(MOST_VALUES, count.as_bytes()) {
+            Some(count) => Command::Generate(count),
+            None => Command::Bad(2),
         },
-        (Some(_), [_, ..]) => Command::Bad(6),
+        [count, ..] => match count_of(MOST_VALUES, count.as_bytes()) {
+            Some(_) => Command::Bad(3),
+            None => Command::Bad(2),
+        },
     }
 }
 
+// The command for so many workers, if the word is a number, by the words after it.
 fn after_workers(workers: Option<u32>, rest: &[&str]) -> Command
     requires some { IfSome workers (λ n. 0 < n) }
     ensures command { result ≡ after_workers workers (map (λ word. word.now) rest.now) }
@@ -191,11 +156,17 @@ fn after_workers(workers: Option<u32>, rest: &[&str]) -> Command
     };
     match rest {
         [] => Command::Bad(5),
-        [connections, rest @ ..] => after_connections(
-            workers,
+        [connections, rest @ ..] => match (
             count_of(MOST_CONNECTIONS, connections.as_bytes()),
             rest,
-        ),
+        ) {
+            (None, _) => Command::Bad(5),
+            (Some(connections), []) => Command::Serve {
+                workers,
+                connections,
+            },
+            (Some(_), [_, ..]) => Command::Bad(6),
+        },
     }
 }
 
@@ -221,7 +192,19 @@ pub fn read_words(words: &[&str]) -> Command
 {
     match words {
         [] => Command::Bad(1),
-        [first, rest @ ..] => beyond(first, rest),
+        [first, rest @ ..] => {
+            if is_word(first, "query") {
+                query_words(rest)
+            } else if is_word(first, "session") {
+                session_words(rest)
+            } else if is_word(first, "generate") {
+                generate_words(rest)
+            } else if is_word(first, "serve") {
+                serve_words(rest)
+            } else {
+                flag(first, rest)
+            }
+        }
     }
 }
 
@@ -242,23 +225,6 @@ fn flag(first: &str, rest: &[&str]) -> Command
         Command::Version
     } else {
         Command::Bad(1)
-    }
-}
-
-fn beyond(first: &str, rest: &[&str]) -> Command
-    ensures command { result ≡ command_behind first.now (map (λ word. word.now) rest.now) }
-    ensures fits { IsFit result (length rest.now + 1) }
-{
-    if is_word(first, "query") {
-        query_words(rest)
-    } else if is_word(first, "session") {
-        session_words(rest)
-    } else if is_word(first, "generate") {
-        generate_words(rest)
-    } else if is_word(first, "serve") {
-        serve_words(rest)
-    } else {
-        flag(first, rest)
     }
 }
 
