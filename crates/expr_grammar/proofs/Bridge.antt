@@ -1,5 +1,5 @@
 -- The tree of a form is that of what lies in memory for it, and as deep, of the same sorts and with the same items.
-use Rattle.std.proofs.Common.{◌≡◌, ℕ, suc, ◌+◌, ◌≤◌, Bool, true, false, List, ◌++◌, Option, Some, None, refl, sym, ap, subst, ◌∙◌, append_assoc, arith}
+use Rattle.std.proofs.Common.{◌≡◌, ℕ, suc, ◌≤◌, Bool, true, false, List, ◌++◌, Option, Some, None, refl, sym, ap, subst, ◌∙◌, append_assoc, arith}
 use Rattle.std.specs.Prelude.{◌&&◌, max}
 use Rattle.std.proofs.lemmas.List.{append-nil}
 use Rattle.expr_lang.specs.declared.tree.Place.{Place}

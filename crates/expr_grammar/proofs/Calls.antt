@@ -155,6 +155,41 @@ module _ (p : Place) (days : List (List ℕ)) (text : List ℕ) where
       (told_of days (length text) other tail) (place_past text at b (text_of (symbol.Call call.DaysBetween) ++ symbol_text d symbol.Open first) here) x.tree
       z.tree)
 
+  -- the quoted test of a condition and the comma after it
+  quoted_comma : (test : Form) → Reads p days text test
+      → (k : ℕ) (fs : List Frame) (ns : List Spot) (o : ℕ) (c : Option ℕ) (at : ℕ) (f g i rest : List ℕ) → IsBlank f → IsForm p true 1 test → IsBlank g
+      → IsBlank i → At text at (symbol_text f symbol.Quote (spelled test (symbol_text g symbol.Quote (symbol_text i symbol.Comma rest))))
+      → Comma (call_frame k call.Condition 0) fs ns false (rd expect.Quote (frame.Call (call_frame k call.Condition 0) ∷ fs) ns o c false) at
+      (symbol_text f symbol.Quote (spelled test (symbol_text g symbol.Quote (symbol_text i symbol.Comma rest)))) rest
+      (told_of days (length text) test (symbol_text g symbol.Quote (symbol_text i symbol.Comma rest)))
+  quoted_comma test iht k fs ns o c at f g i rest before is after blank here =
+      let comma = symbol_text i symbol.Comma rest in
+      let unquote = symbol_text g symbol.Quote comma in
+      let first = spelled test unquote in
+      let quote = symbol_text f symbol.Quote first in
+      let cf = call_frame k call.Condition 0 in
+      let r1 = rd expect.Quote (frame.Call cf ∷ fs) ns o c false in
+      let v = quote_move p text (frame.Call cf ∷ fs) ns o c at f first before here in
+      let r2 = rd expect.Operand (frame.Quote ∷ frame.Call cf ∷ fs) ns o c true in
+      let t =
+      iht 1 expect.Operand (frame.Quote ∷ frame.Call cf ∷ fs) ns o c true v.0 unquote tt (omega arith) is (λ le. tt) (λ le. refl)
+      (calm_follows g (text_of symbol.Quote) comma after quote_calm) v.1.stands in
+      let u =
+      unquote_move p text t.power t.frames t.nodes t.opened t.crowded true t.past g comma after (frame.Call cf ∷ fs) (ns ++ t.own) t.after.outer
+      (t.after.reduced 1 (omega arith)) (t.after.whole 1 (omega arith)) t.goes.stands in
+      let a = behind_quote_move p text fs (ns ++ t.own) t.opened t.crowded u.0 i rest blank false cf u.1.stands in
+      let r3 = rd expect.Operand (frame.Call (counted_of cf) ∷ fs) (ns ++ t.own) t.opened t.crowded false in
+      record {
+        own = t.own;
+        opened = t.opened;
+        crowded = t.crowded;
+        comes =
+            both_come p days text r1 at quote r2 v.0 first r3 rest v.1
+            (both_come p days text r2 v.0 first _ t.past unquote r3 rest t.goes
+            (both_come p days text _ t.past unquote _ u.0 comma r3 rest u.1 a));
+        tree = t.tree;
+      }
+
   pub reads_condition : (b d f : List ℕ) (test : Form) (g i : List ℕ) (one : Form) (j : List ℕ) (other : Form) (l : List ℕ) → Reads p days text test
       → Reads p days text one → Reads p days text other → Reads p days text (Condition b d f test g i one j other l)
   reads_condition b d f test g i one j other l iht iho ihe L e fs ns o c true at rest h some is loose single follows here = let no = is.1 in absurd cc
@@ -163,41 +198,25 @@ module _ (p : Place) (days : List (List ℕ)) (text : List ℕ) where
       let tail = symbol_text l symbol.Close rest in
       let third = spelled other tail in
       let second = spelled one (symbol_text j symbol.Comma third) in
-      let comma = symbol_text i symbol.Comma second in
-      let unquote = symbol_text g symbol.Quote comma in
-      let first = spelled test unquote in
-      let quote = symbol_text f symbol.Quote first in
+      let unquote = symbol_text g symbol.Quote (symbol_text i symbol.Comma second) in
+      let quote = symbol_text f symbol.Quote (spelled test unquote) in
       let k = at + length b in
       let cf = call_frame k call.Condition 0 in
       let w = name_move p text e fs ns o c false at b call.Condition d quote h is.2 is.0 is.3 here in
-      let r1 = rd expect.Quote (frame.Call cf ∷ fs) ns (o + 1) w.0 false in
-      let v = quote_move p text (frame.Call cf ∷ fs) ns (o + 1) w.0 w.1.0 f first is.4 w.1.1.stands in
-      let r2 = rd expect.Operand (frame.Quote ∷ frame.Call cf ∷ fs) ns (o + 1) w.0 true in
-      let t =
-      iht 1 expect.Operand (frame.Quote ∷ frame.Call cf ∷ fs) ns (o + 1) w.0 true v.0 unquote tt (omega arith) is.5 (λ le. tt) (λ le. refl)
-      (calm_follows g (text_of symbol.Quote) comma is.6 quote_calm) v.1.stands in
-      let u =
-      unquote_move p text t.power t.frames t.nodes t.opened t.crowded true t.past g comma is.6 (frame.Call cf ∷ fs) (ns ++ t.own) t.after.outer
-      (t.after.reduced 1 (omega arith)) (t.after.whole 1 (omega arith)) t.goes.stands in
-      let a = behind_quote_move p text fs (ns ++ t.own) t.opened t.crowded u.0 i second is.7 false cf u.1.stands in
-      let r3 = rd expect.Operand (frame.Call (counted_of cf) ∷ fs) (ns ++ t.own) t.opened t.crowded false in
-      let y = then_comma one iho (counted_of cf) fs (ns ++ t.own) t.opened t.crowded false a.0 j third is.8 is.9 (omega arith) a.1.stands in
+      let x = quoted_comma test iht k fs ns (o + 1) w.0 w.1.0 f g i second is.4 is.5 is.6 is.7 w.1.1.stands in
+      let y = then_comma one iho (counted_of cf) fs (ns ++ x.own) x.opened x.crowded false x.comes.0 j third is.8 is.9 (omega arith) x.comes.1.stands in
       let z =
-      then_close other ihe (counted_of (counted_of cf)) fs ((ns ++ t.own) ++ y.own) y.opened y.crowded false y.comes.0 l rest is.10 is.11 (omega arith)
+      then_close other ihe (counted_of (counted_of cf)) fs ((ns ++ x.own) ++ y.own) y.opened y.crowded false y.comes.0 l rest is.10 is.11 (omega arith)
       y.comes.1.stands in
       let s = spot_of k node.If in
-      let nodes : (((ns ++ t.own) ++ y.own) ++ z.own) ++ s ∷ [] ≡ ns ++ (((t.own ++ y.own) ++ z.own) ++ s ∷ []) = simp append_assoc in
-      let late = both_come p days text r3 a.0 second _ y.comes.0 third _ rest y.comes.1 z.comes in
-      let middle =
-      both_come p days text r2 v.0 first _ t.past unquote _ rest t.goes
-      (both_come p days text _ t.past unquote _ u.0 comma _ rest u.1 (both_come p days text _ u.0 comma r3 a.0 second _ rest a.1 late)) in
-      let all =
-      both_come p days text (rd e fs ns o c false) at bytes r1 w.1.0 quote _ rest w.1.1
-      (both_come p days text r1 w.1.0 quote r2 v.0 first _ rest v.1 middle) in
-      whole p days text L fs ns false (rd e fs ns o c false) at bytes rest _ z.opened z.crowded (((t.own ++ y.own) ++ z.own) ++ s ∷ [])
-      (subst (λ (x : List Spot). Comes p text (rd e fs ns o c false) at bytes (rd (expect.Operator true) fs x z.opened z.crowded false) rest) nodes all)
-      (evals_three text days t.own y.own z.own k _ (told_of days (length text) test unquote) (told_of days (length text) one (symbol_text j symbol.Comma third))
-      (told_of days (length text) other tail) (place_past text at b (text_of (symbol.Call call.Condition) ++ symbol_text d symbol.Open quote) here) t.tree
+      let nodes : (((ns ++ x.own) ++ y.own) ++ z.own) ++ s ∷ [] ≡ ns ++ (((x.own ++ y.own) ++ z.own) ++ s ∷ []) = simp append_assoc in
+      let all = both_come p days text (rd e fs ns o c false) at bytes _ w.1.0 quote _ rest w.1.1
+      (both_come p days text _ w.1.0 quote _ x.comes.0 second _ rest x.comes.1
+      (both_come p days text _ x.comes.0 second _ y.comes.0 third _ rest y.comes.1 z.comes)) in
+      whole p days text L fs ns false (rd e fs ns o c false) at bytes rest _ z.opened z.crowded (((x.own ++ y.own) ++ z.own) ++ s ∷ [])
+      (subst (λ (n : List Spot). Comes p text (rd e fs ns o c false) at bytes (rd (expect.Operator true) fs n z.opened z.crowded false) rest) nodes all)
+      (evals_three text days x.own y.own z.own k _ (told_of days (length text) test unquote) (told_of days (length text) one (symbol_text j symbol.Comma third))
+      (told_of days (length text) other tail) (place_past text at b (text_of (symbol.Call call.Condition) ++ symbol_text d symbol.Open quote) here) x.tree
       y.tree z.tree)
 
   -- the arguments of a call that takes a list of them
