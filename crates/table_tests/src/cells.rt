@@ -1,12 +1,23 @@
 //! The cells of a case, and the words of a list in a cell.
 
 use std::alloc::Global;
+use std::mem;
 
-/// The first two cells of a case, and what comes after them.
-pub fn three(case: &str) -> Option<(&str, &str, &str)> {
-    let (first, rest) = case.split_once('|')?;
-    let (second, third) = rest.split_once('|')?;
-    Some((first, second, third))
+/// What is left of a case, from whose start cells are taken.
+#[derive(Drop)]
+pub struct Cells<'a>(pub &'a str);
+
+impl<'a> Cells<'a> {
+    /// Takes what stands before a separator, or all that is left where there is none.
+    pub fn before(&mut self, separator: char) -> &'a str {
+        match self.0.split_once(separator) {
+            Some((cell, rest)) => {
+                self.0 = rest;
+                cell
+            }
+            None => mem::replace(&mut self.0, ""),
+        }
+    }
 }
 
 /// What a word of a list may stand for.

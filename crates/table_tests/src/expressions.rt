@@ -1,6 +1,6 @@
 //! Rows of expressions: what is read of them, and their values.
 
-use crate::cells::{Word, three, words};
+use crate::cells::{Cells, Word, words};
 use crate::numbers::{fraction, put_fraction};
 use crate::out::Out;
 use dh_base::frac::Frac;
@@ -47,19 +47,20 @@ fn days(alloc: Global) -> Option<DayItems> {
 /// `PLACE|SORT|TEXT`: `Ok` and the printed text, or the fault and its byte. The sort is `any` where none
 /// is asked for.
 fn expression_row(out: &mut Out, case: &str) {
-    let Some((place, sort, text)) = expression_case(case) else {
-        return out.fail();
-    };
-    match days(out.alloc) {
-        Some(days) => put_read(out, read(out.alloc, place, sort, text, &days)),
+    let mut cells = Cells(case);
+    let place = place_named(cells.before('|'));
+    let sort = sort_named(cells.before('|'));
+    match place {
+        Some(place) => put_form(out, place, sort, cells.0.as_bytes()),
         None => out.fail(),
     }
 }
 
-fn expression_case(case: &str) -> Option<(Place, Option<Sort>, &[u8])> {
-    let (place, sort, text) = three(case)?;
-    let place = place_named(place)?;
-    Some((place, sort_named(sort), text.as_bytes()))
+fn put_form(out: &mut Out, place: Place, sort: Option<Sort>, text: &[u8]) {
+    match days(out.alloc) {
+        Some(days) => put_read(out, read(out.alloc, place, sort, text, &days)),
+        None => out.fail(),
+    }
 }
 
 fn read(
@@ -99,18 +100,31 @@ fn put_fault(out: &mut Out, name: &[u8], at: usize) {
 /// `PLACE|STRATEGY|ENTRIES|TEXT`: the value of the expression, or why it has none. An entry is a fraction
 /// or `-`, and entries stand in the order of the items' first occurrences.
 fn value_row(out: &mut Out, case: &str) {
-    match value_of(out.alloc, case) {
+    let mut cells = Cells(case);
+    let place = place_named(cells.before('|'));
+    let strategy = strategy_named(cells.before('|').as_bytes());
+    let entries = cells.before('|');
+    let value = match (place, strategy) {
+        (Some(place), Some(strategy)) => { value_of(out.alloc, cells.0, place, entries, strategy) }
+        _ => None,
+    };
+    match value {
         Some(value) => put_value(out, value),
         None => out.fail(),
     }
 }
 
-fn value_of(alloc: Global, case: &str) -> Option<Value> {
-    let (place, case) = case.split_once('|')?;
-    let (strategy, entries, text) = three(case)?;
-    let strategy = strategy_named(strategy.as_bytes())?;
-    let form = form_of(alloc, text, place_named(place)?)?;
-    evaluated(alloc, &form, entries, strategy)
+fn value_of(
+    alloc: Global,
+    text: &str,
+    place: Place,
+    entries: &str,
+    strategy: Strategy,
+) -> Option<Value> {
+    match form_of(alloc, text, place) {
+        Some(form) => evaluated(alloc, &form, entries, strategy),
+        None => None,
+    }
 }
 
 fn form_of(alloc: Global, text: &str, place: Place) -> Option<Postfix> {
@@ -122,8 +136,10 @@ fn form_of(alloc: Global, text: &str, place: Place) -> Option<Postfix> {
 }
 
 fn evaluated(alloc: Global, form: &Postfix, entries: &str, strategy: Strategy) -> Option<Value> {
-    let entries = words(alloc, entries)?;
-    eval(alloc, form, &entries, strategy).ok()
+    match words(alloc, entries) {
+        Some(entries) => eval(alloc, form, &entries, strategy).ok(),
+        None => None,
+    }
 }
 
 impl Word for Option<Frac> {

@@ -61,19 +61,33 @@ fn rows(alloc: Global, table: &str) -> Option<Vec<u8>> {
     out.finish()
 }
 
-fn answer(rt: &HostRuntime) -> Option<()> {
-    let alloc = rt.alloc();
+fn table(rt: &HostRuntime) -> Option<Vec<u8>> {
     let mut input = StdIn::new(rt.reader());
-    let bytes = read_all(alloc, &mut input, LONGEST_TABLE).ok()?;
-    let table = String::from_utf8(bytes).ok()?;
-    let out = rows(alloc, table.as_str())?;
+    read_all(rt.alloc(), &mut input, LONGEST_TABLE).ok()
+}
+
+fn answers(alloc: Global, table: &[u8]) -> Option<Vec<u8>> {
+    match str::from_utf8(table) {
+        Ok(table) => rows(alloc, table),
+        Err(_) => None,
+    }
+}
+
+fn is_told(rt: &HostRuntime, answers: &[u8]) -> bool {
     let mut output = StdOut::new(io::writer(rt));
-    write_all(&mut output, &out).ok()
+    write_all(&mut output, answers).is_ok()
+}
+
+fn is_answered(rt: &HostRuntime, table: &[u8]) -> bool {
+    match answers(rt.alloc(), table) {
+        Some(answers) => is_told(rt, &answers),
+        None => false,
+    }
 }
 
 fn main(rt: HostRuntime) -> ExitCode {
-    match answer(&rt) {
-        Some(()) => ExitCode::SUCCESS,
-        None => ExitCode::FAILURE,
+    match table(&rt) {
+        Some(table) if is_answered(&rt, &table) => ExitCode::SUCCESS,
+        _ => ExitCode::FAILURE,
     }
 }

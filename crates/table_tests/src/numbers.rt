@@ -1,6 +1,6 @@
 //! Rows of numbers: texts of decimals, fractions printed with so many decimals, and what is done to fractions.
 
-use crate::cells::three;
+use crate::cells::Cells;
 use crate::out::Out;
 use dh_base::decimal::read_decimal;
 use dh_base::frac::Frac;
@@ -20,8 +20,9 @@ pub fn is_written(out: &mut Out, kind: &str, case: &str) -> bool {
 
 /// A fraction written as `num/den`.
 pub fn fraction(text: &str) -> Option<Frac> {
-    let (num, den) = text.split_once('/')?;
-    match (num.parse::<i128>(), den.parse::<i128>()) {
+    let mut cells = Cells(text);
+    let num = cells.before('/').parse::<i128>();
+    match (num, cells.0.parse::<i128>()) {
         (Ok(num), Ok(den)) => of_parts(num, den),
         _ => None,
     }
@@ -51,17 +52,11 @@ fn decimal_row(out: &mut Out, case: &str) {
 
 /// `NUM/DEN|DECIMALS`: the text of the number with so many decimals.
 fn rounded_row(out: &mut Out, case: &str) {
-    match rounded_case(case) {
-        Some((value, decimals)) => put_rounded(out, value, decimals),
-        None => out.fail(),
-    }
-}
-
-fn rounded_case(case: &str) -> Option<(Frac, u8)> {
-    let (number, decimals) = case.split_once('|')?;
-    match (fraction(number), decimals.parse::<u8>()) {
-        (Some(value), Ok(decimals)) => Some((value, decimals)),
-        _ => None,
+    let mut cells = Cells(case);
+    let number = fraction(cells.before('|'));
+    match (number, cells.0.parse::<u8>()) {
+        (Some(value), Ok(decimals)) => put_rounded(out, value, decimals),
+        _ => out.fail(),
     }
 }
 
@@ -75,16 +70,19 @@ fn put_rounded(out: &mut Out, value: Frac, decimals: u8) {
 
 /// `OPERATION|LEFT|RIGHT`: the fraction, the order, or the fault.
 fn fraction_row(out: &mut Out, case: &str) {
-    match three(case) {
-        Some(("cmp", left, right)) => put_order(out, left, right),
-        Some((operation, left, right)) => put_answer(out, computed(operation, left, right)),
+    let mut cells = Cells(case);
+    let operation = cells.before('|');
+    match fraction(cells.before('|')) {
+        Some(left) => put_done(out, operation, left, cells.0),
         None => out.fail(),
     }
 }
 
-fn put_order(out: &mut Out, left: &str, right: &str) {
-    match (fraction(left), fraction(right)) {
-        (Some(left), Some(right)) => out.put(order_name(left.cmp(right))),
+fn put_done(out: &mut Out, operation: &str, left: Frac, right: &str) {
+    match (operation, fraction(right)) {
+        ("pow", _) => put_answer(out, power(left, right)),
+        ("cmp", Some(right)) => out.put(order_name(left.cmp(right))),
+        (_, Some(right)) => put_answer(out, combined(operation, left, right)),
         _ => out.fail(),
     }
 }
@@ -111,14 +109,6 @@ fn put_answer(out: &mut Out, answer: Option<Result<Frac, NumFault>>) {
         Some(Err(fault)) => out.put(fault_name(fault)),
         None => out.fail(),
     }
-}
-
-fn computed(operation: &str, left: &str, right: &str) -> Option<Result<Frac, NumFault>> {
-    let left = fraction(left)?;
-    if operation == "pow" {
-        return power(left, right);
-    }
-    combined(operation, left, fraction(right)?)
 }
 
 fn power(base: Frac, exponent: &str) -> Option<Result<Frac, NumFault>> {

@@ -1,5 +1,6 @@
 //! Rows of periods: their texts and days, two of them beside each other, and those that a day names.
 
+use crate::cells::Cells;
 use crate::out::Out;
 use dh_periods::{Period, civil, relative};
 
@@ -42,17 +43,12 @@ fn put_period(out: &mut Out, period: Period) {
 
 /// `TEXT|TEXT`: whether the first period comes before the other, and whether it lies in it.
 fn pair_row(out: &mut Out, case: &str) {
-    match pair(case) {
-        Some((one, other)) => put_pair(out, one, other),
-        None => out.fail(),
+    let mut cells = Cells(case);
+    let one = Period::parse(cells.before('|').as_bytes());
+    match (one, Period::parse(cells.0.as_bytes())) {
+        (Some(one), Some(other)) => put_pair(out, one, other),
+        _ => out.fail(),
     }
-}
-
-fn pair(case: &str) -> Option<(Period, Period)> {
-    let (one, other) = case.split_once('|')?;
-    let one = Period::parse(one.as_bytes())?;
-    let other = Period::parse(other.as_bytes())?;
-    Some((one, other))
 }
 
 fn put_pair(out: &mut Out, one: Period, other: Period) {
@@ -68,10 +64,9 @@ fn put_pair(out: &mut Out, one: Period, other: Period) {
 
 /// `DATE|NAME`: the day of the date, and the periods that the name stands for on it.
 fn relative_row(out: &mut Out, case: &str) {
-    match case.split_once('|') {
-        Some((date, name)) => put_relative(out, civil(date.as_bytes()), name),
-        None => out.fail(),
-    }
+    let mut cells = Cells(case);
+    let day = civil(cells.before('|').as_bytes());
+    put_relative(out, day, cells.0);
 }
 
 fn put_relative(out: &mut Out, day: Option<i32>, name: &str) {

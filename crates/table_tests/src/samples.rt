@@ -1,6 +1,6 @@
 //! Rows of samples: one value of them by an aggregation type.
 
-use crate::cells::{Word, three, words};
+use crate::cells::{Cells, Word, words};
 use crate::numbers::put_fraction;
 use crate::out::Out;
 use dh_base::plain::AggType;
@@ -11,23 +11,22 @@ use table_rows::{Sample, Series, aggregate, is_sorted};
 /// `TYPE|DAYS|SAMPLES`: the value of the samples over so many days, or `-`. A sample is its unit, period
 /// and millionths, or `-` for no number.
 pub fn total_row(out: &mut Out, case: &str) {
-    let Some((kind, days, samples)) = three(case) else {
-        return out.fail();
-    };
-    match (total_case(kind, days), words(out.alloc, samples)) {
-        (Some((kind, days)), Some(samples)) => put_total(out, kind, &samples, days),
+    let mut cells = Cells(case);
+    let kind = aggregation_named(cells.before('|').as_bytes());
+    match (kind, cells.before('|').parse::<u32>()) {
+        (Some(kind), Ok(days)) => put_total(out, kind, days, cells.0),
         _ => out.fail(),
     }
 }
 
-fn total_case(kind: &str, days: &str) -> Option<(AggType, u32)> {
-    match (aggregation_named(kind.as_bytes()), days.parse::<u32>()) {
-        (Some(kind), Ok(days)) => Some((kind, days)),
-        _ => None,
+fn put_total(out: &mut Out, kind: AggType, days: u32, samples: &str) {
+    match words(out.alloc, samples) {
+        Some(samples) => put_value(out, kind, days, &samples),
+        None => out.fail(),
     }
 }
 
-fn put_total(out: &mut Out, kind: AggType, samples: &[Sample], days: u32) {
+fn put_value(out: &mut Out, kind: AggType, days: u32, samples: &[Sample]) {
     if days == 0 || samples.len() > 1000 || !is_sorted(samples) {
         return out.fail();
     }
@@ -39,10 +38,10 @@ fn put_total(out: &mut Out, kind: AggType, samples: &[Sample], days: u32) {
 
 impl Word for Sample {
     fn of(word: &str) -> Option<Sample> {
-        let (unit, rest) = word.split_once(':')?;
-        let (period, micros) = rest.split_once(':')?;
-        match (unit.parse::<u32>(), Period::parse(period.as_bytes())) {
-            (Ok(unit), Some(period)) => Some(sample(unit, period, micros)),
+        let mut cells = Cells(word);
+        let unit = cells.before(':').parse::<u32>();
+        match (unit, Period::parse(cells.before(':').as_bytes())) {
+            (Ok(unit), Some(period)) => Some(sample(unit, period, cells.0)),
             _ => None,
         }
     }
