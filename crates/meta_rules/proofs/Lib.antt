@@ -5,3 +5,4 @@ pub mod MadeLemmas
 pub mod StageLemmas
 pub mod LoopLemmas
 pub mod DayLemmas
+pub mod BothLemmas

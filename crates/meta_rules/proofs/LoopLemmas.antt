@@ -3,6 +3,8 @@ use Rattle.std.proofs.Common.{◌≡◌, ◌∙◌, ℕ, ◌+◌, ◌<◌, Bool,
 use Rattle.std.proofs.lemmas.List.{map-append, map_more}
 use Rattle.dh_metadata.specs.declared.records.ApprovalLevel.{ApprovalLevel}
 use Rattle.dh_metadata.specs.declared.records.Workflow.{Workflow}
+use Rattle.dh_base.specs.Memory.{IsFirst}
+use Rattle.meta_rules.specs.declared.fault.RuleFault.{RuleFault}
 use Rattle.meta_rules.specs.Levels.{are_uneven, level_broken, levels_broken}
 
 -- one more, seen as what it is
@@ -41,3 +43,13 @@ spared false x rest is = refl
 pub fitting : (levels : List ApprovalLevel) (workflow : Workflow) (more : List Workflow) → level_broken levels workflow ≡ None
     → levels_broken levels (workflow ∷ more) ≡ levels_broken levels more
 fitting levels workflow more fits = spared (are_uneven levels workflow.data_approval_levels) _ (levels_broken levels more) fits
+
+-- a workflow whose levels don't fit
+pub unfit : (levels : List ApprovalLevel) (workflow : Workflow) (more : List Workflow) (cause : Option RuleFault)
+    → IsFirst (level_broken levels workflow) cause → IsFirst (levels_broken levels (workflow ∷ more)) cause
+unfit levels workflow more None met = tt
+unfit levels workflow more (Some cause) met = still (are_uneven levels workflow.data_approval_levels) _ (levels_broken levels more) cause met
+  where
+    still : (b : Bool) (x : RuleFault) (rest : Option RuleFault) (cause : RuleFault) → cond b (Some x) None ≡ Some cause → cond b (Some x) rest ≡ Some cause
+    still true x rest cause is = is
+    still false x rest cause is = absurd (cc)

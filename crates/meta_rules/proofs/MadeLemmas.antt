@@ -1,11 +1,13 @@
 -- Objects made one after the other.
-use Rattle.std.proofs.Common.{◌≡◌, ◌∙◌, ℕ, zero, suc, ◌+◌, ◌<◌, ◌≤◌, List, [], ◌∷◌, ◌++◌, length, get_or, drop, Option, None, Some, sym, ap}
+use Rattle.std.proofs.Common.{◌≡◌, ◌∙◌, ℕ, zero, suc, ◌+◌, ◌<◌, ◌≤◌, List, [], ◌∷◌, ◌++◌, length, get_or, drop, Option}
+use Rattle.std.proofs.Common.{None, Some, Result, Ok, Err, sym, ap, subst}
 use Rattle.std.proofs.Common.{add-one, drop-cons, append_assoc}
 use Rattle.std.proofs.lemmas.List.{append-nil, drop_all}
 use Rattle.std.specs.Option.{option_or}
-use Rattle.dh_base.specs.Memory.{IsFirst}
+use Rattle.dh_base.specs.Memory.{IsFirst, Finds}
 use Rattle.meta_rules.specs.declared.expr_fault.ExprFault.{ExprFault}
-use Rattle.meta_rules.specs.Objects.{first_unread, made_of}
+use Rattle.meta_rules.specs.declared.expr_fault.ExprError.{ExprError}
+use Rattle.meta_rules.specs.Objects.{first_unread, made_of, expr_cause, IsKept}
 
 -- the items after the first of those that are left
 rest_of : {B : Type 0} (ys : List B) (i : ℕ) (y : B) (rest : List B) → drop i ys ≡ y ∷ rest → rest ≡ drop (suc i) ys
@@ -59,3 +61,19 @@ pub unread_at : {A : Type 0} (unread_of : A → Option ExprFault) (raw : List A)
 unread_at unread_of raw i x None within at unread met = tt
 unread_at unread_of raw i x (Some fault) within at unread met =
     unread ∙ ap (first_unread unread_of) (split raw i x within at) ∙ ap (λ o. option_or o (first_unread unread_of (drop (i + 1) raw))) met
+
+-- the same, where what is made is kept in one step
+pub kept_step : {A B C : Type 0} (unread_of : A → Option ExprFault) (make : A → B → C) (raw : List A) (links : List B) (i : ℕ) (x : A) (own : B)
+    (old new : List B) (made made' : List C) (one : Result C ExprError) → i < length raw → x ≡ get_or raw i x → old ≡ drop i links → old ≡ own ∷ new
+    → Finds expr_cause (unread_of x) (λ m. m ≡ make x own) one → IsKept one made made' (Ok tt)
+    → made_of make raw links ≡ made ++ made_of make (drop i raw) (drop i links) → Step unread_of make raw links i new made'
+kept_step unread_of make raw links i x own old new made made' (Ok y) within at left taken found kept so_far =
+    subst (Step unread_of make raw links i new) (sym kept)
+    (made_step unread_of make raw links i x own old new made y within at left taken found.0 found.1 so_far)
+kept_step unread_of make raw links i x own old new made made' (Err fault) within at left taken found kept so_far = absurd kept
+
+-- a fault that is handed on
+pub kept_unread : {A C : Type 0} (unread_of : A → Option ExprFault) (x : A) (Is : C → Type 0) (made made' : List C) (one : Result C ExprError)
+    (fault : ExprError) → Finds expr_cause (unread_of x) Is one → IsKept one made made' (Err fault) → IsFirst (unread_of x) (expr_cause fault)
+kept_unread unread_of x Is made made' (Ok y) fault found kept = subst (λ f. IsFirst (unread_of x) (expr_cause f)) (sym kept) tt
+kept_unread unread_of x Is made made' (Err told) fault found kept = subst (λ f. IsFirst (unread_of x) (expr_cause f)) (sym kept) found

@@ -14,3 +14,4 @@ pub mod Read
 pub mod Objects
 pub mod All
 pub mod Stages
+pub mod Both

@@ -1,5 +1,5 @@
 -- The expressions of objects.
-use Rattle.std.specs.Prelude.{ℕ, List, [], ◌∷◌, Option, None, Some, option_map}
+use Rattle.std.specs.Prelude.{◌≡◌, ℕ, List, [], ◌∷◌, ◌++◌, Option, None, Some, Result, Ok, Err, option_map}
 use Rattle.std.specs.Option.{option_or}
 use Rattle.expr_lang.specs.declared.tree.Place.{Place}
 use Rattle.expr_lang.specs.declared.tree.Place.TheVariants.{Aggregate, Program}
@@ -118,3 +118,10 @@ abbrev pub made_of : {A B C : Type 0} → (A → B → C) → List A → List B 
 made_of make [] links = []
 made_of make (raw ∷ others) [] = []
 made_of make (raw ∷ others) (own ∷ links) = make raw own ∷ made_of make others links
+
+-- what was made stands last, or its fault is handed on
+abbrev pub IsKept : {C : Type 0} → Result C ExprError → List C → List C → Result (Unit {0}) ExprError → Type 0
+IsKept (Ok one) old new (Ok _) = new ≡ old ++ one ∷ []
+IsKept (Ok one) old new (Err fault) = fault ≡ Memory
+IsKept (Err fault) old new (Ok _) = ⊥
+IsKept (Err fault) old new (Err told) = told ≡ fault

@@ -7,6 +7,7 @@ ghost use Rattle.dh_base.specs.Memory.{Finds};
 ghost use Rattle.meta_rules.specs.Objects.{expr_cause};
 ghost use Rattle.meta_rules.specs.All.{expressions_unread, expressions_of};
 
+use crate::both::both;
 use crate::days::days_of;
 use crate::expr_fault::ExprError;
 use crate::indicators::indicators;
@@ -37,6 +38,18 @@ pub struct Expressions {
     pub program_indicators: Items<ProgramIndicator>,
 }
 
+// The objects as they are handed on. This can't fail.
+fn together(all: (Vec<Indicator>, (Vec<Rule>, Vec<ProgramIndicator>))) -> Expressions
+    ensures { result ≡ record { indicators = all.0.items; validation_rules = all.1.0.items; program_indicators = all.1.1.items } }
+{
+    let (indicators, (rules, program_indicators)) = all;
+    Expressions {
+        indicators: Items::from(indicators),
+        validation_rules: Items::from(rules),
+        program_indicators: Items::from(program_indicators),
+    }
+}
+
 /// Reads all expressions of a file by the grammar. `links` has the references of each object.
 pub fn read_all(
     alloc: Global,
@@ -51,30 +64,37 @@ pub fn read_all(
     ensures { Finds expr_cause (expressions_unread reading.answer ids.now parts.now)
         (λ made. made ≡ expressions_of reading.answer parts.now links) result }
 {
-    let days = days_of(alloc, parts)?;
+    let days = match days_of(alloc, parts) {
+        Ok(days) => days,
+        Err(_) => {
+            drop(links);
+            return Err(ExprError::Memory);
+        }
+    };
     let Unread {
         indicators: own,
         validation_rules,
         program_indicators: of_programs,
     } = links;
-    let indicators = indicators(alloc, ids, &days, parts.indicators.as_slice(), own)?;
+    let indicators = indicators(alloc, ids, &days, parts.indicators.as_slice(), own);
     let rules = rules(
         alloc,
         ids,
         &days,
         parts.validation_rules.as_slice(),
         validation_rules,
-    )?;
+    );
     let program_indicators = program_indicators(
         alloc,
         ids,
         &days,
         parts.program_indicators.as_slice(),
         of_programs,
-    )?;
-    Ok(Expressions {
-        indicators: Items::from(indicators),
-        validation_rules: Items::from(rules),
-        program_indicators: Items::from(program_indicators),
-    })
+    );
+    drop(days);
+    let later = both(rules, program_indicators);
+    match both(indicators, later) {
+        Ok(all) => Ok(together(all)),
+        Err(fault) => Err(fault),
+    }
 }

@@ -7,7 +7,7 @@ ghost use Rattle.meta_rules.specs.Objects.{expr_cause, first_unread, indicator_u
 
 use crate::expr_fault::ExprError;
 use crate::object::read_named;
-use crate::waiting::{next, waiting};
+use crate::waiting::{keep, next, waiting};
 use dh_base::items::Items;
 use dh_metadata::ids::Ids;
 use dh_metadata::raw::RawIndicator;
@@ -81,7 +81,8 @@ pub fn indicators(
     let mut made = Vec::with_capacity(alloc, raw.len())?;
     for each in raw {
         let own = next(&mut rest);
-        made.push(indicator(alloc, ids, days, each, own)?)?;
+        let one = indicator(alloc, ids, days, each, own);
+        keep(&mut made, one)?;
     }
     Ok(made)
 }

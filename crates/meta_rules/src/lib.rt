@@ -3,6 +3,7 @@
 #![tactic(auto)]
 
 pub mod all;
+mod both;
 pub mod combos;
 pub mod days;
 pub mod expr_fault;

@@ -12,7 +12,7 @@ ghost use Rattle.meta_rules.specs.Objects.{program_indicator_in, filter_unread, 
 use crate::expr_fault::ExprError;
 use crate::object::copied;
 use crate::read::read;
-use crate::waiting::{next, waiting};
+use crate::waiting::{keep, next, waiting};
 use dh_base::items::Items;
 use dh_base::uid::Uid;
 use dh_metadata::ids::Ids;
@@ -156,7 +156,8 @@ pub fn program_indicators(
     let mut made = Vec::with_capacity(alloc, raw.len())?;
     for each in raw {
         let own = next(&mut rest);
-        made.push(program_indicator(alloc, ids, days, each, own)?)?;
+        let one = program_indicator(alloc, ids, days, each, own);
+        keep(&mut made, one)?;
     }
     Ok(made)
 }

@@ -1,7 +1,9 @@
 //! Lists that are used up from their front.
 
 ghost use Rattle.std.specs.Prelude.{◌≡◌, ◌<◌, ◌∷◌, length, IfOk};
+ghost use Rattle.meta_rules.specs.Objects.{IsKept};
 
+use crate::expr_fault::ExprError;
 use dh_base::memory::Memory;
 use expr_lang::Stack;
 use std::alloc::Global;
@@ -26,5 +28,18 @@ pub fn next<T: Drop>(rest: &mut Stack<T>) -> T
     match rest.pop() {
         Some(item) => item,
         None => unreachable!(),
+    }
+}
+
+/// Puts what was made at the end, or hands on its fault.
+pub(crate) fn keep<T: Drop>(made: &mut Vec<T>, one: Result<T, ExprError>) -> Result<(), ExprError>
+    ensures { IsKept one made.old.items made.new.items result }
+{
+    match one {
+        Ok(one) => {
+            made.push(one)?;
+            Ok(())
+        }
+        Err(fault) => Err(fault),
     }
 }

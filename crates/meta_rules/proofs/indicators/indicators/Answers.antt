@@ -1,33 +1,38 @@
-use Rattle.std.proofs.Common.{◌∙◌, ◌++◌, ◌+◌, sym, ap, drop, rules}
+use Rattle.std.proofs.Common.{◌∙◌, ◌≡◌, ap, length, arith, rules}
+use Rattle.std.proofs.lemmas.List.{length-drop}
 use Rattle.dh_base.specs.Memory.{IsFirst}
-use Rattle.meta_rules.specs.Objects.{indicator_unread, indicator_in, made_of, first_unread, expr_cause}
-use Rattle.meta_rules.proofs.MadeLemmas.{made_step, made_all, unread_at}
+use Rattle.dh_metadata.specs.declared.records.Indicator.{Indicator}
+use Rattle.meta_rules.specs.Objects.{indicator_unread, indicator_in, first_unread, expr_cause}
+use Rattle.meta_rules.proofs.MadeLemmas.{kept_step, kept_unread, made_all, unread_at}
 use Rattle.meta_rules.proofs.indicators.indicators.Goals as goal
 
 pub loop-each-preserved : goal.loop-each-preserved
 loop-each-preserved g c =
     let unread_of = indicator_unread g.reading.answer c.args.ids.now c.args.days.now in
     let make = indicator_in g.reading.answer c.args.days.now in
-    let i = c.loop-each.each-index in
     let step =
-    made_step unread_of make c.args.raw.now c.args.links i c.each-item.result c.next-own.result
-    c.loop-each.rest c.next-own.new.rest c.loop-each.made.items c.in_ok-indicator.field-0 c.loop-each-test.true c.each-item.is
-    c.loop-each.invariant.rest c.next-own.ensures c.in_ok-indicator.ensures.0 c.in_ok-indicator.ensures.1 c.loop-each.invariant.made in
-    record {
-      unread = c.loop-each.invariant.unread ∙ step.unread;
-      rest = step.left;
-      made = step.made ∙ ap (λ l. l ++ made_of make (drop (i + 1) c.args.raw.now) (drop (i + 1) c.args.links)) (sym c.in_ok-push.ensures.items);
-    }
+    kept_step unread_of make c.args.raw.now c.args.links c.loop-each.each-index c.each-item.result c.next-own.result
+    c.loop-each.rest c.next-own.new.rest c.loop-each.made.items c.keep.new.made.items c.indicator-one.result c.loop-each-test.true c.each-item.is
+    c.loop-each.invariant.rest c.next-own.ensures c.indicator-one.ensures c.in_ok-keep.ensures c.loop-each.invariant.made in
+    record { unread = c.loop-each.invariant.unread ∙ step.unread; rest = step.left; made = step.made }
 
 pub returns : goal.returns
 returns g c =
     made_all (indicator_unread g.reading.answer c.args.ids.now c.args.days.now) (indicator_in g.reading.answer c.args.days.now) c.args.raw.now c.args.links
     c.loop-each.each-index c.loop-each.made.items c.loop-each-test.false c.loop-each.invariant.unread c.loop-each.invariant.made
 
-pub returns-in_err-indicator : goal.returns-in_err-indicator
-returns-in_err-indicator g c =
+pub returns-in_err-keep : goal.returns-in_err-keep
+returns-in_err-keep g c =
     let unread_of = indicator_unread g.reading.answer c.args.ids.now c.args.days.now in
-    let met : IsFirst (first_unread unread_of c.args.raw.now) (expr_cause c.in_err-indicator.field-0.0) =
-    unread_at unread_of c.args.raw.now c.loop-each.each-index c.each-item.result (expr_cause c.in_err-indicator.field-0.0) c.loop-each-test.true
-    c.each-item.is c.loop-each.invariant.unread c.in_err-indicator.ensures in
+    let made_by = λ (made : Indicator). made ≡ indicator_in g.reading.answer c.args.days.now c.each-item.result c.next-own.result in
+    let told = kept_unread unread_of c.each-item.result made_by c.loop-each.made.items c.keep.new.made.items c.indicator-one.result c.in_err-keep.field-0.0
+    c.indicator-one.ensures c.in_err-keep.ensures in
+    let met : IsFirst (first_unread unread_of c.args.raw.now) (expr_cause c.in_err-keep.field-0.0) =
+    unread_at unread_of c.args.raw.now c.loop-each.each-index c.each-item.result (expr_cause c.in_err-keep.field-0.0) c.loop-each-test.true
+    c.each-item.is c.loop-each.invariant.unread told in
     search rules
+
+pub next-own-requires : goal.next-own-requires
+next-own-requires g c =
+    let left = ap length c.loop-each.invariant.rest in
+    omega (arith, left, length-drop c.loop-each.each-index c.args.links, c.loop-each-test.true, c.requires)
