@@ -1,11 +1,12 @@
 -- The references and the objects of all kinds, list after list.
-use Rattle.std.proofs.Common.{◌≡◌, ◌∙◌, ℕ, ◌+◌, List, [], ◌∷◌, ◌++◌, map, Result, Ok, Err, IfOk, refl, sym, ap, append_assoc}
+use Rattle.std.proofs.Common.{◌≡◌, ◌∙◌, ℕ, ◌+◌, List, [], ◌∷◌, ◌++◌, map, Result, Ok, Err, IfOk, OnOk, refl, sym, ap, subst, append_assoc}
 use Rattle.std.proofs.lemmas.List.{append-nil}
 use Rattle.std.specs.List.{flat_map}
 use Rattle.dh_metadata.specs.declared.kind.Kind.{Kind}
 use Rattle.dh_metadata.specs.declared.kind.Kind.TheVariants as kind
 use Rattle.dh_metadata.specs.declared.parts.MetaParts.{MetaParts}
-use Rattle.meta_links.specs.Groups.{Units, Combos, Sets, Rules, Programs, Users, Groups, assembled}
+use Rattle.meta_links.specs.Groups.{Units, Combos, Sets, Rules, Programs, Users, Groups, assembled, AreAssembled}
+use Rattle.dh_metadata.specs.declared.held.Links.{Links}
 use Rattle.meta_links.specs.Held.{links_of, built_in_combo, built_in_option_combo}
 use Rattle.meta_links.specs.Held.{unit_held, unit_group_held, category_option_held, category_held, category_combo_held, option_combo_held}
 use Rattle.meta_links.specs.Held.{element_held, approval_level_held, workflow_held, data_set_held, constant_held, indicator_type_held}
@@ -119,3 +120,12 @@ groups_held ids parts =
 pub assembled_is : (ids : Ids) (parts : MetaParts) → assembled (groups_held ids parts) ≡ links_of ids parts
 unfolding links_of
 assembled_is ids parts = refl
+
+pub assembled_held : {E : Type 0} (found : Result Groups E) (result : Result Links E) (links : Links) → AreAssembled found result
+    → IfOk found (λ groups. assembled groups ≡ links) → IfOk result (λ all. all ≡ links)
+assembled_held (Ok groups) result links is held = subst (λ r. IfOk r (λ all. all ≡ links)) (sym is) held
+assembled_held (Err error) result links is held = subst (λ r. IfOk r (λ all. all ≡ links)) (sym is) held
+
+pub assembled_told : {E : Type 0} (found : Result Groups E) (result : Result Links E) (P : Type 0) → AreAssembled found result → OnOk found P → OnOk result P
+assembled_told (Ok groups) result P is told = subst (λ r. OnOk r P) (sym is) told
+assembled_told (Err error) result P is told = subst (λ r. OnOk r P) (sym is) told

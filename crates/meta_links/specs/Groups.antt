@@ -1,5 +1,5 @@
 -- The lists of all kinds of objects as pairs, in the order of the kinds, and the tokens last.
-use Rattle.std.specs.Prelude.{ℕ, List}
+use Rattle.std.specs.Prelude.{◌≡◌, ℕ, List, Result, Ok, Err}
 use Rattle.dh_sharing.specs.declared.rule.Sharing.{Sharing}
 use Rattle.dh_metadata.specs.declared.held.Links.{Links}
 use Rattle.dh_metadata.specs.declared.records.Unit.{Unit}
@@ -72,3 +72,8 @@ assembled groups = record {
   user_groups = groups.1.1.1.1.1.0.1.1;
   api_tokens = groups.1.1.1.1.1.1;
 }
+
+-- the objects of all kinds, if they were found
+abbrev pub AreAssembled : {E : Type 0} → Result Groups E → Result Links E → Type 0
+AreAssembled (Ok groups) result = result ≡ Ok (assembled groups)
+AreAssembled (Err error) result = result ≡ Err error

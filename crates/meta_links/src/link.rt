@@ -1,6 +1,6 @@
 //! All objects of a file with their references as numbers.
 ghost use Rattle.std.specs.Prelude.{◌≡◌, IfOk, OnOk};
-ghost use Rattle.meta_links.specs.Groups.{assembled};
+ghost use Rattle.meta_links.specs.Groups.{AreAssembled};
 ghost use Rattle.meta_links.specs.Held.{links_of};
 ghost use Rattle.meta_links.specs.Table.{references};
 ghost use Rattle.dh_base.specs.Memory.{Finds};
@@ -61,11 +61,11 @@ pub fn link(alloc: Global, ids: &Ids, parts: &MetaParts) -> Result<Links, LinkFa
     ensures { Finds link_cause (first_unknown ids.now (references parts.now)) (λ links. links ≡ links_of ids.now parts.now) result }
 {
     let mut unknown = Unknown::new();
-    let groups = look_up(alloc, ids, &mut unknown, parts)?;
+    let links = look_up(alloc, ids, &mut unknown, parts)?;
     match unknown.into_first() {
-        None => Ok(all_links(groups)),
+        None => Ok(links),
         Some((uid, path)) => {
-            drop(groups);
+            drop(links);
             Err(LinkFault::Unknown { uid, path })
         }
     }
@@ -76,8 +76,8 @@ fn look_up(
     ids: &Ids,
     unknown: &mut Unknown,
     parts: &MetaParts,
-) -> Result<Groups, Memory>
-    ensures held { IfOk result (λ groups. assembled groups ≡ links_of ids.now parts.now) }
+) -> Result<Links, Memory>
+    ensures held { IfOk result (λ links. links ≡ links_of ids.now parts.now) }
     ensures told { OnOk result (unknown.new ≡ after ids.now unknown.old (references parts.now)) }
 {
     let combos = AllCombos {
@@ -127,21 +127,24 @@ fn look_up(
         units,
         (combos, (sets, (rules, (programs, (users, tokens))))),
     );
-    groups.link(alloc, ids, unknown)
+    all_links(groups.link(alloc, ids, unknown))
 }
 
-// The objects of all kinds. This can't fail.
-fn all_links(groups: Groups) -> Links
-    ensures { result ≡ assembled groups }
+// The objects of all kinds, if they were found.
+fn all_links(found: Result<Groups, Memory>) -> Result<Links, Memory>
+    ensures { AreAssembled found result }
 {
-    let (units, (combos, (sets, (rules, (programs, (users, api_tokens)))))) = groups;
+    let (units, (combos, (sets, (rules, (programs, (users, api_tokens)))))) = match found {
+        Ok(groups) => groups,
+        Err(error) => return Err(error),
+    };
     let (organisation_units, (organisation_unit_groups, (category_options, categories))) = units;
     let (category_combos, (category_option_combos, (data_elements, data_approval_levels))) = combos;
     let (data_approval_workflows, (data_sets, (constants, indicator_types))) = sets;
     let (indicators, (validation_rules, (tracked_entity_types, tracked_entity_attributes))) = rules;
     let (programs, (program_stages, program_indicators)) = programs;
     let (user_roles, (users, user_groups)) = users;
-    Links {
+    Ok(Links {
         organisation_units,
         organisation_unit_groups,
         category_options,
@@ -165,5 +168,5 @@ fn all_links(groups: Groups) -> Links
         users,
         user_groups,
         api_tokens,
-    }
+    })
 }

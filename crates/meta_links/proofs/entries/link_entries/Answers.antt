@@ -1,5 +1,5 @@
-use Rattle.std.proofs.Common.{◌∙◌, ◌+◌, ◌≤◌, [], ◌∷◌, ◌++◌, length, map, take, sym, ap, arith}
-use Rattle.std.proofs.lemmas.List.{map_more, drop_all}
+use Rattle.std.proofs.Common.{◌∙◌, ◌+◌, ◌≤◌, [], ◌∷◌, ◌++◌, length, map, take, refl, sym, ap, arith}
+use Rattle.std.proofs.lemmas.List.{map_more, drop_all, take_all}
 use Rattle.meta_links.specs.Reference.{each}
 use Rattle.meta_links.specs.Told.{after}
 use Rattle.meta_links.proofs.Walk.{after_none, each_more}
@@ -27,3 +27,11 @@ returns-clause-told g c =
     ∙ ap (λ l. after c.args.ids.now c.loop-entry.unknown (each (g.E.Entries.references c.args.list.now) c.loop-entry.place l))
     (drop_all c.loop-entry.entry-index c.args.entries.now end)
     ∙ after_none c.args.ids.now c.loop-entry.unknown)
+
+pub returns-clause-held : goal.returns-clause-held
+returns-clause-held g c =
+    c.from.ensures ∙ c.loop-entry.invariant.all
+    ∙ ap (map (g.E.Entries.held c.args.ids.now c.args.list.now)) (take_all c.loop-entry.entry-index c.args.entries.now c.loop-entry-test.false)
+
+pub loop-entry-init : goal.loop-entry-init
+loop-entry-init g c = record { place = refl; all = c.new-all.ensures.items; rest = refl }

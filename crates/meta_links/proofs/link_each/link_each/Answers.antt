@@ -1,6 +1,6 @@
 use Rattle.std.proofs.Common.{◌∙◌, ◌≤◌, [], ◌∷◌, ◌++◌, length, map, take, sym, ap, arith, append_assoc}
 use Rattle.std.specs.List.{flat_map}
-use Rattle.std.proofs.lemmas.List.{map_more, drop_all}
+use Rattle.std.proofs.lemmas.List.{map_more, drop_all, take_all}
 use Rattle.meta_links.specs.Told.{after}
 use Rattle.meta_links.proofs.Walk.{after_none, flat_more}
 use Rattle.meta_links.proofs.link_each.link_each.Goals as goal
@@ -27,3 +27,9 @@ returns-clause-told g c =
     sym (c.loop-object.invariant.rest
     ∙ ap (λ l. after c.args.ids.now c.loop-object.unknown (flat_map g.T.Link.references l)) (drop_all c.loop-object.object-index c.args.objects.now end)
     ∙ after_none c.args.ids.now c.loop-object.unknown)
+
+pub returns-clause-held : goal.returns-clause-held
+returns-clause-held g c =
+    c.from.ensures ∙ c.loop-object.invariant.all
+    ∙ ap (λ l. c.args.built_in.items ++ map (g.T.Link.held c.args.ids.now) l)
+    (take_all c.loop-object.object-index c.args.objects.now c.loop-object-test.false)
