@@ -9,7 +9,6 @@ use expr_lang::Expr;
 use std::alloc::Global;
 
 /// The text of an expression: a shortest one with its tree, with the fewest brackets.
-#[tactic(auto, using(expr_grammar::proofs::Restated::printed_again_so, expr_grammar::proofs::Readings::read_again_so))]
 pub fn print(alloc: Global, expr: &Expr) -> Result<Vec<u8>, Memory>
     // Where any text is accepted as this tree, this one is.
     ensures again { IfOk result (λ text. IsReadAgain expr.now.tree text.items) }
