@@ -112,7 +112,6 @@ fn item_values_of<S: RowStore>(
 }
 
 /// The value of a side under its own missing-value strategy.
-#[tactic(auto, unfolding(crate::specs::Check::side_value))]
 pub(crate) fn side_value<S: RowStore>(
     alloc: Global,
     source: &Source<'_, S>,
