@@ -2,6 +2,7 @@
 use Rattle.std.proofs.Common.{◌≡◌, ◌∙◌, ℕ, zero, suc, Bool, List, [], ◌∷◌, ◌++◌, map, Option, Some, None, refl, sym, ap}
 use Rattle.std.specs.Option.{unwrap_or}
 use Rattle.dh_base.specs.Fractions.{Fraction}
+use Rattle.expr_eval.specs.declared.value.Value.{Value}
 use Rattle.expr_eval.specs.declared.value.Value.TheVariants as value
 use Rattle.expr_eval.specs.Correct.{Means, form_outcome}
 use Rattle.expr_eval.specs.Given.{given_by, entry_at}
@@ -125,3 +126,11 @@ item_sampled view code form items (Some item) event is none same gives =
     ap (λ filter. if_passing (passes_form filter code.filter_items (event ∷ [])) (sample_form code.value code.value_items (event ∷ []))) none
     ∙ ap (λ own. sample_form own code.value_items (event ∷ [])) is
     ∙ ap (λ its. sample_by (form_value form its (event ∷ []))) (sym same) ∙ gives
+
+-- what the filter that is there says of a subject
+pub filter_says : (filter : Option Postfix) (form : Postfix) (items given : List PiItem) (subject : List EventRow) (value : Value) (passes : Option Bool)
+    → filter ≡ Some form → given ≡ items → value ≡ form_value form given subject → passes ≡ passes_by value → passes ≡ passes_form filter items subject
+filter_says filter form items given subject value passes there same is by =
+    by
+    ∙ ap passes_by (is ∙ ap (λ its. form_value form its subject) same)
+    ∙ ap (λ f. passes_form f items subject) (sym there)
