@@ -280,10 +280,10 @@ pub look_served : (engine : Seen) (reply : Result View LookFault) → IfOk reply
     → IfOk reply (λ view. view.published ≡ engine.state.published)
     → Stands engine.meta engine.state.log engine.state.base_cut engine.state.published engine.tables
     → IfOk reply (λ view. Stands engine.meta engine.state.log engine.state.base_cut view.published (arc_value view.tables))
-look_served engine (Ok view) same number stands =
+look_served engine (Ok view) same number holds =
     subst (λ (n : ℕ). Stands engine.meta engine.state.log engine.state.base_cut n (arc_value view.tables)) (sym number)
-    (subst (Stands engine.meta engine.state.log engine.state.base_cut engine.state.published) (sym same) stands)
-look_served engine (Err fault) same number stands = tt
+    (subst (Stands engine.meta engine.state.log engine.state.base_cut engine.state.published) (sym same) holds)
+look_served engine (Err fault) same number holds = tt
 
 -- the yearly parts and the latest part of which its tables are made, too
 pub look_stands : (made : Made) (engine : Seen) (lock : LockView Entry) (now : TokenView Entry) (reply : Result View LookFault) → IsRunning made engine lock
