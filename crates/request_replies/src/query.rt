@@ -25,7 +25,6 @@ use std::alloc::Global;
 use table_rows::RowStore;
 
 // The answer is told.
-#[tactic(auto, using(crate::proofs::Statuses::ok_status))]
 fn answered(published: u64, keep: bool, body: Vec<u8>) -> Reply
     ensures { text_in result ≡ reply_text 200 (Some published) None keep body.items }
 {

@@ -25,3 +25,9 @@ change-found-requires g c = user_before c.args.engine.now.meta _ c.args.user c.r
 pub tell-requires : goal.tell-requires
 tell-requires g c =
     report_status c.args.engine.now.meta c.args.engine.now.limits c.args.engine.now.state _ c.change-found.result _ c.change-found.ensures.step
+
+pub returns-clause-sound : goal.returns-clause-sound
+returns-clause-sound g c = λ sound. c.change-found.ensures.sound
+
+pub returns-clause-sure : goal.returns-clause-sure
+returns-clause-sure g c = c.change-found.ensures.sure

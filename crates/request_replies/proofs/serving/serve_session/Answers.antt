@@ -18,3 +18,9 @@ pub returns-clause-told : goal.returns-clause-told
 returns-clause-told g c =
     λ bytes told other. served_over (g.C.Clock.shows c.args.clock.now) bytes _ _ _ _ c.args.meta c.serve_requests-ended.result told other
     (returns-clause-ran g c)
+
+pub returns-clause-read_fault : goal.returns-clause-read_fault
+returns-clause-read_fault g c = c.serve_requests-ended.ensures.read_fault
+
+pub returns-clause-write_fault : goal.returns-clause-write_fault
+returns-clause-write_fault g c = c.serve_requests-ended.ensures.write_fault
