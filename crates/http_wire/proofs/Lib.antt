@@ -8,3 +8,4 @@ pub mod FrontLemmas
 pub mod NextLaws
 pub mod OpeningLaws
 pub mod RestLemmas
+pub mod PlanLemmas
