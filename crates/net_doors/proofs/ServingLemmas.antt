@@ -1,8 +1,9 @@
--- How the links stand once one more of them is given back.
-use Rattle.std.proofs.Common.{◌≡◌, ◌≤◌, ◌+◌, ◌∙◌, ◌∷◌, ◌++◌, ℕ, List, [], Option, None, Some, IfSome, refl, sym, ap, subst, arith, append_assoc, length-append}
+-- How the links stand once no more come, and once one more of them is given back.
+use Rattle.std.proofs.Common.{◌≡◌, ◌≤◌, ◌+◌, ◌∙◌, ◌∷◌, ◌++◌, ◌||◌, ℕ, Bool, true, false, List, [], Option, None, Some, IfSome, Result, Ok}
+use Rattle.std.proofs.Common.{refl, sym, ap, subst, arith, append_assoc, length-append, le_trans}
 use Rattle.std.specs.List.{AllZip}
 use Rattle.std.specs.Option.{option_map}
-use Rattle.net_doors.specs.Doors.{Shown, with_back}
+use Rattle.net_doors.specs.Doors.{Shown, Accepts, links_in, with_back}
 use Rattle.net_doors.specs.declared.ending.Ending.{Ending}
 use Rattle.net_doors.specs.declared.ending.Ending.TheVariants as ending
 use Rattle.net_doors.specs.Serving.{Serving, EndsBy}
@@ -45,3 +46,25 @@ pub ends_kept : {N : Type 0} (how : Option Ending) (began now new : Shown N) (mo
 ends_kept None began now new most count link ends is = tt
 ends_kept {N} (Some how) began now new most count link ends is =
     subst (λ (s : Shown N). EndsBy how began s most count) (sym is) (end_kept how began now most count link ends)
+
+-- no link came
+pub still_served : {N P E : Type 0} {Served : N → P → Type 0} {began now new : Shown N} {most count out : ℕ} {lefts : List P} {answer : Result (Option N) E}
+    → links_in answer ≡ 0 → Serving Served began now most count out lefts → Accepts now new answer → Serving Served began new most count out lefts
+still_served none was accepts = record {
+  back = was.back;
+  counted = was.counted;
+  accepted = let a = accepts.accepted in let b = was.accepted in omega arith;
+  told = accepts.back ∙ was.told;
+  served = was.served;
+  bound = was.bound;
+  faults = le_trans was.faults accepts.faults;
+}
+
+or_true : (b : Bool) → (b || true) ≡ true
+or_true true = refl
+or_true false = refl
+
+-- the listener told that no more links come
+pub is_closed : {N E : Type 0} {now new : Shown N} {found : Option N} → found ≡ None → Accepts {N = N} {E = E} now new (Ok found) → new.closed ≡ true
+is_closed {N} {E} {now} {new} none accepts =
+    let is = subst (λ (f : Option N). Accepts {N = N} {E = E} now new (Ok f)) none accepts in is.closed ∙ or_true now.closed
